@@ -228,12 +228,16 @@ def stopped(it: Object, _: bytes) -> bytes:
 
 
 def interrupted(it: Object, line: bytes) -> bytes:
-    """The line has the name of the session, and the object has none."""
-    outcome = members(it, "line", "outcome")[1]
+    """The line has the name of the session, and its object has none; one without a line has it."""
+    if "line" in it:
+        outcome, name = members(it, "outcome", "line")[0], line.removeprefix(b"interrupt ")
+    else:
+        outcome, session, _life = members(it, "outcome", "session", "life")
+        name = text_of(session)
     words = {"sent": b"interrupted ", "idle": b"idle ", "failed": b"failed "}
     if not isinstance(outcome, str) or outcome not in words:
         raise Difference(f"no outcome: {it}")
-    return words[outcome] + line.removeprefix(b"interrupt ") + b"\n"
+    return words[outcome] + name + b"\n"
 
 
 def banner(it: Object, _: bytes) -> bytes:

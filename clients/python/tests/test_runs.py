@@ -6,7 +6,7 @@ from typing import List, Sequence
 
 from support import PROGRAM, WORDS, Case, needs_program
 
-from tmhost import Answered, Died, Ended, InUse, Interrupted, Made, OneField, Refusal, Reply, Sheet, Waited, run
+from tmhost import Answered, Died, Ended, InUse, Made, OneField, Refusal, Reply, Sheet, Waited, Warned, run
 
 
 def kinds(told: Sequence[object]) -> List[str]:
@@ -46,8 +46,10 @@ class Runs(Case):
         words, _ = self.busy()
         lines = [" ".join(["session", "b", "plain", *words]), "new 0 b x", "eval 1", "wait", "print 1"]
         told = list(run(self.path, "".join(line + "\n" for line in lines), timeout=1, program=PROGRAM))
-        self.assertEqual([one.outcome for one in told if isinstance(one, Interrupted)], ["sent"])
-        self.assertEqual([type(one) for one in told if not isinstance(one, Reply)], [Ended])
+        self.assertEqual(kinds(told), ["1 done", "2 made", "3 asked", "Warned", "Ended", "4 waited", "5 field"])
+        warned = told[3]
+        assert isinstance(warned, Warned)
+        self.assertEqual((warned.session, warned.life, warned.outcome), ("b", 1, "sent"))
 
     def test_faults(self) -> None:
         with self.assertRaises(Died) as raised:

@@ -52,6 +52,14 @@ class Default(OfLife):
 
 
 @dataclasses.dataclass(frozen=True)
+class Warned(OfLife):
+    """The time that a `wait` of `run` may take is over, and the interpreter was at something: it was interrupted, and `outcome` is "sent",
+    "idle" or "failed"."""
+
+    outcome: str
+
+
+@dataclasses.dataclass(frozen=True)
 class Ended(OfLife):
     """The interpreter is gone, or couldn't be started, for another reason than a `stop`; with it went what it hadn't answered."""
 

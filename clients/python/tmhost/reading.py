@@ -12,7 +12,7 @@ import re
 from typing import Any, Callable, Dict, List, NoReturn, Optional, Tuple, Union
 
 from .errors import ProtocolError
-from .events import Answered, Banner, Completed, Default, Ended, Event
+from .events import Answered, Banner, Completed, Default, Ended, Event, Warned
 from .values import LINE_END, Answer, Block, Completions, Field, LostItem, Session, Text
 
 KINDS = ("format", "channel")
@@ -217,6 +217,11 @@ def completions(value: object) -> Completions:
     return Completions(told.text("root"), tuple(text(one) for one in told.list("rest")))
 
 
+def outcome(told: Members) -> str:
+    """What came of an interrupt."""
+    return told.one_of("outcome", "sent", "idle", "failed")
+
+
 # What is told of a line, by its type: each gets the members of Reply, and reads those of its own.
 REPLIES: Dict[str, Callable[[Tuple[int, str, bool], Members], Reply]] = {
     "made": lambda front, told: Made(*front, told.number("id")),
@@ -228,7 +233,7 @@ REPLIES: Dict[str, Callable[[Tuple[int, str, bool], Members], Reply]] = {
         *front, tuple(number(one) for one in told.list("fields")), told.number("next"), tuple(session(one) for one in told.list("sessions"))
     ),
     "stopped": lambda front, told: StopReply(*front, told.string("session"), told.number("life"), lost(told)),
-    "interrupted": lambda front, told: Interrupted(*front, told.one_of("outcome", "sent", "idle", "failed")),
+    "interrupted": lambda front, told: Interrupted(*front, outcome(told)),
 }
 
 # What is told without a line, by its type: of an interpreter, with its session and its life in front, or of the program.
@@ -237,6 +242,7 @@ EVENTS: Dict[str, Callable[[str, int, Members], Event]] = {
     "answered": lambda name, life, told: Answered(name, life, told.number("id"), answer(told)),
     "completed": lambda name, life, told: Completed(name, life, told.number("id"), told.or_none("told", completions)),
     "default": lambda name, life, told: Default(name, life, told.text("text")),
+    "interrupted": lambda name, life, told: Warned(name, life, outcome(told)),
     "ended": lambda name, life, told: Ended(name, life, told.string("reason"), lost(told)),
 }
 OTHERS: Dict[str, Callable[[Members], Union[Hello, Fault, End]]] = {

@@ -5,7 +5,7 @@ use Rattle.child_edge.specs.declared.waiting.Waiting.{Waiting}
 use Rattle.child_calls.specs.declared.seat.Seat.{Seat}
 use Rattle.child_edge.specs.Limits.{most_turns}
 use Rattle.child_edge.specs.Seats.{waits}
-use Rattle.child_edge.specs.Faithful.{Relation, At, at, Beat, FirstOf, Taken, OneTurn, Turns, Waited}
+use Rattle.child_edge.specs.Faithful.{Relation, At, at, Beat, FirstOf, Taken, OneTurn, Turns, Waited, hearing}
 use Rattle.child_edge.specs.Broken.{WaitSoFar, WaitStopped}
 use Rattle.child_edge.specs.Steps.{Came, IsBegun}
 use Rattle.disk_model.specs.Disk.{DiskView}
@@ -21,7 +21,7 @@ module _ {C : Type 0} (R : Relation C) (wait : Waiting) (s : At C) (bs : List Be
     before = came.before;
     last = came.last;
     turns = came.turns;
-    part = record { whole = wait.place; fits = subst (λ (x : List Seat). wait.place ≤ length x) came.seats came.place; are_done = subst (λ (x : List Seat). FirstOf (Taken R (nat_lt wait.whole most_turns) None) x wait.place came.mid came.last t) came.seats came.part };
+    part = record { whole = wait.place; fits = subst (λ (x : List Seat). wait.place ≤ length x) came.seats came.place; are_done = subst (λ (x : List Seat). FirstOf (Taken (hearing R (nat_lt wait.whole most_turns)) None) x wait.place came.mid came.last t) came.seats came.part };
     beats = came.beats;
   }
 
@@ -30,14 +30,14 @@ module _ {C : Type 0} (R : Relation C) (wait : Waiting) (s : At C) (bs : List Be
   came_turn all =
       subst (λ (l : List Beat). Turns R most_turns (wait.whole + 1) s l t) (sym came.beats)
       (Turns-more R most_turns wait.whole s came.before came.mid (nat_lt wait.whole most_turns) came.last t came.turns refl
-      (subst (λ (x : List Seat). OneTurn R (nat_lt wait.whole most_turns) x came.mid came.last t) came.seats
-      (subst (λ (k : ℕ). FirstOf (Taken R (nat_lt wait.whole most_turns) None) wait.seats.items k came.mid came.last t) all came.part)))
+      (subst (λ (x : List Seat). OneTurn (hearing R (nat_lt wait.whole most_turns)) x came.mid came.last t) came.seats
+      (subst (λ (k : ℕ). FirstOf (Taken (hearing R (nat_lt wait.whole most_turns)) None) wait.seats.items k came.mid came.last t) all came.part)))
 
   -- no item waited as the turn began
   pub came_idle : wait.seats.items ≡ [] → Waited R most_turns s bs t
   came_idle none =
       let at_start : wait.place ≡ 0 = omega (arith, came.place, ap length none) in
-      let part : FirstOf (Taken R (nat_lt wait.whole most_turns) None) wait.seats.items 0 came.mid came.last t = subst (λ (k : ℕ). FirstOf (Taken R (nat_lt wait.whole most_turns) None) wait.seats.items k came.mid came.last t) at_start came.part in
+      let part : FirstOf (Taken (hearing R (nat_lt wait.whole most_turns)) None) wait.seats.items 0 came.mid came.last t = subst (λ (k : ℕ). FirstOf (Taken (hearing R (nat_lt wait.whole most_turns)) None) wait.seats.items k came.mid came.last t) at_start came.part in
       let same : bs ≡ came.before = came.beats ∙ ap (λ (x : List Beat). came.before ++ x) part.0 ∙ append-nil came.before in
       let turns : Turns R most_turns wait.whole s bs t = subst (λ (x : At C). Turns R most_turns wait.whole s bs x) (sym part.1) (subst (λ (x : List Beat). Turns R most_turns wait.whole s x came.mid) (sym same) came.turns) in
       (wait.whole, turns, inl (ap (λ (x : At C). waits x.world) part.1 ∙ sym came.seats ∙ none, came.fits))
@@ -60,13 +60,13 @@ module _ {C : Type 0} (R : Relation C) (wait : Waiting) (s : At C) (bs : List Be
     place = omega (arith, place);
     seats = seats;
     turns = subst (λ (k : ℕ). Turns R most_turns k s bs t) (sym whole) (came_turn all);
-    part = subst (λ (k : ℕ). FirstOf (Taken R (nat_lt next.whole most_turns) None) next.seats.items k t [] t) (sym place) (refl, refl);
+    part = subst (λ (k : ℕ). FirstOf (Taken (hearing R (nat_lt next.whole most_turns)) None) next.seats.items k t [] t) (sym place) (refl, refl);
     beats = sym (append-nil bs);
   }
 
   -- one life more
   pub came_on : (next : Waiting) (seat : Seat) (cs : List Beat) (v : At C) → wait.place < length wait.seats.items → slice_get wait.seats.items wait.place ≡ Some seat → next.whole ≡ wait.whole → next.seats ≡ wait.seats
-      → next.place ≡ wait.place + 1 → Taken R (nat_lt wait.whole most_turns) None seat t cs v → Came R next s (bs ++ cs) v
+      → next.place ≡ wait.place + 1 → Taken (hearing R (nat_lt wait.whole most_turns)) None seat t cs v → Came R next s (bs ++ cs) v
   came_on next seat cs v room here whole seats place taken = record {
     mid = came.mid;
     before = came.before;
@@ -75,15 +75,15 @@ module _ {C : Type 0} (R : Relation C) (wait : Waiting) (s : At C) (bs : List Be
     place = subst (λ x. next.place ≤ length x.items) (sym seats) (omega (arith, room, place));
     seats = ap (λ x. x.items) seats ∙ came.seats;
     turns = subst (λ (k : ℕ). Turns R most_turns k s came.before came.mid) (sym whole) came.turns;
-    part = subst (λ (k : ℕ). FirstOf (Taken R (nat_lt k most_turns) None) next.seats.items next.place came.mid (came.last ++ cs) v) (sym whole)
-        (subst (λ x. FirstOf (Taken R (nat_lt wait.whole most_turns) None) x.items next.place came.mid (came.last ++ cs) v) (sym seats)
-        (subst (λ (k : ℕ). FirstOf (Taken R (nat_lt wait.whole most_turns) None) wait.seats.items k came.mid (came.last ++ cs) v) (sym place)
-        (FirstOf-more (Taken R (nat_lt wait.whole most_turns) None) wait.seats.items wait.place came.mid came.last t seat cs v came.part here taken)));
+    part = subst (λ (k : ℕ). FirstOf (Taken (hearing R (nat_lt k most_turns)) None) next.seats.items next.place came.mid (came.last ++ cs) v) (sym whole)
+        (subst (λ x. FirstOf (Taken (hearing R (nat_lt wait.whole most_turns)) None) x.items next.place came.mid (came.last ++ cs) v) (sym seats)
+        (subst (λ (k : ℕ). FirstOf (Taken (hearing R (nat_lt wait.whole most_turns)) None) wait.seats.items k came.mid (came.last ++ cs) v) (sym place)
+        (FirstOf-more (Taken (hearing R (nat_lt wait.whole most_turns)) None) wait.seats.items wait.place came.mid came.last t seat cs v came.part here taken)));
     beats = ap (λ (x : List Beat). x ++ cs) came.beats ∙ append_assoc came.before came.last cs;
   }
 
   -- a life broke off
-  pub came_broke : (seat : Seat) (cs : List Beat) (e : Event) (v : At C) → slice_get wait.seats.items wait.place ≡ Some seat → Taken R (nat_lt wait.whole most_turns) (Some e) seat t cs v
+  pub came_broke : (seat : Seat) (cs : List Beat) (e : Event) (v : At C) → slice_get wait.seats.items wait.place ≡ Some seat → Taken (hearing R (nat_lt wait.whole most_turns)) (Some e) seat t cs v
       → WaitStopped R most_turns s (bs ++ cs) e v
   came_broke seat cs e v here broken = record {
     whole = wait.whole;
@@ -98,7 +98,7 @@ module _ {C : Type 0} (R : Relation C) (wait : Waiting) (s : At C) (bs : List Be
       before = came.last;
       last = cs;
       seat = seat;
-      are_done = subst (λ (x : List Seat). FirstOf (Taken R (nat_lt wait.whole most_turns) None) x wait.place came.mid came.last t) came.seats came.part;
+      are_done = subst (λ (x : List Seat). FirstOf (Taken (hearing R (nat_lt wait.whole most_turns)) None) x wait.place came.mid came.last t) came.seats came.part;
       is_next = subst (λ (x : List Seat). slice_get x wait.place ≡ Some seat) came.seats here;
       broken = broken;
       beats = refl;
@@ -116,6 +116,6 @@ came_begun R wait w c d b = record {
   place = omega (arith, b.place);
   seats = b.seats;
   turns = subst (λ (k : ℕ). Turns R most_turns k (at w c d) [] (at w c d)) (sym b.whole) (refl, refl);
-  part = subst (λ (k : ℕ). FirstOf (Taken R (nat_lt wait.whole most_turns) None) wait.seats.items k (at w c d) [] (at w c d)) (sym b.place) (refl, refl);
+  part = subst (λ (k : ℕ). FirstOf (Taken (hearing R (nat_lt wait.whole most_turns)) None) wait.seats.items k (at w c d) [] (at w c d)) (sym b.place) (refl, refl);
   beats = refl;
 }

@@ -17,7 +17,7 @@ use Rattle.session_engine.specs.Crash.{LeftAmong, Moments, MomentsBefore}
 use Rattle.session_engine.proofs.Playing.{EitherSheet, either_sheet}
 use Rattle.child_edge.specs.Kept.{HoldsSheet, Kept}
 use Rattle.host_events.specs.declared.reply.Reply.{Reply}
-use Rattle.child_edge.specs.Faithful.{Relation, At, at, Beat, Beats, Follows, FirstOf, Taken, Turns, Served, ServedUpTo, Waited, due_after}
+use Rattle.child_edge.specs.Faithful.{Relation, At, at, Beat, Beats, Follows, FirstOf, Taken, Turns, Served, ServedUpTo, Waited, due_after, hearing}
 use Rattle.child_edge.specs.Broken.{WaitSoFar, WaitStopped}
 use Rattle.child_edge.specs.Seats.{waits}
 use Rattle.child_calls.specs.declared.seat.Seat.{Seat}
@@ -57,7 +57,7 @@ module _ {C : Type 0} (R : Relation C) where
       (goes_on_by s.world s.disk p.2 p.1.world p.1.disk p.3 t.world t.disk (first-goes P each xs k s p.2 p.1 p.5) (each p.0 p.1 p.3 t p.6))
 
   pub taken-goes : (listens : Bool) (left : Option Event) (seat : Seat) (s : At C) (bs : List Beat) (t : At C)
-      → Taken R listens left seat s bs t → Goes s.world s.disk bs t.world t.disk
+      → Taken (hearing R listens) left seat s bs t → Goes s.world s.disk bs t.world t.disk
   taken-goes listens left seat s bs t p = follows-goes (at s.world p.1 s.disk) (Some (Child seat.name seat.life p.0)) bs left t p.3
 
   pub turns-goes : (most n : ℕ) (s : At C) (bs : List Beat) (t : At C) → Turns R most n s bs t → Goes s.world s.disk bs t.world t.disk
@@ -66,20 +66,20 @@ module _ {C : Type 0} (R : Relation C) where
   turns-goes most (suc n) s bs t p =
       subst (λ (l : List Beat). Goes s.world s.disk l t.world t.disk) (sym p.5)
       (goes_on_by s.world s.disk p.1 p.0.world p.0.disk p.2 t.world t.disk (turns-goes most n s p.1 p.0 p.3)
-      (first-goes (Taken R _ None) (λ x. taken-goes _ None x) (waits p.0.world) _ p.0 p.2 t p.4))
+      (first-goes (Taken (hearing R _) None) (λ x. taken-goes _ None x) (waits p.0.world) _ p.0 p.2 t p.4))
 
   pub so-far-goes : (most : ℕ) (s : At C) (bs : List Beat) (t : At C) → WaitSoFar R most s bs t → Goes s.world s.disk bs t.world t.disk
   so-far-goes most s bs t p =
       subst (λ (l : List Beat). Goes s.world s.disk l t.world t.disk) (sym p.beats)
       (goes_on_by s.world s.disk p.before p.mid.world p.mid.disk p.last t.world t.disk (turns-goes most p.whole s p.before p.mid p.turns)
-      (first-goes (Taken R _ None) (λ x. taken-goes _ None x) (waits p.mid.world) p.part.whole p.mid p.last t p.part.are_done))
+      (first-goes (Taken (hearing R _) None) (λ x. taken-goes _ None x) (waits p.mid.world) p.part.whole p.mid p.last t p.part.are_done))
 
   pub stopped-goes : (most : ℕ) (s : At C) (bs : List Beat) (e : Event) (t : At C) → WaitStopped R most s bs e t → Goes s.world s.disk bs t.world t.disk
   stopped-goes most s bs e t p =
       let q = p.part in
       let turn : Goes p.mid.world p.mid.disk p.last t.world t.disk = subst (λ (l : List Beat). Goes p.mid.world p.mid.disk l t.world t.disk) (sym q.beats)
       (goes_on_by p.mid.world p.mid.disk q.before q.mid.world q.mid.disk q.last t.world t.disk
-      (first-goes (Taken R _ None) (λ x. taken-goes _ None x) (waits p.mid.world) q.whole p.mid q.before q.mid q.are_done)
+      (first-goes (Taken (hearing R _) None) (λ x. taken-goes _ None x) (waits p.mid.world) q.whole p.mid q.before q.mid q.are_done)
       (taken-goes _ (Some e) q.seat q.mid q.last t q.broken)) in
       subst (λ (l : List Beat). Goes s.world s.disk l t.world t.disk) (sym p.beats)
       (goes_on_by s.world s.disk p.before p.mid.world p.mid.disk p.last t.world t.disk (turns-goes most p.whole s p.before p.mid p.turns) turn)

@@ -6,7 +6,7 @@ use Rattle.child_edge.specs.Seats.{waits}
 use Rattle.child_edge.specs.declared.serving.EdgeCause.{EdgeCause}
 use Rattle.child_edge.specs.declared.serving.EdgeCause.TheVariants as cause
 use Rattle.child_edge.specs.Edge.{ByCause}
-use Rattle.child_edge.specs.Faithful.{Relation, At, Beat, FirstOf, OneTurn, Turns}
+use Rattle.child_edge.specs.Faithful.{Relation, At, Beat, FirstOf, OneTurn, Turns, hearing}
 use Rattle.child_edge.specs.Told.{told}
 use Rattle.child_edge.proofs.Chains.{told-append}
 
@@ -15,7 +15,7 @@ pub FirstOf-more : {A S B : Type 0} (P : A → S → List B → S → Type 0) (x
 FirstOf-more P xs k s before mid x last t h e p = rw add-one (x, mid, before, last, e, h, p, refl)
 
 pub Turns-more : {C : Type 0} (R : Relation C) (most n : ℕ) (s : At C) (before : List Beat) (mid : At C) (listens : Bool) (last : List Beat) (t : At C)
-    → Turns R most n s before mid → listens ≡ nat_lt n most → OneTurn R listens (waits mid.world) mid last t → Turns R most (n + 1) s (before ++ last) t
+    → Turns R most n s before mid → listens ≡ nat_lt n most → OneTurn (hearing R listens) (waits mid.world) mid last t → Turns R most (n + 1) s (before ++ last) t
 Turns-more R most n s before mid listens last t h e p = rw add-one (mid, before, last, h, rw e at p, refl)
 
 pub told-join : (all old new : List Reply) (bs cs : List Beat) → old ≡ all ++ told bs → new ≡ old ++ told cs → new ≡ all ++ told (bs ++ cs)

@@ -63,7 +63,7 @@ FailsClosed (Err fault) = (fault.replies.items ≡ []) × ClosedOrNoMemory fault
 
 -- On a closed host one child was heard before the host reported that it is closed, and none where memory was refused.
 abbrev pub HeardOne : {C : Type 0} → Relation C → Bool → C → C → EdgeCause → Type 0
-HeardOne R listens c d why = ByCause why (λ f. (seat : Seat) × (event : ChildEvent) × Hears R listens seat.name seat.life c event d) (d ≡ c)
+HeardOne R listens c d why = ByCause why (λ f. (seat : Seat) × (event : ChildEvent) × Hears R listens seat c event d) (d ≡ c)
 
 -- On a closed host there is no reply: no item waits, or the wait breaks off.
 abbrev pub TellsClosed : {E : Type 0} → Result (Vec Reply E) EdgeFault → Type 0

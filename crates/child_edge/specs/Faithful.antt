@@ -113,29 +113,37 @@ Gave done = ⊥
 Gave no_memory = ⊥
 
 -- The event of a life in a turn: what a receive gave in a turn that listens, and `Stalled` in another.
-abbrev pub Hears : {C : Type 0} → Relation C → Bool → List ℕ → ℕ → C → ChildEvent → C → Type 0
-Hears R true name life c event d = (a : Answer) × Gave a × R c (receive name life) a d × (event ≡ event_of a)
-Hears R false name life c event d = (event ≡ child.Stalled) × (d ≡ c)
+abbrev pub Hears : {C : Type 0} → Relation C → Bool → Seat → C → ChildEvent → C → Type 0
+Hears R true seat c event d = (a : Answer) × Gave a × R c (receive seat.name seat.life) a d × (event ≡ event_of a)
+Hears R false seat c event d = (event ≡ child.Stalled) × (d ≡ c)
 
--- that, and what comes of it, up to where this event is due if one is
-abbrev pub Taken : {C : Type 0} → Relation C → Bool → Option Event → Seat → At C → List Beat → At C → Type 0
-Taken {C = C} R listens left seat s bs t =
-    (event : ChildEvent) × (mid : C) × Hears R listens seat.name seat.life s.children event mid × Follows R (at s.world mid s.disk) (Some (Child seat.name seat.life event)) bs left t
+-- How lives are heard in a turn: what the children do at a call, and whether the turn listens.
+pub record Hearing (C : Type 0) : Type 1 where
+  pub after : Relation C
+  pub listens : Bool
+
+abbrev pub hearing : {C : Type 0} → Relation C → Bool → Hearing C
+hearing after listens = record { after = after; listens = listens }
+
+-- the event of a life, and what comes of it, up to where this event is due if one is
+abbrev pub Taken : {C : Type 0} → Hearing C → Option Event → Seat → At C → List Beat → At C → Type 0
+Taken {C = C} h left seat s bs t =
+    (event : ChildEvent) × (mid : C) × Hears h.after h.listens seat s.children event mid × Follows h.after (at s.world mid s.disk) (Some (Child seat.name seat.life event)) bs left t
 
 -- that up to where this event is due
-abbrev pub TakenUpTo : {C : Type 0} → Relation C → Bool → Seat → At C → List Beat → Event → At C → Type 0
-TakenUpTo R listens seat s bs left t = Taken R listens (Some left) seat s bs t
+abbrev pub TakenUpTo : {C : Type 0} → Hearing C → Seat → At C → List Beat → Event → At C → Type 0
+TakenUpTo h seat s bs left t = Taken h (Some left) seat s bs t
 
 -- a turn: each of these lives once, in order
-abbrev pub OneTurn : {C : Type 0} → Relation C → Bool → List Seat → At C → List Beat → At C → Type 0
-OneTurn R listens seats s bs t = EachOf (Taken R listens None) seats s bs t
+abbrev pub OneTurn : {C : Type 0} → Hearing C → List Seat → At C → List Beat → At C → Type 0
+OneTurn h seats s bs t = EachOf (Taken h None) seats s bs t
 
 -- So many turns, each of the lives in which an item waits as it begins. The first `most` listen; after them these lives count as
 -- stalled.
 abbrev pub Turns : {C : Type 0} → Relation C → ℕ → ℕ → At C → List Beat → At C → Type 0
 Turns R most zero s bs t = (bs ≡ []) × (t ≡ s)
 Turns {C = C} R most (suc n) s bs t =
-    (mid : At C) × (before : List Beat) × (last : List Beat) × Turns R most n s before mid × OneTurn R (nat_lt n most) (waits mid.world) mid last t × (bs ≡ before ++ last)
+    (mid : At C) × (before : List Beat) × (last : List Beat) × Turns R most n s before mid × OneTurn (hearing R (nat_lt n most)) (waits mid.world) mid last t × (bs ≡ before ++ last)
 
 -- A wait: turns until no item waits, or all that listen and one in which those that still wait stall.
 abbrev pub Waited : {C : Type 0} → Relation C → ℕ → At C → List Beat → At C → Type 0

@@ -24,10 +24,11 @@ abbrev pub InterruptsFirst : {C : Type 0} → Relation C → List Seat → C →
 InterruptsFirst R [] c told d = (told ≡ interrupted.Idle) × (d ≡ c)
 InterruptsFirst R (seat ∷ seats) c told d = (a : Answer) × R c (interrupt seat.name seat.life) a d × (told ≡ interrupt_told a)
 
-abbrev pub InterruptsOf : {C : Type 0} → Relation C → List ℕ → Option Session → Option LifeView → C → Interrupted → C → Type 0
-InterruptsOf R name None life c told d = (told ≡ interrupted.NoSession) × (d ≡ c)
-InterruptsOf R name (Some session) life c told d = InterruptsFirst R (seat_of name life) c told d
+-- this session, where there is one, which has these lives
+abbrev pub InterruptsOf : {C : Type 0} → Relation C → Option Session → List Seat → C → Interrupted → C → Type 0
+InterruptsOf R None seats c told d = (told ≡ interrupted.NoSession) × (d ≡ c)
+InterruptsOf R (Some session) seats c told d = InterruptsFirst R seats c told d
 
 -- the life of the session with this name is interrupted where an item waits in it
 abbrev pub Interrupts : {C : Type 0} → Relation C → World → List ℕ → C → Interrupted → C → Type 0
-Interrupts R w name c told d = InterruptsOf R name (session_named (sheet_in w).sessions name) (option_map life_view (life_of w name)) c told d
+Interrupts R w name c told d = InterruptsOf R (session_named (sheet_in w).sessions name) (seat_of name (option_map life_view (life_of w name))) c told d

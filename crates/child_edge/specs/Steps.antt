@@ -6,7 +6,7 @@ use Rattle.session_engine.specs.Host.{HostView}
 use Rattle.child_edge.specs.declared.waiting.Waiting.{Waiting}
 use Rattle.child_edge.specs.Limits.{most_turns}
 use Rattle.child_edge.specs.Seats.{waits}
-use Rattle.child_edge.specs.Faithful.{Relation, At, at, Beat, FirstOf, Taken, Turns, Waited}
+use Rattle.child_edge.specs.Faithful.{Relation, At, at, Beat, FirstOf, Taken, Turns, Waited, hearing}
 use Rattle.child_edge.specs.Edge.{Ran}
 
 -- The wait has not taken a life yet.
@@ -24,14 +24,9 @@ pub record Came {C : Type 0} (R : Relation C) (wait : Waiting) (s : At C) (bs : 
   pub place : wait.place ≤ length wait.seats.items
   pub seats : wait.seats.items ≡ waits mid.world
   pub turns : Turns R most_turns wait.whole s before mid
-  pub part : FirstOf (Taken R (nat_lt wait.whole most_turns) None) wait.seats.items wait.place mid last t
+  pub part : FirstOf (Taken (hearing R (nat_lt wait.whole most_turns)) None) wait.seats.items wait.place mid last t
   pub beats : bs ≡ before ++ last
 
 -- How many lives a wait may still take, and more: each step makes it less.
 abbrev pub left_of : Waiting → ℕ
 left_of wait = (most_turns - wait.whole) * 2 ^ 64 + (length wait.seats.items - wait.place)
-
--- What a step of it leaves. One life was taken, and the replies have what came of it; or the wait was over, and nothing changed.
-abbrev pub Stepped : {C : Type 0} → Relation C → Waiting → At C → List Beat → World → HostView → HostView → C → C → List Reply → List Reply → Bool → Type 0
-Stepped R wait s bs w h g c d before replies true = Ran (λ cs t. Came R wait s (bs ++ cs) t) before g d replies
-Stepped R wait s bs w h g c d before replies false = Waited R most_turns s bs (at w c h.store.disk) × (g ≡ h) × (d ≡ c) × (replies ≡ before)

@@ -4,7 +4,7 @@ ghost use Rattle.disk_model.specs.Disk.{SameDisk};
 ghost use Rattle.session_engine.specs.World.{World};
 ghost use Rattle.session_engine.specs.Host.{IsHost};
 ghost use Rattle.child_edge.specs.Edge.{BrokeOff, ByCause, ClosedOrNoMemory, HeardOne, Ran};
-ghost use Rattle.child_edge.specs.Faithful.{at, Taken, TakenUpTo};
+ghost use Rattle.child_edge.specs.Faithful.{at, Taken, TakenUpTo, hearing};
 
 use crate::serving::{EdgeCause, take};
 use child_calls::{Children, Seat};
@@ -25,10 +25,10 @@ pub fn listen<D: Disk, C: Children>(
 ) -> Result<(), EdgeCause>
     ensures same { SameDisk host.old.store.disk host.new.store.disk }
     ensures ok { (w : World) → IsHost host.old w
-        → OnOk result (Ran (Taken C.after true None seat (at w children.old host.old.store.disk)) replies.old.items
+        → OnOk result (Ran (Taken (hearing C.after true) None seat (at w children.old host.old.store.disk)) replies.old.items
         host.new children.new replies.new.items) }
     ensures err { (w : World) → IsHost host.old w → IfErr result (λ cause. ByCause cause
-        (BrokeOff (TakenUpTo C.after true seat (at w children.old host.old.store.disk)) replies.old.items
+        (BrokeOff (TakenUpTo (hearing C.after true) seat (at w children.old host.old.store.disk)) replies.old.items
         host.new children.new replies.new.items)
         ((host.new ≡ host.old) × (children.new ≡ children.old)
         × (replies.new.items ≡ replies.old.items))) }
@@ -54,10 +54,10 @@ pub fn stall<D: Disk, C: Children>(
 ) -> Result<(), EdgeCause>
     ensures same { SameDisk host.old.store.disk host.new.store.disk }
     ensures ok { (w : World) → IsHost host.old w
-        → OnOk result (Ran (Taken C.after false None seat (at w children.old host.old.store.disk)) replies.old.items
+        → OnOk result (Ran (Taken (hearing C.after false) None seat (at w children.old host.old.store.disk)) replies.old.items
         host.new children.new replies.new.items) }
     ensures err { (w : World) → IsHost host.old w → IfErr result (λ cause. ByCause cause
-        (BrokeOff (TakenUpTo C.after false seat (at w children.old host.old.store.disk)) replies.old.items
+        (BrokeOff (TakenUpTo (hearing C.after false) seat (at w children.old host.old.store.disk)) replies.old.items
         host.new children.new replies.new.items)
         ((host.new ≡ host.old) × (children.new ≡ children.old)
         × (replies.new.items ≡ replies.old.items))) }

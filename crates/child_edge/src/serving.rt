@@ -8,7 +8,7 @@ ghost use Rattle.child_edge.specs.Moments.{BrokeFrom, RanFrom};
 ghost use Rattle.child_edge.specs.Limits.{most_turns};
 ghost use Rattle.child_calls.specs.Calls.{Answer};
 ghost use Rattle.child_calls.specs.Answers.{sent};
-ghost use Rattle.child_edge.specs.Faithful.{at, Beat, Beats, Carried, call_of, due_of, due_after, fault_of, Served, ServedUpTo, TakenUpTo};
+ghost use Rattle.child_edge.specs.Faithful.{at, Beat, Beats, Carried, call_of, due_of, due_after, fault_of, Served, ServedUpTo, TakenUpTo, hearing};
 ghost use Rattle.child_edge.specs.Faithful.{Hears, Taken, Waited};
 ghost use Rattle.child_edge.specs.Broken.{WaitSoFar, WaitStopped};
 ghost use Rattle.child_edge.specs.Told.{spoken};
@@ -19,7 +19,6 @@ use disk_model::Disk;
 use host_events::{ChildEvent, Command, Effect, Event, HostFault, Outcome, Reply};
 use session_engine::Host;
 use std::alloc::{AllocError, Global};
-use worksheet::Name;
 
 /// The turns of one wait in which children are received from.
 pub const MOST_TURNS: u32 = 100_000;
@@ -221,20 +220,14 @@ pub fn serve<D: Disk, C: Children>(
 
 /// The event of a life in a turn: what its child gives in a turn that listens, and `Stalled` in
 /// another.
-fn hear<C: Children>(
-    children: &mut C,
-    listens: bool,
-    name: Name,
-    life: u32,
-) -> Result<ChildEvent, AllocError>
-    ensures ok { IfOk result (λ event.
-        Hears C.after listens name life children.old event children.new) }
+fn hear<C: Children>(children: &mut C, listens: bool, seat: Seat) -> Result<ChildEvent, AllocError>
+    ensures ok { IfOk result (λ event. Hears C.after listens seat children.old event children.new) }
     ensures err { OnErr result (children.new ≡ children.old) }
 {
     if !listens {
         return Ok(ChildEvent::Stalled);
     }
-    match children.receive(name, life) {
+    match children.receive(seat.name, seat.life) {
         Ok(Received::Piece(piece)) => Ok(ChildEvent::Piece(piece)),
         Ok(Received::End) => Ok(ChildEvent::End),
         Err(ReceiveFault::Child) => Ok(ChildEvent::ReadFault),
@@ -252,10 +245,10 @@ pub(crate) fn take<D: Disk, C: Children>(
 ) -> Result<(), EdgeCause>
     ensures same { SameDisk host.old.store.disk host.new.store.disk }
     ensures ok { (w : World) → IsHost host.old w
-        → OnOk result (Ran (Taken C.after listens None seat (at w children.old host.old.store.disk)) replies.old.items
+        → OnOk result (Ran (Taken (hearing C.after listens) None seat (at w children.old host.old.store.disk)) replies.old.items
         host.new children.new replies.new.items) }
     ensures err { (w : World) → IsHost host.old w → IfErr result (λ cause. ByCause cause
-        (BrokeOff (TakenUpTo C.after listens seat (at w children.old host.old.store.disk)) replies.old.items
+        (BrokeOff (TakenUpTo (hearing C.after listens) seat (at w children.old host.old.store.disk)) replies.old.items
         host.new children.new replies.new.items)
         ((host.new ≡ host.old) × (children.new ≡ children.old)
         × (replies.new.items ≡ replies.old.items))) }
@@ -270,7 +263,7 @@ pub(crate) fn take<D: Disk, C: Children>(
         return Err(EdgeCause::OutOfMemory);
     }
     let Seat { name, life } = seat;
-    match hear(children, listens, name, life) {
+    match hear(children, listens, seat) {
         Ok(event) => match follow(host, children, Event::Child { name, life, event }, replies) {
             Ok(()) => Ok(()),
             Err(fault) => Err(EdgeCause::Host(fault)),

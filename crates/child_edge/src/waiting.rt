@@ -5,9 +5,9 @@ ghost use Rattle.session_engine.specs.World.{World};
 ghost use Rattle.session_engine.specs.Host.{IsHost};
 ghost use Rattle.child_edge.specs.Edge.{BrokeOff, ByCause, ClosedOrNoMemory, HeardOne, Ran};
 ghost use Rattle.child_edge.specs.Limits.{most_turns};
-ghost use Rattle.child_edge.specs.Faithful.{At, at, Beat};
+ghost use Rattle.child_edge.specs.Faithful.{At, at, Beat, Waited};
 ghost use Rattle.child_edge.specs.Broken.{WaitStopped};
-ghost use Rattle.child_edge.specs.Steps.{Came, IsBegun, Stepped, left_of};
+ghost use Rattle.child_edge.specs.Steps.{Came, IsBegun, left_of};
 
 use crate::busy::waiting;
 use crate::serving::{EdgeCause, MOST_TURNS, take};
@@ -94,10 +94,15 @@ impl Waiting {
         replies: &mut Vec<Reply>,
     ) -> Result<bool, EdgeCause>
         ensures same { SameDisk host.old.store.disk host.new.store.disk }
-        ensures ok { (s : At C) (bs : List Beat) (w : World) → IsHost host.old w
+        ensures took { (s : At C) (bs : List Beat) (w : World) → IsHost host.old w
             → Came C.after self.old s bs (at w children.old host.old.store.disk)
-            → IfOk result (Stepped C.after self.new s bs w host.old host.new children.old children.new
-            replies.old.items replies.new.items) }
+            → IfOk result (λ more. more ≡ true → Ran (λ cs t. Came C.after self.new s (bs ++ cs) t)
+            replies.old.items host.new children.new replies.new.items) }
+        ensures over { (s : At C) (bs : List Beat) (w : World) → IsHost host.old w
+            → Came C.after self.old s bs (at w children.old host.old.store.disk)
+            → IfOk result (λ more. more ≡ false
+            → Waited C.after most_turns s bs (at w children.old host.old.store.disk) × (host.new ≡ host.old)
+            × (children.new ≡ children.old) × (replies.new.items ≡ replies.old.items)) }
         ensures err { (s : At C) (bs : List Beat) (w : World) → IsHost host.old w
             → Came C.after self.old s bs (at w children.old host.old.store.disk)
             → IfErr result (λ cause. ByCause cause

@@ -101,26 +101,26 @@ module _ {C : Type 0} (o : Setting C) (p : EvalPlace C) (stand : Stand) (h g : H
     late_is = late-then next more begins t is ∙ ap late_of (sym (steps-then next t));
   }
 
-  pub not_noted : (next : Stand) → StepGave o (stands (at noted.so.leads c h.store.disk) stand) (left g d b e) (Some next) → NotingBroke o p g d a e fault.OutOfMemory
+  pub not_noted : (next : Stand) → StepGave o (stands (at noted.so.leads c h.store.disk) stand) (left g d b e) (Some next) → NotingBroke o p (left g d a e) fault.OutOfMemory
   not_noted next t = let so = one_taken o p stand h g c d a b e n noted.so next t in inr (refl, (so.steps, so.beats, so.text, so.leads, next, so.evaluated, so.stands))
 
   steps-all : (t : StepGave o (stands (at noted.so.leads c h.store.disk) stand) (left g d b e) None) → (all_taken o p stand h g c d a b e n noted.so t).0 ≡ noted.so.steps
   unfolding all_taken
   steps-all t = refl
 
-  pub all_noted : StepGave o (stands (at noted.so.leads c h.store.disk) stand) (left g d b e) None → NotedThrough o p g d a e late
+  pub all_noted : StepGave o (stands (at noted.so.leads c h.store.disk) stand) (left g d b e) None → NotedThrough o p (left g d a e) late
   all_noted t = (stand, (all_taken o p stand h g c d a b e n noted.so t, noted.late_is ∙ ap late_of (sym (steps-all t))))
 
-  pub noting_broke : (f : RunFault) → StepFailed o (stands (at noted.so.leads c h.store.disk) stand) (left g d b e) f → NotingBroke o p g d a e f
+  pub noting_broke : (f : RunFault) → StepFailed o (stands (at noted.so.leads c h.store.disk) stand) (left g d b e) f → NotingBroke o p (left g d a e) f
   noting_broke f t = inl (broke_off o p stand h g c d a b e n noted.so f t)
 
 -- as many steps came as are counted
-pub noted_many : {C : Type 0} (o : Setting C) (p : EvalPlace C) (stand : Stand) (h : HostView) (c : C) (a b : Option (List ℕ)) (n : ℕ) (late : List ℕ) → NotedSoFar o p stand h c a b n late → 2 ^ 64 ≤ n + 1 → NotingBroke o p h c a b fault.InputTooLong
+pub noted_many : {C : Type 0} (o : Setting C) (p : EvalPlace C) (stand : Stand) (h : HostView) (c : C) (a b : Option (List ℕ)) (n : ℕ) (late : List ℕ) → NotedSoFar o p stand h c a b n late → 2 ^ 64 ≤ n + 1 → NotingBroke o p (left h c a b) fault.InputTooLong
 noted_many o p stand h c a b n late noted many = inl (too_many o p stand h c a b n noted.so many)
 
 -- What comes of it where nothing is reported.
 module _ {C : Type 0} (o : Setting C) (s : At C) (h : HostView) (c : C) (a b : Option (List ℕ)) where
-  pub silently_done : (late : List ℕ) → NotedThrough o (stands s not_begun) h c a b late → (t : World) × EvaluatedSilently o s late (at t c h.store.disk) × IsHost h t
+  pub silently_done : (late : List ℕ) → NotedThrough o (stands s not_begun) (left h c a b) late → (t : World) × EvaluatedSilently o s late (at t c h.store.disk) × IsHost h t
   silently_done late q = let all = q.1.0 in (
     all.3,
     record { steps = all.0; beats = all.1; text = all.2; stand = q.0; evaluated = all.4; stopped = all.7.0; ends = all.7.1; late_is = q.1.1 },
@@ -162,7 +162,7 @@ module _ {C : Type 0} (o : Setting C) (s : At C) (h : HostView) (c : C) (a b : O
   no-number : NotNoted o (stands s not_begun) h c → BrokeSilently o s h c fault.OutOfMemory
   no-number q = (at q.3 c h.store.disk, refl, silently.no_memory refl (silently.between q.0 q.1 q.2 q.4 q.5) (inl (q.6, refl)))
 
-  pub silently_broke : (f why : RunFault) → why ≡ fault_of_wait f → NotingBroke o (stands s not_begun) h c a b f → BrokeSilently o s h c why
+  pub silently_broke : (f why : RunFault) → why ≡ fault_of_wait f → NotingBroke o (stands s not_begun) (left h c a b) f → BrokeSilently o s h c why
   silently_broke f why is (inl q) = subst (BrokeSilently o s h c) (sym is) (broke f q)
   silently_broke f why is (inr q) = subst (BrokeSilently o s h c) (sym (is ∙ ap fault_of_wait q.0)) (no-number q.1)
 

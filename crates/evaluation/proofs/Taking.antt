@@ -6,7 +6,7 @@ use Rattle.host_events.specs.declared.event.Event.TheVariants as event
 use Rattle.session_engine.specs.World.{sheet_in}
 use Rattle.session_engine.specs.Host.{HostView}
 use Rattle.child_calls.specs.declared.seat.Seat.{Seat}
-use Rattle.child_edge.specs.Faithful.{At, at, Beat, EachOf, ServedUpTo, Taken}
+use Rattle.child_edge.specs.Faithful.{At, at, Beat, EachOf, ServedUpTo, Taken, hearing}
 use Rattle.child_edge.specs.Seats.{waits}
 use Rattle.child_edge.specs.Told.{told}
 use Rattle.arrivals.specs.declared.sources.Woken.{Woken}
@@ -45,7 +45,7 @@ module _ {C : Type 0} (o : Setting C) (p : EvalPlace C) (h : HostView) (c : C) (
 
   -- A life.
 
-  life-whole : (seat : Seat) (beats : List Beat) (t : At C) → Taken o.after true None seat p.run beats t → StepLed o p (heard seat) beats t
+  life-whole : (seat : Seat) (beats : List Beat) (t : At C) → Taken (hearing o.after true) None seat p.run beats t → StepLed o p (heard seat) beats t
   life-whole seat beats t q =
       broken.whole (came_text o.voice (sheet_in t.world) (told beats)) (q, refl)
 
@@ -68,7 +68,7 @@ module _ {C : Type 0} (o : Setting C) (p : EvalPlace C) (h : HostView) (c : C) (
 
   -- The two seconds of an interrupted one.
 
-  grace-whole : (beats : List Beat) (t : At C) → EachOf (Taken o.after false None) (waits p.run.world) p.run beats t → StepLed o p stalled beats t
+  grace-whole : (beats : List Beat) (t : At C) → EachOf (Taken (hearing o.after false) None) (waits p.run.world) p.run beats t → StepLed o p stalled beats t
   grace-whole beats t q = broken.whole (came_text o.voice (sheet_in t.world) (told beats)) (q, refl)
 
   led-grace : (t : At C) → StallingLed o.after (waits p.run.world) p.run t → (beats : List Beat) × StepLed o p stalled beats t

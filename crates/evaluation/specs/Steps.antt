@@ -7,7 +7,7 @@ use Rattle.host_events.specs.declared.command.Command.TheVariants as command
 use Rattle.host_events.specs.declared.event.Event.TheVariants as event
 use Rattle.session_engine.specs.World.{World, sheet_in}
 use Rattle.child_calls.specs.declared.seat.Seat.{Seat}
-use Rattle.child_edge.specs.Faithful.{Relation, At, at, Beat, Served, Taken, OneTurn}
+use Rattle.child_edge.specs.Faithful.{Relation, At, at, Beat, Served, Taken, OneTurn, hearing}
 use Rattle.child_edge.specs.Interrupts.{Interrupts}
 use Rattle.child_edge.specs.Seats.{waits}
 use Rattle.child_edge.specs.Told.{told}
@@ -165,11 +165,11 @@ step_text V stalled sheet beats = came_text V sheet (told beats)
 abbrev pub StepDone : {C : Type 0} → Setting C → EvalPlace C → Step → List Beat → List ℕ → At C → Type 0
 StepDone o p (ask k id) beats text t =
     IsAsked o.plan (fields_at p) o.meant p.stand k id × Served o.after p.run (event.Command (command.Eval id)) beats t × (text ≡ step_text o.voice (ask k id) (sheet_in t.world) beats)
-StepDone o p (heard seat) beats text t = Taken o.after true None seat p.run beats t × (text ≡ step_text o.voice (heard seat) (sheet_in t.world) beats)
+StepDone o p (heard seat) beats text t = Taken (hearing o.after true) None seat p.run beats t × (text ≡ step_text o.voice (heard seat) (sheet_in t.world) beats)
 StepDone o p (over n id) beats text t =
     (beats ≡ []) × ((came : Interrupted) × InterruptsFor o.after p.run.world (field_in (fields_at p) id) p.run.children came t.children
     × (text ≡ o.voice.note (note.Over (line_behind n) id came))) × (t ≡ at p.run.world t.children p.run.disk)
-StepDone o p stalled beats text t = OneTurn o.after false (waits p.run.world) p.run beats t × (text ≡ step_text o.voice stalled (sheet_in t.world) beats)
+StepDone o p stalled beats text t = OneTurn (hearing o.after false) (waits p.run.world) p.run beats t × (text ≡ step_text o.voice stalled (sheet_in t.world) beats)
 
 -- How the evaluation stands after a step that led there.
 abbrev pub StandsBehind : {C : Type 0} → Setting C → EvalPlace C → Step → At C → Stand → Type 0

@@ -4,6 +4,7 @@ ghost use Rattle.disk_model.specs.Disk.{SameDisk};
 ghost use Rattle.session_engine.specs.World.{World, sheet_in};
 ghost use Rattle.session_engine.specs.Host.{IsHost};
 ghost use Rattle.child_edge.specs.Faithful.{at};
+ghost use Rattle.live.specs.Records.{left};
 ghost use Rattle.evaluation.specs.Evaluation.{not_begun as begins};
 ghost use Rattle.evaluation.specs.Rounds.{asking_order};
 ghost use Rattle.evaluation.specs.Silently.{BrokeSilently, EvaluatedSilently, silent_setting};
@@ -60,10 +61,10 @@ fn evaluate_noting<D: Disk, S: Sources, T: Tells, W: Write>(
     ensures same { SameDisk host.old.store.disk host.new.store.disk }
     ensures ok { (w : World) → IsHost host.old w → IfOk result (λ late. NotedThrough
         (setting T.voice S.after S.clock S.wakes plan.now ids.now) (stands (at w sources.old host.old.store.disk) begins)
-        host.new sources.new (W.contents writer.old) (W.contents writer.new) late.items) }
+        (left host.new sources.new (W.contents writer.old) (W.contents writer.new)) late.items) }
     ensures err { (w : World) → IsHost host.old w → IfErr result (NotingBroke
         (setting T.voice S.after S.clock S.wakes plan.now ids.now) (stands (at w sources.old host.old.store.disk) begins)
-        host.new sources.new (W.contents writer.old) (W.contents writer.new)) }
+        (left host.new sources.new (W.contents writer.old) (W.contents writer.new))) }
 {
     let mut stand = not_begun();
     let mut late = Vec::new(alloc);

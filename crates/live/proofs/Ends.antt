@@ -9,7 +9,7 @@ use Rattle.session_engine.specs.Crash.{Moments}
 use Rattle.session_engine.specs.World.{World}
 use Rattle.session_engine.specs.Host.{HostView}
 use Rattle.child_calls.specs.declared.seat.Seat.{Seat}
-use Rattle.child_edge.specs.Faithful.{Relation, At, at, Beat, FirstOf, Taken}
+use Rattle.child_edge.specs.Faithful.{Relation, At, at, Beat, FirstOf, Taken, hearing}
 use Rattle.child_edge.specs.Broken.{TurnStopped}
 use Rattle.child_edge.specs.Kept.{HoldsSheet}
 use Rattle.child_edge.specs.Moments.{LeavesFronts, events_of, outcomes_of}
@@ -72,10 +72,10 @@ said-goes o number (Some (live.Interrupt name)) s it t p = no_beats (at s.world 
 said-up-to-goes : {C : Type 0} (R : Relation C) (l : Option LiveLine) (s : At C) (beats : List Beat) (e : Event) (t : At C) → SaidUpTo R l s beats e t → Goes s.world s.disk beats t.world t.disk
 said-up-to-goes R l s beats e t p = follows-goes R s (Some (event.Command p.0)) beats (Some e) t p.2
 
-pub stalled-goes : {C : Type 0} (R : Relation C) (seats : List Seat) (k : ℕ) (s : At C) (beats : List Beat) (t : At C) → FirstOf (Taken R false None) seats k s beats t → Goes s.world s.disk beats t.world t.disk
-stalled-goes R seats k s beats t p = first-goes R (Taken R false None) (λ x. taken-goes R false None x) seats k s beats t p
+pub stalled-goes : {C : Type 0} (R : Relation C) (seats : List Seat) (k : ℕ) (s : At C) (beats : List Beat) (t : At C) → FirstOf (Taken (hearing R false) None) seats k s beats t → Goes s.world s.disk beats t.world t.disk
+stalled-goes R seats k s beats t p = first-goes R (Taken (hearing R false) None) (λ x. taken-goes R false None x) seats k s beats t p
 
-pub turn-stopped-goes : {C : Type 0} (R : Relation C) (seats : List Seat) (s : At C) (beats : List Beat) (e : Event) (t : At C) → TurnStopped R false seats s beats e t → Goes s.world s.disk beats t.world t.disk
+pub turn-stopped-goes : {C : Type 0} (R : Relation C) (seats : List Seat) (s : At C) (beats : List Beat) (e : Event) (t : At C) → TurnStopped (hearing R false) seats s beats e t → Goes s.world s.disk beats t.world t.disk
 turn-stopped-goes R seats s beats e t q =
     subst (λ (l : List Beat). Goes s.world s.disk l t.world t.disk) (sym q.beats)
     (goes_on_by s.world s.disk q.before q.mid.world q.mid.disk q.last t.world t.disk (stalled-goes R seats q.whole s q.before q.mid q.are_done) (taken-goes R false (Some e) q.seat q.mid q.last t q.broken))

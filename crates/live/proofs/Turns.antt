@@ -10,7 +10,7 @@ use Rattle.session_engine.specs.Host.{HostView, IsHost}
 use Rattle.child_edge.specs.declared.serving.EdgeCause.{EdgeCause}
 use Rattle.child_edge.specs.declared.serving.EdgeCause.TheVariants as cause
 use Rattle.child_calls.specs.declared.seat.Seat.{Seat}
-use Rattle.child_edge.specs.Faithful.{Relation, At, at, Beat, EachOf, FirstOf, Taken, TakenUpTo}
+use Rattle.child_edge.specs.Faithful.{Relation, At, at, Beat, EachOf, FirstOf, Taken, TakenUpTo, hearing}
 use Rattle.child_edge.specs.Broken.{TurnStopped, TurnSoFar}
 use Rattle.child_edge.specs.Interrupts.{Interrupts}
 use Rattle.child_edge.specs.declared.interrupting.Interrupted.{Interrupted}
@@ -37,11 +37,11 @@ use Rattle.live.specs.Taking as inside
 -- What a life's turn gives.
 abbrev pub TurnBroke : {C : Type 0} → Relation C → Seat → World → HostView → HostView → C → C → List Reply → List Reply → EdgeCause → Type 0
 TurnBroke R seat w h g c d before replies why =
-    ByCause why (BrokeOff (TakenUpTo R true seat (at w c h.store.disk)) before g d replies) ((g ≡ h) × (d ≡ c) × (replies ≡ before))
+    ByCause why (BrokeOff (TakenUpTo (hearing R true) seat (at w c h.store.disk)) before g d replies) ((g ≡ h) × (d ≡ c) × (replies ≡ before))
 
 abbrev pub TurnGave : {C : Type 0} → Relation C → Seat → World → HostView → HostView → C → C → List Reply → List Reply → Result (Unit {0}) EdgeCause → Type 0
 TurnGave R seat w h g c d before replies r =
-    OnOk r (Ran (Taken R true None seat (at w c h.store.disk)) before g d replies) × IfErr r (TurnBroke R seat w h g c d before replies)
+    OnOk r (Ran (Taken (hearing R true) None seat (at w c h.store.disk)) before g d replies) × IfErr r (TurnBroke R seat w h g c d before replies)
 
 module _ {C : Type 0} (o : Edge C) (seat : Seat) (w : World) (h g : HostView) (c d : C) (replies : List Reply) (a b : Option (List ℕ)) (stands : IsHost h w) where
   as-before : g ≡ h → d ≡ c → at w d g.store.disk ≡ at w c h.store.disk
@@ -52,7 +52,7 @@ module _ {C : Type 0} (o : Edge C) (seat : Seat) (w : World) (h g : HostView) (c
   told-of t bs is are wrote =
       subst (λ (s : Contents). Appends a b (came_text o.voice s (told bs))) is (subst (λ (l : List Reply). Appends a b (came_text o.voice g.store.sheet.contents l)) are wrote)
 
-  pub heard : Ran (Taken o.after true None seat (at w c h.store.disk)) [] g d replies → Appends a b (came_text o.voice g.store.sheet.contents replies) → Heard o seat (at w c h.store.disk) (left g d a b)
+  pub heard : Ran (Taken (hearing o.after true) None seat (at w c h.store.disk)) [] g d replies → Appends a b (came_text o.voice g.store.sheet.contents replies) → Heard o seat (at w c h.store.disk) (left g d a b)
   heard p wrote = (p.beats, p.leads, p.form, p.stands, told-of p.leads p.beats p.stands.stands.contents p.replied wrote)
 
   pub heard_failed : (why : EdgeCause) → TurnBroke o.after seat w h g c d [] replies why
@@ -97,7 +97,7 @@ module _ {C : Type 0} (o : Edge C) (p : LivePlace C) (h : HostView) (c : C) (a b
   took_untold x fault.InUse why q = absurd why
   took_untold x (fault.Host y) why q = absurd why
 
-  life-all : (seat : Seat) (beats : List Beat) (t : At C) → Taken o.after true None seat p.run beats t → TakesLed o p (life seat) t
+  life-all : (seat : Seat) (beats : List Beat) (t : At C) → Taken (hearing o.after true) None seat p.run beats t → TakesLed o p (life seat) t
   life-all seat beats t q =
       let on = goes_on_somehow p.held t.world in
       broken.all (brought beats (came_text o.voice (sheet_in t.world) (told beats) ++ over_text o.voice p.number p.held on.0)) (place t p.number on.0) (refl, q, refl, on.1) refl
@@ -125,7 +125,7 @@ module _ {C : Type 0} (o : Edge C) (p : LivePlace C) (h : HostView) (c : C) (a b
   life_took seat mid held q on wrote =
       (brought q.0 (came_text o.voice (sheet_in q.1) (told q.0) ++ over_text o.voice p.number p.held held), q.1, (refl, q.2, refl, on), q.3, Appends-trans a mid b (came_text o.voice (sheet_in q.1) (told q.0)) (over_text o.voice p.number p.held held) q.4 wrote)
 
-  time-all : (timed : IsUntil p.held) (beats : List Beat) (t : At C) → EachOf (Taken o.after false None) (waits p.run.world) p.run beats t → TakesLed o p time_over t
+  time-all : (timed : IsUntil p.held) (beats : List Beat) (t : At C) → EachOf (Taken (hearing o.after false) None) (waits p.run.world) p.run beats t → TakesLed o p time_over t
   time-all timed beats t q = broken.all (brought beats (came_text o.voice (sheet_in t.world) (told beats) ++ o.voice.note (note.Waited p.number true))) (place t p.number hold.Free) (inl (timed, refl, q, refl, refl)) refl
 
   led-time : (timed : IsUntil p.held) (t : At C) → StallingLed o.after (waits p.run.world) p.run t → TakesLed o p time_over t
@@ -192,17 +192,17 @@ told-both all old new bs cs e f = f ∙ ap (λ (l : List Reply). l ++ told cs) e
 
 module _ {C : Type 0} (R : Relation C) (seats : List Seat) where
   abbrev pub StalledSoFar : ℕ → At C → List Reply → HostView → C → List Reply → Type 0
-  StalledSoFar k s before h c replies = Ran (FirstOf (Taken R false None) seats k s) before h c replies
+  StalledSoFar k s before h c replies = Ran (FirstOf (Taken (hearing R false) None) seats k s) before h c replies
 
   pub none_stalled : (w : World) (h : HostView) (c : C) (replies : List Reply) → IsHost h w → StalledSoFar 0 (at w c h.store.disk) replies h c replies
   none_stalled w h c replies stands = record { beats = []; leads = w; form = (refl, refl); stands = stands; replied = sym (append-nil replies) }
 
   module _ (k : ℕ) (seat : Seat) (s : At C) (h g : HostView) (c d : C) (before mid replies : List Reply) (so : StalledSoFar k s before h c mid) (is : slice_get seats k ≡ Some seat) where
-    pub one_stalled : Ran (Taken R false None seat (at so.leads c h.store.disk)) mid g d replies → StalledSoFar (k + 1) s before g d replies
+    pub one_stalled : Ran (Taken (hearing R false) None seat (at so.leads c h.store.disk)) mid g d replies → StalledSoFar (k + 1) s before g d replies
     one_stalled p = let one : suc k ≡ k + 1 = omega arith in record {
       beats = so.beats ++ p.beats;
       leads = p.leads;
-      form = subst (λ (n : ℕ). FirstOf (Taken R false None) seats n s (so.beats ++ p.beats) (at p.leads d g.store.disk)) one (seat, at so.leads c h.store.disk, so.beats, p.beats, is, so.form, p.form, refl);
+      form = subst (λ (n : ℕ). FirstOf (Taken (hearing R false) None) seats n s (so.beats ++ p.beats) (at p.leads d g.store.disk)) one (seat, at so.leads c h.store.disk, so.beats, p.beats, is, so.form, p.form, refl);
       stands = p.stands;
       replied = told-both before mid replies so.beats p.beats so.replied p.replied;
     }
@@ -212,8 +212,8 @@ module _ {C : Type 0} (R : Relation C) (seats : List Seat) where
     unmoved P p q x = subst (λ (y : C). P (at so.leads y g.store.disk)) (sym q) (subst (λ (y : HostView). P (at so.leads c y.store.disk)) (sym p) x)
 
     pub stalling_broke : k < length seats → (why : EdgeCause)
-        → ByCause why (BrokeOff (TakenUpTo R false seat (at so.leads c h.store.disk)) mid g d replies) ((g ≡ h) × (d ≡ c) × (replies ≡ mid))
-        → ByCause why (BrokeOff (TurnStopped R false seats s) before g d replies) (Ran (TurnSoFar R false seats s) before g d replies)
+        → ByCause why (BrokeOff (TakenUpTo (hearing R false) seat (at so.leads c h.store.disk)) mid g d replies) ((g ≡ h) × (d ≡ c) × (replies ≡ mid))
+        → ByCause why (BrokeOff (TurnStopped (hearing R false) seats s) before g d replies) (Ran (TurnSoFar (hearing R false) seats s) before g d replies)
     stalling_broke fits (cause.Host f) p = record {
       beats = so.beats ++ p.beats;
       leads = p.leads;
@@ -226,24 +226,24 @@ module _ {C : Type 0} (R : Relation C) (seats : List Seat) where
     stalling_broke fits cause.OutOfMemory p = record {
       beats = so.beats;
       leads = so.leads;
-      form = record { whole = k; fits = omega (arith, fits); are_done = unmoved (λ t. FirstOf (Taken R false None) seats k s so.beats t) p.0 p.1 so.form };
+      form = record { whole = k; fits = omega (arith, fits); are_done = unmoved (λ t. FirstOf (Taken (hearing R false) None) seats k s so.beats t) p.0 p.1 so.form };
       stands = subst (λ (y : HostView). IsHost y so.leads) (sym p.0) so.stands;
       replied = p.2 ∙ so.replied;
     }
 
 -- The replies of them.
 abbrev pub StallingBroke : {C : Type 0} → Relation C → List Seat → At C → HostView → C → List Reply → EdgeCause → Type 0
-StallingBroke R seats s g d replies why = ByCause why (BrokeOff (TurnStopped R false seats s) [] g d replies) (Ran (TurnSoFar R false seats s) [] g d replies)
+StallingBroke R seats s g d replies why = ByCause why (BrokeOff (TurnStopped (hearing R false) seats s) [] g d replies) (Ran (TurnSoFar (hearing R false) seats s) [] g d replies)
 
 abbrev pub StallingGave : {C : Type 0} → Relation C → List Seat → At C → HostView → C → List Reply → Result (Unit {0}) EdgeCause → Type 0
-StallingGave R seats s g d replies r = OnOk r (Ran (EachOf (Taken R false None) seats s) [] g d replies) × IfErr r (StallingBroke R seats s g d replies)
+StallingGave R seats s g d replies r = OnOk r (Ran (EachOf (Taken (hearing R false) None) seats s) [] g d replies) × IfErr r (StallingBroke R seats s g d replies)
 
 module _ {C : Type 0} (o : Edge C) (seats : List Seat) (s : At C) (g : HostView) (d : C) (replies : List Reply) (a b : Option (List ℕ)) where
   told-at : (t : World) (bs : List Beat) → g.store.sheet.contents ≡ sheet_in t → replies ≡ told bs → Appends a b (came_text o.voice g.store.sheet.contents replies) → Appends a b (came_text o.voice (sheet_in t) (told bs))
   told-at t bs is are wrote =
       subst (λ (x : Contents). Appends a b (came_text o.voice x (told bs))) is (subst (λ (l : List Reply). Appends a b (came_text o.voice g.store.sheet.contents l)) are wrote)
 
-  pub stalled : Ran (EachOf (Taken o.after false None) seats s) [] g d replies → Appends a b (came_text o.voice g.store.sheet.contents replies) → Stalled o seats s (left g d a b)
+  pub stalled : Ran (EachOf (Taken (hearing o.after false) None) seats s) [] g d replies → Appends a b (came_text o.voice g.store.sheet.contents replies) → Stalled o seats s (left g d a b)
   stalled p wrote = (p.beats, p.leads, p.form, p.stands, told-at p.leads p.beats p.stands.stands.contents p.replied wrote)
 
   pub stalling_failed : (why : EdgeCause) → StallingBroke o.after seats s g d replies why → Appends a b (came_text o.voice g.store.sheet.contents replies) → StallingFailed o seats s (left g d a b) (fault_of_cause why)

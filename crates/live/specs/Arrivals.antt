@@ -1,7 +1,7 @@
 -- What came to a live worksheet, one after the other, and what came of it. (docs/EDGE.md, "Live".)
 use Rattle.std.specs.Prelude.{◌≡◌, ◌⊎◌, ℕ, ◌+◌, ◌-◌, ◌≤◌, Bool, false, true, List, [], ◌∷◌, ◌++◌, Option, Some, None, IsSomeAnd, length, map}
 use Rattle.child_calls.specs.declared.seat.Seat.{Seat}
-use Rattle.child_edge.specs.Faithful.{At, at, Beat, EachOf, Taken, OneTurn}
+use Rattle.child_edge.specs.Faithful.{At, at, Beat, EachOf, Taken, OneTurn, hearing}
 use Rattle.child_edge.specs.Interrupts.{Interrupts}
 use Rattle.child_edge.specs.Moments.{outcomes_of}
 use Rattle.child_edge.specs.declared.interrupting.Interrupted.{Interrupted}
@@ -111,7 +111,7 @@ TakesGroup o p ls it q =
 -- The time of a wait is over, and so is the wait: each life in which an item still waits counts as stalled.
 abbrev pub EndsWait : {C : Type 0} → Edge C → LivePlace C → Brought → LivePlace C → Type 0
 EndsWait o p it q =
-    IsUntil p.held × (q.number ≡ p.number) × OneTurn o.after false (waits p.run.world) p.run it.beats q.run
+    IsUntil p.held × (q.number ≡ p.number) × OneTurn (hearing o.after false) (waits p.run.world) p.run it.beats q.run
     × (it.text ≡ came_text o.voice (sheet_in q.run.world) (told it.beats) ++ o.voice.note (note.Waited q.number true)) × (q.held ≡ hold.Free)
 
 -- The interpreter of this life's session was interrupted by one call, and what came of it is printed with this number of a line.
@@ -139,7 +139,7 @@ TakesArrival o p (line l) it q =
 TakesArrival o p (together ls) it q = TakesGroup o p ls it q
 TakesArrival o p part it q = (p.held ≡ hold.Free) × (it.beats ≡ []) × (it.text ≡ []) × (q ≡ p)
 TakesArrival o p (life seat) it q =
-    (q.number ≡ p.number) × Taken o.after true None seat p.run it.beats q.run
+    (q.number ≡ p.number) × Taken (hearing o.after true) None seat p.run it.beats q.run
     × (it.text ≡ came_text o.voice (sheet_in q.run.world) (told it.beats) ++ over_text o.voice q.number p.held q.held) × WaitGoesOn p.held q.run.world q.held
 TakesArrival o p time_over it q = EndsWait o p it q ⊎ Warns o p it q
 

@@ -2,7 +2,7 @@
 use Rattle.std.specs.Prelude.{◌≡◌, ℕ, false, true, List, [], ◌∷◌, ◌++◌}
 use Rattle.host_events.specs.declared.event.Event.{Event}
 use Rattle.child_calls.specs.declared.seat.Seat.{Seat}
-use Rattle.child_edge.specs.Faithful.{Relation, At, Beat, FirstOf, TakenUpTo}
+use Rattle.child_edge.specs.Faithful.{Relation, At, Beat, FirstOf, TakenUpTo, hearing}
 use Rattle.child_edge.specs.Broken.{TurnStopped, TurnSoFar}
 use Rattle.child_edge.specs.Seats.{waits}
 use Rattle.session_engine.specs.World.{sheet_in}
@@ -16,8 +16,8 @@ use Rattle.live.specs.Arrivals.{Arrival, line, together, life, time_over, LivePl
 -- An arrival came up to this event, at which the host had a fault: these entries of it came before.
 pub data TakesUpTo {C : Type 0} (R : Relation C) (p : LivePlace C) (beats : List Beat) (e : Event) (t : At C) : Arrival → Type 0 where
   line_up_to : (l : InputLine) → SaidUpTo R (said_by l) p.run beats e t → TakesUpTo R p beats e t (line l)
-  life_up_to : (seat : Seat) → TakenUpTo R true seat p.run beats e t → TakesUpTo R p beats e t (life seat)
-  time_up_to : IsUntil p.held → TurnStopped R false (waits p.run.world) p.run beats e t → TakesUpTo R p beats e t time_over
+  life_up_to : (seat : Seat) → TakenUpTo (hearing R true) seat p.run beats e t → TakesUpTo R p beats e t (life seat)
+  time_up_to : IsUntil p.held → TurnStopped (hearing R false) (waits p.run.world) p.run beats e t → TakesUpTo R p beats e t time_over
 
 -- An arrival came so far when memory was refused: a command or a group was not taken, of a life nothing was received, of the lives
 -- that were to count as stalled the first ones did, and none was interrupted.
@@ -25,7 +25,7 @@ pub data TakesSoFar {C : Type 0} (R : Relation C) (p : LivePlace C) (beats : Lis
   line_so_far : (l : InputLine) → IsCommand (said_by l) → beats ≡ [] → t ≡ p.run → TakesSoFar R p beats t (line l)
   together_so_far : (ls : List (List ℕ)) → MayGroup ls → beats ≡ [] → t ≡ p.run → TakesSoFar R p beats t (together ls)
   life_so_far : (seat : Seat) → beats ≡ [] → t ≡ p.run → TakesSoFar R p beats t (life seat)
-  time_so_far : IsUntil p.held → TurnSoFar R false (waits p.run.world) p.run beats t → TakesSoFar R p beats t time_over
+  time_so_far : IsUntil p.held → TurnSoFar (hearing R false) (waits p.run.world) p.run beats t → TakesSoFar R p beats t time_over
   limit_so_far : IsLimited p.held → beats ≡ [] → t ≡ p.run → TakesSoFar R p beats t time_over
 
 -- An arrival, or a part of it, led from here to there.

@@ -8,7 +8,7 @@ use Rattle.host_events.specs.declared.outcome.HostFault.TheVariants as hosts
 use Rattle.session_engine.specs.World.{World, sheet_in}
 use Rattle.session_engine.specs.Host.{IsHost}
 use Rattle.child_calls.specs.declared.seat.Seat.{Seat}
-use Rattle.child_edge.specs.Faithful.{Relation, At, at, Beat, EachOf, FirstOf, Taken, TakenUpTo}
+use Rattle.child_edge.specs.Faithful.{Relation, At, at, Beat, EachOf, FirstOf, Taken, TakenUpTo, hearing}
 use Rattle.child_edge.specs.Broken.{TurnStopped, TurnSoFar}
 use Rattle.child_edge.specs.Edge.{Stopped}
 use Rattle.child_edge.specs.Seats.{running}
@@ -36,13 +36,13 @@ use Rattle.live.specs.Live.{AreTooMany, EndComes, NoMoreComes}
 -- A life had its turn, and what it gave is written.
 abbrev pub Heard : {C : Type 0} → Edge C → Seat → At C → Left C → Type 0
 Heard o seat s left =
-    (beats : List Beat) × (t : World) × Taken o.after true None seat s beats (at t left.sources left.host.store.disk) × IsHost left.host t
+    (beats : List Beat) × (t : World) × Taken (hearing o.after true) None seat s beats (at t left.sources left.host.store.disk) × IsHost left.host t
     × Appends left.out left.now (came_text o.voice (sheet_in t) (told beats))
 
 -- a life that was taken, or a part of what came of it, led from here to there
 pub data HeardLed {C : Type 0} (R : Relation C) (seat : Seat) (s t : At C) : Type 0 where
-  all : (beats : List Beat) → Taken R true None seat s beats t → HeardLed R seat s t
-  up_to : (beats : List Beat) (e : Event) → TakenUpTo R true seat s beats e t → HeardLed R seat s t
+  all : (beats : List Beat) → Taken (hearing R true) None seat s beats t → HeardLed R seat s t
+  up_to : (beats : List Beat) (e : Event) → TakenUpTo (hearing R true) seat s beats e t → HeardLed R seat s t
   none : t ≡ s → HeardLed R seat s t
 
 -- what it gave couldn't be written
@@ -51,7 +51,7 @@ HeardUnwritten o seat s left = (t : World) × (d : DiskView) × HeardLed o.after
 
 -- what a fault of that leaves
 pub data HearingFailed {C : Type 0} (o : Edge C) (seat : Seat) (s : At C) (left : Left C) : RunFault → Type 0 where
-  stopped : (f : HostFault) (beats : List Beat) (e : Event) (t : World) (d : DiskView) → TakenUpTo o.after true seat s beats e (at t left.sources d) → Stopped d left.host t e f
+  stopped : (f : HostFault) (beats : List Beat) (e : Event) (t : World) (d : DiskView) → TakenUpTo (hearing o.after true) seat s beats e (at t left.sources d) → Stopped d left.host t e f
       → Appends left.out left.now (came_text o.voice (sheet_in t) (told beats)) → HearingFailed o seat s left (fault.Host f)
   refused : (t : World) → at t left.sources left.host.store.disk ≡ s → IsHost left.host t → Appends left.out left.now [] → HearingFailed o seat s left fault.OutOfMemory
   -- a voice that takes memory had none for what is written
@@ -85,14 +85,14 @@ pub data SayingFailed {C : Type 0} (o : Edge C) (number : ℕ) (l : Option LiveL
 -- Each of these lives counted as stalled, and what came of it is written.
 abbrev pub Stalled : {C : Type 0} → Edge C → List Seat → At C → Left C → Type 0
 Stalled o seats s left =
-    (beats : List Beat) × (t : World) × EachOf (Taken o.after false None) seats s beats (at t left.sources left.host.store.disk) × IsHost left.host t
+    (beats : List Beat) × (t : World) × EachOf (Taken (hearing o.after false) None) seats s beats (at t left.sources left.host.store.disk) × IsHost left.host t
     × Appends left.out left.now (came_text o.voice (sheet_in t) (told beats))
 
 -- some of them were, the last of them or a part of what came of it
 pub data StallingLed {C : Type 0} (R : Relation C) (seats : List Seat) (s t : At C) : Type 0 where
-  each : (beats : List Beat) → EachOf (Taken R false None) seats s beats t → StallingLed R seats s t
-  first : (beats : List Beat) → TurnSoFar R false seats s beats t → StallingLed R seats s t
-  up_to : (beats : List Beat) (e : Event) → TurnStopped R false seats s beats e t → StallingLed R seats s t
+  each : (beats : List Beat) → EachOf (Taken (hearing R false) None) seats s beats t → StallingLed R seats s t
+  first : (beats : List Beat) → TurnSoFar (hearing R false) seats s beats t → StallingLed R seats s t
+  up_to : (beats : List Beat) (e : Event) → TurnStopped (hearing R false) seats s beats e t → StallingLed R seats s t
 
 -- what came of them couldn't be written
 abbrev pub StalledUnwritten : {C : Type 0} → Edge C → List Seat → At C → Left C → Type 0
@@ -100,9 +100,9 @@ StalledUnwritten o seats s left = (t : World) × (d : DiskView) × StallingLed o
 
 -- what a fault of that leaves
 pub data StallingFailed {C : Type 0} (o : Edge C) (seats : List Seat) (s : At C) (left : Left C) : RunFault → Type 0 where
-  stopped : (f : HostFault) (beats : List Beat) (e : Event) (t : World) (d : DiskView) → TurnStopped o.after false seats s beats e (at t left.sources d) → Stopped d left.host t e f
+  stopped : (f : HostFault) (beats : List Beat) (e : Event) (t : World) (d : DiskView) → TurnStopped (hearing o.after false) seats s beats e (at t left.sources d) → Stopped d left.host t e f
       → Appends left.out left.now (came_text o.voice (sheet_in t) (told beats)) → StallingFailed o seats s left (fault.Host f)
-  refused : (beats : List Beat) (t : World) → TurnSoFar o.after false seats s beats (at t left.sources left.host.store.disk) → IsHost left.host t
+  refused : (beats : List Beat) (t : World) → TurnSoFar (hearing o.after false) seats s beats (at t left.sources left.host.store.disk) → IsHost left.host t
       → Appends left.out left.now (came_text o.voice (sheet_in t) (told beats)) → StallingFailed o seats s left fault.OutOfMemory
   untold : o.voice.takes_memory ≡ true → StalledUnwritten o seats s left → StallingFailed o seats s left fault.OutOfMemory
   unwritten : StalledUnwritten o seats s left → StallingFailed o seats s left fault.Output

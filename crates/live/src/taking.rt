@@ -5,7 +5,7 @@ ghost use Rattle.session_engine.specs.World.{World};
 ghost use Rattle.session_engine.specs.Host.{IsHost};
 ghost use Rattle.child_edge.specs.Broken.{TurnSoFar, TurnStopped};
 ghost use Rattle.child_edge.specs.Edge.{BrokeOff, ByCause, Ran};
-ghost use Rattle.child_edge.specs.Faithful.{at, EachOf, Taken};
+ghost use Rattle.child_edge.specs.Faithful.{at, EachOf, Taken, hearing};
 ghost use Rattle.live.specs.Records.{edge, left};
 ghost use Rattle.live.specs.Arrivals.{life, place};
 ghost use Rattle.live.specs.Taking.{Heard, HearingFailed, Stalled, StallingFailed, TakingFailed, TookArrival};
@@ -87,12 +87,12 @@ fn stall_each<D: Disk, S: Sources>(
 ) -> Result<(), EdgeCause>
     ensures same { SameDisk host.old.store.disk host.new.store.disk }
     ensures ok { (w : World) → IsHost host.old w → OnOk result
-        (Ran (EachOf (Taken S.after false None) seats.now (at w sources.old host.old.store.disk)) replies.old.items
+        (Ran (EachOf (Taken (hearing S.after false) None) seats.now (at w sources.old host.old.store.disk)) replies.old.items
         host.new sources.new replies.new.items) }
     ensures err { (w : World) → IsHost host.old w → IfErr result (λ cause. ByCause cause
-        (BrokeOff (TurnStopped S.after false seats.now (at w sources.old host.old.store.disk)) replies.old.items
+        (BrokeOff (TurnStopped (hearing S.after false) seats.now (at w sources.old host.old.store.disk)) replies.old.items
         host.new sources.new replies.new.items)
-        (Ran (TurnSoFar S.after false seats.now (at w sources.old host.old.store.disk)) replies.old.items
+        (Ran (TurnSoFar (hearing S.after false) seats.now (at w sources.old host.old.store.disk)) replies.old.items
         host.new sources.new replies.new.items)) }
 {
     for seat in seats {

@@ -151,6 +151,7 @@ ended_so() {
 beside deaf --timeout 2
 beside going --timeout 2 --keep-going
 beside strictly --timeout 2 --strict
+beside as_json --timeout 2 --json
 wait
 ended_so deaf 'one that hears no interrupt stalls, and the fields after it keep what they show' 1 \
     'asked\nbanner a\nanswered 1\nasked\nover 5\nended a Stalled lost 1\nasked\nbanner b\nanswered 4\nanswered 3 unanswered 1\nover 1 passed 1\n' \
@@ -160,6 +161,23 @@ ended_so going 'they go to another interpreter' 1 \
     '#1 a\n> x\nx\n#5 a\n> deaf\n? Stalled\n#3 a\n> y\ny\n#4 b\n> z\nz 1\n'
 ended_so strictly 'strictly' 3 'asked\nbanner a\nanswered 1\nasked\nover 5\nended a Stalled lost 1\nanswered 3 unanswered 1\nover 1 passed 2\nstopped at line 4\n' \
     '#1 a\n> x\nx\n#5 a\n> deaf\n? Stalled\n#3 a\n> y\ny\n#4 b\n> z\nz 1\n'
+
+cat >wanted <<'END'
+{"format":1,"program":"tmhost","protocol":2,"type":"hello","version":"0.1.0"}
+{"life":1,"line":1,"type":"asked"}
+{"life":1,"output":{"items":[],"kind":"format","tag":"verbatim"},"session":"a","shown":"","type":"banner"}
+{"id":1,"life":1,"output":{"items":["x"],"kind":"format","tag":"verbatim"},"prompt":"> ","session":"a","shown":"x","type":"answered"}
+{"life":1,"line":3,"type":"asked"}
+{"id":5,"outcome":"sent","type":"over"}
+{"life":1,"lost":[{"id":5,"text":"deaf"}],"reason":"Stalled","session":"a","type":"ended"}
+{"life":2,"line":7,"type":"asked"}
+{"life":2,"output":{"items":[],"kind":"format","tag":"verbatim"},"session":"b","shown":"","type":"banner"}
+{"id":4,"life":2,"output":{"items":["z 1"],"kind":"format","tag":"verbatim"},"prompt":"> ","session":"b","shown":"z 1","type":"answered"}
+{"answered":3,"over":1,"passed":1,"type":"counted","unanswered":1}
+{"type":"end"}
+status 1
+END
+compare 'a time that is over, as JSON' "$(cat as_json.told)" "$(cat wanted)"
 
 # That a time is over is there at once: this interpreter answers when it has read it, and stalls else.
 cat >tells.sh <<'END'

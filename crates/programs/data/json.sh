@@ -212,7 +212,7 @@ cat >wanted <<'END_OF_JSON'
 {"id":1,"line":2,"type":"made"}
 {"life":1,"line":3,"type":"asked"}
 {"life":1,"output":{"items":[],"kind":"format","tag":"verbatim"},"session":"a","shown":"","type":"banner"}
-{"line":4,"outcome":"sent","type":"interrupted"}
+{"life":1,"outcome":"sent","session":"a","type":"interrupted"}
 {"life":1,"lost":[{"id":1,"text":"deaf"}],"reason":"Stalled","session":"a","type":"ended"}
 {"line":4,"over":"time","type":"waited"}
 {"field":{"id":1,"input":"deaf","reason":"Stalled","session":"a","state":"lost"},"line":5,"type":"field"}

@@ -367,19 +367,25 @@ step cases
 . ./desk.sh
 compare 'a case that must differ' yes no
 counted 'cases that must differ'
-. ./areas.sh
-. ./blocks.sh
-. ./children.sh
-. ./completions.sh
-. ./replies.sh
-. ./limits.sh
-. ./live.sh
-. ./eval.sh
-. ./json.sh
-. ./command_lines.sh
-. ./rescues.sh
-. ./exports.sh
-. ./check.sh
-. ./accepts.sh
-. ./progress.sh
-. ./strict.sh
+# Matters whose cases share files are in one chain. A chain has a copy of this folder for itself and goes beside the others, since many cases
+# wait for a second or two. What it prints is printed behind what those before it here printed.
+chain() {
+    mkdir "chain.$1"
+    for file in *; do
+        case $file in chain.*) ;; *) cp -a "$file" "chain.$1" ;; esac
+    done
+    (
+        cd "chain.$1" || exit
+        for matter in "$@"; do
+            . "./$matter.sh"
+        done
+    ) >"chain.$1/told" 2>&1 &
+}
+
+case $tmhost in /*) ;; *) tmhost=$PWD/$tmhost ;; esac
+chain areas blocks rescues exports command_lines
+chain children completions replies limits strict live json
+chain eval
+chain check accepts progress
+wait
+cat chain.areas/told chain.children/told chain.eval/told chain.check/told

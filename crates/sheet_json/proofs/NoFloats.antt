@@ -88,6 +88,7 @@ event_none session life (told.answer id prompt output) =
 event_none session life (told.completed id given) = ap₂ (λ a b. a || (b || false)) (bytes_none session) (completions_none given)
 event_none session life (told.input line) = ap₂ (λ a b. a || (b || false)) (bytes_none session) (bytes_none line)
 event_none session life (told.ended why lost) = ap₂ (λ a b. a || (b || false)) (row_none lost_data lost_none lost) (bytes_none session)
+event_none session life (told.warned outcome) = ap (λ b. b || false) (bytes_none session)
 
 answer_none : (answer : Option Answer) → has_float (answer_data answer) ≡ false
 answer_none None = refl
@@ -117,6 +118,7 @@ none_told (told.sheet line ids next sessions) = whole_none ids sessions next
 none_told (told.whole ids next sessions) = whole_none ids sessions next
 none_told (told.fault n name None) = refl
 none_told (told.fault n name (Some offset)) = refl
+none_told (told.over id outcome) = refl
 none_told (told.counted answered unanswered) = refl
 none_told (told.counted_in_time answered unanswered over passed) = refl
 none_told (told.checked id session c) = checked_none id session c

@@ -162,6 +162,7 @@ event_plain session life (told.completed id given) l s =
 event_plain session life (told.input line) l s = an_object (a_member (a_count l) (a_member (some_bytes session) (a_member (some_bytes line) a_type)))
 event_plain session life (told.ended why lost) l s =
     an_object (a_member (a_count l) (a_member (losts_plain lost s (omega arith)) (a_member a_text (a_member (some_bytes session) a_type))))
+event_plain session life (told.warned outcome) l s = an_object (a_member (a_count l) (a_member a_text (a_member (some_bytes session) a_type)))
 
 field_plain : (id : ℕ) (session input : List ℕ) (state : State) → Is64 id → IsSoundState state → IsPlain 66 (field_with id session input state)
 field_plain id session input (told.answered prompt output) i s =
@@ -215,6 +216,7 @@ tellings_are_plain (told.sheet line ids next sessions) s =
 tellings_are_plain (told.whole ids next sessions) s = an_object (a_member (ids_plain ids s.0) (a_member (a_count s.1) (a_member (sessions_plain sessions s.2) a_type)))
 tellings_are_plain (told.fault n name None) s = an_object (a_member a_text (a_member (a_count s) a_type))
 tellings_are_plain (told.fault n name (Some offset)) s = an_object (a_member a_text (a_member (a_count s.0) (a_member (a_count s.1) a_type)))
+tellings_are_plain (told.over id outcome) s = an_object (a_member (a_count s) (a_member a_text a_type))
 tellings_are_plain (told.counted answered unanswered) s = an_object (a_member (a_count s.0) (a_member a_text (a_member (a_count s.1) no_more)))
 tellings_are_plain (told.counted_in_time answered unanswered over passed) s =
     an_object (a_member (a_count s.0) (a_member (a_count s.2) (a_member (a_count s.3) (a_member a_text (a_member (a_count s.1) no_more)))))

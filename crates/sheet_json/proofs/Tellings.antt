@@ -66,7 +66,7 @@ replies_read_back line (told.waited false) = refl
 replies_read_back line (told.interrupted outcome) = refl
 
 pub counts_read_back : CountsReadBack
-counts_read_back = ((λ a u. refl), (λ a u over passed. refl))
+counts_read_back = ((λ a u. refl), (λ a u over passed. refl), (λ id outcome. refl))
 
 tree_back : (b : Tree) → HasBytes b → tree_in (tree_data b) ≡ Some b
 tree_back = blocks_read_back
@@ -111,3 +111,4 @@ events_read_back session life (told.input line) are good = of_life session life 
 events_read_back session life (told.ended why lost) are good =
     of_life session life (told.ended why lost) _ are
     (ap (λ r. of (option_map (λ w items. told.ended w items) r) (list_in lost_in (losts_data lost))) (reason_back why) ∙ ap (of (Some (λ items. told.ended why items))) (losts_back lost good))
+events_read_back session life (told.warned outcome) are good = of_life session life (told.warned outcome) (Some (told.warned outcome)) are refl

@@ -13,7 +13,7 @@ use Rattle.sheet_json.specs.Plain.{IsPlain, IsSoundTelling}
 use Rattle.sheet_json.specs.Reading.{bytes_in, tree_in, HasBytes}
 use Rattle.sheet_json.specs.Tellings.{CheckTold, EventTold, FieldShown, Reply, SessionShown, Telling}
 use Rattle.sheet_json.specs.Tellings as told
-use Rattle.sheet_json.specs.Told.{checked_in, compared_in, counts_in, field_read, no_field_in, session_in, told_in, CheckHasBytes, EventHasBytes, StateHasBytes}
+use Rattle.sheet_json.specs.Told.{checked_in, compared_in, counts_in, field_read, no_field_in, over_in, session_in, told_in, CheckHasBytes, EventHasBytes, StateHasBytes}
 
 -- Bytes read back, whatever they are.
 abbrev pub BytesReadBack : Type 0
@@ -38,10 +38,11 @@ FieldsReadBack = (f : FieldShown) → IsBytes f.session → StateHasBytes f.stat
 abbrev pub SessionsReadBack : Type 0
 SessionsReadBack = (s : SessionShown) → IsBytes s.name → AllByRecursion IsBytes s.words → session_in (session_data s) ≡ Some s
 
--- The counts of an evaluation read back.
+-- The counts of an evaluation read back, and that the time of a field was over.
 abbrev pub CountsReadBack : Type 0
 CountsReadBack = ((a u : ℕ) → counts_in (telling_data (told.counted a u)) ≡ Some (told.counted a u))
     × ((a u over passed : ℕ) → counts_in (telling_data (told.counted_in_time a u over passed)) ≡ Some (told.counted_in_time a u over passed))
+    × ((id : ℕ) (outcome : List ℕ) → over_in (telling_data (told.over id outcome)) ≡ Some (told.over id outcome))
 
 -- What a field that was evaluated again came to reads back, and so do the counts of a check, and the number that no field has.
 abbrev pub ChecksReadBack : Type 0

@@ -75,6 +75,8 @@ event_data session life (told.input line) =
     object (member (codes "life") (count life) (member (codes "session") (bytes_data session) (member (codes "text") (bytes_data line) (typed (codes "default")))))
 event_data session life (told.ended why lost) =
     object (member (codes "life") (count life) (member (codes "lost") (losts_data lost) (member (codes "reason") (string (reason_name why)) (member (codes "session") (bytes_data session) (typed (codes "ended"))))))
+event_data session life (told.warned outcome) =
+    object (member (codes "life") (count life) (member (codes "outcome") (string outcome) (member (codes "session") (bytes_data session) (typed (codes "interrupted")))))
 
 -- Worksheets.
 
@@ -147,6 +149,7 @@ telling_data (told.sheet line ids next sessions) = object (member (codes "fields
 telling_data (told.whole ids next sessions) = object (member (codes "fields") (ids_data ids) (member (codes "next") (count next) (member (codes "sessions") (sessions_data sessions) (typed (codes "sheet")))))
 telling_data (told.fault n name None) = object (member (codes "name") (string name) (member (codes "number") (count n) (typed (codes "fault"))))
 telling_data (told.fault n name (Some offset)) = object (member (codes "name") (string name) (member (codes "number") (count n) (member (codes "offset") (count offset) (typed (codes "fault")))))
+telling_data (told.over id outcome) = object (member (codes "id") (count id) (member (codes "outcome") (string outcome) (typed (codes "over"))))
 telling_data (told.counted answered unanswered) = object (member (codes "answered") (count answered) (member (codes "type") (string (codes "counted")) (member (codes "unanswered") (count unanswered) no_members)))
 telling_data (told.counted_in_time answered unanswered over passed) =
     object (member (codes "answered") (count answered) (member (codes "over") (count over) (member (codes "passed") (count passed) (member (codes "type") (string (codes "counted")) (member (codes "unanswered") (count unanswered) no_members)))))

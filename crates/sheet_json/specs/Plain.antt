@@ -51,6 +51,7 @@ IsSoundEvent (told.answer id prompt output) = Is64 id × (is_block output ≡ tr
 IsSoundEvent (told.completed id completions) = Is64 id
 IsSoundEvent (told.input line) = Unit {0}
 IsSoundEvent (told.ended why lost) = AllByRecursion IsSoundItem lost
+IsSoundEvent (told.warned outcome) = Unit {0}
 
 abbrev pub IsSoundState : State → Type 0
 IsSoundState (told.answered prompt output) = is_block output ≡ true
@@ -90,6 +91,7 @@ IsSoundTelling (told.sheet line ids next sessions) = Is64 line × AllByRecursion
 IsSoundTelling (told.whole ids next sessions) = AllByRecursion Is64 ids × Is64 next × AllByRecursion IsSoundSession sessions
 IsSoundTelling (told.fault n name None) = Is64 n
 IsSoundTelling (told.fault n name (Some offset)) = Is64 n × Is64 offset
+IsSoundTelling (told.over id outcome) = Is64 id
 IsSoundTelling (told.counted answered unanswered) = Is64 answered × Is64 unanswered
 IsSoundTelling (told.counted_in_time answered unanswered over passed) = Is64 answered × Is64 unanswered × Is64 over × Is64 passed
 IsSoundTelling (told.checked id session c) = Is64 id × IsSoundCheck c

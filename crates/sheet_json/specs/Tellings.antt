@@ -49,6 +49,8 @@ pub data EventTold : Type 0 where
   completed : ℕ → Option Completions → EventTold
   input : List ℕ → EventTold
   ended : Reason → List Item → EventTold
+  -- a limit of time was over, and it was interrupted: what came of that, as a word
+  warned : List ℕ → EventTold
 
 -- What another evaluation of a field came to. Where that isn't the same output: its input, the answer that it shows, and the one that
 -- came, or the reason that it shows for none.
@@ -75,6 +77,8 @@ pub data Telling : Type 0 where
   whole : List ℕ → ℕ → List SessionShown → Telling
   -- the number of a fault and its name, and the offset of a damage
   fault : ℕ → List ℕ → Option ℕ → Telling
+  -- the limit of time of the field with this number was over, and its interpreter was interrupted: what came of that, as a word
+  over : ℕ → List ℕ → Telling
   -- at the end of an evaluation, how many fields show an answer and how many don't
   counted : ℕ → ℕ → Telling
   -- the same, and for how many fields the limit of time was over, and how many were passed over

@@ -111,7 +111,8 @@ event_named name d =
     (cond (bytes_eq name (codes "answered")) (of (of (option_map (λ id prompt output. told.answer id prompt output) (member_in count_in (codes "id") d)) (member_in bytes_in (codes "prompt") d)) (member_in tree_in (codes "output") d))
     (cond (bytes_eq name (codes "completed")) (of (option_map (λ id told_ones. told.completed id told_ones) (member_in count_in (codes "id") d)) (member_in (option_in completions_in) (codes "told") d))
     (cond (bytes_eq name (codes "default")) (option_map (λ line. told.input line) (member_in bytes_in (codes "text") d))
-    (cond (bytes_eq name (codes "ended")) (of (option_map (λ why items. told.ended why items) (member_in reason_in (codes "reason") d)) (member_in (list_in lost_in) (codes "lost") d)) None))))
+    (cond (bytes_eq name (codes "ended")) (of (option_map (λ why items. told.ended why items) (member_in reason_in (codes "reason") d)) (member_in (list_in lost_in) (codes "lost") d))
+    (cond (bytes_eq name (codes "interrupted")) (option_map (λ outcome. told.warned outcome) (member_in as_str (codes "outcome") d)) None)))))
 
 -- a reply has a line, and what comes of an interpreter has none
 abbrev pub with_line : Option ℕ → List ℕ → Data → Option Telling
@@ -134,6 +135,10 @@ counts_with (Some over) d =
 
 abbrev pub counts_in : Data → Option Telling
 counts_in d = counts_with (get (codes "over") d) d
+
+-- that the time of a field is over
+abbrev pub over_in : Data → Option Telling
+over_in d = of (option_map (λ id outcome. told.over id outcome) (member_in count_in (codes "id") d)) (member_in as_str (codes "outcome") d)
 
 -- an answer, or that there is none
 abbrev pub some_answer_in : Data → Option Answer
@@ -178,6 +183,7 @@ EventHasBytes (told.answer id prompt output) = IsBytes prompt × HasBytes output
 EventHasBytes (told.completed id completions) = CompletionsHaveBytes completions
 EventHasBytes (told.input line) = IsBytes line
 EventHasBytes (told.ended why items) = AllByRecursion ItemHasBytes items
+EventHasBytes (told.warned outcome) = Unit {0}
 
 abbrev pub StateHasBytes : State → Type 0
 StateHasBytes (told.answered prompt output) = IsBytes prompt × HasBytes output

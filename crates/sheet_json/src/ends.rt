@@ -1,4 +1,4 @@
-//! The first and the last objects.
+//! The first and the last objects, and what comes of a limit of time.
 ghost use Rattle.std.specs.Prelude.{◌≡◌, IfOk};
 ghost use Rattle.serde_json.specs.View.{view};
 ghost use Rattle.sheet_json.specs.Objects.{telling_data};
@@ -19,6 +19,13 @@ pub fn end_value(alloc: Global) -> Result<Value, AllocError>
     ensures { IfOk result (λ value. view value ≡ telling_data told.end) }
 {
     json!(in alloc; {"type": "end"})
+}
+
+/// The time of this field is over, and its interpreter was interrupted, or not: what came of it, as a word.
+pub fn over_value(alloc: Global, id: u32, outcome: &str) -> Result<Value, AllocError>
+    ensures { IfOk result (λ value. view value ≡ telling_data (told.over id outcome.now)) }
+{
+    json!(in alloc; {"id": id, "outcome": outcome, "type": "over"})
 }
 
 /// How many fields of a worksheet show an answer at the end of an evaluation, and how many don't.

@@ -184,6 +184,20 @@ pub fn ended_value(
     json!(in alloc; {"life": life, "lost": items, "reason": reason, "session": name, "type": "ended"})
 }
 
+/// A limit of time was over, and the interpreter of a life was interrupted, or not: what came of it, as a word.
+pub fn warned_value(
+    alloc: Global,
+    session: &[u8],
+    life: u32,
+    outcome: &str,
+) -> Result<Value, AllocError>
+    ensures { IfOk result (λ value. view value
+        ≡ telling_data (told.event session.now life (told.warned outcome.now))) }
+{
+    let name = bytes_value(alloc, session)?;
+    json!(in alloc; {"life": life, "outcome": outcome, "session": name, "type": "interrupted"})
+}
+
 /// A life was ended by a line, and these items were lost.
 pub fn stopped_value(
     alloc: Global,

@@ -37,7 +37,7 @@ pub fn sessions_read_back()
     ensures { laws.SessionsReadBack }
 {}
 
-/// The counts of an evaluation read back.
+/// The counts of an evaluation read back, and that the time of a field was over.
 #[tactic(auto, using(crate::proofs::Tellings::counts_read_back))]
 pub fn counts_read_back()
     ensures { laws.CountsReadBack }

@@ -19,9 +19,11 @@ pub use bytes::bytes_value;
 pub use checks::{differs_value, left_out_value, same_value, unanswered_value};
 pub use ends::{
     counted_in_time_value, counted_value, end_value, fault_value, hello_value, no_field_value,
+    over_value,
 };
 pub use events::{
     answered_value, banner_value, completed_value, default_value, ended_value, stopped_value,
+    warned_value,
 };
 pub use fields::{asked_field_value, part_value, shown_field_value};
 pub use lines::{line_bytes, told_bytes};

@@ -13,9 +13,9 @@ use Rattle.child_edge.specs.declared.waiting.Waiting.{Waiting}
 use Rattle.child_edge.specs.Limits.{most_turns}
 use Rattle.child_edge.specs.Faithful.{Relation, At, at, Beat, Waited}
 use Rattle.child_edge.specs.Broken.{WaitSoFar, WaitStopped}
-use Rattle.child_edge.specs.Edge.{BrokeOff, ByCause}
+use Rattle.child_edge.specs.Edge.{BrokeOff, ByCause, Ran}
 use Rattle.child_edge.specs.Told.{told}
-use Rattle.child_edge.specs.Steps.{Came, IsBegun, Stepped}
+use Rattle.child_edge.specs.Steps.{Came, IsBegun}
 use Rattle.child_edge.proofs.Chains.{told-append}
 use Rattle.child_edge.proofs.Stepping.{came_begun, came_so_far}
 use Rattle.sheet_text.specs.Texts.{reply_text}
@@ -40,7 +40,9 @@ pub record HeardSoFar {C : Type 0} (R : Relation C) (wait : Waiting) (s : At C) 
 
 -- what a step gives, by what it answered
 abbrev pub StepGave : {C : Type 0} → Relation C → Waiting → At C → List Beat → World → HostView → HostView → C → C → List Reply → List Reply → Result Bool EdgeCause → Type 0
-StepGave R wait s bs w h g c d before replies r = IfOk r (Stepped R wait s bs w h g c d before replies) × IfErr r (λ why. ByCause why
+StepGave R wait s bs w h g c d before replies r =
+    IfOk r (λ more. more ≡ true → Ran (λ cs t. Came R wait s (bs ++ cs) t) before g d replies)
+    × IfOk r (λ more. more ≡ false → Waited R most_turns s bs (at w c h.store.disk) × (g ≡ h) × (d ≡ c) × (replies ≡ before)) × IfErr r (λ why. ByCause why
     (BrokeOff (λ cs e t. WaitStopped R most_turns s (bs ++ cs) e t) before g d replies)
     (Came R wait s bs (at w c h.store.disk) × (g ≡ h) × (d ≡ c) × (replies ≡ before)))
 
@@ -59,7 +61,7 @@ module _ {C : Type 0} (R : Relation C) where
     wrote-on : (cs : List Beat) → replies ≡ told cs → Appends b e (replies_text replies) → Appends a e (beats_text (so.beats ++ cs))
     wrote-on cs is wrote = subst (Appends a e) (text_on so.beats cs replies is) (Appends-trans a b e (beats_text so.beats) (replies_text replies) so.wrote wrote)
 
-    pub one_heard : (after : Bool) → Stepped R wait s so.beats so.leads h g c d [] replies true → Appends b e (replies_text replies) → after ≡ (wrong || list_any is_wrong replies)
+    pub one_heard : (after : Bool) → Ran (λ cs t. Came R wait s (so.beats ++ cs) t) [] g d replies → Appends b e (replies_text replies) → after ≡ (wrong || list_any is_wrong replies)
         → HeardSoFar R wait s g d a e after
     one_heard after p wrote is = record {
       beats = so.beats ++ p.beats;
@@ -77,7 +79,7 @@ module _ {C : Type 0} (R : Relation C) where
     wrote-same : replies ≡ [] → Appends b e (replies_text replies) → Appends a e (beats_text so.beats)
     wrote-same is wrote = subst (Appends a e) (append-nil (beats_text so.beats)) (Appends-trans a b e (beats_text so.beats) [] so.wrote (subst (λ (l : List Reply). Appends b e (replies_text l)) is wrote))
 
-    pub all_heard : (number : ℕ) → Stepped R wait s so.beats so.leads h g c d [] replies false → Appends b e (replies_text replies)
+    pub all_heard : (number : ℕ) → Waited R most_turns s so.beats (at so.leads c h.store.disk) × (g ≡ h) × (d ≡ c) × (replies ≡ []) → Appends b e (replies_text replies)
         → LineTook R number (Some line.Wait) s (left g d a e) wrong
     all_heard number p wrote = (
       brought so.beats (beats_text so.beats),
@@ -101,17 +103,20 @@ module _ {C : Type 0} (R : Relation C) where
     wait_unwritten r f gave is = subst (LineFailed R (Some line.Wait) s (left g d a e)) (sym is) (line_unwritten (go r gave))
       where
         go : (x : Result Bool EdgeCause) → StepGave R wait s so.beats so.leads h g c d [] replies x → LineUnwritten R (Some line.Wait) s (left g d a e)
-        go (Ok true) p = (p.0.leads, g.store.disk, so_far (so.beats ++ p.0.beats) (waited_so_far (came_so_far R wait s (so.beats ++ p.0.beats) (at p.0.leads d g.store.disk) p.0.form)), inl (p.0.stands, refl))
-        go (Ok false) p = (
-          so.leads,
-          g.store.disk,
-          whole 0 (brought so.beats (beats_text so.beats)) (unmoved (λ t. Waited R most_turns s so.beats t) p.0.1 p.0.2 p.0.0, refl),
-          inl (subst (λ (y : HostView). IsHost y so.leads) (sym p.0.1) so.stands, refl),
-        )
-        go (Err (cause.Host x)) p = (p.1.leads, p.1.disk, up_to (so.beats ++ p.1.beats) p.1.failed (wait_up_to p.1.form), inr (p.1.failed, x, p.1.stopped))
+        go (Ok true) p =
+            let q = p.0 refl in
+            (q.leads, g.store.disk, so_far (so.beats ++ q.beats) (waited_so_far (came_so_far R wait s (so.beats ++ q.beats) (at q.leads d g.store.disk) q.form)), inl (q.stands, refl))
+        go (Ok false) p =
+            let q = p.1 refl in (
+              so.leads,
+              g.store.disk,
+              whole 0 (brought so.beats (beats_text so.beats)) (unmoved (λ t. Waited R most_turns s so.beats t) q.1 q.2 q.0, refl),
+              inl (subst (λ (y : HostView). IsHost y so.leads) (sym q.1) so.stands, refl),
+            )
+        go (Err (cause.Host x)) p = (p.2.leads, p.2.disk, up_to (so.beats ++ p.2.beats) p.2.failed (wait_up_to p.2.form), inr (p.2.failed, x, p.2.stopped))
         go (Err cause.OutOfMemory) p = (
           so.leads,
           g.store.disk,
-          so_far so.beats (waited_so_far (unmoved (λ t. WaitSoFar R most_turns s so.beats t) p.1.1 p.1.2 (came_so_far R wait s so.beats (at so.leads c h.store.disk) p.1.0))),
-          inl (subst (λ (y : HostView). IsHost y so.leads) (sym p.1.1) so.stands, refl),
+          so_far so.beats (waited_so_far (unmoved (λ t. WaitSoFar R most_turns s so.beats t) p.2.1 p.2.2 (came_so_far R wait s so.beats (at so.leads c h.store.disk) p.2.0))),
+          inl (subst (λ (y : HostView). IsHost y so.leads) (sym p.2.1) so.stands, refl),
         )

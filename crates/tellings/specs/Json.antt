@@ -11,6 +11,7 @@ use Rattle.host_events.specs.declared.reply.ChildReply.{ChildReply}
 use Rattle.host_events.specs.declared.reply.Reply.{Reply}
 use Rattle.host_events.specs.declared.reply.Reply.TheVariants as reply
 use Rattle.session_engine.specs.World.{Going, World, in_flight, life_of, sheet_in, waiting_in}
+use Rattle.child_calls.specs.declared.seat.Seat.{Seat}
 use Rattle.child_edge.specs.declared.interrupting.Interrupted.{Interrupted}
 use Rattle.child_edge.specs.declared.interrupting.Interrupted.TheVariants as interrupted
 use Rattle.offline_programs.specs.declared.fault.RunFault.{RunFault}
@@ -39,6 +40,17 @@ interrupt_json line interrupted.Idle = telling_line (told.reply line (told.inter
 interrupt_json line interrupted.Sent = telling_line (told.reply line (told.interrupted (codes "sent")))
 interrupt_json line interrupted.Failed = telling_line (told.reply line (told.interrupted (codes "failed")))
 
+-- what came of an interrupt, as a word
+abbrev pub outcome_name : Interrupted → List ℕ
+outcome_name interrupted.NoSession = codes "idle"
+outcome_name interrupted.Idle = codes "idle"
+outcome_name interrupted.Sent = codes "sent"
+outcome_name interrupted.Failed = codes "failed"
+
+-- a life was interrupted, since the time of a wait was over
+abbrev pub warned_json : Seat → Interrupted → List ℕ
+warned_json seat told_of = telling_line (told.event seat.name seat.life (told.warned (outcome_name told_of)))
+
 -- what an evaluation came to, with what its limit of time came to where it had one
 abbrev pub counted_json : ℕ → ℕ → Option Overs → List ℕ
 counted_json answered unanswered None = telling_line (told.counted answered unanswered)
@@ -49,7 +61,8 @@ note_json (note.Bad line) = telling_line (told.reply line told.bad)
 note_json (note.Nothing line) = telling_line (told.reply line told.nothing)
 note_json (note.Waited line timed) = telling_line (told.reply line (told.waited timed))
 note_json (note.Interrupted line name told_of) = interrupt_json line told_of
-note_json (note.Over line id told_of) = interrupt_json line told_of
+note_json (note.Over id told_of) = telling_line (told.over id (outcome_name told_of))
+note_json (note.Warned seat told_of) = warned_json seat told_of
 note_json (note.Counted counts) = counted_json counts.answered counts.unanswered counts.overs
 
 -- what is printed of a life, if anything

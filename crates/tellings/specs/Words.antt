@@ -49,7 +49,8 @@ note_words (note.Bad line) = bad_line line
 note_words (note.Nothing line) = []
 note_words (note.Waited line timed) = []
 note_words (note.Interrupted line name told) = interrupt_text name told
-note_words (note.Over line id told) = over_line id
+note_words (note.Over id told) = over_line id
+note_words (note.Warned seat told) = interrupt_text seat.name told
 note_words (note.Counted counts) = evaluation_text counts
 
 -- Words that people read: the number of a line is printed for a bad line alone, and a fault is printed elsewhere.

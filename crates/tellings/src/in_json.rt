@@ -5,25 +5,22 @@ ghost use Rattle.tellings.specs.Json as texts;
 ghost use Rattle.tellings.specs.Voice.{IsUntold, came_text, numbered_text, replied_text};
 ghost use Rattle.worksheet.specs.Contents.{Contents};
 
+use crate::notes_json::write_note;
 use crate::sheets_json::{write_field, write_sheet};
 use crate::writing::{write_if, write_made};
-use crate::{Counts, Frame, Note, Tells, faults};
-use block_tree::Octets;
-use child_edge::Interrupted;
+use crate::{Frame, Note, Tells, faults};
 use disk_model::Disk;
 use host_events::{ChildReply, Closed, Outcome, Reply};
 use offline_programs::RunFault;
-use plugin_core::Ended;
 use serde_json::Value;
 use session_engine::Host;
 use sheet_json::{
-    asked_value, bad_value, closed_value, counted_in_time_value, counted_value, default_value,
-    done_value, end_value, ended_value, fault_value, hello_value, interrupted_value, made_value,
-    no_field_value, nothing_value, refused_value, stopped_value, waited_value,
+    asked_value, closed_value, default_value, done_value, end_value, ended_value, fault_value,
+    hello_value, made_value, no_field_value, nothing_value, refused_value, stopped_value,
 };
 use std::alloc::{AllocError, Global};
 use std::io::Write;
-use worksheet::{Name, Refusal, Sheet};
+use worksheet::Sheet;
 
 /// Lines of JSON, which programs read. Each is made whole in memory before its first byte is written.
 #[derive(Clone, Copy, Debug)]
@@ -228,63 +225,6 @@ fn write_outcomes<W: Write>(
         line += 1;
     }
     Ok(())
-}
-
-/// What came of the wish to interrupt an interpreter.
-fn write_interrupt<W: Write>(
-    alloc: Global,
-    line: u64,
-    told: Interrupted,
-    writer: &mut W,
-) -> Result<(), RunFault>
-    ensures ok { OnOk result (Appends (W.contents writer.old) (W.contents writer.new)
-        (texts.interrupt_json line told)) }
-    ensures err { IfErr result (IsUntold texts.in_json) }
-{
-    match told {
-        Interrupted::NoSession => {
-            write_made(
-                alloc,
-                refused_value(alloc, line, Refusal::NoSession),
-                writer,
-            )
-        }
-        Interrupted::Idle => write_made(alloc, interrupted_value(alloc, line, "idle"), writer),
-        Interrupted::Sent => write_made(alloc, interrupted_value(alloc, line, "sent"), writer),
-        Interrupted::Failed => write_made(alloc, interrupted_value(alloc, line, "failed"), writer),
-    }
-}
-
-/// Writes what an evaluation came to.
-fn write_counts<W: Write>(alloc: Global, counts: Counts, writer: &mut W) -> Result<(), RunFault>
-    ensures ok { OnOk result (Appends (W.contents writer.old) (W.contents writer.new)
-        (texts.counted_json counts.answered counts.unanswered counts.overs)) }
-    ensures err { IfErr result (IsUntold texts.in_json) }
-{
-    let (answered, unanswered) = (counts.answered as u64, counts.unanswered as u64);
-    match counts.overs {
-        None => write_made(alloc, counted_value(alloc, answered, unanswered), writer),
-        Some(overs) => {
-            let (over, passed) = (overs.over, overs.passed);
-            let value = counted_in_time_value(alloc, answered, unanswered, over, passed);
-            write_made(alloc, value, writer)
-        }
-    }
-}
-
-/// Writes what is printed of a line, or of a wait that it began.
-fn write_note<W: Write>(alloc: Global, note: Note, writer: &mut W) -> Result<(), RunFault>
-    ensures ok { OnOk result (Appends (W.contents writer.old) (W.contents writer.new) (texts.note_json note)) }
-    ensures err { IfErr result (IsUntold texts.in_json) }
-{
-    match note {
-        Note::Bad(line) => write_made(alloc, bad_value(alloc, line), writer),
-        Note::Nothing(line) => write_made(alloc, nothing_value(alloc, line), writer),
-        Note::Waited(line, timed) => write_made(alloc, waited_value(alloc, line, timed), writer),
-        Note::Interrupted(line, _, told) => write_interrupt(alloc, line, told, writer),
-        Note::Over(line, _, told) => write_interrupt(alloc, line, told, writer),
-        Note::Counted(counts) => write_counts(alloc, counts, writer),
-    }
 }
 
 /// What stands first or last.

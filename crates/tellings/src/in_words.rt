@@ -3,6 +3,7 @@ ghost use Rattle.std.specs.Prelude.{◌≡◌, ◌++◌, ◌∷◌, [], ℕ, IfE
 ghost use Rattle.std.specs.Option.{option_copied};
 ghost use Rattle.std.specs.Io.KnownBytes.{Appends};
 ghost use Rattle.worksheet.specs.Checks.{field_in};
+ghost use Rattle.sheet_text.specs.Texts as texts;
 ghost use Rattle.tellings.specs.Voice.{numbered_text};
 ghost use Rattle.tellings.specs.Words.{answers_text, evaluation_text, field_shown, in_words, interrupt_text, over_line, overs_text};
 ghost use Rattle.worksheet.specs.Contents.{Contents};
@@ -44,6 +45,15 @@ fn tell_field<W: Write>(sheet: &Sheet, id: u32, writer: &mut W) -> Result<(), Ru
     Ok(())
 }
 
+/// Writes the reply of an outcome.
+fn write_outcome<W: Write>(outcome: &Outcome, writer: &mut W) -> Result<(), RunFault>
+    ensures ok { OnOk result (Appends (W.contents writer.old) (W.contents writer.new)
+        (texts.reply_text outcome.now.reply)) }
+    ensures err { IfErr result (λ fault. fault ≡ RunFault.Output) }
+{
+    reply_text(&outcome.reply, writer).map_err(|_| RunFault::Output)
+}
+
 /// Writes the replies of outcomes, and brings them out.
 fn tell_outcomes<W: Write>(outcomes: &[Outcome], writer: &mut W) -> Result<(), RunFault>
     ensures ok { (line : ℕ) (sheet : Contents) → OnOk result (Appends (W.contents writer.old) (W.contents writer.new)
@@ -51,7 +61,7 @@ fn tell_outcomes<W: Write>(outcomes: &[Outcome], writer: &mut W) -> Result<(), R
     ensures err { IfErr result (λ fault. fault ≡ RunFault.Output) }
 {
     for outcome in outcomes {
-        reply_text(&outcome.reply, writer).map_err(|_| RunFault::Output)?;
+        write_outcome(outcome, writer)?;
     }
     writer.flush().map_err(|_| RunFault::Output)?;
     Ok(())
@@ -162,7 +172,8 @@ impl Tells for InWords {
             Note::Bad(line) => tell_bad_line(line, writer),
             Note::Nothing(_) | Note::Waited(_, _) => Ok(()),
             Note::Interrupted(_, name, told) => tell_interrupt(name, told, writer),
-            Note::Over(_, id, _) => tell_over(id, writer),
+            Note::Over(id, _) => tell_over(id, writer),
+            Note::Warned(seat, told) => tell_interrupt(seat.name, told, writer),
             Note::Counted(counts) => tell_counts(counts, writer),
         }
     }

@@ -6,6 +6,7 @@ mod faults;
 mod in_json;
 mod in_words;
 pub mod note;
+mod notes_json;
 mod sheets_json;
 mod tells;
 mod writing;

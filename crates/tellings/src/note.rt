@@ -1,4 +1,5 @@
 //! What is printed once.
+use child_calls::Seat;
 use child_edge::Interrupted;
 use worksheet::Name;
 
@@ -33,8 +34,9 @@ pub struct Counts {
     pub overs: Option<Overs>,
 }
 
-/// What is printed of a line, or of a wait that it began, apart from replies. First comes the line's number, from 1.
-#[derive(Clone, Copy, Debug, PartialEq, Eq)]
+/// What is printed apart from replies and what comes of lives: of a line, or of a wait that it began, with the line's number, from 1, first;
+/// of a limit of time; and of an evaluation at its end.
+#[derive(Clone, Copy, Debug)]
 pub enum Note {
     /// The line has no known form, or is too long.
     Bad(u64),
@@ -45,7 +47,9 @@ pub enum Note {
     /// It asked for an interrupt of the interpreter of this session, and this came of it.
     Interrupted(u64, Name, Interrupted),
     /// The time of the field with this number is over; its interpreter was interrupted, and this came of it.
-    Over(u64, u32, Interrupted),
+    Over(u32, Interrupted),
+    /// The time of a wait is over in which this life had something to answer; it was interrupted, and this came of it.
+    Warned(Seat, Interrupted),
     /// An evaluation came to its end.
     Counted(Counts),
 }

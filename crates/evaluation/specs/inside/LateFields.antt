@@ -7,7 +7,7 @@ use Rattle.child_edge.specs.Faithful.{At, at, Beat}
 use Rattle.offline_programs.specs.declared.fault.RunFault.{RunFault}
 use Rattle.offline_programs.specs.declared.fault.RunFault.TheVariants as fault
 use Rattle.live.specs.declared.holding.Hold.TheVariants as hold
-use Rattle.live.specs.Records.{left}
+use Rattle.live.specs.Records.{Left}
 use Rattle.evaluation.specs.declared.plan.Stand.{Stand}
 use Rattle.evaluation.specs.Steps.{Setting, EvalPlace, Step, StepsTaken, stands}
 use Rattle.evaluation.specs.Silently.{late_of}
@@ -31,12 +31,12 @@ abbrev pub IsLastTaken : List ℕ → Stand → Type 0
 IsLastTaken ids stand = (stand.held ≡ hold.Free) ⊎ (slice_get ids (stand.taken - 1) ≡ Some stand.field)
 
 -- All steps up to the end were taken, and these are the fields whose time was over.
-abbrev pub NotedThrough : {C : Type 0} → Setting C → EvalPlace C → HostView → C → Option (List ℕ) → Option (List ℕ) → List ℕ → Type 0
-NotedThrough o p h c a b late = (stand : Stand) × ((all : Through o p (left h c a b) stand) × (late ≡ late_of all.0))
+abbrev pub NotedThrough : {C : Type 0} → Setting C → EvalPlace C → Left C → List ℕ → Type 0
+NotedThrough o p left late = (stand : Stand) × ((all : Through o p left stand) × (late ≡ late_of all.0))
 
 -- Some steps were taken, and then there was no memory for a number.
 abbrev pub NotNoted : {C : Type 0} → Setting C → EvalPlace C → HostView → C → Type 0
 NotNoted o p h c = (steps : List Step) × (beats : List Beat) × (text : List ℕ) × (w : World) × (stand : Stand) × StepsTaken o p steps beats text (stands (at w c h.store.disk) stand) × IsHost h w
 
-abbrev pub NotingBroke : {C : Type 0} → Setting C → EvalPlace C → HostView → C → Option (List ℕ) → Option (List ℕ) → RunFault → Type 0
-NotingBroke o p h c a b why = BrokeOff o p (λ t. t.children ≡ c) (left h c a b) why ⊎ ((why ≡ fault.OutOfMemory) × NotNoted o p h c)
+abbrev pub NotingBroke : {C : Type 0} → Setting C → EvalPlace C → Left C → RunFault → Type 0
+NotingBroke o p left why = BrokeOff o p (λ t. t.children ≡ left.sources) left why ⊎ ((why ≡ fault.OutOfMemory) × NotNoted o p left.host left.sources)

@@ -3,7 +3,6 @@ use Rattle.session_engine.specs.Host.{IsHost}
 use Rattle.child_edge.specs.Faithful.{at, Waited}
 use Rattle.child_edge.specs.Broken.{WaitSoFar}
 use Rattle.child_edge.specs.Limits.{most_turns}
-use Rattle.child_edge.specs.Steps.{Stepped}
 use Rattle.child_edge.proofs.Waits.{told-join, by_cause}
 use Rattle.child_edge.proofs.Stepping.{came_begun, came_so_far}
 use Rattle.child_edge.proofs.Timeline.{waited_from, so_far_from, waited_broke}
@@ -49,9 +48,7 @@ loop-replies-preserved g c =
       same = same-on c.args.host.now.store.disk c.loop-replies.host.store.disk c.next.new.host.store.disk c.loop-replies.invariant.same c.in-Ok-true.ensures.same;
       runs = λ w h.
           let r = c.loop-replies.invariant.runs w h in
-          let p = subst
-          (Stepped g.C.Children.after c.next.new.self (at w c.args.children.now c.args.host.now.store.disk) r.beats r.leads c.loop-replies.host c.next.new.host c.loop-replies.children c.next.new.children c.loop-replies.replies.items c.next.new.replies.items)
-          yes (c.in-Ok-true.ensures.ok (at w c.args.children.now c.args.host.now.store.disk) r.beats r.leads r.stands r.form) in
+          let p = c.in-Ok-true.ensures.took (at w c.args.children.now c.args.host.now.store.disk) r.beats r.leads r.stands r.form yes in
           record {
             beats = r.beats ++ p.beats;
             leads = p.leads;
@@ -69,9 +66,7 @@ pub returns-in-Ok-false-clause-ok : goal.returns-in-Ok-false-clause-ok
 returns-in-Ok-false-clause-ok g c = λ w h.
     let no : c.in-Ok-false.field-0 ≡ false = c.in-Ok-false.field-0-test in
     let r = c.loop-replies.invariant.runs w h in
-    let q = subst
-    (Stepped g.C.Children.after c.next.new.self (at w c.args.children.now c.args.host.now.store.disk) r.beats r.leads c.loop-replies.host c.next.new.host c.loop-replies.children c.next.new.children c.loop-replies.replies.items c.next.new.replies.items)
-    no (c.in-Ok-false.ensures.ok (at w c.args.children.now c.args.host.now.store.disk) r.beats r.leads r.stands r.form) in
+    let q = c.in-Ok-false.ensures.over (at w c.args.children.now c.args.host.now.store.disk) r.beats r.leads r.stands r.form no in
     waited_from g.C.Children.after most_turns (at w c.args.children.now c.args.host.now.store.disk) c.next.new.host c.next.new.children c.next.new.replies.items h.stands.images (record {
       beats = r.beats;
       leads = r.leads;

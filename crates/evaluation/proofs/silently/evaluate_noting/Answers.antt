@@ -71,7 +71,7 @@ pub returns-in-Err-put_late-clause-err : goal.returns-in-Err-put_late-clause-err
 returns-in-Err-put_late-clause-err g c = λ w h.
     let noted = c.loop.invariant.runs w h in
     let so = noted.so in
-    subst (NotingBroke (setting g.T.Tells.voice g.S.Children.after g.S.Sources.clock g.S.Sources.wakes c.args.plan.now c.args.ids.now) (stands (at w c.args.sources.now c.args.host.now.store.disk) not_begun) c.step.new.host c.step.new.sources (g.W.Write.contents c.args.writer.now) (g.W.Write.contents c.step.new.writer))
+    subst (NotingBroke (setting g.T.Tells.voice g.S.Children.after g.S.Sources.clock g.S.Sources.wakes c.args.plan.now c.args.ids.now) (stands (at w c.args.sources.now c.args.host.now.store.disk) not_begun) (left c.step.new.host c.step.new.sources (g.W.Write.contents c.args.writer.now) (g.W.Write.contents c.step.new.writer)))
     (sym c.in-Err-put_late.ensures.err)
     (not_noted (setting g.T.Tells.voice g.S.Children.after g.S.Sources.clock g.S.Sources.wakes c.args.plan.now c.args.ids.now) (stands (at w c.args.sources.now c.args.host.now.store.disk) not_begun) c.loop.stand c.loop.host c.step.new.host c.loop.sources c.step.new.sources
     (g.W.Write.contents c.args.writer.now) (g.W.Write.contents c.loop.writer) (g.W.Write.contents c.step.new.writer) _ c.loop.late.items noted c.in-Ok-Some.next

@@ -2,7 +2,7 @@ use Rattle.std.proofs.Common.{◌≡◌, length, refl, subst, arith}
 use Rattle.std.specs.Prelude.{false, None}
 use Rattle.std.proofs.lemmas.Option.{slice_get_read}
 use Rattle.child_edge.specs.Edge.{Ran}
-use Rattle.child_edge.specs.Faithful.{at, FirstOf, Taken}
+use Rattle.child_edge.specs.Faithful.{at, FirstOf, Taken, hearing}
 use Rattle.child_edge.proofs.Faulting.{same-at, same-on}
 use Rattle.live.proofs.Turns.{none_stalled, one_stalled, stalling_broke}
 use Rattle.live.proofs.taking.stall_each.Goals as goal
@@ -40,5 +40,5 @@ pub returns-clause-ok : goal.returns-clause-ok
 returns-clause-ok g c = λ w h.
     let all : c.loop-seat.seat-index ≡ length c.args.seats.now = omega (arith, c.loop-seat-test.false, c.loop-seat.auto.seat-index-end) in
     subst
-    (λ k. Ran (FirstOf (Taken g.S.Children.after false None) c.args.seats.now k (at w c.args.sources.now c.args.host.now.store.disk)) c.args.replies.now.items c.loop-seat.host c.loop-seat.sources c.loop-seat.replies.items)
+    (λ k. Ran (FirstOf (Taken (hearing g.S.Children.after false) None) c.args.seats.now k (at w c.args.sources.now c.args.host.now.store.disk)) c.args.replies.now.items c.loop-seat.host c.loop-seat.sources c.loop-seat.replies.items)
     all (c.loop-seat.invariant.runs w h)

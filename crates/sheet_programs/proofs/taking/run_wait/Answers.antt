@@ -6,8 +6,8 @@ use Rattle.std.specs.Io.KnownBytes.{Appends}
 use Rattle.child_edge.specs.Faithful.{at}
 use Rattle.child_edge.specs.Limits.{most_turns}
 use Rattle.child_edge.specs.Broken.{WaitStopped}
-use Rattle.child_edge.specs.Edge.{BrokeOff, ByCause}
-use Rattle.child_edge.specs.Steps.{Came, Stepped}
+use Rattle.child_edge.specs.Edge.{BrokeOff, ByCause, Ran}
+use Rattle.child_edge.specs.Steps.{Came}
 use Rattle.child_edge.proofs.Faulting.{same-at, same-on}
 use Rattle.offline_programs.specs.Memory.{replies_text}
 use Rattle.sheet_programs.specs.Strict.{is_wrong}
@@ -41,7 +41,7 @@ returns-in-Err-clause-err g c = λ w h.
     let so = c.loop-fault.invariant.runs w h in
     wait_unwritten g.C.Children.after c.loop-fault.wait c.next-stepped.new.self (at w c.args.children.now c.args.host.now.store.disk) c.loop-fault.host c.next-stepped.new.host c.loop-fault.children c.next-stepped.new.children (g.W.Write.contents c.args.writer.now) (g.W.Write.contents c.loop-fault.writer) (g.W.Write.contents c.tell_replies.new.writer) c.next-stepped.new.replies.items c.loop-fault.wrong so c.next-stepped.result c.in-Err.fault
     (subst (λ x. StepGave g.C.Children.after c.next-stepped.new.self (at w c.args.children.now c.args.host.now.store.disk) so.beats so.leads c.loop-fault.host c.next-stepped.new.host c.loop-fault.children c.next-stepped.new.children x c.next-stepped.new.replies.items c.next-stepped.result) c.new-replies.ensures.items
-    (c.next-stepped.ensures.ok (at w c.args.children.now c.args.host.now.store.disk) so.beats so.leads so.stands so.came, c.next-stepped.ensures.err (at w c.args.children.now c.args.host.now.store.disk) so.beats so.leads so.stands so.came))
+    (c.next-stepped.ensures.took (at w c.args.children.now c.args.host.now.store.disk) so.beats so.leads so.stands so.came, c.next-stepped.ensures.over (at w c.args.children.now c.args.host.now.store.disk) so.beats so.leads so.stands so.came, c.next-stepped.ensures.err (at w c.args.children.now c.args.host.now.store.disk) so.beats so.leads so.stands so.came))
     c.in-Err.ensures.err
 
 pub loop-fault-preserved : goal.loop-fault-preserved
@@ -50,9 +50,8 @@ loop-fault-preserved g c = record {
   runs = λ w h.
       let so = c.loop-fault.invariant.runs w h in
       let test : c.in-Ok-true.field-0 ≡ true = c.in-Ok-true.field-0-test in
-      let step = subst (λ x. Stepped g.C.Children.after c.next-stepped.new.self (at w c.args.children.now c.args.host.now.store.disk) so.beats so.leads c.loop-fault.host c.next-stepped.new.host c.loop-fault.children c.next-stepped.new.children x c.next-stepped.new.replies.items true) c.new-replies.ensures.items
-      (subst (Stepped g.C.Children.after c.next-stepped.new.self (at w c.args.children.now c.args.host.now.store.disk) so.beats so.leads c.loop-fault.host c.next-stepped.new.host c.loop-fault.children c.next-stepped.new.children c.new-replies.result.items c.next-stepped.new.replies.items) test
-      (c.in-Ok-true.ensures.ok (at w c.args.children.now c.args.host.now.store.disk) so.beats so.leads so.stands so.came)) in
+      let step = subst (λ x. Ran (λ cs t. Came g.C.Children.after c.next-stepped.new.self (at w c.args.children.now c.args.host.now.store.disk) (so.beats ++ cs) t) x c.next-stepped.new.host c.next-stepped.new.children c.next-stepped.new.replies.items) c.new-replies.ensures.items
+      (c.in-Ok-true.ensures.took (at w c.args.children.now c.args.host.now.store.disk) so.beats so.leads so.stands so.came test) in
       one_heard g.C.Children.after c.loop-fault.wait c.next-stepped.new.self (at w c.args.children.now c.args.host.now.store.disk) c.loop-fault.host c.next-stepped.new.host c.loop-fault.children c.next-stepped.new.children (g.W.Write.contents c.args.writer.now) (g.W.Write.contents c.loop-fault.writer) (g.W.Write.contents c.tell_replies.new.writer) c.next-stepped.new.replies.items c.loop-fault.wrong so c.goes_wrong-wrong.result step
       (subst (λ x. Appends (g.W.Write.contents c.loop-fault.writer) (g.W.Write.contents c.tell_replies.new.writer) (replies_text x)) c.as_slice.ensures.value c.in_default-tell_replies.ensures.ok)
       (c.goes_wrong-wrong.ensures ∙ ap (λ x. c.loop-fault.wrong || list_any is_wrong x) c.as_slice-in-Ok-true.ensures.value);
@@ -62,10 +61,8 @@ pub returns-in-Ok-false-clause-ok : goal.returns-in-Ok-false-clause-ok
 returns-in-Ok-false-clause-ok g c = λ number w h.
     let so = c.loop-fault.invariant.runs w h in
     let test : c.in-Ok-false.field-0 ≡ false = c.in-Ok-false.field-0-test in
-    let step = subst (λ x. Stepped g.C.Children.after c.next-stepped.new.self (at w c.args.children.now c.args.host.now.store.disk) so.beats so.leads c.loop-fault.host c.next-stepped.new.host c.loop-fault.children c.next-stepped.new.children x c.next-stepped.new.replies.items false) c.new-replies.ensures.items
-    (subst (Stepped g.C.Children.after c.next-stepped.new.self (at w c.args.children.now c.args.host.now.store.disk) so.beats so.leads c.loop-fault.host c.next-stepped.new.host c.loop-fault.children c.next-stepped.new.children c.new-replies.result.items c.next-stepped.new.replies.items) test
-    (c.in-Ok-false.ensures.ok (at w c.args.children.now c.args.host.now.store.disk) so.beats so.leads so.stands so.came)) in
-    all_heard g.C.Children.after c.loop-fault.wait c.next-stepped.new.self (at w c.args.children.now c.args.host.now.store.disk) c.loop-fault.host c.next-stepped.new.host c.loop-fault.children c.next-stepped.new.children (g.W.Write.contents c.args.writer.now) (g.W.Write.contents c.loop-fault.writer) (g.W.Write.contents c.tell_replies.new.writer) c.next-stepped.new.replies.items c.loop-fault.wrong so number step (subst (λ x. Appends (g.W.Write.contents c.loop-fault.writer) (g.W.Write.contents c.tell_replies.new.writer) (replies_text x)) c.as_slice.ensures.value c.in_default-tell_replies.ensures.ok)
+    let gave = c.in-Ok-false.ensures.over (at w c.args.children.now c.args.host.now.store.disk) so.beats so.leads so.stands so.came test in
+    all_heard g.C.Children.after c.loop-fault.wait c.next-stepped.new.self (at w c.args.children.now c.args.host.now.store.disk) c.loop-fault.host c.next-stepped.new.host c.loop-fault.children c.next-stepped.new.children (g.W.Write.contents c.args.writer.now) (g.W.Write.contents c.loop-fault.writer) (g.W.Write.contents c.tell_replies.new.writer) c.next-stepped.new.replies.items c.loop-fault.wrong so number (gave.0, gave.1, gave.2, gave.3 ∙ c.new-replies.ensures.items) (subst (λ x. Appends (g.W.Write.contents c.loop-fault.writer) (g.W.Write.contents c.tell_replies.new.writer) (replies_text x)) c.as_slice.ensures.value c.in_default-tell_replies.ensures.ok)
 
 pub returns-in-Err-stepped-clause-err : goal.returns-in-Err-stepped-clause-err
 returns-in-Err-stepped-clause-err g c = λ w h.

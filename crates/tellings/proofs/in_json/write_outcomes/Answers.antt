@@ -1,9 +1,19 @@
-use Rattle.std.proofs.Common.{◌≡◌, ◌+◌, refl, ap, sym, ◌∙◌, subst, arith}
+use Rattle.std.proofs.Common.{◌≡◌, ◌+◌, ap, ◌∙◌, subst, arith}
 use Rattle.std.specs.Io.KnownBytes.{Appends}
 use Rattle.tellings.specs.Json.{in_json, reply_json}
-use Rattle.tellings.proofs.Rows.{all_written, nothing_written}
-use Rattle.tellings.proofs.Voices.{all_outcomes, one_outcome}
+use Rattle.tellings.proofs.Voices.{one_outcome}
 use Rattle.tellings.proofs.in_json.write_outcomes.Goals as goal
 
 pub loop-outcome-preserved : goal.loop-outcome-preserved
-loop-outcome-preserved g c = _
+loop-outcome-preserved g c =
+    let a = g.W.Write.contents c.args.writer.now in
+    let b = g.W.Write.contents c.loop-outcome.writer in
+    let e = g.W.Write.contents c.write_reply.new.writer in
+    let on = c.loop-outcome.invariant.0 in
+    let next : c.loop-outcome.line + 1 ≡ c.args.first + (c.loop-outcome.outcome-index + 1) = omega (arith, on) in (
+      next,
+      λ sheet.
+          one_outcome in_json sheet c.args.first c.args.outcomes.now c.loop-outcome.outcome-index c.outcome-item.result a b e
+          c.loop-outcome-test.true c.outcome-item.is (c.loop-outcome.invariant.1 sheet)
+          (subst (λ n. Appends b e (reply_json n c.outcome-item.result.reply)) on c.in_ok-write_reply.ensures.ok),
+    )

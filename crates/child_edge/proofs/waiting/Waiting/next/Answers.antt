@@ -7,33 +7,36 @@ use Rattle.child_edge.proofs.Stepping.{came_idle, came_last, came_quiet, came_ne
 use Rattle.child_edge.proofs.Waits.{by_cause}
 use Rattle.child_edge.proofs.waiting.Waiting.next.Goals as goal
 
+pub returns-in-Ok-clause-took : goal.returns-in-Ok-clause-took
+returns-in-Ok-clause-took g c = λ s bs w h came yes. c.in-Ok.ensures.ok s bs w h came
+
 pub returns-in-Err-clause-err : goal.returns-in-Err-clause-err
 returns-in-Err-clause-err g c = λ s bs w h came.
     by_cause c.in-Err.cause _ _ _ _ (c.in-Err.ensures.err s bs w h came)
     (λ f p. p)
     (λ q. (subst (λ x. Came g.C.Children.after x s bs (at w c.args.children.now c.args.host.now.store.disk)) (sym c.in-Err.ensures.stays) came, q.0, q.1, q.2))
 
-pub returns-then-is_empty-clause-ok : goal.returns-then-is_empty-clause-ok
-returns-then-is_empty-clause-ok g c = λ s bs w h came.
+pub returns-then-is_empty-clause-over : goal.returns-then-is_empty-clause-over
+returns-then-is_empty-clause-over g c = λ s bs w h came no.
     let zero : length c.args.self.now.seats.items ≡ 0 = search rules in
     (came_idle g.C.Children.after c.args.self.now s bs (at w c.args.children.now c.args.host.now.store.disk) came (nil_from_length c.args.self.now.seats.items zero), refl, refl, refl)
 
-pub returns-then-self-ge-MOST_TURNS-clause-ok : goal.returns-then-self-ge-MOST_TURNS-clause-ok
-returns-then-self-ge-MOST_TURNS-clause-ok g c = λ s bs w h came.
+pub returns-then-self-ge-MOST_TURNS-clause-over : goal.returns-then-self-ge-MOST_TURNS-clause-over
+returns-then-self-ge-MOST_TURNS-clause-over g c = λ s bs w h came no.
     let all : c.args.self.now.place ≡ length c.args.self.now.seats.items = omega (arith, came.place, c.args.self.now.seats.ok.0) in
     let last : c.args.self.now.whole ≡ most_turns = omega (arith, came.fits) in
     (came_last g.C.Children.after c.args.self.now s bs (at w c.args.children.now c.args.host.now.store.disk) came all last, refl, refl, refl)
 
-pub returns-then-is_empty-2-clause-ok : goal.returns-then-is_empty-2-clause-ok
-returns-then-is_empty-2-clause-ok g c = λ s bs w h came.
+pub returns-then-is_empty-2-clause-over : goal.returns-then-is_empty-2-clause-over
+returns-then-is_empty-2-clause-over g c = λ s bs w h came no.
     let all : c.args.self.now.place ≡ length c.args.self.now.seats.items = omega (arith, came.place, c.args.self.now.seats.ok.0) in
     let few : c.args.self.now.whole < most_turns = omega arith in
     let zero : length c.in-Ok-waiting.seats.items ≡ 0 = search rules in
     let none = sym (c.in-Ok-waiting.ensures w h) ∙ nil_from_length c.in-Ok-waiting.seats.items zero in
     (came_quiet g.C.Children.after c.args.self.now s bs (at w c.args.children.now c.args.host.now.store.disk) came all few none, refl, refl, refl)
 
-pub returns-in-Ok-hear_next-clause-ok : goal.returns-in-Ok-hear_next-clause-ok
-returns-in-Ok-hear_next-clause-ok g c = λ s bs w h came.
+pub returns-in-Ok-hear_next-clause-took : goal.returns-in-Ok-hear_next-clause-took
+returns-in-Ok-hear_next-clause-took g c = λ s bs w h came yes.
     let all : c.args.self.now.place ≡ length c.args.self.now.seats.items = omega (arith, came.place, c.args.self.now.seats.ok.0) in
     let few : c.args.self.now.whole < most_turns = omega arith in
     c.in-Ok-hear_next.ensures.ok s bs w h

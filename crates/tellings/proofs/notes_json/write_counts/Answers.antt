@@ -3,7 +3,7 @@ use Rattle.std.specs.Prelude.{OnOk}
 use Rattle.std.specs.Io.KnownBytes.{Appends}
 use Rattle.sheet_json.specs.Tellings as told
 use Rattle.tellings.specs.Json.{counted_json}
-use Rattle.tellings.proofs.in_json.write_counts.Goals as goal
+use Rattle.tellings.proofs.notes_json.write_counts.Goals as goal
 
 pub returns-in-None-clause-ok : goal.returns-in-None-clause-ok
 returns-in-None-clause-ok g c = subst (λ x. OnOk c.write_made.result (Appends (g.W.Write.contents c.args.writer.now) (g.W.Write.contents c.write_made.new.writer) (counted_json c.args.counts.answered c.args.counts.unanswered x))) (sym c.in-None.is) (c.write_made.ensures.ok (told.counted c.args.counts.answered c.args.counts.unanswered) c.counted_value.ensures)

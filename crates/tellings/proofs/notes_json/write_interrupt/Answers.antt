@@ -5,7 +5,7 @@ use Rattle.std.proofs.Common.{codes}
 use Rattle.worksheet.specs.declared.refusal.Refusal.TheVariants as refusal
 use Rattle.sheet_json.specs.Tellings as told
 use Rattle.tellings.specs.Json.{interrupt_json}
-use Rattle.tellings.proofs.in_json.write_interrupt.Goals as goal
+use Rattle.tellings.proofs.notes_json.write_interrupt.Goals as goal
 
 pub returns-in-NoSession-clause-ok : goal.returns-in-NoSession-clause-ok
 returns-in-NoSession-clause-ok g c = subst (λ x. OnOk c.write_made.result (Appends (g.W.Write.contents c.args.writer.now) (g.W.Write.contents c.write_made.new.writer) (interrupt_json c.args.line x))) (sym c.in-NoSession.is) (c.write_made.ensures.ok (told.reply c.args.line (told.refused refusal.NoSession)) c.refused_value.ensures)

@@ -1,0 +1,106 @@
+//! What is printed once, as lines of JSON.
+ghost use Rattle.std.specs.Prelude.{◌≡◌, IfErr, OnOk};
+ghost use Rattle.std.specs.Io.KnownBytes.{Appends};
+ghost use Rattle.tellings.specs.Json as texts;
+ghost use Rattle.tellings.specs.Voice.{IsUntold};
+
+use crate::writing::write_made;
+use crate::{Counts, Note};
+use child_calls::Seat;
+use child_edge::Interrupted;
+use offline_programs::RunFault;
+use sheet_json::{
+    bad_value, counted_in_time_value, counted_value, interrupted_value, nothing_value, over_value,
+    refused_value, waited_value, warned_value,
+};
+use std::alloc::Global;
+use std::io::Write;
+use worksheet::Refusal;
+
+/// What came of an interrupt, as a word: where there was no session, there was nothing to interrupt.
+fn outcome(told: Interrupted) -> &'static str
+    ensures { result.now ≡ texts.outcome_name told }
+{
+    match told {
+        Interrupted::NoSession | Interrupted::Idle => "idle",
+        Interrupted::Sent => "sent",
+        Interrupted::Failed => "failed",
+    }
+}
+
+/// What came of the interrupt of a life, since the time of a wait was over.
+fn write_warned<W: Write>(
+    alloc: Global,
+    seat: Seat,
+    told: Interrupted,
+    writer: &mut W,
+) -> Result<(), RunFault>
+    ensures ok { OnOk result (Appends (W.contents writer.old) (W.contents writer.new)
+        (texts.warned_json seat told)) }
+    ensures err { IfErr result (IsUntold texts.in_json) }
+{
+    let value = warned_value(alloc, seat.name.as_slice(), seat.life, outcome(told));
+    write_made(alloc, value, writer)
+}
+
+/// What came of the wish to interrupt an interpreter.
+fn write_interrupt<W: Write>(
+    alloc: Global,
+    line: u64,
+    told: Interrupted,
+    writer: &mut W,
+) -> Result<(), RunFault>
+    ensures ok { OnOk result (Appends (W.contents writer.old) (W.contents writer.new)
+        (texts.interrupt_json line told)) }
+    ensures err { IfErr result (IsUntold texts.in_json) }
+{
+    match told {
+        Interrupted::NoSession => {
+            write_made(
+                alloc,
+                refused_value(alloc, line, Refusal::NoSession),
+                writer,
+            )
+        }
+        Interrupted::Idle => write_made(alloc, interrupted_value(alloc, line, "idle"), writer),
+        Interrupted::Sent => write_made(alloc, interrupted_value(alloc, line, "sent"), writer),
+        Interrupted::Failed => write_made(alloc, interrupted_value(alloc, line, "failed"), writer),
+    }
+}
+
+/// Writes what an evaluation came to.
+fn write_counts<W: Write>(alloc: Global, counts: Counts, writer: &mut W) -> Result<(), RunFault>
+    ensures ok { OnOk result (Appends (W.contents writer.old) (W.contents writer.new)
+        (texts.counted_json counts.answered counts.unanswered counts.overs)) }
+    ensures err { IfErr result (IsUntold texts.in_json) }
+{
+    let (answered, unanswered) = (counts.answered as u64, counts.unanswered as u64);
+    match counts.overs {
+        None => write_made(alloc, counted_value(alloc, answered, unanswered), writer),
+        Some(overs) => {
+            let (over, passed) = (overs.over, overs.passed);
+            let value = counted_in_time_value(alloc, answered, unanswered, over, passed);
+            write_made(alloc, value, writer)
+        }
+    }
+}
+
+/// Writes what is printed of a line, or of a wait that it began.
+pub(crate) fn write_note<W: Write>(
+    alloc: Global,
+    note: Note,
+    writer: &mut W,
+) -> Result<(), RunFault>
+    ensures ok { OnOk result (Appends (W.contents writer.old) (W.contents writer.new) (texts.note_json note)) }
+    ensures err { IfErr result (IsUntold texts.in_json) }
+{
+    match note {
+        Note::Bad(line) => write_made(alloc, bad_value(alloc, line), writer),
+        Note::Nothing(line) => write_made(alloc, nothing_value(alloc, line), writer),
+        Note::Waited(line, timed) => write_made(alloc, waited_value(alloc, line, timed), writer),
+        Note::Interrupted(line, _, told) => write_interrupt(alloc, line, told, writer),
+        Note::Over(id, told) => write_made(alloc, over_value(alloc, id, outcome(told)), writer),
+        Note::Warned(seat, told) => write_warned(alloc, seat, told, writer),
+        Note::Counted(counts) => write_counts(alloc, counts, writer),
+    }
+}
