@@ -156,6 +156,9 @@ where
 /// work, and what their children write is taken when it comes. What an event gives is printed at once, in
 /// words (docs/SCRIPT.md, "Live", has the lines) or as JSON (docs/JSON.md). It gives the disk back.
 ///
+/// Lines that are there together and only change the worksheet are a group, up to 1,024 of them. What it gives
+/// is durable at once and printed then; where the disk failed in it, nothing of it is printed.
+///
 /// A `wait` holds back the lines after it until no item waits for an answer. `wait SECONDS` ends after so
 /// many seconds too, and each session in which an item still waits counts as stalled. At the end of the
 /// input each life that goes on is stopped, in the order of their sessions.
