@@ -4,7 +4,7 @@ use Rattle.std.proofs.lemmas.Bool.{cases_Bool, cond-true, cond-false, leb-true, 
 use Rattle.bstr.specs.Text.{line_len}
 use Rattle.bstr.proofs.lemmas.LineLemmas.{line_len-none}
 use Rattle.arrivals.specs.Lines.{whole, too_long, longest_line, input_lines}
-use Rattle.arrivals.specs.Held.{Held, GivesLine, HasFeed, IsNext, IsUnended, if_read, left_with, lines_from}
+use Rattle.arrivals.specs.Held.{Held, GivesLine, HasFeed, IsNextLine, IsUnended, if_read, left_with, lines_from}
 use Rattle.arrivals.specs.inside.Buffers.{Tells, dropping_of, first_line, kept_of}
 use Rattle.arrivals.specs.declared.buffer.NextLine.{NextLine}
 use Rattle.arrivals.specs.declared.buffer.NextLine.TheVariants as next
@@ -38,7 +38,7 @@ took-gives h k next.End n t fits some is = absurd t.told
 
 -- they are the first line, which isn't given yet
 pub next-line : (h : Held) (line : List ℕ) (n : ℕ) → first_line h.dropping (take n h.bytes) ≡ whole line → n ≤ length h.bytes → 0 < n → HasFeed h.bytes
-    → ((more : List ℕ) → line_len (h.bytes ++ if_read h.ended more) ≡ n) → IsNext h line
+    → ((more : List ℕ) → line_len (h.bytes ++ if_read h.ended more) ≡ n) → IsNextLine h line
 next-line h line n told fits some feed is =
     let k : Held = record { bytes = drop n h.bytes; line = line; dropping = false; ended = h.ended } in
     (feed, λ more. (left_with k more, took-gives h k next.Line n (record { rest = refl; dropping = refl; ended = refl; told = told }) fits (λ no. some) is more))

@@ -1,7 +1,7 @@
 -- What a line that was looked at is.
 use Rattle.std.proofs.Common.{◌≡◌, ℕ, List, [], ◌∷◌, refl, sym, ◌∙◌}
 use Rattle.arrivals.specs.Lines.{InputLine, whole, too_long}
-use Rattle.arrivals.specs.Held.{Held, GivesLine, IsNext, left_with}
+use Rattle.arrivals.specs.Held.{Held, GivesLine, IsNextLine, left_with}
 use Rattle.arrivals.specs.declared.buffer.NextLine.{NextLine}
 use Rattle.arrivals.specs.declared.buffer.NextLine.TheVariants as next
 
@@ -18,7 +18,7 @@ not-none : (l : InputLine) (ls : List InputLine) → [] ≡ l ∷ ls → ⊥
 not-none l ls is = cc is
 
 -- The line that comes next is the one that is given.
-pub peeked_is_given : (h k : Held) (r : NextLine) (line : List ℕ) → IsNext h line → GivesLine h r k → (r ≡ next.Line) × (k.line ≡ line)
+pub peeked_is_given : (h k : Held) (r : NextLine) (line : List ℕ) → IsNextLine h line → GivesLine h r k → (r ≡ next.Line) × (k.line ≡ line)
 peeked_is_given h k next.Line line comes gives =
     let is = comes.1 [] in
     (refl, bytes-of k.line line (first-of (whole k.line) (whole line) (left_with k []) is.0 (sym (gives []) ∙ is.1)))

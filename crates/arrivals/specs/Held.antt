@@ -69,8 +69,8 @@ GivesLine h next.More k =
     (h.ended ≡ false) × IsUnended h.bytes × (length k.bytes ≤ longest_line + 2) × ((more : List ℕ) → left_with k more ≡ left_with h more)
 
 -- This line comes next, and is held with its line feed, whatever reads give later.
-abbrev pub IsNext : Held → List ℕ → Type 0
-IsNext h line = HasFeed h.bytes × ((more : List ℕ) → (rest : List InputLine) × (left_with h more ≡ whole line ∷ rest))
+abbrev pub IsNextLine : Held → List ℕ → Type 0
+IsNextLine h line = HasFeed h.bytes × ((more : List ℕ) → (rest : List InputLine) × (left_with h more ≡ whole line ∷ rest))
 
 -- What one read adds: some bytes, or the end of the input. Where a line may be whole there may be no room for one.
 pub record ReadAdds (h k : Held) (bytes : List ℕ) : Type 0 where

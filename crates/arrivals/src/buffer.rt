@@ -2,7 +2,7 @@
 ghost use Rattle.std.specs.Prelude.{◌≡◌, ◌≤◌, ◌<◌, ◌+◌, ◌-◌, ℕ, List, [], IfOk, IfSome, OnOk, OnErr, true, false, length, take, drop, slice_range};
 ghost use Rattle.std.specs.Io.KnownBytes.{IsAtEnd, ReadConsumes};
 ghost use Rattle.bstr.specs.Text.{without_terminator};
-ghost use Rattle.arrivals.specs.Held.{ReadAdds, GivesLine, IsNext, IsUnended, KeepsLines, Readiness, Same, is_given, nothing_held, to_come};
+ghost use Rattle.arrivals.specs.Held.{ReadAdds, GivesLine, IsNextLine, IsUnended, KeepsLines, Readiness, Same, is_given, nothing_held, to_come};
 ghost use Rattle.arrivals.specs.inside.Buffers.{Tells, dropping_of, first_line, kept_of};
 
 use memchr::memchr;
@@ -160,7 +160,7 @@ impl LineBuffer {
 
     /// The next line, where it is held whole and isn't too long.
     pub(crate) fn peek(&self) -> Option<&[u8]>
-        ensures { IfSome result (λ line. IsNext self.now line.now) }
+        ensures { IfSome result (λ line. IsNextLine self.now line.now) }
     {
         if self.dropping {
             return None;

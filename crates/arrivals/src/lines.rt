@@ -2,7 +2,7 @@
 ghost use Rattle.std.specs.Prelude.{◌≡◌, IfOk, IfSome, List, ℕ, OnOk, OnErr, false, option_map, true};
 ghost use Rattle.std.specs.Io.KnownBytes.{IsAtEnd};
 ghost use Rattle.arrivals.specs.Lines.{input_lines};
-ghost use Rattle.arrivals.specs.Held.{ReadAdds, GivesLine, IsNext, KeepsLines, Readiness, Same, is_given, nothing_held, to_come};
+ghost use Rattle.arrivals.specs.Held.{ReadAdds, GivesLine, IsNextLine, KeepsLines, Readiness, Same, is_given, nothing_held, to_come};
 
 use crate::buffer::{LineBuffer, NextLine};
 use std::alloc::{AllocError, Global};
@@ -76,7 +76,7 @@ impl<R: Read> InputLines<R> {
     /// The line that `next` gives when it is called now, where that line is held with its line feed and isn't
     /// too long. Nothing is given or read.
     pub fn peek(&self) -> Option<&[u8]>
-        ensures { IfSome result (λ line. IsNext self.now.held line.now) }
+        ensures { IfSome result (λ line. IsNextLine self.now.held line.now) }
     {
         self.held.peek()
     }

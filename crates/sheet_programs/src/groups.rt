@@ -105,7 +105,7 @@ fn stopped_at(strict: bool, outcomes: &[Outcome], read: u64, count: u64) -> Opti
 /// Plays commands that only change the worksheet as a group: all of them, or in a strict run up to the first
 /// one that is refused. What they give is durable then.
 ///
-/// `Host` where the disk failed: nothing that they gave may be told. `OutOfMemory`: none was taken.
+/// `Host` where the disk failed: nothing that they gave may be reported. `OutOfMemory`: none was taken.
 pub fn play_edits<D: Disk>(
     host: &mut Host<D>,
     events: Vec<Event>,
