@@ -5,7 +5,7 @@ use Rattle.host_events.specs.declared.command.Command.{Command}
 use Rattle.host_events.specs.declared.event.Event.{Event}
 use Rattle.host_events.specs.declared.event.Event.TheVariants as event
 use Rattle.arrivals.specs.Lines.{InputLine, whole}
-use Rattle.arrivals.specs.Held.{GivesLine, Held, IsNext, Readiness, left_with, to_come}
+use Rattle.arrivals.specs.Held.{GivesLine, Held, IsNextLine, Readiness, left_with, to_come}
 use Rattle.arrivals.specs.declared.buffer.NextLine.{NextLine}
 use Rattle.arrivals.specs.declared.sources.Woken.TheVariants as woken
 use Rattle.arrivals.proofs.Peeking.{peeked_is_given}
@@ -46,7 +46,7 @@ edits-more (x ∷ xs) l all edit = (all.0, edits-more xs l all.1 edit)
 
 -- Gathering.
 
-pub gathers_one : (h k : Held) (r : NextLine) (l : List ℕ) (before behind : List Event) → IsNext h l → SaysEdit l × (behind ≡ before ++ line_events (line_of l)) → GivesLine h r k → GathersOne h k before behind
+pub gathers_one : (h k : Held) (r : NextLine) (l : List ℕ) (before behind : List Event) → IsNextLine h l → SaysEdit l × (behind ≡ before ++ line_events (line_of l)) → GivesLine h r k → GathersOne h k before behind
 gathers_one h k r l before behind comes said gives =
     let is = peeked_is_given h k r l comes gives in
     let given : (more : List ℕ) → left_with h more ≡ whole k.line ∷ left_with k more = subst (λ (x : NextLine). GivesLine h x k) is.0 gives in
