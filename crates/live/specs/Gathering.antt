@@ -14,7 +14,7 @@ use Rattle.offline_programs.specs.declared.fault.RunFault.{RunFault}
 use Rattle.live.specs.Saying.{SaysEdit}
 use Rattle.live.specs.Arrivals.{Arrival, line, together}
 
--- The next line was there and was given. It says a command that only changes the worksheet, and its event was put behind the others.
+-- The next line was there and was given. It says a command that only changes the worksheet, and its event was put after the others.
 abbrev pub GathersOne : Held → Held → List Event → List Event → Type 0
 GathersOne old new before behind =
     (l : List ℕ) × SaysEdit l × (behind ≡ before ++ line_events (line_of l)) × Readiness old true × ((more : List ℕ) → left_with old more ≡ whole l ∷ left_with new more)

@@ -25,7 +25,7 @@ use std::alloc::Global;
 use std::io::{Read, Write};
 use tellings::Tells;
 
-/// The most lines behind which those of a group more can be counted.
+/// The most lines after which those of another group can be counted.
 const MOST_COUNTED: u64 = u64::MAX - 1_025;
 
 /// Takes what comes in this manner, one after the other, to the end of the input.
