@@ -78,7 +78,7 @@ few_outcomes w events h g p few more =
     let count = outcomes-count w p.done p.kept.told p.kept.leads p.kept.runs in
     omega (arith, few, more, same, count)
 
--- what they gave couldn't be told
+-- what they gave couldn't be written
 pub group_unsaid : (V : Voice) (given : List (List ℕ)) (w : World) (events : List Event) (h g : HostView) (a b : Option (List ℕ)) (f : RunFault) (outcomes : List Outcome) (p : KeptUpTo false w events h g) → p.kept.told ≡ outcomes
     → length events ≤ most_commands → IsUntold V f ⊎ (most_commands < length outcomes) → GroupUntold V given w events (host_call h g a b) f
 group_unsaid V given w events h g a b f outcomes p is few (inl why) = untold why p
