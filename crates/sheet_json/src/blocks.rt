@@ -5,8 +5,9 @@ ghost use Rattle.serde_json.specs.View.{items_view, view};
 ghost use Rattle.sheet_json.specs.Blocks as json;
 
 use crate::bytes::bytes_value;
+use crate::members::Members;
 use block_tree::{Block, Item, Node, Tag};
-use serde_json::{Value, json};
+use serde_json::Value;
 use std::alloc::{AllocError, Global};
 
 /// Whether a block is a channel, as a word.
@@ -21,10 +22,11 @@ fn framed(alloc: Global, tag: &Tag, inside: Vec<Value>) -> Result<Value, AllocEr
     ensures { IfOk result (λ value. view value
         ≡ json.block_object tag.now.channel tag.now.name (items_view inside.items)) }
 {
-    let name = bytes_value(alloc, tag.name.as_slice())?;
-    let kind = kind_name(tag.channel);
-    let items = Value::Array(inside);
-    json!(in alloc; {"items": items, "kind": kind, "tag": name})
+    let members = Members::new(alloc)
+        .with("items", Value::Array(inside))?
+        .text("kind", kind_name(tag.channel))?
+        .bytes("tag", tag.name.as_slice())?;
+    Ok(members.done())
 }
 
 /// What stands in a block: a text, or a block.

@@ -1,17 +1,16 @@
 //! Fields that a check evaluated again, as JSON.
-ghost use Rattle.std.specs.Prelude.{◌≡◌, IfOk};
-ghost use Rattle.serde_json.specs.View.{view};
+ghost use Rattle.std.specs.Prelude.{◌≡◌, IfOk, codes};
+ghost use Rattle.serde_json.specs.Data.{put as with_member};
+ghost use Rattle.serde_json.specs.View.{members_view, view};
 ghost use Rattle.sheet_json.specs.Objects.{telling_data};
 ghost use Rattle.sheet_json.specs.Objects as json;
 ghost use Rattle.sheet_json.specs.Tellings as told;
 ghost use Rattle.sheet_text.specs.InputLines.{unfolded};
 
-use crate::blocks::block_value;
-use crate::bytes::bytes_value;
-use crate::events::shown_value;
+use crate::members::Members;
 use block_tree::Reason;
 use serde_json::{Value, json};
-use sheet_text::{reason_name, unfolded as unfold};
+use sheet_text::reason_name;
 use std::alloc::{AllocError, Global};
 use worksheet::{Answer, Field};
 
@@ -22,12 +21,26 @@ fn answer_value(alloc: Global, answer: &Option<Answer>) -> Result<Value, AllocEr
     match answer {
         None => Ok(Value::Null),
         Some(answer) => {
-            let blocks = block_value(alloc, &answer.output)?;
-            let prompt = bytes_value(alloc, answer.prompt.as_slice())?;
-            let shown = shown_value(alloc, &answer.output)?;
-            json!(in alloc; {"output": blocks, "prompt": prompt, "shown": shown})
+            let members = Members::new(alloc)
+                .blocks("output", &answer.output)?
+                .bytes("prompt", answer.prompt.as_slice())?
+                .shown("shown", &answer.output)?;
+            Ok(members.done())
         }
     }
+}
+
+/// Members with the answer that a field shows.
+fn with_answer(
+    alloc: Global,
+    members: Members,
+    answer: &Option<Answer>,
+) -> Result<Members, AllocError>
+    ensures { IfOk result (λ more. members_view more.map.entries
+        ≡ with_member (codes "shows") (json.answer_data answer.now) (members_view members.map.entries)) }
+{
+    let shows = answer_value(alloc, answer)?;
+    members.with("shows", shows)
 }
 
 /// The reason why a field shows no answer, where it shows one.
@@ -48,8 +61,11 @@ pub fn same_value(alloc: Global, field: &Field) -> Result<Value, AllocError>
     ensures { IfOk result (λ value. view value
         ≡ telling_data (told.checked field.now.id field.now.session told.same)) }
 {
-    let name = bytes_value(alloc, field.session.as_slice())?;
-    json!(in alloc; {"id": field.id, "session": name, "type": "checked", "verdict": "same"})
+    Members::new(alloc)
+        .count("id", field.id as u64)?
+        .bytes("session", field.session.as_slice())?
+        .text("verdict", "same")?
+        .typed("checked")
 }
 
 /// A field that isn't compared.
@@ -57,8 +73,11 @@ pub fn left_out_value(alloc: Global, field: &Field) -> Result<Value, AllocError>
     ensures { IfOk result (λ value. view value
         ≡ telling_data (told.checked field.now.id field.now.session told.left_out)) }
 {
-    let name = bytes_value(alloc, field.session.as_slice())?;
-    json!(in alloc; {"id": field.id, "session": name, "type": "checked", "verdict": "left_out"})
+    Members::new(alloc)
+        .count("id", field.id as u64)?
+        .bytes("session", field.session.as_slice())?
+        .text("verdict", "left_out")?
+        .typed("checked")
 }
 
 /// A field to which another output came; its input has a line feed for each U+2028, as in the next one.
@@ -71,19 +90,14 @@ pub fn differs_value(
         ≡ telling_data (told.checked field.now.id field.now.session
         (told.differs (unfolded field.now.input) field.now.answer came.now))) }
 {
-    let input = unfold(alloc, field.input.as_str())?;
     let came = answer_value(alloc, came)?;
-    let name = bytes_value(alloc, field.session.as_slice())?;
-    let shows = answer_value(alloc, &field.answer)?;
-    json!(in alloc; {
-        "came": came,
-        "id": field.id,
-        "input": input,
-        "session": name,
-        "shows": shows,
-        "type": "checked",
-        "verdict": "differs"
-    })
+    let members = Members::new(alloc).with("came", came)?;
+    with_answer(alloc, members, &field.answer)?
+        .count("id", field.id as u64)?
+        .input(field.input.as_str())?
+        .bytes("session", field.session.as_slice())?
+        .text("verdict", "differs")?
+        .typed("checked")
 }
 
 /// A field to which no answer came, and the reason that it then shows, where it shows one.
@@ -96,17 +110,12 @@ pub fn unanswered_value(
         ≡ telling_data (told.checked field.now.id field.now.session
         (told.unanswered (unfolded field.now.input) field.now.answer why))) }
 {
-    let input = unfold(alloc, field.input.as_str())?;
-    let name = bytes_value(alloc, field.session.as_slice())?;
     let reason = why_value(alloc, why)?;
-    let shows = answer_value(alloc, &field.answer)?;
-    json!(in alloc; {
-        "id": field.id,
-        "input": input,
-        "reason": reason,
-        "session": name,
-        "shows": shows,
-        "type": "checked",
-        "verdict": "unanswered"
-    })
+    let members = Members::new(alloc).with("reason", reason)?;
+    with_answer(alloc, members, &field.answer)?
+        .count("id", field.id as u64)?
+        .input(field.input.as_str())?
+        .bytes("session", field.session.as_slice())?
+        .text("verdict", "unanswered")?
+        .typed("checked")
 }

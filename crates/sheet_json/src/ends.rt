@@ -4,35 +4,47 @@ ghost use Rattle.serde_json.specs.View.{view};
 ghost use Rattle.sheet_json.specs.Objects.{telling_data};
 ghost use Rattle.sheet_json.specs.Tellings as told;
 
-use serde_json::{Value, json};
+use crate::members::Members;
+use serde_json::Value;
 use std::alloc::{AllocError, Global};
 
 /// What comes first.
 pub fn hello_value(alloc: Global) -> Result<Value, AllocError>
     ensures { IfOk result (λ value. view value ≡ telling_data told.hello) }
 {
-    json!(in alloc; {"format": 1, "program": "tmhost", "protocol": 2, "type": "hello", "version": "0.1.0"})
+    Members::new(alloc)
+        .count("format", 1)?
+        .text("program", "tmhost")?
+        .count("protocol", 2)?
+        .text("version", "0.1.0")?
+        .typed("hello")
 }
 
 /// The last object, where the input came to its end.
 pub fn end_value(alloc: Global) -> Result<Value, AllocError>
     ensures { IfOk result (λ value. view value ≡ telling_data told.end) }
 {
-    json!(in alloc; {"type": "end"})
+    Members::new(alloc).typed("end")
 }
 
 /// The time of this field is over, and its interpreter was interrupted, or not: what came of it, as a word.
 pub fn over_value(alloc: Global, id: u32, outcome: &str) -> Result<Value, AllocError>
     ensures { IfOk result (λ value. view value ≡ telling_data (told.over id outcome.now)) }
 {
-    json!(in alloc; {"id": id, "outcome": outcome, "type": "over"})
+    Members::new(alloc)
+        .count("id", id as u64)?
+        .text("outcome", outcome)?
+        .typed("over")
 }
 
 /// How many fields of a worksheet show an answer at the end of an evaluation, and how many don't.
 pub fn counted_value(alloc: Global, answered: u64, unanswered: u64) -> Result<Value, AllocError>
     ensures { IfOk result (λ value. view value ≡ telling_data (told.counted answered unanswered)) }
 {
-    json!(in alloc; {"answered": answered, "type": "counted", "unanswered": unanswered})
+    Members::new(alloc)
+        .count("answered", answered)?
+        .count("unanswered", unanswered)?
+        .typed("counted")
 }
 
 /// The same of an evaluation with a limit of time: for how many fields it was over, and how many were
@@ -47,16 +59,23 @@ pub fn counted_in_time_value(
     ensures { IfOk result (λ value. view value
         ≡ telling_data (told.counted_in_time answered unanswered over passed)) }
 {
-    json!(in alloc; {
-        "answered": answered, "over": over, "passed": passed, "type": "counted", "unanswered": unanswered
-    })
+    Members::new(alloc)
+        .count("answered", answered)?
+        .count("over", over)?
+        .count("passed", passed)?
+        .count("unanswered", unanswered)?
+        .typed("counted")
 }
 
 /// The fault that no field has this number.
 pub fn no_field_value(alloc: Global, id: u32) -> Result<Value, AllocError>
     ensures { IfOk result (λ value. view value ≡ telling_data (told.no_field id)) }
 {
-    json!(in alloc; {"id": id, "name": "NoField", "number": 37, "type": "fault"})
+    Members::new(alloc)
+        .count("id", id as u64)?
+        .text("name", "NoField")?
+        .count("number", 37)?
+        .typed("fault")
 }
 
 /// A fault, and the offset of a damage.
@@ -68,10 +87,11 @@ pub fn fault_value(
 ) -> Result<Value, AllocError>
     ensures { IfOk result (λ value. view value ≡ telling_data (told.fault number name.now offset)) }
 {
+    let members = Members::new(alloc)
+        .text("name", name)?
+        .count("number", number as u64)?;
     match offset {
-        None => json!(in alloc; {"name": name, "number": number, "type": "fault"}),
-        Some(offset) => {
-            json!(in alloc; {"name": name, "number": number, "offset": offset, "type": "fault"})
-        }
+        None => members.typed("fault"),
+        Some(offset) => members.count("offset", offset)?.typed("fault"),
     }
 }

@@ -8,12 +8,12 @@ ghost use Rattle.sheet_json.specs.Objects as json;
 ghost use Rattle.sheet_json.specs.Tellings as told;
 ghost use Rattle.sheet_text.specs.Blocks as printed;
 
-use crate::blocks::block_value;
 use crate::bytes::bytes_value;
+use crate::members::Members;
 use block_tree::{Block, Octets, Queue, Reason};
 use plugin_core::Item;
 use scheme_text::Completions;
-use serde_json::{Value, json};
+use serde_json::Value;
 use sheet_text::{block_text, reason_name};
 use std::alloc::{AllocError, Global};
 
@@ -46,10 +46,12 @@ pub fn banner_value(
     ensures { IfOk result (λ value. view value
         ≡ telling_data (told.event session.now life (told.banner output.now))) }
 {
-    let blocks = block_value(alloc, output)?;
-    let name = bytes_value(alloc, session)?;
-    let shown = shown_value(alloc, output)?;
-    json!(in alloc; {"life": life, "output": blocks, "session": name, "shown": shown, "type": "banner"})
+    Members::new(alloc)
+        .count("life", life as u64)?
+        .blocks("output", output)?
+        .bytes("session", session)?
+        .shown("shown", output)?
+        .typed("banner")
 }
 
 /// The answer to the line of a field closed, which shows it with this prompt from then on.
@@ -64,19 +66,14 @@ pub fn answered_value(
     ensures { IfOk result (λ value. view value
         ≡ telling_data (told.event session.now life (told.answer id prompt.now output.now))) }
 {
-    let blocks = block_value(alloc, output)?;
-    let name = bytes_value(alloc, session)?;
-    let prompt = bytes_value(alloc, prompt)?;
-    let shown = shown_value(alloc, output)?;
-    json!(in alloc; {
-        "id": id,
-        "life": life,
-        "output": blocks,
-        "prompt": prompt,
-        "session": name,
-        "shown": shown,
-        "type": "answered"
-    })
+    Members::new(alloc)
+        .count("id", id as u64)?
+        .count("life", life as u64)?
+        .blocks("output", output)?
+        .bytes("prompt", prompt)?
+        .bytes("session", session)?
+        .shown("shown", output)?
+        .typed("answered")
 }
 
 #[tactic(auto, using(crate::proofs::Lists::list_steps))]
@@ -100,8 +97,10 @@ fn completions_value(alloc: Global, given: Option<&Completions>) -> Result<Value
         None => Ok(Value::Null),
         Some(given) => {
             let rest = texts_value(alloc, given.rest.as_slice())?;
-            let root = bytes_value(alloc, given.root.as_slice())?;
-            json!(in alloc; {"rest": rest, "root": root})
+            let members = Members::new(alloc)
+                .with("rest", rest)?
+                .bytes("root", given.root.as_slice())?;
+            Ok(members.done())
         }
     }
 }
@@ -117,9 +116,13 @@ pub fn completed_value(
     ensures { IfOk result (λ value. view value ≡ telling_data
         (told.event session.now life (told.completed id (option_copied given.entry)))) }
 {
-    let name = bytes_value(alloc, session)?;
-    let completions = completions_value(alloc, given)?;
-    json!(in alloc; {"id": id, "life": life, "session": name, "told": completions, "type": "completed"})
+    let told = completions_value(alloc, given)?;
+    Members::new(alloc)
+        .with("told", told)?
+        .count("id", id as u64)?
+        .count("life", life as u64)?
+        .bytes("session", session)?
+        .typed("completed")
 }
 
 /// The default input of an answer.
@@ -132,9 +135,11 @@ pub fn default_value(
     ensures { IfOk result (λ value. view value
         ≡ telling_data (told.event session.now life (told.input text.now))) }
 {
-    let name = bytes_value(alloc, session)?;
-    let text = bytes_value(alloc, text)?;
-    json!(in alloc; {"life": life, "session": name, "text": text, "type": "default"})
+    Members::new(alloc)
+        .count("life", life as u64)?
+        .bytes("session", session)?
+        .bytes("text", text)?
+        .typed("default")
 }
 
 /// An item that was lost.
@@ -143,11 +148,17 @@ fn lost_value(alloc: Global, item: &Item) -> Result<Value, AllocError>
 {
     match item {
         Item::Line { id, text } => {
-            let text = bytes_value(alloc, text.as_slice())?;
-            json!(in alloc; {"id": *id, "text": text})
+            let members = Members::new(alloc)
+                .count("id", *id as u64)?
+                .bytes("text", text.as_slice())?;
+            Ok(members.done())
         }
         Item::Complete { id, text, cursor } => {
-            json!(in alloc; {"cursor": *cursor, "id": *id, "text": text.as_str()})
+            let members = Members::new(alloc)
+                .count("cursor", *cursor as u64)?
+                .count("id", *id as u64)?
+                .text("text", text.as_str())?;
+            Ok(members.done())
         }
     }
 }
@@ -178,10 +189,13 @@ pub fn ended_value(
     ensures { IfOk result (λ value. view value
         ≡ telling_data (told.event session.now life (told.ended why lost.now))) }
 {
-    let name = bytes_value(alloc, session)?;
     let items = losts_value(alloc, lost)?;
-    let reason = reason_name(why);
-    json!(in alloc; {"life": life, "lost": items, "reason": reason, "session": name, "type": "ended"})
+    Members::new(alloc)
+        .with("lost", items)?
+        .count("life", life as u64)?
+        .text("reason", reason_name(why))?
+        .bytes("session", session)?
+        .typed("ended")
 }
 
 /// A limit of time was over, and the interpreter of a life was interrupted, or not: what came of it, as a word.
@@ -194,8 +208,11 @@ pub fn warned_value(
     ensures { IfOk result (λ value. view value
         ≡ telling_data (told.event session.now life (told.warned outcome.now))) }
 {
-    let name = bytes_value(alloc, session)?;
-    json!(in alloc; {"life": life, "outcome": outcome, "session": name, "type": "interrupted"})
+    Members::new(alloc)
+        .count("life", life as u64)?
+        .text("outcome", outcome)?
+        .bytes("session", session)?
+        .typed("interrupted")
 }
 
 /// A life was ended by a line, and these items were lost.
@@ -209,7 +226,11 @@ pub fn stopped_value(
     ensures { IfOk result (λ value. view value
         ≡ telling_data (told.stopped line session.now life lost.now)) }
 {
-    let name = bytes_value(alloc, session)?;
     let items = losts_value(alloc, lost)?;
-    json!(in alloc; {"life": life, "line": line, "lost": items, "session": name, "type": "stopped"})
+    Members::new(alloc)
+        .with("lost", items)?
+        .count("life", life as u64)?
+        .count("line", line)?
+        .bytes("session", session)?
+        .typed("stopped")
 }

@@ -7,12 +7,10 @@ ghost use Rattle.sheet_json.specs.Shown as shown;
 ghost use Rattle.sheet_json.specs.Tellings as told;
 ghost use Rattle.sheet_text.specs.InputLines.{unfolded};
 
-use crate::blocks::block_value;
-use crate::bytes::bytes_value;
-use crate::events::{shown_value, texts_value};
+use crate::members::Members;
 use block_tree::Reason;
-use serde_json::{Value, json};
-use sheet_text::{reason_name, unfolded as unfold};
+use serde_json::Value;
+use sheet_text::reason_name;
 use std::alloc::{AllocError, Global};
 use worksheet::{Answer, Field, Session, Sheet};
 
@@ -21,20 +19,15 @@ fn answered_field(alloc: Global, field: &Field, answer: &Answer) -> Result<Value
     ensures { IfOk result (λ value. view value ≡ json.field_with field.now.id field.now.session
         (unfolded field.now.input) (told.answered answer.now.prompt answer.now.output)) }
 {
-    let input = unfold(alloc, field.input.as_str())?;
-    let blocks = block_value(alloc, &answer.output)?;
-    let prompt = bytes_value(alloc, answer.prompt.as_slice())?;
-    let name = bytes_value(alloc, field.session.as_slice())?;
-    let shown = shown_value(alloc, &answer.output)?;
-    json!(in alloc; {
-        "id": field.id,
-        "input": input,
-        "output": blocks,
-        "prompt": prompt,
-        "session": name,
-        "shown": shown,
-        "state": "answered"
-    })
+    let members = Members::new(alloc)
+        .count("id", field.id as u64)?
+        .input(field.input.as_str())?
+        .blocks("output", &answer.output)?
+        .bytes("prompt", answer.prompt.as_slice())?
+        .bytes("session", field.session.as_slice())?
+        .shown("shown", &answer.output)?
+        .text("state", "answered")?;
+    Ok(members.done())
 }
 
 /// A field whose line was lost.
@@ -42,16 +35,13 @@ fn lost_field(alloc: Global, field: &Field, why: Reason) -> Result<Value, AllocE
     ensures { IfOk result (λ value. view value ≡ json.field_with field.now.id field.now.session
         (unfolded field.now.input) (told.lost why)) }
 {
-    let input = unfold(alloc, field.input.as_str())?;
-    let name = bytes_value(alloc, field.session.as_slice())?;
-    let reason = reason_name(why);
-    json!(in alloc; {
-        "id": field.id,
-        "input": input,
-        "reason": reason,
-        "session": name,
-        "state": "lost"
-    })
+    let members = Members::new(alloc)
+        .count("id", field.id as u64)?
+        .input(field.input.as_str())?
+        .text("reason", reason_name(why))?
+        .bytes("session", field.session.as_slice())?
+        .text("state", "lost")?;
+    Ok(members.done())
 }
 
 /// A field without both.
@@ -59,13 +49,12 @@ fn open_field(alloc: Global, field: &Field, waits: bool) -> Result<Value, AllocE
     ensures { IfOk result (λ value. view value ≡ json.field_with field.now.id field.now.session
         (unfolded field.now.input) (shown.state_shown waits None None)) }
 {
-    let input = unfold(alloc, field.input.as_str())?;
-    let name = bytes_value(alloc, field.session.as_slice())?;
-    if waits {
-        json!(in alloc; {"id": field.id, "input": input, "session": name, "state": "waiting"})
-    } else {
-        json!(in alloc; {"id": field.id, "input": input, "session": name, "state": "empty"})
-    }
+    let members = Members::new(alloc)
+        .count("id", field.id as u64)?
+        .input(field.input.as_str())?
+        .bytes("session", field.session.as_slice())?
+        .text("state", if waits { "waiting" } else { "empty" })?;
+    Ok(members.done())
 }
 
 /// A field, of which a host knows whether its line waits.
@@ -90,7 +79,10 @@ pub fn asked_field_value(
         ≡ telling_data (told.field line (shown.field_told waits field.now))) }
 {
     let inside = field_value(alloc, field, waits)?;
-    json!(in alloc; {"field": inside, "line": line, "type": "field"})
+    Members::new(alloc)
+        .with("field", inside)?
+        .count("line", line)?
+        .typed("field")
 }
 
 /// One of the fields that a line asks for.
@@ -99,7 +91,11 @@ pub fn part_value(alloc: Global, line: u64, field: &Field, waits: bool) -> Resul
         ≡ telling_data (told.part line (shown.field_told waits field.now))) }
 {
     let inside = field_value(alloc, field, waits)?;
-    json!(in alloc; {"field": inside, "line": line, "more": true, "type": "field"})
+    Members::new(alloc)
+        .with("field", inside)?
+        .count("line", line)?
+        .with("more", Value::Bool(true))?
+        .typed("field")
 }
 
 /// A field of a worksheet that no host has.
@@ -108,5 +104,5 @@ pub fn shown_field_value(alloc: Global, field: &Field) -> Result<Value, AllocErr
         ≡ telling_data (told.shown (shown.field_told false field.now))) }
 {
     let inside = field_value(alloc, field, false)?;
-    json!(in alloc; {"field": inside, "type": "field"})
+    Members::new(alloc).with("field", inside)?.typed("field")
 }

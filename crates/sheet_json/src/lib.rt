@@ -9,6 +9,7 @@ mod events;
 mod fields;
 pub mod laws;
 mod lines;
+mod members;
 mod replies;
 mod sheets;
 mod told;

@@ -1,6 +1,7 @@
 //! A worksheet as lines of JSON.
-ghost use Rattle.std.specs.Prelude.{◌≡◌, IfOk, List, map};
-ghost use Rattle.serde_json.specs.View.{view};
+ghost use Rattle.std.specs.Prelude.{◌≡◌, IfOk, List, codes, map};
+ghost use Rattle.serde_json.specs.Data.{put as with_member};
+ghost use Rattle.serde_json.specs.View.{members_view, view};
 ghost use Rattle.sheet_json.specs.Objects.{telling_data};
 ghost use Rattle.sheet_json.specs.Objects as json;
 ghost use Rattle.sheet_json.specs.Shown as shown;
@@ -8,19 +9,19 @@ ghost use Rattle.sheet_json.specs.inside.Rows as rows;
 ghost use Rattle.sheet_json.specs.Tellings.{SessionShown};
 ghost use Rattle.sheet_json.specs.Tellings as told;
 
-use crate::bytes::bytes_value;
 use crate::events::texts_value;
-use serde_json::{Value, json};
+use crate::members::Members;
+use serde_json::Value;
 use std::alloc::{AllocError, Global};
 use worksheet::{Session, Sheet};
 
 /// The number of a life, where one goes on.
-fn life_value(alloc: Global, life: Option<u32>) -> Result<Value, AllocError>
-    ensures { IfOk result (λ value. view value ≡ json.life_data life) }
+fn life_value(life: Option<u32>) -> Value
+    ensures { view result ≡ json.life_data life }
 {
     match life {
-        None => json!(in alloc; null),
-        Some(number) => json!(in alloc; number),
+        None => Value::Null,
+        Some(number) => Value::from(number),
     }
 }
 
@@ -34,10 +35,14 @@ pub fn session_value(
     ensures { IfOk result (λ value. view value
         ≡ json.session_data (shown.session_shown life waiting session.now)) }
 {
-    let life = life_value(alloc, life)?;
-    let name = bytes_value(alloc, session.name.as_slice())?;
     let words = texts_value(alloc, session.words.as_slice())?;
-    json!(in alloc; {"life": life, "name": name, "tab": session.tab, "waiting": waiting, "words": words})
+    let members = Members::new(alloc)
+        .with("words", words)?
+        .with("life", life_value(life))?
+        .bytes("name", session.name.as_slice())?
+        .with("tab", Value::Bool(session.tab))?
+        .count("waiting", waiting as u64)?;
+    Ok(members.done())
 }
 
 /// The sessions, in the order of their making.
@@ -82,6 +87,18 @@ fn ids_value(alloc: Global, sheet: &Sheet) -> Result<Value, AllocError>
     ids_row(alloc, sheet)
 }
 
+/// Members with the numbers of the fields, and the number that the next one gets.
+fn with_ids(alloc: Global, members: Members, sheet: &Sheet) -> Result<Members, AllocError>
+    ensures { IfOk result (λ more. members_view more.map.entries
+        ≡ with_member (codes "next") (json.count sheet.now.contents.next)
+        (with_member (codes "fields") (json.ids_data (shown.ids_of sheet.now.contents)) (members_view members.map.entries))) }
+{
+    let ids = ids_value(alloc, sheet)?;
+    members
+        .with("fields", ids)?
+        .count("next", sheet.next_id() as u64)
+}
+
 /// What follows the fields that a line asks for, where the sessions have these values.
 pub fn sheet_value(
     alloc: Global,
@@ -93,18 +110,17 @@ pub fn sheet_value(
         → IfOk result (λ value. view value ≡ telling_data
         (told.sheet line (shown.ids_of sheet.now.contents) sheet.now.contents.next all)) }
 {
-    let ids = ids_value(alloc, sheet)?;
-    let sessions = Value::Array(sessions);
-    let next = sheet.next_id();
-    json!(in alloc; {"fields": ids, "line": line, "next": next, "sessions": sessions, "type": "sheet"})
+    let members = Members::new(alloc).with("sessions", Value::Array(sessions))?;
+    with_ids(alloc, members, sheet)?
+        .count("line", line)?
+        .typed("sheet")
 }
 
 /// What follows the fields of a worksheet that no host has.
 pub fn whole_value(alloc: Global, sheet: &Sheet) -> Result<Value, AllocError>
     ensures { IfOk result (λ value. view value ≡ telling_data (shown.whole_of sheet.now.contents)) }
 {
-    let ids = ids_value(alloc, sheet)?;
     let sessions = sessions_value(alloc, sheet)?;
-    let next = sheet.next_id();
-    json!(in alloc; {"fields": ids, "next": next, "sessions": sessions, "type": "sheet"})
+    let members = Members::new(alloc).with("sessions", sessions)?;
+    with_ids(alloc, members, sheet)?.typed("sheet")
 }
