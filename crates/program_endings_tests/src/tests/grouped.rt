@@ -68,7 +68,12 @@ pub(super) fn fields_of<D: Disk>(alloc: Global, disk: D) -> Option<usize> {
 }
 
 // Whether each crash at this moment leaves one of two counts of fields.
-pub(super) fn leaves(alloc: Global, disk: &MemoryDisk, moment: u64, either: (usize, usize)) -> bool {
+pub(super) fn leaves(
+    alloc: Global,
+    disk: &MemoryDisk,
+    moment: u64,
+    either: (usize, usize),
+) -> bool {
     for fill in FILLS {
         let choice = Choice {
             moment,

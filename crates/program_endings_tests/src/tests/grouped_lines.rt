@@ -9,7 +9,7 @@ use offline_programs::RunFault;
 use std::alloc::Global;
 use tellings::InWords;
 
-/// How many fields the first group makes. The session before it stands alone, with an empty line behind it.
+/// How many fields the first group makes. The session before it stands alone, with an empty line after it.
 const FIRST: u32 = 1_024;
 
 // Lines that come first, over a disk.
@@ -84,7 +84,7 @@ fn the_bytes_of_lines_that_came_together(rt: HostRuntime) {
     assert!(rt; has_the_bytes_of_single_records(rt.alloc()) == Some(true));
 }
 
-// Whether a disk that fails at this call of the group behind the session is reported so, with the reply to the session
+// Whether a disk that fails at this call of the group after the session is reported so, with the reply to the session
 // alone, and has none of the fields or all.
 fn fails_at(alloc: Global, call: u64) -> Option<bool> {
     let one = disk_of(alloc, created(alloc)?, b"session a plain p\n", 1)?;
