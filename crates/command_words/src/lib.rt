@@ -2,6 +2,7 @@
 //! What is then done stands in `host_cli`.
 #![tactic(auto)]
 
+mod arguments;
 mod commands;
 mod table;
 mod words;

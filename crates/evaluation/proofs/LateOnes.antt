@@ -1,5 +1,5 @@
 -- Whose time was over.
-use Rattle.std.proofs.Common.{◌≡◌, ◌≢◌, ◌⊎◌, inl, inr, ◌+◌, ◌-◌, ◌^◌, ◌≤◌, ℕ, Bool, true, false, arith, List, [], ◌∷◌, ◌++◌, Option, Some, None, refl, ap, sym, ◌∙◌, subst, append_assoc, append-nil, nat_lt, slice_get}
+use Rattle.std.proofs.Common.{◌≡◌, ◌≢◌, inl, inr, ◌+◌, ◌-◌, ◌^◌, ◌≤◌, ℕ, arith, List, [], ◌∷◌, ◌++◌, Option, Some, None, refl, ap, sym, ◌∙◌, subst, append_assoc, append-nil, slice_get}
 use Rattle.std.proofs.lemmas.Bool.{le-ltb, lt-ltb}
 use Rattle.std.proofs.KnownBytes.{Appends-nil}
 use Rattle.session_engine.specs.World.{World, sheet_in}
@@ -15,14 +15,14 @@ use Rattle.evaluation.specs.declared.plan.Stand.{Stand}
 use Rattle.evaluation.specs.Beside.{IsLate}
 use Rattle.evaluation.specs.Rounds.{asking_order}
 use Rattle.evaluation.specs.Steps.{Setting, EvalPlace, Step, ask, heard, over, stalled, OverComes, StepComes, TakesStep, StepsTaken, setting, stands, warned_at, woken_in}
-use Rattle.evaluation.specs.Broken.{Cut, StepLed, StepSoFar, StepUpTo, TooMany, Unwatched, so_far}
+use Rattle.evaluation.specs.Broken.{Cut, StepLed, StepSoFar, so_far}
 use Rattle.evaluation.specs.Evaluation.{not_begun}
 use Rattle.evaluation.specs.Silently as silently
 use Rattle.evaluation.specs.Silently.{BrokeSilently, EvaluatedSilently, late_in, late_of, silent_setting}
 use Rattle.evaluation.specs.Within.{silent}
 use Rattle.evaluation.specs.inside.LateFields.{IsLastTaken, NotNoted, NotedThrough, NotingBroke, late_between, late_if, listed}
-use Rattle.evaluation.specs.inside.Stepping.{BrokeOff, CameSoFar, CameUnwritten, StepFailed, StepGave, Through, fault_of_wait}
-use Rattle.evaluation.proofs.Goings.{SoFar, all_taken, broke_off, none_taken, one_taken, too_many}
+use Rattle.evaluation.specs.inside.Stepping.{BrokeOff, CameSoFar, CameUnwritten, StepFailed, StepGave, fault_of_wait}
+use Rattle.evaluation.proofs.Goings.{SoFar, all_taken, broke_off, one_taken, too_many}
 
 -- In each step the field is found whose time was over in it.
 

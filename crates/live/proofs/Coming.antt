@@ -1,14 +1,14 @@
 -- The lines to come, and whose turn it is.
-use Rattle.std.proofs.Common.{◌≡◌, inl, inr, ℕ, Bool, true, false, true≢false, List, [], ◌∷◌, ◌++◌, Option, Some, None, refl, ap, sym, ◌∙◌, subst, append_assoc, append-nil}
+use Rattle.std.proofs.Common.{◌≡◌, inl, inr, ℕ, Bool, true, false, true≢false, List, [], ◌∷◌, ◌++◌, Option, Some, None, refl, ap, sym, ◌∙◌, subst, append_assoc, append-nil, map}
 use Rattle.std.specs.Prelude.{◌⊎◌}
 use Rattle.child_calls.specs.declared.seat.Seat.{Seat}
-use Rattle.arrivals.specs.Lines.{InputLine}
+use Rattle.arrivals.specs.Lines.{InputLine, whole}
 use Rattle.arrivals.specs.Held.{Held, KeepsLines, Readiness, left_with, to_come}
 use Rattle.arrivals.specs.declared.sources.Woken.{Woken}
 use Rattle.arrivals.specs.declared.sources.Woken.TheVariants as woken
 use Rattle.live.specs.declared.holding.Hold.{Hold}
 use Rattle.live.specs.Records.{Turn, Watches, between}
-use Rattle.live.specs.Arrivals.{Arrival, line, part, life, time_over, Comes, IsOver, WatchTells, lines_in}
+use Rattle.live.specs.Arrivals.{Arrival, line, together, part, life, time_over, Comes, IsOver, WatchTells, lines_in}
 use Rattle.live.specs.Taking.{IsBy, TakesLines, TurnComes}
 
 -- a line that is given is the first of those to come
@@ -16,9 +16,15 @@ pub line_given : (h k : Held) (given : InputLine) (r : Option (List ℕ)) → ((
 line_given h k given None p = tt
 line_given h k given (Some more) p = (left_with k more, p more, refl)
 
+-- and so are lines that are given one after another
+pub lines_given : (h k : Held) (given : List (List ℕ)) (r : Option (List ℕ)) → ((more : List ℕ) → left_with h more ≡ map whole given ++ left_with k more) → TakesLines (together given) (between (to_come h r) (to_come k r))
+lines_given h k given None p = tt
+lines_given h k given (Some more) p = (left_with k more, p more, refl)
+
 lines-snoc : (as1 : List Arrival) (a : Arrival) (own : List InputLine) → lines_in (a ∷ []) ≡ own → lines_in (as1 ++ a ∷ []) ≡ lines_in as1 ++ own
 lines-snoc [] a own p = p
 lines-snoc (line l ∷ as1) a own p = ap (λ (x : List InputLine). l ∷ x) (lines-snoc as1 a own p)
+lines-snoc (together ls ∷ as1) a own p = ap (λ (x : List InputLine). map whole ls ++ x) (lines-snoc as1 a own p) ∙ sym (append_assoc (map whole ls) (lines_in as1) own)
 lines-snoc (part ∷ as1) a own p = lines-snoc as1 a own p
 lines-snoc (life seat ∷ as1) a own p = lines-snoc as1 a own p
 lines-snoc (time_over ∷ as1) a own p = lines-snoc as1 a own p
@@ -29,6 +35,14 @@ pub lines_on : (a : Arrival) (as1 : List Arrival) (ls : List InputLine) (rest : 
 lines_on (line l) as1 ls rest old new split is takes =
     let got = subst (λ (o : Option (List InputLine)). TakesLines (line l) (between o new)) is takes in
     (got.0, split ∙ ap (λ (x : List InputLine). lines_in as1 ++ x) got.1 ∙ sym (append_assoc (lines_in as1) (l ∷ []) got.0) ∙ ap (λ (x : List InputLine). x ++ got.0) (sym (lines-snoc as1 (line l) (l ∷ []) refl)), got.2)
+lines_on (together group) as1 ls rest old new split is takes =
+    let got = subst (λ (o : Option (List InputLine)). TakesLines (together group) (between o new)) is takes in
+    let own = map whole group in (
+      got.0,
+      split ∙ ap (λ (x : List InputLine). lines_in as1 ++ x) got.1 ∙ sym (append_assoc (lines_in as1) own got.0)
+          ∙ ap (λ (x : List InputLine). x ++ got.0) (sym (lines-snoc as1 (together group) own (append-nil own))),
+      got.2,
+    )
 lines_on part as1 ls rest old new split is takes =
     (rest, split ∙ ap (λ (x : List InputLine). x ++ rest) (sym (lines-snoc as1 part [] refl ∙ append-nil (lines_in as1))), subst (λ (o : Option (List InputLine)). KeepsLines o new) is takes)
 lines_on (life seat) as1 ls rest old new split is takes =
@@ -62,6 +76,7 @@ input_told m held c there it d comes input same =
 -- what comes of a turn
 pub comes_by : {C : Type 0} (m : Watches C) (held : Hold) (c : C) (it : Turn) (d : C) (a : Arrival) → TurnComes m held c it d → IsBy it a → Comes m held c a d
 comes_by m held c it d (line l) comes by = input_told m held c true it d comes by.0 by.1
+comes_by m held c it d (together ls) comes by = input_told m held c true it d comes by.0 by.1
 comes_by m held c it d part comes by = input_told m held c false it d comes by.0 by.1
 comes_by m held c it d (life seat) comes by = (it.is_there, told_life m held c it.is_there d seat (subst (ToldBy m held c it.is_there d) by comes.1))
 comes_by m held c it d time_over comes by = time-told m held c it.is_there d (subst (ToldBy m held c it.is_there d) by comes.1)

@@ -1,18 +1,20 @@
 -- What came, one after the other.
-use Rattle.std.proofs.Common.{◌≡◌, ◌+◌, inr, ℕ, Bool, true, false, length, arith, List, [], ◌∷◌, ◌++◌, Option, Some, None, refl, ap, sym, ◌∙◌, subst, append_assoc, append-nil}
+use Rattle.std.proofs.Common.{◌≡◌, ◌+◌, inl, inr, ℕ, Bool, true, false, length, length-append, map, arith, List, [], ◌∷◌, ◌++◌, Option, Some, None, refl, ap, sym, ◌∙◌, subst, append_assoc, append-nil}
 use Rattle.std.specs.Prelude.{IfOk, IfSome, Result, Ok, Err}
+use Rattle.std.proofs.lemmas.List.{length-map}
 use Rattle.std.proofs.KnownBytes.{Appends-nil, Appends-trans}
 use Rattle.std.specs.Io.KnownBytes.{Appends}
 use Rattle.session_engine.specs.World.{World, sheet_in}
 use Rattle.session_engine.specs.Host.{HostView, IsHost}
 use Rattle.child_edge.specs.Faithful.{at}
-use Rattle.arrivals.specs.Lines.{InputLine}
+use Rattle.arrivals.specs.Lines.{InputLine, whole as full}
 use Rattle.arrivals.specs.declared.sources.Woken.TheVariants as woken
 use Rattle.offline_programs.specs.declared.fault.RunFault.{RunFault}
 use Rattle.offline_programs.specs.declared.fault.RunFault.TheVariants as fault
 use Rattle.live.specs.declared.stepping.Stand.{Stand}
 use Rattle.live.specs.Records.{Brought, Edge, Left, Lines, Turn, between, brought, left}
 use Rattle.live.specs.Arrivals.{Arrival, LivePlace, WatchTells, Comes, TakesArrival, Lived, front_text, lines_in, place, woken_at}
+use Rattle.live.specs.Arrivals as kind
 use Rattle.live.specs.Broken.{LivedBefore}
 use Rattle.live.specs.Live.{AreTooMany}
 use Rattle.live.specs.Taking as inside
@@ -63,6 +65,34 @@ lived-more o p (b ∷ came) it mid a c last q h comes takes = (
   ap (λ y. y ++ last.beats) h.7 ∙ append_assoc h.2.beats h.3.beats last.beats,
   ap (λ y. y ++ last.text) h.8 ∙ append_assoc h.2.text h.3.text last.text,
 )
+
+-- How many lines came.
+
+abbrev own : Arrival → ℕ
+own (kind.line l) = 1
+own (kind.together ls) = length ls
+own kind.part = 0
+own (kind.life seat) = 0
+own kind.time_over = 0
+
+own-lines : (a : Arrival) (all : List Arrival) → length (lines_in (a ∷ all)) ≡ own a + length (lines_in all)
+own-lines (kind.line l) all = omega arith
+own-lines (kind.together ls) all = omega (arith, length-append (map full ls) (lines_in all), length-map ls full)
+own-lines kind.part all = omega arith
+own-lines (kind.life seat) all = omega arith
+own-lines kind.time_over all = omega arith
+
+counts-one : {C : Type 0} (o : Edge C) (p : LivePlace C) (a : Arrival) (it : Brought) (q : LivePlace C) → TakesArrival o p a it q → q.number ≡ p.number + own a
+counts-one o p (kind.line l) it q t = t.1
+counts-one o p (kind.together ls) it q t = t.2
+counts-one o p kind.part it q t = let same = ap (λ (x : LivePlace _). x.number) t.3 in omega (arith, same)
+counts-one o p (kind.life seat) it q t = omega (arith, t.0)
+counts-one o p kind.time_over it q (inl t) = omega (arith, t.1)
+counts-one o p kind.time_over it q (inr t) = omega (arith, t.1)
+
+pub counted : {C : Type 0} (o : Edge C) (p : LivePlace C) (all : List Arrival) (it : Brought) (q : LivePlace C) → Lived o p all it q → q.number ≡ p.number + length (lines_in all)
+counted o p [] it q t = let same = ap (λ (x : LivePlace _). x.number) t.2 in omega (arith, same)
+counted o p (a ∷ all) it q t = let first = counts-one o (woken_at p t.0) a t.2 t.1 t.5 in let rest = counted o t.1 all t.3 q t.6 in omega (arith, first, rest, own-lines a all)
 
 -- The lines that came, and those to come.
 
@@ -169,6 +199,9 @@ module _ {C : Type 0} (o : Edge C) (p : LivePlace C) (stand : Stand) (h : HostVi
           inside.stopped e (so.came ++ a ∷ []) (joined so.all (brought beats text)) failed t x
           (record { last = a; earlier = so.all; mid = woken_at here mid; beats = beats; before = before a mid comes; broke = broke; took = refl; wrote = refl })
           stopped (Appends-trans out now later so.all.text text so.wrote wrote) (front a takes)
+      go f (inside.broke ls is group broke same wrote) = inside.broke (so.came ++ a ∷ []) so.all
+          (record { group = ls; mid = woken_at here mid; before = subst (λ (x : Arrival). LivedBefore o p (so.came ++ a ∷ []) x so.all (woken_at here mid)) is (before a mid comes); may_group = group; broke = broke })
+          same (no-more wrote) (front a takes)
       go f (inside.refused beats t broke stands wrote) = let text = front_text o.voice stand.number a (sheet_in t) beats in
           inside.refused (so.came ++ a ∷ []) (joined so.all (brought beats text)) t
           (record { last = a; earlier = so.all; mid = woken_at here mid; beats = beats; before = before a mid comes; broke = broke; took = refl; wrote = refl })

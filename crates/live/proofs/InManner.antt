@@ -56,6 +56,7 @@ module _ {C : Type 0} (manner : Manner) (V : Voice) (R : Relation C) (K : Clock 
 
     taking-failed : (leaves : Left C) (f : RunFault) → TakingFailed (edge V R K W) p a leaves f → TakingFailed (edge_by manner V R K W) p a leaves f
     taking-failed leaves f (inside.stopped why beats e t d broke stopped wrote) = inside.stopped why beats e t d broke stopped wrote
+    taking-failed leaves f (inside.broke ls is group broke same wrote) = inside.broke ls is group broke same wrote
     taking-failed leaves f (inside.refused beats t so stands wrote) = inside.refused beats t so stands wrote
     taking-failed leaves f (inside.untold why q) = inside.untold why (took-unwritten leaves q)
     taking-failed leaves f (inside.unwritten q) = inside.unwritten (took-unwritten leaves q)

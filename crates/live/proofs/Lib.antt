@@ -4,3 +4,5 @@ pub mod Coming
 pub mod Goings
 pub mod Ends
 pub mod InManner
+pub mod Gatherings
+pub mod Groups

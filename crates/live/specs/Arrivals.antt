@@ -1,8 +1,9 @@
 -- What came to a live worksheet, one after the other, and what came of it. (docs/EDGE.md, "Live".)
-use Rattle.std.specs.Prelude.{◌≡◌, ◌⊎◌, ℕ, ◌+◌, ◌-◌, ◌≤◌, Bool, false, true, List, [], ◌∷◌, ◌++◌, Option, Some, None, IsSomeAnd}
+use Rattle.std.specs.Prelude.{◌≡◌, ◌⊎◌, ℕ, ◌+◌, ◌-◌, ◌≤◌, Bool, false, true, List, [], ◌∷◌, ◌++◌, Option, Some, None, IsSomeAnd, length, map}
 use Rattle.child_calls.specs.declared.seat.Seat.{Seat}
 use Rattle.child_edge.specs.Faithful.{At, at, Beat, EachOf, Taken, OneTurn, hearing}
 use Rattle.child_edge.specs.Interrupts.{Interrupts}
+use Rattle.child_edge.specs.Moments.{outcomes_of}
 use Rattle.child_edge.specs.declared.interrupting.Interrupted.{Interrupted}
 use Rattle.child_edge.specs.Seats.{waits}
 use Rattle.arrivals.specs.Lines.{InputLine, whole, too_long}
@@ -15,18 +16,21 @@ use Rattle.sheet_text.specs.LiveLines.{live_line_of}
 use Rattle.sheet_text.specs.declared.live_line.LiveLine.{LiveLine}
 use Rattle.session_engine.specs.World.{sheet_in}
 use Rattle.child_edge.specs.Told.{told}
-use Rattle.tellings.specs.Voice.{Voice, came_text, replied_text}
+use Rattle.sheet_programs.specs.Together.{GroupDone}
+use Rattle.tellings.specs.Voice.{Voice, came_text, numbered_text, replied_text}
 use Rattle.tellings.specs.declared.note.Note.TheVariants as note
 use Rattle.worksheet.specs.Contents.{Contents}
 use Rattle.live.specs.declared.holding.Hold.{Hold}
 use Rattle.live.specs.declared.holding.Hold.TheVariants as hold
 use Rattle.live.specs.Records.{Brought, Edge, Watches, brought}
-use Rattle.live.specs.Saying.{SaidDone, IsLimited, IsUntil, Begins, WaitGoesOn, over_text, seconds_behind, time_of}
+use Rattle.live.specs.Saying.{MayGroup, SaidDone, IsLimited, IsUntil, Begins, WaitGoesOn, over_text, seconds_behind, time_of}
 
 -- what came
 pub data Arrival : Type 0 where
   -- the next line of the input
   line : InputLine → Arrival
+  -- the next lines of the input, which were there together
+  together : List (List ℕ) → Arrival
   -- a part of a line
   part : Arrival
   -- something of the child of this life: a piece, its end or a fault
@@ -38,6 +42,7 @@ pub data Arrival : Type 0 where
 abbrev pub lines_in : List Arrival → List InputLine
 lines_in [] = []
 lines_in (line l ∷ came) = l ∷ lines_in came
+lines_in (together ls ∷ came) = map whole ls ++ lines_in came
 lines_in (part ∷ came) = lines_in came
 lines_in (life seat ∷ came) = lines_in came
 lines_in (time_over ∷ came) = lines_in came
@@ -86,13 +91,22 @@ WatchTells m held c is_there told d =
     (now : ℕ) × m.clock c now × (IsOver held now → ⊥) × m.wakes c (asked (input_at held is_there) (patience_at held now)) told d
 
 -- This came while this wait held the lines back, and these are the sources after the watch that returned it: a line where one was there,
--- and a part of one where none was. That a time is over is known from a watch, or from the clock, which is read before each of them.
+-- or several by the same watch, and a part of one where none was. That a time is over is known from a watch, or from the clock, which is read
+-- before each of them.
 abbrev pub Comes : {C : Type 0} → Watches C → Hold → C → Arrival → C → Type 0
 Comes m held c (line l) d = WatchTells m held c true (Some woken.Input) d
+Comes m held c (together ls) d = WatchTells m held c true (Some woken.Input) d
 Comes m held c part d = WatchTells m held c false (Some woken.Input) d
 Comes m held c (life seat) d = (is_there : Bool) × WatchTells m held c is_there (Some (woken.Life seat)) d
 Comes m held c time_over d =
     ((is_there : Bool) × WatchTells m held c is_there (Some woken.TimeOver) d) ⊎ ((now : ℕ) × m.clock c now × IsOver held now × (d ≡ c))
+
+-- Lines that were there together were taken as one group: their commands went through one after another, no child was called, and what they
+-- gave became durable at once. The reply to each is printed with the number of its line. No wait begins.
+abbrev pub TakesGroup : {C : Type 0} → Edge C → LivePlace C → List (List ℕ) → Brought → LivePlace C → Type 0
+TakesGroup o p ls it q =
+    (p.held ≡ hold.Free) × (q.held ≡ hold.Free) × (q.number ≡ p.number + length ls) × MayGroup ls × GroupDone ls p.run it.beats q.run
+    × (it.text ≡ numbered_text o.voice (p.number + 1) (sheet_in q.run.world) (outcomes_of it.beats))
 
 -- The time of a wait is over, and so is the wait: each life in which an item still waits counts as stalled.
 abbrev pub EndsWait : {C : Type 0} → Edge C → LivePlace C → Brought → LivePlace C → Type 0
@@ -122,6 +136,7 @@ TakesArrival o p (line l) it q =
     (p.held ≡ hold.Free) × (q.number ≡ p.number + 1) × ((said : List ℕ) × SaidDone o q.number (said_by l) p.run (brought it.beats said) q.run
     × ((begun : Hold) × Begins o p.run.children (said_by l) begun × WaitGoesOn begun q.run.world q.held
     × (it.text ≡ said ++ over_text o.voice q.number begun q.held)))
+TakesArrival o p (together ls) it q = TakesGroup o p ls it q
 TakesArrival o p part it q = (p.held ≡ hold.Free) × (it.beats ≡ []) × (it.text ≡ []) × (q ≡ p)
 TakesArrival o p (life seat) it q =
     (q.number ≡ p.number) × Taken (hearing o.after true) None seat p.run it.beats q.run
@@ -132,6 +147,7 @@ TakesArrival o p time_over it q = EndsWait o p it q ⊎ Warns o p it q
 -- worksheet after them.
 abbrev pub front_text : Voice → ℕ → Arrival → Contents → List Beat → List ℕ
 front_text V number (line l) sheet beats = replied_text V (number + 1) sheet (told beats)
+front_text V number (together ls) sheet beats = []
 front_text V number part sheet beats = []
 front_text V number (life seat) sheet beats = came_text V sheet (told beats)
 front_text V number time_over sheet beats = came_text V sheet (told beats)

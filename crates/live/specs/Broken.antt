@@ -6,10 +6,12 @@ use Rattle.child_edge.specs.Faithful.{Relation, At, Beat, FirstOf, TakenUpTo, he
 use Rattle.child_edge.specs.Broken.{TurnStopped, TurnSoFar}
 use Rattle.child_edge.specs.Seats.{waits}
 use Rattle.session_engine.specs.World.{sheet_in}
+use Rattle.session_engine.specs.Host.{HostView}
 use Rattle.arrivals.specs.Lines.{InputLine}
+use Rattle.sheet_programs.specs.Together.{GroupBroke}
 use Rattle.live.specs.Records.{Brought, Edge}
-use Rattle.live.specs.Saying.{IsCommand, SaidUpTo, IsLimited, IsUntil}
-use Rattle.live.specs.Arrivals.{Arrival, line, life, time_over, LivePlace, Comes, InterruptsLife, TakesArrival, Lived, said_by, woken_at, front_text}
+use Rattle.live.specs.Saying.{MayGroup, IsCommand, SaidUpTo, IsLimited, IsUntil}
+use Rattle.live.specs.Arrivals.{Arrival, line, together, life, time_over, LivePlace, Comes, InterruptsLife, TakesArrival, Lived, said_by, woken_at, front_text}
 
 -- An arrival came up to this event, at which the host had a fault: these entries of it came before.
 pub data TakesUpTo {C : Type 0} (R : Relation C) (p : LivePlace C) (beats : List Beat) (e : Event) (t : At C) : Arrival → Type 0 where
@@ -17,10 +19,11 @@ pub data TakesUpTo {C : Type 0} (R : Relation C) (p : LivePlace C) (beats : List
   life_up_to : (seat : Seat) → TakenUpTo (hearing R true) seat p.run beats e t → TakesUpTo R p beats e t (life seat)
   time_up_to : IsUntil p.held → TurnStopped (hearing R false) (waits p.run.world) p.run beats e t → TakesUpTo R p beats e t time_over
 
--- An arrival came so far when memory was refused: a command was not taken, of a life nothing was received, of the lives
+-- An arrival came so far when memory was refused: a command or a group was not taken, of a life nothing was received, of the lives
 -- that were to count as stalled the first ones did, and none was interrupted.
 pub data TakesSoFar {C : Type 0} (R : Relation C) (p : LivePlace C) (beats : List Beat) (t : At C) : Arrival → Type 0 where
   line_so_far : (l : InputLine) → IsCommand (said_by l) → beats ≡ [] → t ≡ p.run → TakesSoFar R p beats t (line l)
+  together_so_far : (ls : List (List ℕ)) → MayGroup ls → beats ≡ [] → t ≡ p.run → TakesSoFar R p beats t (together ls)
   life_so_far : (seat : Seat) → beats ≡ [] → t ≡ p.run → TakesSoFar R p beats t (life seat)
   time_so_far : IsUntil p.held → TurnSoFar (hearing R false) (waits p.run.world) p.run beats t → TakesSoFar R p beats t time_over
   limit_so_far : IsLimited p.held → beats ≡ [] → t ≡ p.run → TakesSoFar R p beats t time_over
@@ -60,6 +63,14 @@ pub record LivedUpTo {C : Type 0} (o : Edge C) (p : LivePlace C) (came : List Ar
   pub broke : TakesUpTo o.after mid beats e t last
   pub took : it.beats ≡ earlier.beats ++ beats
   pub wrote : it.text ≡ earlier.text ++ front_text o.voice mid.number last (sheet_in t.world) beats
+
+-- These came, the last of them lines that were there together, and the disk failed in that group: nothing of it is written.
+pub record LivedBroke {C : Type 0} (o : Edge C) (p : LivePlace C) (came : List Arrival) (it : Brought) (h : HostView) : Type 0 where
+  pub group : List (List ℕ)
+  pub mid : LivePlace C
+  pub before : LivedBefore o p came (together group) it mid
+  pub may_group : MayGroup group
+  pub broke : GroupBroke group mid.run.world mid.run.disk h
 
 -- These came when memory was refused, the last of them so far.
 pub record LivedSoFar {C : Type 0} (o : Edge C) (p : LivePlace C) (came : List Arrival) (it : Brought) (t : At C) : Type 0 where

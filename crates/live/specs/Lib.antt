@@ -4,3 +4,4 @@ pub mod Arrivals
 pub mod Broken
 pub mod Live
 pub mod Taking
+pub mod Gathering

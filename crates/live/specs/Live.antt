@@ -6,17 +6,20 @@ use Rattle.journal.specs.declared.opening.OpenCause.{OpenCause}
 use Rattle.recovery.specs.Sheets.{TellsOfSheet}
 use Rattle.host_events.specs.declared.event.Event.{Event}
 use Rattle.host_events.specs.declared.outcome.HostFault.{HostFault}
+use Rattle.host_events.specs.declared.outcome.HostFault.TheVariants as hosts
 use Rattle.session_engine.specs.World.{World}
+use Rattle.session_engine.specs.Crash.{Moments}
 use Rattle.session_engine.specs.Host.{HostView}
 use Rattle.child_edge.specs.Faithful.{At, at}
 use Rattle.child_edge.specs.Kept.{HoldsSheet}
 use Rattle.child_edge.specs.Edge.{Stopped}
-use Rattle.child_edge.specs.Moments.{LeavesFronts, LeavesFrontsUpTo}
+use Rattle.child_edge.specs.Moments.{LeavesFronts, LeavesFrontsUpTo, events_of, outcomes_of}
 use Rattle.child_edge.specs.Seats.{running}
 use Rattle.child_edge.specs.Stops.{Stops}
 use Rattle.arrivals.specs.Lines.{InputLine, input_lines}
 use Rattle.arrivals.specs.declared.sources.Woken.TheVariants as woken
 use Rattle.sheet_programs.specs.Run.{OpenedOn}
+use Rattle.sheet_programs.specs.Together.{most_commands}
 use Rattle.sheet_programs.specs.Told.{LeavesFrontsAnyhow}
 use Rattle.offline_programs.specs.declared.fault.RunFault.{RunFault}
 use Rattle.offline_programs.specs.declared.fault.RunFault.TheVariants as fault
@@ -24,7 +27,7 @@ use Rattle.live.specs.declared.holding.Hold.{Hold}
 use Rattle.live.specs.declared.holding.Hold.TheVariants as hold
 use Rattle.live.specs.Records.{Brought, Edge, Outside, Watches}
 use Rattle.live.specs.Arrivals.{Arrival, LivePlace, WatchTells, Lived, lines_in, place}
-use Rattle.live.specs.Broken.{LivedUpTo, LivedSoFar, LivedLed, taken_beats}
+use Rattle.live.specs.Broken.{LivedBroke, LivedUpTo, LivedSoFar, LivedLed, taken_beats}
 
 -- a host that was just opened, with no line taken
 abbrev pub begin_at : {C : Type 0} → World → C → DiskView → LivePlace C
@@ -34,9 +37,9 @@ begin_at w c disk = place (at w c disk) 0 hold.Free
 abbrev pub AreFirst : Option (List ℕ) → List Arrival → Type 0
 AreFirst stream came = IfSome stream (λ bytes. (rest : List InputLine) × (input_lines bytes ≡ lines_in came ++ rest))
 
--- as many came as are counted
+-- as many came as are counted, or so many lines that those of a group more couldn't be counted
 abbrev pub AreTooMany : List Arrival → Type 0
-AreTooMany came = 2 ^ 64 ≤ length came + 1
+AreTooMany came = (2 ^ 64 ≤ length came + 1) ⊎ (2 ^ 64 ≤ length (lines_in came) + most_commands + 1)
 
 -- The end of the input came: a watch returned the input while no wait held it back and something was there, and that was its end.
 abbrev pub EndComes : {C : Type 0} → Watches C → Hold → C → C → Type 0
@@ -84,6 +87,23 @@ pub record LiveStopped {C : Type 0} (o : Edge C) (stream : Option (List ℕ)) (f
   pub stopped : Stopped leads.disk host leads.world failed f
   pub moments : LeavesFrontsUpTo start all.beats failed f now host.store.disk
   pub stops : Stops o.after (running leads.world) leads.children last.sources
+  pub wrote : Appends first.written last.written all.text
+
+-- The disk failed in a group, which came last. Nothing of the group is written: the text is that of the arrivals before it. At every moment
+-- each image was one of the worksheet after some of the first events, those of the group that were taken among them. Each life that goes on
+-- was stopped.
+pub record LiveBroke {C : Type 0} (o : Edge C) (stream : Option (List ℕ)) (first last : Outside C) : Type 0 where
+  pub start : World
+  pub now : DiskView
+  pub opened : OpenedOn first.disk start now
+  pub arrivals : List Arrival
+  pub all : Brought
+  pub host : HostView
+  pub lived : LivedBroke o (begin_at start first.sources now) arrivals all host
+  pub lines : AreFirst stream arrivals
+  pub back_is : last.disk ≡ host.store.disk
+  pub moments : Moments start (events_of all.beats ++ lived.broke.taken) (outcomes_of all.beats ++ lived.broke.untold) now last.disk
+  pub stops : Stops o.after (running lived.broke.leads) lived.mid.run.children last.sources
   pub wrote : Appends first.written last.written all.text
 
 -- Memory was refused. What was returned before is written, and each life that goes on was stopped.
@@ -138,6 +158,7 @@ pub data TellsLive {C : Type 0} (o : Edge C) (stream : Option (List ℕ)) (first
   -- the disk wasn't opened, and nothing was done
   unopened : (why : OpenCause) → nothing → InModel first.disk (TellsOfSheet (bytes_on first.disk) why) → TellsLive o stream first last nothing (fault.Open why)
   stopped : (f : HostFault) → LiveStopped o stream first last f → TellsLive o stream first last nothing (fault.Host f)
+  broke : LiveBroke o stream first last → TellsLive o stream first last nothing (fault.Host hosts.Disk)
   not_begun : nothing → TellsLive o stream first last nothing fault.OutOfMemory
   refused : LiveSoFar o stream first last → TellsLive o stream first last nothing fault.OutOfMemory
   -- a voice that takes memory had none for a line: then it is as where the writer failed

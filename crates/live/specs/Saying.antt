@@ -1,5 +1,7 @@
 -- What comes of one line of a live input. (docs/SCRIPT.md, "Live".)
-use Rattle.std.specs.Prelude.{◌≡◌, ◌≢◌, ◌⊎◌, ℕ, ◌+◌, ◌-◌, ◌*◌, ◌^◌, ◌&&◌, not, min, Bool, true, false, List, [], Option, Some, None, IsSome, if◌then◌else◌}
+use Rattle.std.specs.Prelude.{◌≡◌, ◌≢◌, ◌⊎◌, ℕ, ◌+◌, ◌-◌, ◌*◌, ◌^◌, ◌≤◌, ◌&&◌, not, min, Bool, true, false, List, [], Option, Some, None, IsSome, is_some, length, if◌then◌else◌}
+use Rattle.std.specs.List.{AllByRecursion}
+use Rattle.host_events.specs.Commands.{op_of}
 use Rattle.host_events.specs.declared.command.Command.{Command}
 use Rattle.host_events.specs.declared.event.Event.{Event}
 use Rattle.host_events.specs.declared.event.Event.TheVariants as event
@@ -9,9 +11,11 @@ use Rattle.child_edge.specs.Interrupts.{Interrupts}
 use Rattle.child_edge.specs.declared.interrupting.Interrupted.{Interrupted}
 use Rattle.child_edge.specs.Seats.{waits}
 use Rattle.child_edge.specs.Told.{told}
+use Rattle.sheet_text.specs.Script.{line_of}
 use Rattle.sheet_text.specs.declared.script.ScriptLine.TheVariants as line
 use Rattle.sheet_text.specs.declared.live_line.LiveLine.{LiveLine}
 use Rattle.sheet_text.specs.declared.live_line.LiveLine.TheVariants as live
+use Rattle.sheet_programs.specs.Together.{most_commands}
 use Rattle.tellings.specs.Voice.{Voice, replied_text}
 use Rattle.tellings.specs.declared.note.Note.TheVariants as note
 use Rattle.live.specs.declared.holding.Hold.{Hold}
@@ -40,6 +44,14 @@ SaidUpTo R l s beats e t = (c : Command) × (l ≡ Some (live.Script (line.Comma
 -- a line that says a command of the host
 abbrev pub IsCommand : Option LiveLine → Type 0
 IsCommand l = (c : Command) × (l ≡ Some (live.Script (line.Command c)))
+
+-- the line says a command that only changes the worksheet
+abbrev pub SaysEdit : List ℕ → Type 0
+SaysEdit l = (c : Command) × (line_of l ≡ Some (line.Command c)) × (is_some (op_of c) ≡ true)
+
+-- Lines that may be taken as one group: two or more, and at most 1,024, of which each says a command that only changes the worksheet.
+abbrev pub MayGroup : List (List ℕ) → Type 0
+MayGroup lines = AllByRecursion SaysEdit lines × (2 ≤ length lines) × (length lines ≤ most_commands)
 
 -- the moment at which a wait ends by its time, where it has one
 abbrev pub time_of : Hold → Option ℕ

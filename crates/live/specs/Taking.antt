@@ -1,9 +1,10 @@
 -- What a line, a life's turn and the end of a wait leave, and what a fault at one of them leaves.
-use Rattle.std.specs.Prelude.{◌≡◌, ◌⊎◌, ℕ, false, true, List, [], ◌∷◌, ◌++◌, Option, Some, None, IfSome}
+use Rattle.std.specs.Prelude.{◌≡◌, ◌⊎◌, ℕ, false, true, List, [], ◌∷◌, ◌++◌, Option, Some, None, IfSome, map}
 use Rattle.std.specs.Io.KnownBytes.{Appends}
 use Rattle.disk_model.specs.Disk.{DiskView}
 use Rattle.host_events.specs.declared.event.Event.{Event}
 use Rattle.host_events.specs.declared.outcome.HostFault.{HostFault}
+use Rattle.host_events.specs.declared.outcome.HostFault.TheVariants as hosts
 use Rattle.session_engine.specs.World.{World, sheet_in}
 use Rattle.session_engine.specs.Host.{IsHost}
 use Rattle.child_calls.specs.declared.seat.Seat.{Seat}
@@ -12,13 +13,14 @@ use Rattle.child_edge.specs.Broken.{TurnStopped, TurnSoFar}
 use Rattle.child_edge.specs.Edge.{Stopped}
 use Rattle.child_edge.specs.Seats.{running}
 use Rattle.child_edge.specs.Stops.{Stops}
-use Rattle.arrivals.specs.Lines.{InputLine}
+use Rattle.arrivals.specs.Lines.{InputLine, whole}
 use Rattle.arrivals.specs.Held.{KeepsLines}
 use Rattle.arrivals.specs.declared.sources.Woken.{Woken}
 use Rattle.arrivals.specs.declared.sources.Woken.TheVariants as woken
 use Rattle.sheet_text.specs.declared.live_line.LiveLine.{LiveLine}
 use Rattle.child_edge.specs.Told.{told}
 use Rattle.tellings.specs.Voice.{came_text, replied_text}
+use Rattle.sheet_programs.specs.Together.{GroupBroke}
 use Rattle.sheet_programs.specs.Told.{StandsOrStopped}
 use Rattle.offline_programs.specs.declared.fault.RunFault.{RunFault}
 use Rattle.offline_programs.specs.declared.fault.RunFault.TheVariants as fault
@@ -26,9 +28,9 @@ use Rattle.live.specs.declared.holding.Hold.{Hold}
 use Rattle.live.specs.declared.holding.Hold.TheVariants as hold
 use Rattle.live.specs.declared.stepping.Stand.{Stand}
 use Rattle.live.specs.Records.{Brought, Edge, Left, Lines, Turn, Watches}
-use Rattle.live.specs.Saying.{IsCommand, SaidDone, SaidUpTo, Begins, IsTimed}
-use Rattle.live.specs.Arrivals.{Arrival, line, part, life, time_over, LivePlace, Comes, InterruptsLife, IsOver, TakesArrival, front_text, Lived, lines_in, WatchTells, place, woken_at}
-use Rattle.live.specs.Broken.{TakesUpTo, TakesSoFar, TakesLed, LivedUpTo, LivedSoFar, LivedLed}
+use Rattle.live.specs.Saying.{MayGroup, IsCommand, SaidDone, SaidUpTo, Begins, IsTimed}
+use Rattle.live.specs.Arrivals.{Arrival, line, together, part, life, time_over, LivePlace, Comes, InterruptsLife, IsOver, TakesArrival, front_text, Lived, lines_in, WatchTells, place, woken_at}
+use Rattle.live.specs.Broken.{TakesUpTo, TakesSoFar, TakesLed, LivedBroke, LivedUpTo, LivedSoFar, LivedLed}
 use Rattle.live.specs.Live.{AreTooMany, EndComes, NoMoreComes}
 
 -- A life had its turn, and what it gave is written.
@@ -128,6 +130,8 @@ TookUnwritten o p a left = (t : World) × (d : DiskView) × TakesLed o p a (at t
 pub data TakingFailed {C : Type 0} (o : Edge C) (p : LivePlace C) (a : Arrival) (left : Left C) : RunFault → Type 0 where
   stopped : (f : HostFault) (beats : List Beat) (e : Event) (t : World) (d : DiskView) → TakesUpTo o.after p beats e (at t left.sources d) a → Stopped d left.host t e f
       → Appends left.out left.now (front_text o.voice p.number a (sheet_in t) beats) → TakingFailed o p a left (fault.Host f)
+  broke : (ls : List (List ℕ)) → a ≡ together ls → MayGroup ls → GroupBroke ls p.run.world p.run.disk left.host → left.sources ≡ p.run.children
+      → Appends left.out left.now [] → TakingFailed o p a left (fault.Host hosts.Disk)
   refused : (beats : List Beat) (t : World) → TakesSoFar o.after p beats (at t left.sources left.host.store.disk) a → IsHost left.host t
       → Appends left.out left.now (front_text o.voice p.number a (sheet_in t) beats) → TakingFailed o p a left fault.OutOfMemory
   untold : o.voice.takes_memory ≡ true → TookUnwritten o p a left → TakingFailed o p a left fault.OutOfMemory
@@ -136,6 +140,7 @@ pub data TakingFailed {C : Type 0} (o : Edge C) (p : LivePlace C) (a : Arrival) 
 -- what an arrival takes of the lines to come
 abbrev pub TakesLines : Arrival → Lines → Type 0
 TakesLines (line l) lines = IfSome lines.old (λ those. (rest : List InputLine) × (those ≡ l ∷ rest) × (lines.new ≡ Some rest))
+TakesLines (together ls) lines = IfSome lines.old (λ those. (rest : List InputLine) × (those ≡ map whole ls ++ rest) × (lines.new ≡ Some rest))
 TakesLines part lines = KeepsLines lines.old lines.new
 TakesLines (life seat) lines = KeepsLines lines.old lines.new
 TakesLines time_over lines = KeepsLines lines.old lines.new
@@ -143,6 +148,7 @@ TakesLines time_over lines = KeepsLines lines.old lines.new
 -- this arrival comes of this turn
 abbrev pub IsBy : Turn → Arrival → Type 0
 IsBy turn (line l) = (turn.woken ≡ woken.Input) × (turn.is_there ≡ true)
+IsBy turn (together ls) = (turn.woken ≡ woken.Input) × (turn.is_there ≡ true)
 IsBy turn part = (turn.woken ≡ woken.Input) × (turn.is_there ≡ false)
 IsBy turn (life seat) = turn.woken ≡ woken.Life seat
 IsBy turn time_over = turn.woken ≡ woken.TimeOver
@@ -217,6 +223,8 @@ pub data LivingFailed {C : Type 0} (o : Edge C) (p : LivePlace C) (left : Left C
       → IsFront old came → AreTooMany came → LivingFailed o p left old fault.InputTooLong
   stopped : (f : HostFault) (came : List Arrival) (it : Brought) (e : Event) (t : World) (d : DiskView) → LivedUpTo o p came it e (at t left.sources d)
       → Stopped d left.host t e f → Appends left.out left.now it.text → IsFront old came → LivingFailed o p left old (fault.Host f)
+  broke : (came : List Arrival) (it : Brought) (q : LivedBroke o p came it left.host) → left.sources ≡ q.mid.run.children → Appends left.out left.now it.text
+      → IsFront old came → LivingFailed o p left old (fault.Host hosts.Disk)
   refused : (came : List Arrival) (it : Brought) (t : World) → LivedSoFar o p came it (at t left.sources left.host.store.disk)
       → IsHost left.host t → Appends left.out left.now it.text → IsFront old came → LivingFailed o p left old fault.OutOfMemory
   untold : o.voice.takes_memory ≡ true → LivedUnwritten o p left old → LivingFailed o p left old fault.OutOfMemory
@@ -243,6 +251,8 @@ pub data EndedBy {C : Type 0} (o : Edge C) (p : LivePlace C) (left : Left C) (ol
   stopped : (f : HostFault) (came : List Arrival) (it : Brought) (e : Event) (t : At C) → LivedUpTo o p came it e t
       → Stopped t.disk left.host t.world e f → Appends left.out left.now it.text → IsFront old came
       → Stops o.after (running t.world) t.children left.sources → EndedBy o p left old (fault.Host f)
+  broke : (came : List Arrival) (it : Brought) (q : LivedBroke o p came it left.host) → Appends left.out left.now it.text → IsFront old came
+      → Stops o.after (running q.broke.leads) q.mid.run.children left.sources → EndedBy o p left old (fault.Host hosts.Disk)
   refused : (came : List Arrival) (it : Brought) (t : At C) → LivedSoFar o p came it t → IsHost left.host t.world → t.disk ≡ left.host.store.disk
       → Appends left.out left.now it.text → IsFront old came → Stops o.after (running t.world) t.children left.sources → EndedBy o p left old fault.OutOfMemory
   untold : o.voice.takes_memory ≡ true → EndedUnwritten o p left old → EndedBy o p left old fault.OutOfMemory

@@ -2,6 +2,7 @@
 //! comes.
 #![tactic(auto)]
 
+mod gathering;
 pub mod holding;
 mod living;
 mod manner;

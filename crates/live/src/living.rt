@@ -25,6 +25,9 @@ use std::alloc::Global;
 use std::io::{Read, Write};
 use tellings::Tells;
 
+/// The most lines after which those of another group can be counted.
+const MOST_COUNTED: u64 = u64::MAX - 1_025;
+
 /// Takes what comes in this manner, one after the other, to the end of the input.
 fn live_on<R: Read, D: Disk, S: Sources, T: Tells, W: Write>(
     alloc: Global,
@@ -50,6 +53,9 @@ fn live_on<R: Read, D: Disk, S: Sources, T: Tells, W: Write>(
         held: Hold::Free,
     };
     for _ in 0..u64::MAX {
+        if stand.number > MOST_COUNTED {
+            return Err(RunFault::InputTooLong);
+        }
         match step(alloc, manner, host, sources, lines, stand, tells, writer) {
             Ok(Some(next)) => stand = next,
             Ok(None) => return Ok(()),
@@ -150,15 +156,18 @@ where
 /// work, and what their children write is taken when it comes. What an event gives is printed at once, in
 /// words (docs/SCRIPT.md, "Live", has the lines) or as JSON (docs/JSON.md). It gives the disk back.
 ///
+/// Lines that are there together and only change the worksheet are a group, up to 1,024 of them. What it gives
+/// is durable at once and printed then; where the disk failed in it, nothing of it is printed.
+///
 /// A `wait` holds back the lines after it until no item waits for an answer. `wait SECONDS` ends after so
 /// many seconds too, and each session in which an item still waits counts as stalled. At the end of the
 /// input each life that goes on is stopped, in the order of their sessions.
 ///
 /// All memory for lines is taken before the disk is opened. `Open` where the disk isn't opened: nothing
 /// was read or written. `Input` where the input can't be read or its sources can't be watched,
-/// `InputTooLong` after 2^64 - 1 arrivals, `Host` where the host has a fault, `OutOfMemory`: what was
-/// returned before is written. `Output` where the writer fails: a part of the text may have gone out. A
-/// voice that takes memory has `OutOfMemory` for that too.
+/// `InputTooLong` after 2^64 - 1 arrivals or 2^64 - 1,025 lines, `Host` where the host has a fault,
+/// `OutOfMemory`: what was returned before is written. `Output` where the writer fails: a part of the text may
+/// have gone out. A voice that takes memory has `OutOfMemory` for that too.
 pub fn live<R: Read, W: Write, D: Disk, S: Sources, T: Tells>(
     alloc: Global,
     reader: R,

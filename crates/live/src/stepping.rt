@@ -1,5 +1,5 @@
 //! What comes next, and what comes of it.
-ghost use Rattle.std.specs.Prelude.{◌≡◌, ◌+◌, ◌<◌, ◌≤◌, ◌^◌, ℕ, Bool, IfErr, IfOk, IfSome, None, OnErr};
+ghost use Rattle.std.specs.Prelude.{◌≡◌, ◌+◌, ◌<◌, ◌^◌, ℕ, Bool, IfErr, IfOk, None, OnErr};
 ghost use Rattle.std.specs.Result.{result_ok};
 ghost use Rattle.disk_model.specs.Disk.{SameDisk};
 ghost use Rattle.session_engine.specs.World.{World};
@@ -7,10 +7,12 @@ ghost use Rattle.session_engine.specs.Host.{IsHost};
 ghost use Rattle.child_edge.specs.Faithful.{at};
 ghost use Rattle.arrivals.specs.Held.{Readiness, to_come};
 ghost use Rattle.arrivals.specs.Watching.{MayCome, asked};
+ghost use Rattle.sheet_programs.specs.Together.{most_commands};
 ghost use Rattle.live.specs.Records.{between, edge_by, left, lines_first_of, turn, wakes_by, watches};
 ghost use Rattle.live.specs.Arrivals.{WatchTells, place};
 ghost use Rattle.live.specs.Taking.{ComingFailed, MayTurn, Steps, TurnFailed, TurnTook, TurnComes};
 
+use crate::gathering::{gather, take_gathered};
 use crate::holding::{Hold, input, is_over, patience};
 use crate::manner::Manner;
 use crate::saying::{take_line, take_too_long};
@@ -32,7 +34,7 @@ pub(crate) struct Stand {
 }
 
 /// Takes the next line, or reads more of the input. `None` at its end.
-fn take_input<R: Read, D: Disk, S: Sources, T: Tells, W: Write>(
+fn take_next<R: Read, D: Disk, S: Sources, T: Tells, W: Write>(
     alloc: Global,
     manner: Manner,
     host: &mut Host<D>,
@@ -56,7 +58,6 @@ fn take_input<R: Read, D: Disk, S: Sources, T: Tells, W: Write>(
         (left host.new sources.new (W.contents writer.old) (W.contents writer.new))
         (between (to_come lines.old.held (R.remaining lines.old.reader))
         (to_come lines.new.held (R.remaining lines.new.reader)))) }
-    ensures count { IfOk result (λ next. IfSome next (λ stand. stand.number ≤ number + 1)) }
 {
     match lines.next() {
         NextLine::Line => {
@@ -95,6 +96,47 @@ fn take_input<R: Read, D: Disk, S: Sources, T: Tells, W: Write>(
     }
 }
 
+/// Takes the lines that are there already and only change the worksheet, or else the next line, or reads more
+/// of the input. `None` at its end.
+fn take_input<R: Read, D: Disk, S: Sources, T: Tells, W: Write>(
+    alloc: Global,
+    manner: Manner,
+    host: &mut Host<D>,
+    sources: &mut S,
+    lines: &mut InputLines<R>,
+    number: u64,
+    tells: &T,
+    writer: &mut W,
+) -> Result<Option<Stand>, RunFault>
+    requires { number + most_commands + 1 < 2 ^ 64 }
+    ensures same { SameDisk host.old.store.disk host.new.store.disk }
+    ensures ok { (is_there : Bool) (w : World) → Readiness lines.old.held is_there → IsHost host.old w
+        → IfOk result (TurnTook (edge_by manner T.voice S.after S.clock S.wakes)
+        (place (at w sources.old host.old.store.disk) number Hold.Free) (turn Woken.Input is_there)
+        (left host.new sources.new (W.contents writer.old) (W.contents writer.new))
+        (between (to_come lines.old.held (R.remaining lines.old.reader))
+        (to_come lines.new.held (R.remaining lines.new.reader)))) }
+    ensures err { (is_there : Bool) (w : World) → Readiness lines.old.held is_there → IsHost host.old w
+        → IfErr result (TurnFailed (edge_by manner T.voice S.after S.clock S.wakes)
+        (place (at w sources.old host.old.store.disk) number Hold.Free) (turn Woken.Input is_there)
+        (left host.new sources.new (W.contents writer.old) (W.contents writer.new))
+        (between (to_come lines.old.held (R.remaining lines.old.reader))
+        (to_come lines.new.held (R.remaining lines.new.reader)))) }
+{
+    let events = gather(alloc, lines);
+    let count = events.len() as u64;
+    if count == 0 {
+        return take_next(alloc, manner, host, sources, lines, number, tells, writer);
+    }
+    match take_gathered(alloc, host, sources, events, number, tells, writer) {
+        Ok(()) => Ok(Some(Stand {
+            number: number + count,
+            held: Hold::Free,
+        })),
+        Err(fault) => Err(fault),
+    }
+}
+
 /// Takes what it is the turn of.
 fn take_turn<R: Read, D: Disk, S: Sources, T: Tells, W: Write>(
     alloc: Global,
@@ -107,7 +149,7 @@ fn take_turn<R: Read, D: Disk, S: Sources, T: Tells, W: Write>(
     tells: &T,
     writer: &mut W,
 ) -> Result<Option<Stand>, RunFault>
-    requires few { stand.number + 1 < 2 ^ 64 }
+    requires few { stand.number + most_commands + 1 < 2 ^ 64 }
     requires turn { MayTurn stand.held woken }
     ensures same { SameDisk host.old.store.disk host.new.store.disk }
     ensures ok { (is_there : Bool) (w : World) → Readiness lines.old.held is_there → IsHost host.old w
@@ -122,7 +164,6 @@ fn take_turn<R: Read, D: Disk, S: Sources, T: Tells, W: Write>(
         (left host.new sources.new (W.contents writer.old) (W.contents writer.new))
         (between (to_come lines.old.held (R.remaining lines.old.reader))
         (to_come lines.new.held (R.remaining lines.new.reader)))) }
-    ensures count { IfOk result (λ next. IfSome next (λ after. after.number ≤ stand.number + 1)) }
 {
     let Stand { number, held } = stand;
     match woken {
@@ -220,7 +261,7 @@ pub(crate) fn step<R: Read, D: Disk, S: Sources, T: Tells, W: Write>(
     tells: &T,
     writer: &mut W,
 ) -> Result<Option<Stand>, RunFault>
-    requires { stand.number + 1 < 2 ^ 64 }
+    requires { stand.number + most_commands + 1 < 2 ^ 64 }
     ensures same { SameDisk host.old.store.disk host.new.store.disk }
     ensures ok { (w : World) → IsHost host.old w → IfOk result (Steps (edge_by manner T.voice S.after S.clock S.wakes)
         (place (at w sources.old host.old.store.disk) stand.number stand.held)
@@ -232,7 +273,6 @@ pub(crate) fn step<R: Read, D: Disk, S: Sources, T: Tells, W: Write>(
         (left host.new sources.new (W.contents writer.old) (W.contents writer.new))
         (between (to_come lines.old.held (R.remaining lines.old.reader))
         (to_come lines.new.held (R.remaining lines.new.reader)))) }
-    ensures count { IfOk result (λ next. IfSome next (λ after. after.number ≤ stand.number + 1)) }
 {
     match next_by(sources, manner.lines_first, stand.held, lines.is_ready()) {
         Ok(woken) => take_turn(

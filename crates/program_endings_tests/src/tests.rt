@@ -5,6 +5,7 @@ mod disk_calls;
 mod file_calls;
 mod file_disk;
 mod grouped;
+mod grouped_lines;
 mod limits;
 mod machine;
 mod made_up;

@@ -7,19 +7,19 @@ use sheet_programs::{Ran, run};
 use std::alloc::Global;
 
 /// How many fields the script makes. Its first group is the session and 1,023 of them.
-const FIELDS: u32 = 1_100;
+pub(super) const FIELDS: u32 = 1_100;
 
 const FIRST: u32 = 1_023;
 
 /// What a crash leaves of the ranges that were being written.
 const FILLS: [Fill; 4] = [Fill::Old, Fill::New, Fill::Torn(20), Fill::Byte(0x52)];
 
-fn created(alloc: Global) -> Option<MemoryDisk> {
+pub(super) fn created(alloc: Global) -> Option<MemoryDisk> {
     journal::create(MemoryDisk::new(alloc, 1_000_000)).ok()
 }
 
 // A session and so many fields. A line for which there is no memory is left out.
-fn script(alloc: Global, fields: u32) -> Vec<u8> {
+pub(super) fn script(alloc: Global, fields: u32) -> Vec<u8> {
     let mut text = Vec::new(alloc);
     let _ = text.extend_from_slice(b"# fields\nsession a plain p\n\n");
     for _ in 0..fields {
@@ -46,7 +46,7 @@ fn disk_of(alloc: Global, disk: MemoryDisk, script: &[u8], lines: usize) -> Opti
 }
 
 // How often this byte is there.
-fn lines_of(text: &[u8], wanted: u8) -> usize {
+pub(super) fn lines_of(text: &[u8], wanted: u8) -> usize {
     let mut count = 0usize;
     for byte in text {
         if *byte == wanted {
@@ -57,7 +57,7 @@ fn lines_of(text: &[u8], wanted: u8) -> usize {
 }
 
 // How many fields a disk shows.
-fn fields_of<D: Disk>(alloc: Global, disk: D) -> Option<usize> {
+pub(super) fn fields_of<D: Disk>(alloc: Global, disk: D) -> Option<usize> {
     let mut text: Vec<u8> = Vec::new(alloc);
     let shown = show(alloc, disk, &mut text);
     if shown.answer.is_ok() {
@@ -68,7 +68,12 @@ fn fields_of<D: Disk>(alloc: Global, disk: D) -> Option<usize> {
 }
 
 // Whether each crash at this moment leaves one of two counts of fields.
-fn leaves(alloc: Global, disk: &MemoryDisk, moment: u64, either: (usize, usize)) -> bool {
+pub(super) fn leaves(
+    alloc: Global,
+    disk: &MemoryDisk,
+    moment: u64,
+    either: (usize, usize),
+) -> bool {
     for fill in FILLS {
         let choice = Choice {
             moment,

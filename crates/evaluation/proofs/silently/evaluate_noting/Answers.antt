@@ -1,4 +1,4 @@
-use Rattle.std.proofs.Common.{◌+◌, ◌++◌, ◌≡◌, ◌≤◌, ◌∙◌, ap, arith, inl, length, refl, subst, sym}
+use Rattle.std.proofs.Common.{◌+◌, ◌++◌, ◌≤◌, ◌∙◌, ap, arith, inl, length, refl, subst, sym}
 use Rattle.std.specs.Prelude.{IfSome}
 use Rattle.child_edge.specs.Faithful.{at}
 use Rattle.child_edge.proofs.Faulting.{same-at, same-on}

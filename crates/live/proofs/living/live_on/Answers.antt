@@ -1,5 +1,4 @@
-use Rattle.std.proofs.Common.{◌+◌, ◌≤◌, arith, subst}
-use Rattle.std.specs.Prelude.{IfSome}
+use Rattle.std.proofs.Common.{arith, inl, inr, subst}
 use Rattle.child_edge.specs.Faithful.{at}
 use Rattle.child_edge.proofs.Faulting.{same-at, same-on}
 use Rattle.arrivals.specs.Held.{to_come}
@@ -7,19 +6,18 @@ use Rattle.live.specs.Records.{between, edge_by, left}
 use Rattle.live.specs.Arrivals.{place}
 use Rattle.live.specs.Live.{begin_at}
 use Rattle.live.specs.Taking.{Steps}
-use Rattle.live.proofs.Goings.{none_lived, none_came, one_lived, one_came, all_lived, living_failed, came_too_many}
+use Rattle.live.proofs.Goings.{none_lived, none_came, one_lived, one_came, all_lived, living_failed, came_too_many, counted}
 use Rattle.live.specs.declared.holding.Hold.TheVariants as hold
 use Rattle.live.proofs.living.live_on.Goals as goal
 
 pub loop-init : goal.loop-init
 loop-init g c = record {
-  few = omega arith;
   same = same-at c.args.host.now.store.disk;
   runs = λ w h. (none_lived (edge_by c.args.manner g.T.Tells.voice g.S.Children.after g.S.Sources.clock g.S.Sources.wakes) w c.args.host.now c.args.sources.now (record { number = 0; held = hold.Free }) (g.W.Write.contents c.args.writer.now) (to_come c.args.lines.now.held (g.R.Read.remaining c.args.lines.now.reader)) h, none_came (edge_by c.args.manner g.T.Tells.voice g.S.Children.after g.S.Sources.clock g.S.Sources.wakes) w c.args.host.now c.args.sources.now (record { number = 0; held = hold.Free }) (g.W.Write.contents c.args.writer.now) (to_come c.args.lines.now.held (g.R.Read.remaining c.args.lines.now.reader)) h);
 }
 
 pub step-requires : goal.step-requires
-step-requires g c = omega (arith, c.loop-test.true, c.loop.invariant.few)
+step-requires g c = omega (arith, c.if-stand-gt-MOST_COUNTED.false)
 
 pub returns-in-Ok-None-clause-same : goal.returns-in-Ok-None-clause-same
 returns-in-Ok-None-clause-same g c = same-on c.args.host.now.store.disk c.loop.host.store.disk c.step.new.host.store.disk c.loop.invariant.same c.in-Ok-None.ensures.same
@@ -42,7 +40,6 @@ returns-in-Err-clause-err g c = λ w h.
 
 pub loop-preserved : goal.loop-preserved
 loop-preserved g c = record {
-  few = omega (arith, c.loop.invariant.few, subst (λ o. IfSome o (λ s. s.number ≤ c.loop.stand.number + 1)) c.in-Ok-Some.field-0-is c.in-Ok-Some.ensures.count);
   same = same-on c.args.host.now.store.disk c.loop.host.store.disk c.step.new.host.store.disk c.loop.invariant.same c.in-Ok-Some.ensures.same;
   runs = λ w h.
       let so = (c.loop.invariant.runs w h).0 in
@@ -64,4 +61,17 @@ returns-clause-same g c = c.loop.invariant.same
 
 pub returns-clause-err : goal.returns-clause-err
 returns-clause-err g c = λ w h.
-    came_too_many (edge_by c.args.manner g.T.Tells.voice g.S.Children.after g.S.Sources.clock g.S.Sources.wakes) (begin_at w c.args.sources.now c.args.host.now.store.disk) c.loop.stand (left c.loop.host c.loop.sources (g.W.Write.contents c.args.writer.now) (g.W.Write.contents c.loop.writer)) (between (to_come c.args.lines.now.held (g.R.Read.remaining c.args.lines.now.reader)) (to_come c.loop.lines.held (g.R.Read.remaining c.loop.lines.reader))) (c.loop.invariant.runs w h).0 (omega (arith, (c.loop.invariant.runs w h).1, c.loop-test.false))
+    came_too_many (edge_by c.args.manner g.T.Tells.voice g.S.Children.after g.S.Sources.clock g.S.Sources.wakes) (begin_at w c.args.sources.now c.args.host.now.store.disk) c.loop.stand (left c.loop.host c.loop.sources (g.W.Write.contents c.args.writer.now) (g.W.Write.contents c.loop.writer)) (between (to_come c.args.lines.now.held (g.R.Read.remaining c.args.lines.now.reader)) (to_come c.loop.lines.held (g.R.Read.remaining c.loop.lines.reader))) (c.loop.invariant.runs w h).0 (inl (omega (arith, (c.loop.invariant.runs w h).1, c.loop-test.false)))
+
+pub returns-then-stand-gt-MOST_COUNTED-clause-same : goal.returns-then-stand-gt-MOST_COUNTED-clause-same
+returns-then-stand-gt-MOST_COUNTED-clause-same g c = c.loop.invariant.same
+
+pub returns-then-stand-gt-MOST_COUNTED-clause-err : goal.returns-then-stand-gt-MOST_COUNTED-clause-err
+returns-then-stand-gt-MOST_COUNTED-clause-err g c = λ w h.
+    let o = edge_by c.args.manner g.T.Tells.voice g.S.Children.after g.S.Sources.clock g.S.Sources.wakes in
+    let begun = begin_at w c.args.sources.now c.args.host.now.store.disk in
+    let now = left c.loop.host c.loop.sources (g.W.Write.contents c.args.writer.now) (g.W.Write.contents c.loop.writer) in
+    let lines = between (to_come c.args.lines.now.held (g.R.Read.remaining c.args.lines.now.reader)) (to_come c.loop.lines.held (g.R.Read.remaining c.loop.lines.reader)) in
+    let so = (c.loop.invariant.runs w h).0 in
+    let count = counted o begun so.came so.all (place (at so.leads c.loop.sources c.loop.host.store.disk) c.loop.stand.number c.loop.stand.held) so.lived in
+    came_too_many o begun c.loop.stand now lines so (inr (omega (arith, count, c.if-stand-gt-MOST_COUNTED.true)))

@@ -1,4 +1,4 @@
-use Rattle.std.proofs.Common.{◌≡◌, ◌≤◌, length}
+use Rattle.std.proofs.Common.{◌≡◌, length}
 use Rattle.disk_model.specs.Disk.{SameDisk}
 use Rattle.session_engine.specs.World.{World}
 use Rattle.session_engine.specs.Host.{IsHost}
@@ -10,7 +10,6 @@ use Rattle.live.proofs.living.live_on.Given as goal
 
 abbrev pub invariant-loop : goal.invariant-loop
 invariant-loop g l = record {
-  few : l.stand.number ≤ l.counter;
   same : SameDisk l.initial.host.store.disk l.host.store.disk;
   runs : (w : World) → IsHost l.initial.host w → (so : LivingSoFar (edge_by l.manner g.T.Tells.voice g.S.Children.after g.S.Sources.clock g.S.Sources.wakes) (begin_at w l.initial.sources l.initial.host.store.disk) l.stand (left l.host l.sources (g.W.Write.contents l.initial.writer) (g.W.Write.contents l.writer)) (between (to_come l.initial.lines.held (g.R.Read.remaining l.initial.lines.reader)) (to_come l.lines.held (g.R.Read.remaining l.lines.reader)))) × (length so.came ≡ l.counter);
 }

@@ -12,7 +12,7 @@ use Rattle.live.specs.Taking.{TakesLines, taking}
 use Rattle.live.proofs.Said.{still_unwritten}
 use Rattle.live.proofs.Turns.{line_failed, line_took}
 use Rattle.live.proofs.Coming.{keeps_more, line_given, same_ready}
-use Rattle.live.proofs.stepping.take_input.Goals as goal
+use Rattle.live.proofs.stepping.take_next.Goals as goal
 
 pub returns-in-Ok-clause-ok : goal.returns-in-Ok-clause-ok
 returns-in-Ok-clause-ok g c = λ is_there w there h.
