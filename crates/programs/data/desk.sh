@@ -172,3 +172,18 @@ repeated() {
 bytes() {
     od -An -v -tx1 "$1" | tr -d ' \n'
 }
+
+# An interpreter that answers each line with it but `loop`, at which it loops until it is interrupted (in `env --default-signal=INT`: also
+# where this script was started with the signal ignored), and `deaf`, at which it loops for ever.
+cat >turns.sh <<'END'
+trap 'over=1' INT
+printf '\002verbatim:\005'
+while IFS= read -r l; do
+    over=
+    case $l in
+    loop) while [ -z "$over" ]; do sleep 0.05; done; l=interrupted ;;
+    deaf) trap '' INT; while :; do sleep 0.05; done ;;
+    esac
+    printf '\002verbatim:%s\005' "$l"
+done
+END

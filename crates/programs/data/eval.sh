@@ -110,21 +110,7 @@ printf 'x' | dd of=damaged bs=1 seek=0 conv=notrunc 2>errors
 compare 'a damaged worksheet' "$(answer eval damaged </dev/null)" "$(ending 'fault 31 NotASheet\n' 1)"
 words 'no worksheet' 1 'fault 32 Disk\n' eval missing
 
-# Limits of time. An interpreter that answers each line but `loop`, at which it loops until it is interrupted (`env`: also where this
-# script was started with the signal ignored), and `deaf`, at which it
-# loops for ever.
-cat >turns.sh <<'END'
-trap 'over=1' INT
-printf '\002verbatim:\005'
-while IFS= read -r l; do
-    over=
-    case $l in
-    loop) while [ -z "$over" ]; do sleep 0.05; done; l=interrupted ;;
-    deaf) trap '' INT; while :; do sleep 0.05; done ;;
-    esac
-    printf '\002verbatim:%s\005' "$l"
-done
-END
+# Limits of time.
 made 'session a plain env --default-signal=INT sh turns.sh\nsession b plain sh count.sh\nnew 0 a x\nnew 1 a loop\nnew 2 a y\nnew 3 b z\n'
 evaluates 'a loop is interrupted, and the fields after it are asked' 1 \
     'asked\nbanner a\nanswered 1\nasked\nover 2\nanswered 2\nasked\nanswered 3\nasked\nbanner b\nanswered 4\nanswered 4 unanswered 0\nover 1 passed 0\n' \

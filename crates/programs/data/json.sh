@@ -191,7 +191,7 @@ run_json 'a script with a line that is too long' 0 "#$(repeated 65535 x)\n#$(rep
 {"type":"end"}
 END_OF_JSON
 
-# Limits of time of a run. (`turns.sh` is that of eval.sh.) The one that hears no interrupt is beside the others.
+# Limits of time of a run. The one that hears no interrupt is beside the others.
 turns='session a plain env --default-signal=INT sh turns.sh\n'
 rm -f deaf deaf.alt sheet sheet.alt
 "$tmhost" create deaf
