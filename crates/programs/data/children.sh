@@ -17,20 +17,6 @@ interpreter() {
     rm -f sent lives
 }
 
-# What was sent since the interpreters were made, a line each.
-sent() {
-    compare "$1, sent" "$(cat sent 2>/dev/null)" "$(printf "$2")"
-}
-
-# None of the processes is left.
-ended() {
-    left=0
-    for life in $(cat lives 2>/dev/null); do
-        if kill -0 "$life" 2>/dev/null; then left=$((left + 1)); fi
-    done
-    compare "$1, ended" "$left of $(cat lives 2>/dev/null | wc -l)" "0 of $2"
-}
-
 banner='\002verbatim:\005'
 one='session a plain sh p.sh one\nnew 0 a x\neval 1\nwait\n'
 two='session a plain sh p.sh\nnew 0 a x\nnew 1 a y\neval 1\neval 2\nwait\n'

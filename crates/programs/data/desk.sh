@@ -152,6 +152,20 @@ hang_up() {
     compare "$1, shown" "$(answer show sheet </dev/null)" "$(ending "$3" 0)"
 }
 
+# What was sent to interpreters that write it into the file `sent`, a line each.
+sent() {
+    compare "$1, sent" "$(cat sent 2>/dev/null)" "$(printf "$2")"
+}
+
+# None of the processes is left that wrote their numbers into the file `lives`.
+ended() {
+    left=0
+    for life in $(cat lives 2>/dev/null); do
+        if kill -0 "$life" 2>/dev/null; then left=$((left + 1)); fi
+    done
+    compare "$1, ended" "$left of $(cat lives 2>/dev/null | wc -l)" "0 of $2"
+}
+
 # A case of a script over a worksheet in memory, without interpreters: NAME TEXT, of the script here.
 remembers() {
     compare "$1" "$(answer in memory)" "$(ending "$2" 0)"
