@@ -79,20 +79,24 @@ words 'rescue, a disk that fails' 1 'fault 32 Disk\n' rescue too_long saved
 rm -f damaged damaged.alt too_long too_long.alt
 
 # A disk that takes no more while a worksheet is changed: what was reported is there, and the change in hand isn't, or none of those that
-# were taken together. FORM TEXT INPUT, of a worksheet whose files may have 512 bytes.
+# were taken together. FORM TEXT INPUT BETWEEN, of a worksheet whose files may have 512 bytes; BETWEEN is a line before the change that
+# is too long.
 filled() {
     rm -f sheet sheet.alt
     "$tmhost" create sheet
     printf 'session a plain sh p.sh\nnew 0 a x\n' >given
     "$tmhost" run sheet <given >text
-    printf "set 1 y\nset 1 $(long 1000)\nset 1 z\n" >given
+    printf "set 1 y\n$4set 1 $(long 1000)\nset 1 z\n" >given
     compare "$1 on a full disk" "$(limited 1 $1 sheet <given)" "$(ending "$2" 1)"
     compare "$1 on a full disk, shown" "$(answer show sheet </dev/null)" "$(ending "#1 a\n> $3\n?\n" 0)"
 }
-filled run 'fault 21 Disk\n' x
-filled 'run --strict' 'fault 21 Disk\n' x
-filled live 'ok\nfault 21 Disk\n' y
-filled 'live --json' '{"format":1,"program":"tmhost","protocol":2,"type":"hello","version":"0.1.0"}\n{"line":1,"type":"done"}\n{"name":"Disk","number":21,"type":"fault"}\nfault 21 Disk\n' y
+hello='{"format":1,"program":"tmhost","protocol":2,"type":"hello","version":"0.1.0"}\n'
+filled run 'fault 21 Disk\n' x ''
+filled 'run --strict' 'fault 21 Disk\n' x ''
+filled live 'fault 21 Disk\n' x ''
+filled 'live --json' "$hello"'{"name":"Disk","number":21,"type":"fault"}\nfault 21 Disk\n' x ''
+filled live 'ok\nfault 21 Disk\n' y '\n'
+filled 'live --json' "$hello"'{"line":1,"type":"done"}\n{"line":2,"type":"nothing"}\n{"name":"Disk","number":21,"type":"fault"}\nfault 21 Disk\n' y '\n'
 interpreter p "$banner" "\\002verbatim:$(long 1000)\\005"
 compare 'eval on a full disk' "$(limited 1 eval sheet </dev/null)" "$(ending 'asked\nbanner a\nfault 21 Disk\n' 1)"
 compare 'eval on a full disk, shown' "$(answer show sheet </dev/null)" "$(ending '#1 a\n> y\n?\n' 0)"

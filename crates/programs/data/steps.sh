@@ -379,7 +379,7 @@ chain() {
         for matter in "$@"; do
             . "./$matter.sh"
         done
-    ) >"chain.$1/told" 2>&1 &
+    ) >"chain.$1/told" 2>"chain.$1/failed" &
 }
 
 case $tmhost in /*) ;; *) tmhost=$PWD/$tmhost ;; esac
@@ -389,3 +389,4 @@ chain eval
 chain check accepts progress
 wait
 cat chain.areas/told chain.children/told chain.eval/told chain.check/told
+cat chain.*/failed >&2

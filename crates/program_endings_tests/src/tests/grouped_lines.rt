@@ -96,7 +96,7 @@ fn fails_at(alloc: Global, call: u64) -> Option<bool> {
     let found = fields_of(alloc, disk.into_inner());
     Some(
         answer == Err(RunFault::Host(HostFault::Disk))
-            && told.as_slice() == b"ok\n"
+            && told.as_slice() == b"ok\n".as_slice()
             && (found == Some(0) || found == Some(3)),
     )
 }
