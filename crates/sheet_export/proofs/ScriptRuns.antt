@@ -9,7 +9,6 @@ use Rattle.worksheet.specs.Checks.{AllowedFrom}
 use Rattle.worksheet.specs.Ops.{sheet_of}
 use Rattle.worksheet.specs.declared.op.Op.{Op}
 use Rattle.sheet_export.specs.Replay.{anew, more, none, SayOps, script_ops, ScriptsMakeThemAnew, ScriptsRun, ScriptsSayTheirOps}
-use Rattle.sheet_export.specs.Script.{script_of}
 
 runs : (number : ℕ) (before : List Op) {lines : List (List ℕ)} {ops : List Op} → SayOps lines ops → AllowedFrom before ops → (last : List (List ℕ)) (text : List ℕ)
     → ((n : ℕ) → LinesRan n (before ++ ops) last text) → (told : List ℕ) × LinesRan number before (lines ++ last) (told ++ text)

@@ -14,7 +14,6 @@ use Rattle.worksheet.specs.Ops.{sheet_of}
 use Rattle.worksheet.specs.declared.op.Op.{Op}
 use Rattle.worksheet.specs.declared.refusal.Refusal.TheVariants as refusal
 use Rattle.sheet_export.specs.Replay.{anew, more as say_more, none as say_none, replies_of, SayOps, script_ops, ScriptsMakeThemAnew, ScriptsRunAlike, ScriptsSayTheirOps, WantsMemory}
-use Rattle.sheet_export.specs.Script.{script_of}
 
 abbrev no_memory : List ℕ
 no_memory = reply_text (reply.Refused refusal.OutOfMemory)
