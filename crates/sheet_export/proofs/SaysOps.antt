@@ -16,16 +16,17 @@ use Rattle.worksheet.specs.Rewrite.{session_op}
 use Rattle.worksheet.specs.declared.field.Field.{Field}
 use Rattle.worksheet.specs.declared.field.Session.{Session}
 use Rattle.worksheet.specs.declared.op.Op.{Op}
+use Rattle.worksheet.specs.declared.op.Op.TheVariants as op
 use Rattle.sheet_export.specs.Laws.{FieldLinesAreRead}
-use Rattle.sheet_export.specs.Replay.{new_ops, SayOps, ScriptsSayTheirOps}
-use Rattle.sheet_export.specs.Script.{field_lines, has_few_fields, has_no_space, have_lines, session_line}
+use Rattle.sheet_export.specs.Replay.{more, new_ops, none, SayOps, ScriptsSayTheirOps}
+use Rattle.sheet_export.specs.Script.{field_line, field_lines, has_few_fields, has_no_space, have_lines, session_line}
 use Rattle.sheet_export.proofs.ReadLines.{both_of, field_lines_read, session_lines}
 
 say_sessions : (ss : List Session) (lines : List (List ℕ)) (ops : List Op) → AllByRecursion IsSession ss → have_lines ss ≡ true → SayOps lines ops → SayOps (map session_line ss ++ lines) (map session_op ss ++ ops)
 say_sessions [] lines ops is h so = so
 say_sessions (s ∷ ss) lines ops is h so =
     let parts = both_of (list_all has_no_space s.words) (have_lines ss) h in
-    ((command.Session s.name s.tab s.words, session_lines s is.0 parts.0, refl), say_sessions ss lines ops is.1 parts.1 so)
+    more (session_line s) (session_op s) (map session_line ss ++ lines) (map session_op ss ++ ops) (command.Session s.name s.tab s.words, session_lines s is.0 parts.0, refl) (say_sessions ss lines ops is.1 parts.1 so)
 
 -- the name of a session that there is is right
 named_so : (ss : List Session) (name : List ℕ) → AllByRecursion IsSession ss → is_some (session_named ss name) ≡ true → is_name name ≡ true
@@ -38,10 +39,10 @@ named_so (s ∷ ss) name is h = go (bytes_eq s.name name) refl (named_so ss name
 
 say_fields : FieldLinesAreRead → (sheet : Contents) → AllByRecursion IsSession sheet.sessions → (place : ℕ) (fs : List Field) → place + length fs ≤ most_fields
     → AllByRecursion (λ field. has_session sheet field.session ≡ true) fs → SayOps (field_lines place fs) (new_ops place fs)
-say_fields read sheet is place [] few belong = tt
+say_fields read sheet is place [] few belong = none
 say_fields read sheet is place (f ∷ fs) few belong =
     let named = named_so sheet.sessions f.session is belong.0 in
-    ((command.New place f.session f.input, read place f (omega (arith, few)) named, refl), say_fields read sheet is (place + 1) fs (omega (arith, few)) belong.1)
+    more (field_line place f) (op.New place f.session f.input) (field_lines (place + 1) fs) (new_ops (place + 1) fs) (command.New place f.session f.input, read place f (omega (arith, few)) named, refl) (say_fields read sheet is (place + 1) fs (omega (arith, few)) belong.1)
 
 pub scripts_say : NumbersAreDecimals → ScriptsSayTheirOps
 scripts_say decimals sheet is has =

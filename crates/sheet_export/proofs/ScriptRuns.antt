@@ -8,26 +8,23 @@ use Rattle.sheet_text.specs.declared.script.ScriptLine.TheVariants as line
 use Rattle.worksheet.specs.Checks.{AllowedFrom}
 use Rattle.worksheet.specs.Ops.{sheet_of}
 use Rattle.worksheet.specs.declared.op.Op.{Op}
-use Rattle.sheet_export.specs.Replay.{anew, SayOps, script_ops, ScriptsMakeThemAnew, ScriptsRun, ScriptsSayTheirOps}
-use Rattle.sheet_export.specs.Script.{script_of}
+use Rattle.sheet_export.specs.Replay.{anew, more, none, SayOps, script_ops, ScriptsMakeThemAnew, ScriptsRun, ScriptsSayTheirOps}
 
-runs : (number : ℕ) (before : List Op) (lines : List (List ℕ)) (ops : List Op) → SayOps lines ops → AllowedFrom before ops → (last : List (List ℕ)) (text : List ℕ)
+runs : (number : ℕ) (before : List Op) {lines : List (List ℕ)} {ops : List Op} → SayOps lines ops → AllowedFrom before ops → (last : List (List ℕ)) (text : List ℕ)
     → ((n : ℕ) → LinesRan n (before ++ ops) last text) → (told : List ℕ) × LinesRan number before (lines ++ last) (told ++ text)
-runs number before [] [] say allowed last text h = ([], subst (λ (ops : List Op). LinesRan number ops last text) (append-nil before) (h number))
-runs number before [] (o ∷ os) say allowed last text h = absurd say
-runs number before (given ∷ lines) [] say allowed last text h = absurd say
-runs number before (given ∷ lines) (o ∷ os) say allowed last text h =
+runs number before none allowed last text h = ([], subst (λ (ops : List Op). LinesRan number ops last text) (append-nil before) (h number))
+runs number before (more given o lines os says others) allowed last text h =
     let answer = reply_to (sheet_of before) o in
     let first = reply_text answer in
     let after = before ++ o ∷ [] in
-    let more = runs (number + 1) after lines os say.1 allowed.1 last text (λ n. subst (λ (ops : List Op). LinesRan n ops last text) (sym (append_assoc before (o ∷ []) os)) (h n)) in
-    let one : LineRan number before (Some (line.Command say.0.0)) first after = replied say.0.0 o answer after say.0.2 (done allowed.0) in
-    (first ++ more.0, (first, after, more.0 ++ text, subst (λ said. LineRan number before said first after) (sym say.0.1) one, more.1, append_assoc first more.0 text))
+    let rest = runs (number + 1) after others allowed.1 last text (λ n. subst (λ (ops : List Op). LinesRan n ops last text) (sym (append_assoc before (o ∷ []) os)) (h n)) in
+    let one : LineRan number before (Some (line.Command says.0)) first after = replied says.0 o answer after says.2 (done allowed.0) in
+    (first ++ rest.0, (first, after, rest.0 ++ text, subst (λ said. LineRan number before said first after) (sym says.1) one, rest.1, append_assoc first rest.0 text))
 
 pub scripts_run : ScriptsMakeThemAnew → ScriptsSayTheirOps → ScriptsRun
 scripts_run make says sheet is has =
     let made = make sheet is in
     let text = sheet_text (anew sheet) in
     let shows : sheet_text (sheet_of (script_ops sheet)) ≡ text = ap sheet_text made.1 in
-    runs 1 [] (script_of sheet) (script_ops sheet) (says sheet is has) made.0 (codes "print" ∷ []) text
+    runs 1 [] (says sheet is has) made.0 (codes "print" ∷ []) text
     (λ n. (sheet_text (sheet_of (script_ops sheet)), script_ops sheet, [], printed, refl, sym (append-nil (sheet_text (sheet_of (script_ops sheet))) ∙ shows)))

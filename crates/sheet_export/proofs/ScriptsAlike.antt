@@ -13,8 +13,7 @@ use Rattle.worksheet.specs.Checks.{AllowedFrom, first_refusal}
 use Rattle.worksheet.specs.Ops.{sheet_of}
 use Rattle.worksheet.specs.declared.op.Op.{Op}
 use Rattle.worksheet.specs.declared.refusal.Refusal.TheVariants as refusal
-use Rattle.sheet_export.specs.Replay.{anew, replies_of, SayOps, script_ops, ScriptsMakeThemAnew, ScriptsRunAlike, ScriptsSayTheirOps, WantsMemory}
-use Rattle.sheet_export.specs.Script.{script_of}
+use Rattle.sheet_export.specs.Replay.{anew, more as say_more, none as say_none, replies_of, SayOps, script_ops, ScriptsMakeThemAnew, ScriptsRunAlike, ScriptsSayTheirOps, WantsMemory}
 
 abbrev no_memory : List ℕ
 no_memory = reply_text (reply.Refused refusal.OutOfMemory)
@@ -78,18 +77,16 @@ behind_done before o ops last text (inr (ahead, next, later, behind, split, is))
       ap (λ (t : List ℕ). first ++ t) is ∙ sym (append_assoc first (replies_of (before ++ o ∷ []) ahead) (no_memory ++ behind)),
     )
 
-each : (number : ℕ) (before : List Op) (lines : List (List ℕ)) (ops : List Op) → SayOps lines ops → AllowedFrom before ops → (last : List (List ℕ)) (text : List ℕ)
+each : (number : ℕ) (before : List Op) {lines : List (List ℕ)} {ops : List Op} → SayOps lines ops → AllowedFrom before ops → (last : List (List ℕ)) (text : List ℕ)
     → LinesRan number before (lines ++ last) text → Told before ops last text
-each number before [] [] say allowed last text run = inl (number, text, subst (λ (l : List Op). LinesRan number l last text) (sym (append-nil before)) run, refl)
-each number before [] (o ∷ os) say allowed last text run = absurd say
-each number before (given ∷ lines) [] say allowed last text run = absurd say
-each number before (given ∷ lines) (o ∷ os) say allowed last text (first, after, rest, one, more, is) =
+each number before say_none allowed last text run = inl (number, text, subst (λ (l : List Op). LinesRan number l last text) (sym (append-nil before)) run, refl)
+each number before (say_more given o lines os says others) allowed last text (first, after, rest, one, more, is) =
     ⊎_elim
     (λ did.
-    let next = each (number + 1) (before ++ o ∷ []) lines os say.1 allowed.1 last rest (subst (λ (l : List Op). LinesRan (number + 1) l (lines ++ last) rest) did.1 more) in
+    let next = each (number + 1) (before ++ o ∷ []) others allowed.1 last rest (subst (λ (l : List Op). LinesRan (number + 1) l (lines ++ last) rest) did.1 more) in
     subst (Told before (o ∷ os) last) (sym (is ∙ ap (λ (t : List ℕ). t ++ rest) did.0)) (behind_done before o os last rest next))
     (λ wanted. inr ([], o, os, rest, refl, is ∙ ap (λ (t : List ℕ). t ++ rest) wanted))
-    (by_line one say.0.0 o say.0.1 say.0.2 allowed.0)
+    (by_line one says.0 o says.1 says.2 allowed.0)
 
 pub scripts_run_alike : ScriptsMakeThemAnew → ScriptsSayTheirOps → ScriptsRunAlike
 scripts_run_alike make says sheet is has text run =
@@ -100,4 +97,4 @@ scripts_run_alike make says sheet is has text run =
     told.2.5 ∙ ap (λ (t : List ℕ). told.2.0 ++ t) told.2.4 ∙ append-nil told.2.0 ∙ by_print told.2.3 refl ∙ ap sheet_text made.1 in
     inl (told.3 ∙ ap (λ (t : List ℕ). replies_of [] (script_ops sheet) ++ t) printed_so))
     inr
-    (each 1 [] (script_of sheet) (script_ops sheet) (says sheet is has) made.0 (codes "print" ∷ []) text run)
+    (each 1 [] (says sheet is has) made.0 (codes "print" ∷ []) text run)

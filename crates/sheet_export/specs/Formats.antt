@@ -2,6 +2,7 @@
 use Rattle.std.specs.Prelude.{◌≡◌, ◌==◌, ℕ, Bool, true, false, List, [], ◌∷◌, Option, Some, None, IsUtf8, codes, if◌then◌else◌}
 use Rattle.std.specs.Str.{bytes_eq}
 use Rattle.disk_model.specs.Disk.{DiskView}
+use Rattle.journal.specs.declared.opening.OpenCause.{OpenCause}
 use Rattle.serde_json.specs.Read.{read}
 use Rattle.sheet_json.specs.Sheets.{sheet_lines}
 use Rattle.sheet_notebook.specs.Notebook.{notebook, notebook_text}
@@ -73,14 +74,9 @@ export_fault_text (fault.Run why) = fault_text why
 
 -- What a fault of the program tells of writing a text: that the writer failed, or that there was no memory for the text, where its
 -- format takes some, and nothing was written.
-abbrev pub TellsWriting : Format → Type 0 → RunFault → Type 0
-TellsWriting format nothing run.Output = Unit {0}
-TellsWriting format nothing run.OutOfMemory = nothing × (is_made_whole format ≡ true)
-TellsWriting format nothing run.Input = ⊥
-TellsWriting format nothing run.InputTooLong = ⊥
-TellsWriting format nothing (run.Host why) = ⊥
-TellsWriting format nothing (run.Open why) = ⊥
-TellsWriting format nothing run.InUse = ⊥
+pub data TellsWriting (format : Format) (nothing : Type 0) : RunFault → Type 0 where
+  unwritten : TellsWriting format nothing run.Output
+  no_memory : nothing → is_made_whole format ≡ true → TellsWriting format nothing run.OutOfMemory
 
 -- What a fault of writing a worksheet tells: that, or that it has no text, and nothing was written.
 abbrev pub TellsText : Format → Contents → Type 0 → ExportFault → Type 0
@@ -88,14 +84,9 @@ TellsText format sheet nothing fault.NoScript = nothing × (has_text format shee
 TellsText format sheet nothing (fault.Run why) = TellsWriting format nothing why
 
 -- What a fault of the program tells of an export: that of writing, or of opening the disk, as of `show`.
-abbrev pub TellsProgramFault : Format → DiskView → Type 0 → RunFault → Type 0
-TellsProgramFault format disk nothing run.Output = TellsWriting format nothing run.Output
-TellsProgramFault format disk nothing run.OutOfMemory = TellsWriting format nothing run.OutOfMemory
-TellsProgramFault format disk nothing (run.Open why) = TellsShow disk nothing (run.Open why)
-TellsProgramFault format disk nothing run.Input = ⊥
-TellsProgramFault format disk nothing run.InputTooLong = ⊥
-TellsProgramFault format disk nothing (run.Host why) = ⊥
-TellsProgramFault format disk nothing run.InUse = ⊥
+pub data TellsProgramFault (format : Format) (disk : DiskView) (nothing : Type 0) : RunFault → Type 0 where
+  writing : (why : RunFault) → TellsWriting format nothing why → TellsProgramFault format disk nothing why
+  opening : (why : OpenCause) → TellsShow disk nothing (run.Open why) → TellsProgramFault format disk nothing (run.Open why)
 
 -- What a fault of an export tells: that, or that nothing was written of a worksheet without a text.
 abbrev pub TellsExport : Format → DiskView → Type 0 → ExportFault → Type 0

@@ -45,11 +45,9 @@ abbrev pub SaysOp : List ℕ → Op → Type 0
 SaysOp text o = (told : Command) × (line_of text ≡ Some (line.Command told)) × (op_of told ≡ Some o)
 
 -- each of these lines is, one for each op
-abbrev pub SayOps : List (List ℕ) → List Op → Type 0
-SayOps [] [] = Unit {0}
-SayOps [] (o ∷ os) = ⊥
-SayOps (text ∷ lines) [] = ⊥
-SayOps (text ∷ lines) (o ∷ os) = SaysOp text o × SayOps lines os
+pub data SayOps : List (List ℕ) → List Op → Type 0 where
+  none : SayOps [] []
+  more : (text : List ℕ) (o : Op) (lines : List (List ℕ)) (os : List Op) → SaysOp text o → SayOps lines os → SayOps (text ∷ lines) (o ∷ os)
 
 -- The lines of a worksheet's script are read as commands that give these ops.
 abbrev pub ScriptsSayTheirOps : Type 0

@@ -74,6 +74,7 @@ pub fn last_part(path: &[u8]) -> &[u8]
 ///
 /// `NoScript` where a session has a word with a space, which a line can't have: nothing was written.
 /// `Output` where the writer fails: a part of the lines may have gone out.
+#[tactic(auto, using(crate::proofs::Faults::writing_faults))]
 pub fn script_text<W: Write>(sheet: &Sheet, out: &mut W) -> Result<(), ExportFault>
     ensures ok { OnOk result ((exports.has_text Format.Script sheet.now.contents ≡ true)
         × Appends (W.contents out.old) (W.contents out.new)
@@ -91,6 +92,7 @@ pub fn script_text<W: Write>(sheet: &Sheet, out: &mut W) -> Result<(), ExportFau
 }
 
 /// Writes a worksheet as Markdown, and tells a failure as the program does.
+#[tactic(auto, using(crate::proofs::Faults::writing_faults))]
 fn write_markdown<W: Write>(sheet: &Sheet, out: &mut W) -> Result<(), ExportFault>
     ensures ok { OnOk result
         (Appends (W.contents out.old) (W.contents out.new)
@@ -104,6 +106,7 @@ fn write_markdown<W: Write>(sheet: &Sheet, out: &mut W) -> Result<(), ExportFaul
 }
 
 /// Writes a worksheet as a page, and tells a failure as the program does.
+#[tactic(auto, using(crate::proofs::Faults::writing_faults))]
 fn write_page<W: Write>(title: &[u8], sheet: &Sheet, out: &mut W) -> Result<(), ExportFault>
     ensures ok { OnOk result
         (Appends (W.contents out.old) (W.contents out.new)
@@ -121,6 +124,7 @@ fn write_page<W: Write>(title: &[u8], sheet: &Sheet, out: &mut W) -> Result<(), 
 ///
 /// `OutOfMemory` where there is no memory for it: nothing was written. `Output` where the writer fails: a
 /// part of the text may have gone out.
+#[tactic(auto, using(crate::proofs::Faults::writing_faults))]
 pub fn write_notebook<W: Write>(
     alloc: Global,
     sheet: &Sheet,
@@ -143,6 +147,7 @@ pub fn write_notebook<W: Write>(
 }
 
 /// Writes a worksheet as lines of JSON, which are made whole before the first byte is written.
+#[tactic(auto, using(crate::proofs::Faults::writing_faults))]
 fn write_json<W: Write>(alloc: Global, sheet: &Sheet, out: &mut W) -> Result<(), ExportFault>
     ensures ok { OnOk result
         (Appends (W.contents out.old) (W.contents out.new)
@@ -184,6 +189,7 @@ fn write_in<W: Write>(
 }
 
 /// Writes the same, and brings it out.
+#[tactic(auto, using(crate::proofs::Faults::writing_faults))]
 fn tell_in<W: Write>(
     alloc: Global,
     format: Format,
@@ -222,6 +228,7 @@ pub struct Exported<D: Disk> {
 /// `Open` where the disk isn't opened, `NoScript` where the worksheet has no text in this format, and
 /// `OutOfMemory` where there is no memory for a notebook or for JSON: nothing was written. `Output` where the
 /// writer fails: a part of the text may have gone out.
+#[tactic(auto, using(crate::proofs::Faults::not_opened))]
 pub fn export<D: Disk, W: Write>(
     alloc: Global,
     format: Format,

@@ -12,6 +12,7 @@ ghost use Rattle.sheet_export.specs.Html as html;
 use crate::fixed;
 use crate::fixed::write_bytes;
 use crate::references::write_text;
+use crate::style::STYLE;
 use block_tree::{Block, Item, Node, Reason, Tag};
 use sheet_text::{WriteFault, next_line, reason_name};
 use std::io::Write;
@@ -47,7 +48,7 @@ fn open_block<W: Write>(tag: &Tag, out: &mut W) -> Result<(), WriteFault>
         (html.block_start tag.now.channel tag.now.name)) }
 {
     if is_tex_tag(tag) {
-        fixed::write_tex_start(out)
+        write_bytes(fixed::TEX_START, out)
     } else {
         open_tag(tag, out)
     }
@@ -60,7 +61,7 @@ fn close_block<W: Write>(tag: &Tag, out: &mut W) -> Result<(), WriteFault>
         (html.block_end tag.now.channel tag.now.name)) }
 {
     if is_tex_tag(tag) {
-        fixed::write_tex_end(out)
+        write_bytes(fixed::TEX_END, out)
     } else {
         write_bytes(b"}", out)
     }
@@ -149,15 +150,15 @@ fn write_head<W: Write>(field: &Field, out: &mut W) -> Result<(), WriteFault>
     ensures { OnOk result
         (Appends (W.contents out.old) (W.contents out.new) (html.field_head field.now)) }
 {
-    fixed::write_field_start(out)?;
+    write_bytes(fixed::FIELD_START, out)?;
     write_number(field.id, out)?;
-    fixed::write_anchor_end(out)?;
+    write_bytes(fixed::ANCHOR_END, out)?;
     write_number(field.id, out)?;
-    fixed::write_link_end(out)?;
+    write_bytes(fixed::LINK_END, out)?;
     write_number(field.id, out)?;
-    fixed::write_number_end(out)?;
+    write_bytes(fixed::NUMBER_END, out)?;
     write_session(field, out)?;
-    fixed::write_session_end(out)?;
+    write_bytes(fixed::SESSION_END, out)?;
     Ok(())
 }
 
@@ -178,11 +179,11 @@ fn write_input<W: Write>(field: &Field, out: &mut W) -> Result<(), WriteFault>
     ensures { OnOk result
         (Appends (W.contents out.old) (W.contents out.new) (html.input_html field.now)) }
 {
-    fixed::write_input_start(out)?;
+    write_bytes(fixed::INPUT_START, out)?;
     write_prompt(&field.answer, out)?;
-    fixed::write_prompt_end(out)?;
+    write_bytes(fixed::PROMPT_END, out)?;
     write_given(field, out)?;
-    fixed::write_input_end(out)?;
+    write_bytes(fixed::INPUT_END, out)?;
     Ok(())
 }
 
@@ -191,9 +192,9 @@ fn write_answer<W: Write>(answer: &Answer, out: &mut W) -> Result<(), WriteFault
     ensures { OnOk result
         (Appends (W.contents out.old) (W.contents out.new) (html.answer_html answer.now)) }
 {
-    fixed::write_output_start(out)?;
+    write_bytes(fixed::OUTPUT_START, out)?;
     write_block(&answer.output, out)?;
-    fixed::write_output_end(out)?;
+    write_bytes(fixed::OUTPUT_END, out)?;
     Ok(())
 }
 
@@ -209,9 +210,9 @@ fn write_reason<W: Write>(reason: Reason, out: &mut W) -> Result<(), WriteFault>
     ensures { OnOk result
         (Appends (W.contents out.old) (W.contents out.new) (html.reason_html reason)) }
 {
-    fixed::write_lost_start(out)?;
+    write_bytes(fixed::LOST_START, out)?;
     write_reason_name(reason, out)?;
-    fixed::write_lost_end(out)?;
+    write_bytes(fixed::LOST_END, out)?;
     Ok(())
 }
 
@@ -221,7 +222,7 @@ fn write_no_answer<W: Write>(lost: Option<Reason>, out: &mut W) -> Result<(), Wr
         (Appends (W.contents out.old) (W.contents out.new) (html.no_answer_html lost)) }
 {
     match lost {
-        None => fixed::write_no_answer(out),
+        None => write_bytes(fixed::NO_ANSWER, out),
         Some(reason) => write_reason(reason, out),
     }
 }
@@ -248,7 +249,7 @@ fn write_field<W: Write>(field: &Field, out: &mut W) -> Result<(), WriteFault>
     write_head(field, out)?;
     write_input(field, out)?;
     write_output(&field.answer, field.lost, out)?;
-    fixed::write_field_end(out)?;
+    write_bytes(fixed::FIELD_END, out)?;
     Ok(())
 }
 
@@ -271,13 +272,13 @@ fn write_page_head<W: Write>(title: &[u8], out: &mut W) -> Result<(), WriteFault
     ensures { OnOk result
         (Appends (W.contents out.old) (W.contents out.new) (html.page_head title.now)) }
 {
-    fixed::write_meta(out)?;
+    write_bytes(fixed::META, out)?;
     write_text(title, false, out)?;
-    fixed::write_title_end(out)?;
-    fixed::write_style(out)?;
-    fixed::write_style_end(out)?;
+    write_bytes(fixed::TITLE_END, out)?;
+    write_bytes(STYLE, out)?;
+    write_bytes(fixed::STYLE_END, out)?;
     write_text(title, false, out)?;
-    fixed::write_heading_end(out)?;
+    write_bytes(fixed::HEADING_END, out)?;
     Ok(())
 }
 
@@ -291,6 +292,6 @@ pub fn html_page<W: Write>(title: &[u8], sheet: &Sheet, out: &mut W) -> Result<(
 {
     write_page_head(title, out)?;
     write_fields(sheet, out)?;
-    fixed::write_page_end(out)?;
+    write_bytes(fixed::PAGE_END, out)?;
     Ok(())
 }

@@ -8,4 +8,4 @@ pub returns : goal.returns
 returns g c =
     let title = c.args.title.now in
     let sheet = c.args.sheet.now.contents in
-    Appends-trans _ _ _ (page_head title ++ fields_html sheet) (part.page_end) (Appends-trans _ _ _ (page_head title) (fields_html sheet) (c.in_ok-write_page_head.ensures) c.in_ok-write_fields.ensures) c.in_ok-write_page_end.ensures
+    Appends-trans _ _ _ (page_head title ++ fields_html sheet) (part.page_end) (Appends-trans _ _ _ (page_head title) (fields_html sheet) (c.in_ok-write_page_head.ensures) c.in_ok-write_fields.ensures) c.in_ok-write_bytes.ensures

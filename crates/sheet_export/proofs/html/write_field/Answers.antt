@@ -8,4 +8,4 @@ pub returns : goal.returns
 unfolding field_html
 returns g c =
     let field = c.args.field.now in
-    Appends-trans _ _ _ (field_head field ++ input_html field ++ output_html field.answer field.lost) (part.field_end) (Appends-trans _ _ _ (field_head field ++ input_html field) (output_html field.answer field.lost) (Appends-trans _ _ _ (field_head field) (input_html field) (c.in_ok-write_head.ensures) c.in_ok-write_input.ensures) c.in_ok-write_output.ensures) c.in_ok-write_field_end.ensures
+    Appends-trans _ _ _ (field_head field ++ input_html field ++ output_html field.answer field.lost) (part.field_end) (Appends-trans _ _ _ (field_head field ++ input_html field) (output_html field.answer field.lost) (Appends-trans _ _ _ (field_head field) (input_html field) (c.in_ok-write_head.ensures) c.in_ok-write_input.ensures) c.in_ok-write_output.ensures) c.in_ok-write_bytes.ensures

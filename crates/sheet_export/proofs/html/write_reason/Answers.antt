@@ -8,4 +8,4 @@ pub returns : goal.returns
 returns g c =
     let reason = c.args.reason in
     Appends-trans _ _ _ (part.lost_start ++ reason_name reason) part.lost_end
-    (Appends-trans _ _ _ part.lost_start (reason_name reason) c.in_ok-write_lost_start.ensures c.in_ok-write_reason_name.ensures) c.in_ok-write_lost_end.ensures
+    (Appends-trans _ _ _ part.lost_start (reason_name reason) c.in_ok-write_bytes.ensures c.in_ok-write_reason_name.ensures) c.in_ok-write_bytes-2.ensures
