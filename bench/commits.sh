@@ -2,7 +2,7 @@
 # Prints how many commands a second `tmhost run` makes durable, on a script of 2,000 `set` lines with a `wait` after each, so that each is
 # taken by itself, and the same of a plain C program that does the same four calls for records of the same length in a file beside it
 # (bench/plain_commits.c), and their ratio: the medians of RUNS runs (9 where it isn't set) of both programs in turn. A second line has one
-# run of each on 10,000 `new` lines, which are taken together, and of `run --json`, which takes each by itself. The files lie in FOLDER, or where none is given in the current one.
+# run of each on 10,000 `new` lines, which are taken together, of `run --strict`, and of `run --json`. The files lie in FOLDER, or where none is given in the current one.
 set -euo pipefail
 folder=$(readlink -f "${1:-.}")
 root=$(dirname "$(dirname "$(readlink -f "${BASH_SOURCE[0]}")")")

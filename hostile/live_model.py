@@ -3,7 +3,7 @@
 import copy
 import re
 
-from model import VERBS, Difference, Followed, Model, refused, words_of
+from model import EDITS, VERBS, Difference, Followed, Model, refused, words_of
 
 # A line that tells what came of an interpreter. That one was stopped is reported by a `stop` alone.
 EVENT = re.compile(r"banner |answered |completed |ended \S+ (?!Stopped )")
@@ -76,12 +76,25 @@ class Live:
         names = (name for name in self.model.sessions if copy.deepcopy(self).take_item(name) == [told])
         return next(names, None)
 
+    def is_edit(self, at):
+        """Whether the line at this place only changes the worksheet."""
+        return at < len(self.lines) and words_of(self.lines[at])[0] in EDITS
+
+    def sheets_of_lines(self):
+        """The worksheets behind the next line, and behind those after it as long as they may be one group with it: which lines were there
+        together isn't known."""
+        live = copy.deepcopy(self)
+        while live.take_line():
+            yield live.model.printed()
+            if not (live.is_edit(live.at - 1) and live.is_edit(live.at)):
+                return
+
     def next_sheets(self):
-        """The worksheets to which one event more may lead."""
-        sheets = {self.model.printed()}
-        for take in [Live.take_line] + [lambda live, name=name: live.take_item(name) for name in self.model.sessions]:
+        """The worksheets to which one event more may lead, or one group of lines."""
+        sheets = {self.model.printed(), *self.sheets_of_lines()}
+        for name in self.model.sessions:
             behind = copy.deepcopy(self)
-            take(behind)
+            behind.take_item(name)
             sheets.add(behind.model.printed())
         return sheets
 
