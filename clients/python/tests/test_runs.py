@@ -4,7 +4,7 @@ import os
 import unittest
 from typing import List, Sequence
 
-from support import PROGRAM, WORDS, Case, needs_program
+from support import PROGRAM, WORDS, Case, is_there, needs_program
 
 from tmhost import Answered, Died, Ended, InUse, Made, OneField, Refusal, Reply, Sheet, Waited, Warned, run
 
@@ -66,7 +66,7 @@ class Runs(Case):
         self.assertEqual(kinds([next(told), next(told), next(told)]), ["1 done", "2 made", "3 asked"])
         there = number()
         told.close()
-        self.until(lambda: not os.path.exists(f"/proc/{there}"))
+        self.until(lambda: not is_there(there))
         with self.open() as sheet:
             self.assertEqual([cell.state for cell in sheet.cells], ["empty"])
 
