@@ -1,12 +1,17 @@
 # Live worksheets told as lines of JSON.
 
-# A case: NAME STATUS LINES, where the text that is wanted is the input here. The lines are taken over a new worksheet.
-json() {
+# A case: TASK NAME STATUS LINES, where the text that is wanted is the input here. The lines are taken over a new worksheet.
+told_in_json() {
     cat >wanted
     rm -f sheet sheet.alt
     "$tmhost" create sheet
-    printf "$3" >given
-    compare "$1" "$(answer live --json sheet <given)" "$(cat wanted; echo "status $2")"
+    printf "$4" >given
+    compare "$2" "$(answer "$1" --json sheet <given)" "$(cat wanted; echo "status $3")"
+}
+
+# The same of `live`: NAME STATUS LINES.
+json() {
+    told_in_json live "$@"
 }
 
 json 'no line' 0 '' <<'END_OF_JSON'
@@ -127,14 +132,10 @@ json 'lines that are lost' 0 'session a plain sh silent.sh\nsession b plain /non
 {"type":"end"}
 END_OF_JSON
 
-# Scripts that are run: NAME STATUS LINES, where the text that is wanted is the input here. What an interpreter writes is taken in waits
-# alone, so no object of it stands between those of lines.
+# The same of scripts that are run: NAME STATUS LINES. What an interpreter writes is taken in waits alone, so no object of it stands
+# between those of lines.
 run_json() {
-    cat >wanted
-    rm -f sheet sheet.alt
-    "$tmhost" create sheet
-    printf "$3" >given
-    compare "$1" "$(answer run --json sheet <given)" "$(cat wanted; echo "status $2")"
+    told_in_json run "$@"
 }
 run_json 'a script without lines' 0 '' <<'END_OF_JSON'
 {"format":1,"program":"tmhost","protocol":2,"type":"hello","version":"0.1.0"}
