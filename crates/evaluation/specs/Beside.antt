@@ -25,10 +25,10 @@ is_session_busy w (Some field) = is_busy (option_map life_view (life_of w field.
 abbrev pub has_room_beside : Plan → World → ℕ → Bool
 has_room_beside plan w id = not (is_session_busy w (field_in (sheet_in w).fields id)) && nat_lt (length (waits w)) plan.jobs
 
--- The field at this place, with this number, is asked although others wait: no field is passed over for it, no source was watched since the
--- last one was asked, and there is room for it.
+-- The field at this place, with this number, is asked although others wait: no field is passed over for it, no interpreter was interrupted of
+-- those that wait, and there is room for it.
 abbrev pub joins : Plan → World → Stand → ℕ → ℕ → Bool
-joins plan w stand k id = (k == stand.taken) && (stand.asking && has_room_beside plan w id)
+joins plan w stand k id = (k == stand.taken) && (not stand.warned && has_room_beside plan w id)
 
 -- the field that would be asked next, if there is one, isn't asked while others wait
 pub record NoneJoins (plan : Plan) (w : World) (meant : List ℕ) (stand : Stand) : Type 0 where

@@ -42,7 +42,7 @@ OpenedFor o disk start now = OpenedOn disk start now × HasThem o start
 
 -- nothing was asked yet
 abbrev pub not_begun : Stand
-not_begun = record { taken = 0; first = 0; field = 0; held = hold.Free; asking = false; warned = false; at_once = false; asked = 0; overs = 0 }
+not_begun = record { taken = 0; first = 0; field = 0; held = hold.Free; warned = false; at_once = false; asked = 0; overs = 0 }
 
 -- No item waits, and it comes to its end.
 abbrev pub Ends : {C : Type 0} → Setting C → EvalPlace C → Option ℕ → Type 0

@@ -74,12 +74,12 @@ fn has_room<D: Disk>(host: &Host<D>, plan: &Plan, id: u32) -> bool
     !is_session_busy(host, host.sheet().field(id)) && wait_in_fewer(host, plan.jobs)
 }
 
-/// Whether the field with this number may be asked before any watch.
+/// Whether the field with this number may be asked while others wait.
 fn may_join<D: Disk>(host: &Host<D>, plan: &Plan, stand: Stand, id: u32) -> bool
     ensures { (w : World) → IsHost host.now w
-        → result ≡ (stand.asking && beside.has_room_beside plan.now w id) }
+        → result ≡ (not stand.warned && beside.has_room_beside plan.now w id) }
 {
-    stand.asking && has_room(host, plan, id)
+    !stand.warned && has_room(host, plan, id)
 }
 
 /// Whether the field at this place, with this number, is asked although others wait, if it is the next. Whether

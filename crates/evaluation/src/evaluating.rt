@@ -65,7 +65,6 @@ pub(crate) fn not_begun() -> Stand
         first: 0,
         field: 0,
         held: Hold::Free,
-        asking: false,
         warned: false,
         at_once: false,
         asked: 0,

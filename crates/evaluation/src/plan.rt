@@ -49,8 +49,6 @@ pub struct Stand {
     pub field: u32,
     /// The wait for its answer, and for those of the fields that wait beside it.
     pub held: Hold,
-    /// Whether no source was watched since it was asked.
-    pub asking: bool,
     /// Whether the time was over, so that an interpreter was interrupted.
     pub warned: bool,
     /// Whether no item waited for an answer right after its `eval`.
@@ -70,7 +68,6 @@ pub(crate) fn held_at(stand: Stand, held: Hold) -> Stand
         first: stand.first,
         field: stand.field,
         held,
-        asking: false,
         warned: stand.warned,
         at_once: stand.at_once,
         asked: stand.asked,
@@ -88,7 +85,6 @@ pub(crate) fn warned_at(stand: Stand, place: usize, held: Hold) -> Stand
         first: place,
         field: stand.field,
         held,
-        asking: false,
         warned: true,
         at_once: stand.at_once,
         asked: stand.asked,

@@ -61,7 +61,6 @@ fn asked_at(stand: Stand, at: usize, id: u32, held: Hold) -> Stand
         first: first_at(stand, at),
         field: id,
         held,
-        asking: true,
         warned: false,
         at_once: is_free(held),
         asked: stand.asked + 1,

@@ -41,7 +41,6 @@ fn asked_last(id: u32, held: Hold) -> Stand
         first: 0,
         field: id,
         held,
-        asking: false,
         warned: false,
         at_once: false,
         asked: 0,

@@ -213,14 +213,14 @@ compare 'two sessions side by side, shown' "$(answer show sheet </dev/null)" \
 compare 'more jobs than sessions' "$(sorted 2 --jobs 64 | head -n 3)" "$(printf 'status 0\nasked\nasked')"
 compare 'one after another they wait for each other' "$(sorted 1 --jobs 1 --timeout 1)" \
     "$(printf 'status 1\nasked\n--\nanswered 2 unanswered 2\nanswered 3\nasked\nasked\nasked\nbanner a\nbanner b\nended a Ended lost 1\nended b Ended lost 1\nover 1\nover 2 passed 1\nover 4')"
-made 'session a plain sh count.sh\nsession b plain sh count.sh\nsession c plain sh count.sh\nnew 0 a x\nnew 1 b y\nnew 2 c z\n'
-"$tmhost" eval --jobs 2 sheet >text 2>errors </dev/null
-compare 'the third is asked when the two have answered' "$(sed -n '1,2p;7,$p' text; sed -n 3,6p text | LC_ALL=C sort; cat errors)" \
-    "$(printf 'asked\nasked\nasked\nbanner c\nanswered 3\nanswered 3 unanswered 0\nanswered 1\nanswered 2\nbanner a\nbanner b')"
+made 'session a plain sh count.sh\nsession b plain env --default-signal=INT sh meets.sh b c\nsession c plain env --default-signal=INT sh meets.sh c b\nnew 0 a x\nnew 1 b z\nnew 2 c z\n'
+compare 'a slow one holds no other session back' "$(sorted 2 --jobs 2 --timeout 60)" \
+    "$(printf 'status 0\nasked\nasked\n--\nanswered 1\nanswered 2\nanswered 3\nanswered 3 unanswered 0\nasked\nasked\nasked\nbanner a\nbanner b\nbanner c\nover 0 passed 0')"
+compare 'the third is asked when one of two has answered' "$(grep -A 1 '^answered 1$' text)" "$(printf 'answered 1\nasked')"
 made 'session a plain sh count.sh\nsession b plain sh count.sh\nnew 0 a x\nnew 1 a y\nnew 2 b z\n'
 "$tmhost" eval --jobs 4 sheet >text 2>errors </dev/null
-compare 'a field waits for the one before it in its session' "$(sed -n '1,2p;7,$p' text; sed -n 3,6p text | LC_ALL=C sort; cat errors)" \
-    "$(printf 'asked\nasked\nasked\nanswered 2\nanswered 3 unanswered 0\nanswered 1\nanswered 3\nbanner a\nbanner b')"
+compare 'a field waits for the one before it in its session' "$(sed -n 1,2p text; grep -A 1 '^answered 1$' text; LC_ALL=C sort text; cat errors)" \
+    "$(printf 'asked\nasked\nanswered 1\nasked\nanswered 1\nanswered 2\nanswered 3\nanswered 3 unanswered 0\nasked\nasked\nasked\nbanner a\nbanner b')"
 evaluates 'one at a time in the order of the worksheet' 0 'asked\nbanner a\nanswered 1\nasked\nanswered 2\nasked\nbanner b\nanswered 3\nanswered 3 unanswered 0\n' \
     '#1 a\n> x\nx 1\n#2 a\n> y\ny 2\n#3 b\n> z\nz 1\n' --jobs 1
 printf 'set 3 w\n' >given
