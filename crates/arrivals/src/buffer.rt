@@ -56,10 +56,10 @@ impl Model for LineBuffer {
     ghost Value = { Held };
 
     ghost view = { λ b. record {
-        bytes = slice_range b.room.items b.start b.end;
-        line = slice_range b.room.items b.line_start b.line_end;
-        dropping = b.dropping;
-        ended = b.ended;
+      bytes = slice_range b.room.items b.start b.end;
+      line = slice_range b.room.items b.line_start b.line_end;
+      dropping = b.dropping;
+      ended = b.ended;
     } };
 
     ghost invariant = { λ b. IsBuffer b.room.items b.start b.end b.line_start b.line_end };
