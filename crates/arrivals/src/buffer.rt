@@ -49,12 +49,18 @@ pub(crate) struct LineBuffer {
 }
 
 impl Model for LineBuffer {
+    ghost use Rattle.std.specs.Prelude.{slice_range};
     ghost use Rattle.arrivals.specs.Held.{Held};
-    ghost use Rattle.arrivals.specs.inside.Buffers.{held_in, IsBuffer};
+    ghost use Rattle.arrivals.specs.inside.Buffers.{IsBuffer};
 
     ghost Value = { Held };
 
-    ghost view = { λ b. held_in b.room.items b.start b.end b.line_start b.line_end b.dropping b.ended };
+    ghost view = { λ b. record {
+      bytes = slice_range b.room.items b.start b.end;
+      line = slice_range b.room.items b.line_start b.line_end;
+      dropping = b.dropping;
+      ended = b.ended;
+    } };
 
     ghost invariant = { λ b. IsBuffer b.room.items b.start b.end b.line_start b.line_end };
 }

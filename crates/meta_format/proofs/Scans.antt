@@ -42,7 +42,7 @@ halted most mid out c at kind rest q h k =
 
 pub scan_stop : (most : Limits) (old mid new : Scanner) (before : List Found) (found : List Found) (s : List ℕ) (c : ℕ) (e : Stop) (rest : List ℕ)
     → run most (scan_state mid (outers found)) (c ∷ rest) ≡ run most (scan_state old (outers before)) s → Steps most mid c (Err e) new
-    → Scans most old before s (Err e) new found
+    → Scans most (scan_state old (outers before)) s (Err e) new found
 scan_stop most old mid new before found s c stop.BadTag rest h k = halted most mid (outers found) c new.at bad_tag rest (run most (scan_state old (outers before)) s) h k
 scan_stop most old mid new before found s c stop.TooDeep rest h k = halted most mid (outers found) c new.at too_deep rest (run most (scan_state old (outers before)) s) h k
 scan_stop most old mid new before found s c stop.TooLong rest h k = halted most mid (outers found) c new.at too_long rest (run most (scan_state old (outers before)) s) h k
@@ -62,8 +62,8 @@ fell most mid c at out kind rest q h k = sym k ∙ ap (λ p. run most p rest) h 
 
 -- a fault at one byte is one of all
 pub scans_stopped : (most : Limits) (old mid new : Scanner) (before between found : List Found) (c : ℕ) (rest s : List ℕ) (e : Stop)
-    → Scans most mid between (c ∷ []) (Err e) new found → run most (scan_state mid (outers between)) (c ∷ rest) ≡ run most (scan_state old (outers before)) s
-    → Scans most old before s (Err e) new found
+    → Scans most (scan_state mid (outers between)) (c ∷ []) (Err e) new found → run most (scan_state mid (outers between)) (c ∷ rest) ≡ run most (scan_state old (outers before)) s
+    → Scans most (scan_state old (outers before)) s (Err e) new found
 scans_stopped most old mid new before between found c rest s stop.BadTag h k = fell most (scan_state mid (outers between)) c new.at (outers found) bad_tag rest (run most (scan_state old (outers before)) s) h k
 scans_stopped most old mid new before between found c rest s stop.TooDeep h k = fell most (scan_state mid (outers between)) c new.at (outers found) too_deep rest (run most (scan_state old (outers before)) s) h k
 scans_stopped most old mid new before between found c rest s stop.TooLong h k = fell most (scan_state mid (outers between)) c new.at (outers found) too_long rest (run most (scan_state old (outers before)) s) h k

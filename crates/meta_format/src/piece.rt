@@ -21,7 +21,7 @@ fn scan_byte(
 ) -> Result<(), Stop>
     requires placed { IsPlaced bounds.block scanner.old }
     requires block { 0 < bounds.block }
-    ensures scans { Scans (most_of bounds) scanner.old found.old.items
+    ensures scans { Scans (most_of bounds) (scan_state scanner.old (outers found.old.items))
         (c ∷ []) result scanner.new found.new.items }
     ensures placed { OnOk result (IsPlaced bounds.block scanner.new) }
 {
@@ -52,7 +52,7 @@ fn scan_some(
         ≡ run (most_of bounds) (scan_state scanner.new (outers found.new.items))
         (drop count rest.now))) }
     ensures err { IfErr result
-        (λ stop. Scans (most_of bounds) scanner.old found.old.items rest.now
+        (λ stop. Scans (most_of bounds) (scan_state scanner.old (outers found.old.items)) rest.now
         (Err stop) scanner.new found.new.items) }
     ensures placed { OnOk result (IsPlaced bounds.block scanner.new) }
 {
@@ -89,7 +89,7 @@ pub fn scan_piece(
 ) -> Result<(), Stop>
     requires placed { IsPlaced bounds.block scanner.old }
     requires block { 0 < bounds.block }
-    ensures scans { Scans (most_of bounds) scanner.old found.old.items piece.now result scanner.new found.new.items }
+    ensures scans { Scans (most_of bounds) (scan_state scanner.old (outers found.old.items)) piece.now result scanner.new found.new.items }
     ensures placed { OnOk result (IsPlaced bounds.block scanner.new) }
 {
     let mut at = 0;

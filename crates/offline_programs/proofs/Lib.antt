@@ -1,2 +1,4 @@
+pub mod Headers
+pub mod Inputs
 pub mod Scripting
 pub mod Shows

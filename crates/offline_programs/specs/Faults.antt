@@ -33,14 +33,9 @@ fault_text (fault.Open why) = open_fault_text why
 fault_text fault.InUse = codes "fault 35 InUse\n"
 
 -- What a fault of `show` tells: the damage of the disk, where nothing was written, or that the writer failed.
-abbrev pub TellsShow : DiskView → Type 0 → RunFault → Type 0
-TellsShow disk nothing (fault.Open why) = nothing × InModel disk (TellsOfSheet (bytes_on disk) why)
-TellsShow disk nothing fault.Output = Unit {0}
-TellsShow disk nothing fault.OutOfMemory = ⊥
-TellsShow disk nothing fault.Input = ⊥
-TellsShow disk nothing fault.InputTooLong = ⊥
-TellsShow disk nothing (fault.Host why) = ⊥
-TellsShow disk nothing fault.InUse = ⊥
+pub data TellsShow (disk : DiskView) (nothing : Type 0) : RunFault → Type 0 where
+  unopened : (why : OpenCause) → nothing → InModel disk (TellsOfSheet (bytes_on disk) why) → TellsShow disk nothing (fault.Open why)
+  unwritten : TellsShow disk nothing fault.Output
 
 -- no byte of the disk was changed, and at every moment each image was one that a crash could leave before
 abbrev pub Untouched : DiskView → DiskView → Type 0

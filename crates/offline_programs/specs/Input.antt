@@ -8,21 +8,12 @@ abbrev pub longest_standard_input : ℕ
 longest_standard_input = 67108864
 
 -- a fault that reading an input can have
-abbrev pub IsInputFault : RunFault → Type 0
-IsInputFault fault.Input = Unit {0}
-IsInputFault fault.InputTooLong = Unit {0}
-IsInputFault fault.Output = ⊥
-IsInputFault fault.OutOfMemory = Unit {0}
-IsInputFault (fault.Host why) = ⊥
-IsInputFault (fault.Open why) = ⊥
-IsInputFault fault.InUse = ⊥
+pub data IsInputFault : RunFault → Type 0 where
+  unread : IsInputFault fault.Input
+  too_long : IsInputFault fault.InputTooLong
+  no_memory : IsInputFault fault.OutOfMemory
 
 -- a fault of a program that has only its input, its output and memory
-abbrev pub IsStreamFault : RunFault → Type 0
-IsStreamFault fault.Input = Unit {0}
-IsStreamFault fault.InputTooLong = Unit {0}
-IsStreamFault fault.Output = Unit {0}
-IsStreamFault fault.OutOfMemory = Unit {0}
-IsStreamFault (fault.Host why) = ⊥
-IsStreamFault (fault.Open why) = ⊥
-IsStreamFault fault.InUse = ⊥
+pub data IsStreamFault : RunFault → Type 0 where
+  of_input : (why : RunFault) → IsInputFault why → IsStreamFault why
+  unwritten : IsStreamFault fault.Output

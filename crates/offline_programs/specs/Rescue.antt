@@ -1,9 +1,10 @@
 -- What a rescue keeps of a worksheet, what it writes, and what it tells.
-use Rattle.std.specs.Prelude.{◌≡◌, ℕ, List, [], ◌∷◌, ◌++◌, Option, Some, None, Result, Ok, Err, IfOk, IfErr, codes, length}
+use Rattle.std.specs.Prelude.{◌⊎◌, IsOk, ◌≡◌, ℕ, List, [], ◌∷◌, ◌++◌, Option, Some, None, Result, Ok, Err, IfOk, IfErr, codes, length}
 use Rattle.std.specs.Fmt.{decimal}
 use Rattle.disk_model.specs.Disk.{DiskView, InModel, Leaves, LeavesOnly, Looks, Rises, SameDisk, bytes_on}
 use Rattle.journal.specs.Front.{TellsHeader}
 use Rattle.journal.specs.Open.{AreEmpty}
+use Rattle.journal.specs.declared.opening.OpenCause.{OpenCause}
 use Rattle.journal.specs.declared.opening.OpenCause.TheVariants as opens
 use Rattle.recovery.specs.Rescued.{IsRescued}
 use Rattle.recovery.specs.Saved.{IsBeingSaved}
@@ -27,14 +28,8 @@ kept_text kept None = codes "kept " ++ decimal kept ++ codes ", whole\n"
 kept_text kept (Some gate) = codes "kept " ++ decimal kept ++ codes ", damaged at " ++ decimal gate ++ 10 ∷ []
 
 -- What a fault tells of the damaged disk: that it has no header, or a cause that isn't in its bytes.
-abbrev pub TellsRescue : DiskView → RunFault → Type 0
-TellsRescue disk (fault.Open why) = InModel disk (TellsHeader (bytes_on disk) why)
-TellsRescue disk fault.Output = ⊥
-TellsRescue disk fault.OutOfMemory = ⊥
-TellsRescue disk fault.Input = ⊥
-TellsRescue disk fault.InputTooLong = ⊥
-TellsRescue disk (fault.Host why) = ⊥
-TellsRescue disk fault.InUse = ⊥
+pub data TellsRescue (disk : DiskView) : RunFault → Type 0 where
+  headless : (why : OpenCause) → InModel disk (TellsHeader (bytes_on disk) why) → TellsRescue disk (fault.Open why)
 
 -- the disk whose front was read, after that
 abbrev pub front_disk : {D : Type 0} → Result (Rescued D) (FrontFault D) → D
@@ -70,9 +65,7 @@ save_fault saves.Disk = rescues.Run (fault.Open opens.Disk)
 
 -- the worksheet was written: nothing failed, or only the line that tells of it
 abbrev pub IsWritten : Result Unit RescueFault → Type 0
-IsWritten (Ok u) = Unit {0}
-IsWritten (Err (rescues.Run fault.Output)) = Unit {0}
-IsWritten other = ⊥
+IsWritten answer = IsOk answer ⊎ (answer ≡ Err (rescues.Run fault.Output))
 
 -- The worksheet was written to a new disk, or that failed: what becomes of the disk.
 pub record RescueIsSaved (old new : DiskView) (sheet : Contents)

@@ -13,6 +13,7 @@ pub const LONGEST_STANDARD_INPUT: usize = 67_108_864;
 ///
 /// `Input` where the reader fails, an interruption included; `InputTooLong` where it gives more than
 /// `LONGEST_STANDARD_INPUT` bytes; `OutOfMemory`. What was read before a fault is dropped.
+#[tactic(auto, using(crate::proofs::Inputs::input_faults))]
 pub fn read_input<R: Read>(alloc: Global, reader: &mut R) -> Result<Vec<u8>, RunFault>
     ensures whole { IfOk result (λ input. IfSome (R.remaining reader.old) (λ bytes. input.items
         ≡ bytes)) }

@@ -125,6 +125,7 @@ fn do_lines<W: Write>(
 /// interruption included, `InputTooLong` where it gives more than `LONGEST_STANDARD_INPUT` bytes, and `OutOfMemory`
 /// where it can't be kept: nothing was written then. `Output` where the writer fails: a part of the
 /// text may have gone out.
+#[tactic(auto, using(crate::proofs::Inputs::stream_faults))]
 pub fn run_memory<R: Read, W: Write>(
     alloc: Global,
     reader: &mut R,

@@ -41,6 +41,7 @@ pub struct FrontFault<D: Disk> {
 /// What stands on a worksheet's disk before its first damage. It changes no byte of it.
 ///
 /// `Open` where the disk has no header, where it fails, or memory is refused. Damage is no fault here.
+#[tactic(auto, using(crate::proofs::Headers::header_told))]
 pub fn read_front<D: Disk>(alloc: Global, disk: D) -> Result<Rescued<D>, FrontFault<D>>
     ensures { FrontIsRead D.view disk (front_disk result) (front_answer result) }
 {

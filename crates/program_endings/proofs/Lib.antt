@@ -1,3 +1,4 @@
-pub mod Lines
 pub mod Answering
+pub mod Lines
+pub mod Streams
 pub mod Totals

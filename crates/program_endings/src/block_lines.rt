@@ -95,6 +95,7 @@ fn write_stream<W: Write>(stream: &[u8], out: &mut W) -> Result<bool, RunFault>
 /// The input is read whole before anything is written, and no memory is taken after that. `Input` where the reader
 /// fails, an interruption included, `InputTooLong` where it gives more than `LONGEST_STANDARD_INPUT` bytes, and
 /// `OutOfMemory`: nothing was written then. `Output` where the writer fails: a part of the text may have gone out.
+#[tactic(auto, using(crate::proofs::Streams::stream_faults))]
 pub fn blocks<R: Read, W: Write>(
     alloc: Global,
     reader: &mut R,

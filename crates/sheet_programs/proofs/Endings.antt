@@ -12,6 +12,7 @@ use Rattle.child_edge.specs.Faithful.{At, at}
 use Rattle.child_edge.specs.Kept.{HoldsSheet}
 use Rattle.child_edge.specs.Moments.{LeavesFronts, events_of, outcomes_of}
 use Rattle.offline_programs.specs.Input.{IsInputFault, longest_standard_input}
+use Rattle.offline_programs.specs.Input as input
 use Rattle.offline_programs.specs.Memory.{script_lines}
 use Rattle.offline_programs.specs.declared.fault.RunFault.{RunFault}
 use Rattle.offline_programs.specs.declared.fault.RunFault.TheVariants as fault
@@ -58,13 +59,9 @@ failed_since m lines disk now start c leaves same p = go p
 -- The script wasn't read.
 pub unread_script : {C : Type 0} (m : Manner C) (stream : Option (List ℕ)) (first last : Outside C) (nothing : Type 0) (f : RunFault)
     → IsInputFault f → (f ≡ fault.InputTooLong → IfSome stream (λ script. longest_standard_input < length script)) → nothing → TellsRun m stream first last nothing f
-unread_script m stream first last nothing fault.Input is long idle = ends.unread idle
-unread_script m stream first last nothing fault.InputTooLong is long idle = ends.too_long idle (long refl)
-unread_script m stream first last nothing fault.OutOfMemory is long idle = ends.not_begun idle
-unread_script m stream first last nothing fault.Output is long idle = absurd is
-unread_script m stream first last nothing (fault.Host why) is long idle = absurd is
-unread_script m stream first last nothing (fault.Open why) is long idle = absurd is
-unread_script m stream first last nothing fault.InUse is long idle = absurd is
+unread_script m stream first last nothing f input.unread long idle = ends.unread idle
+unread_script m stream first last nothing f input.too_long long idle = ends.too_long idle (long refl)
+unread_script m stream first last nothing f input.no_memory long idle = ends.not_begun idle
 
 -- what is left of a script, for the stream that gives it
 of-stream : (stream : Option (List ℕ)) (script : List ℕ) (P : List ℕ → Type 0) → IfSome stream (λ bytes. script ≡ bytes) → P script → IfSome stream P

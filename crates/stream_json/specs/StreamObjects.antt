@@ -1,5 +1,5 @@
 -- What `blocks --json` writes of a stream. (docs/JSON.md.)
-use Rattle.std.specs.Prelude.{◌≡◌, ℕ, Bool, List, [], ◌∷◌, ◌++◌, Option, Some, None, codes, map}
+use Rattle.std.specs.Prelude.{◌≡◌, ◌⊎◌, ℕ, Bool, List, [], ◌∷◌, ◌++◌, Option, Some, None, codes, map}
 use Rattle.std.specs.Io.KnownBytes.{Appends}
 use Rattle.std.specs.List.{flat_map}
 use Rattle.block_tree.specs.Output.{output, text_on_channel}
@@ -67,10 +67,4 @@ ObjectsOf most stream old new is =
 
 -- why an object isn't written: the writer failed, or there was no memory for it
 abbrev pub IsUnwritten : RunFault → Type 0
-IsUnwritten fault.Output = Unit {0}
-IsUnwritten fault.OutOfMemory = Unit {0}
-IsUnwritten fault.Input = ⊥
-IsUnwritten fault.InputTooLong = ⊥
-IsUnwritten (fault.Host why) = ⊥
-IsUnwritten (fault.Open why) = ⊥
-IsUnwritten fault.InUse = ⊥
+IsUnwritten why = (why ≡ fault.Output) ⊎ (why ≡ fault.OutOfMemory)

@@ -147,6 +147,7 @@ fn write_stream<W: Write>(alloc: Global, stream: &[u8], out: &mut W) -> Result<b
 /// The input is read whole before anything is written. `Input` where the reader fails, an interruption included,
 /// and `InputTooLong` where it gives more than `LONGEST_STANDARD_INPUT` bytes: nothing was written then. `OutOfMemory`,
 /// and `Output` where the writer fails: some objects may have gone out, at `Output` a part of one.
+#[tactic(auto, using(crate::proofs::Faults::stream_faults))]
 pub fn block_objects<R: Read, W: Write>(
     alloc: Global,
     reader: &mut R,

@@ -1,5 +1,5 @@
 -- Definitions that only private contracts use: the room of a buffer, and its first line.
-use Rattle.std.specs.Prelude.{◌≡◌, ℕ, ◌+◌, ◌≤◌, Bool, true, false, List, [], length, slice_range, nat_le, if◌then◌else◌}
+use Rattle.std.specs.Prelude.{◌≡◌, ℕ, ◌+◌, ◌≤◌, Bool, true, false, List, [], length, nat_le, if◌then◌else◌}
 use Rattle.arrivals.specs.Lines.{InputLine, whole, too_long, longest_line, bounded_line}
 use Rattle.arrivals.specs.Held.{Held}
 use Rattle.arrivals.specs.declared.buffer.NextLine.{NextLine}
@@ -8,14 +8,6 @@ use Rattle.arrivals.specs.declared.buffer.NextLine.TheVariants as next
 -- the most bytes that are held
 abbrev pub room_size : ℕ
 room_size = 131074
-
-abbrev pub held_in : List ℕ → ℕ → ℕ → ℕ → ℕ → Bool → Bool → Held
-held_in room start end line_start line_end dropping ended = record {
-  bytes = slice_range room start end;
-  line = slice_range room line_start line_end;
-  dropping = dropping;
-  ended = ended;
-}
 
 pub record IsBuffer (room : List ℕ) (start end line_start line_end : ℕ) : Type 0 where
   pub size : length room ≡ room_size

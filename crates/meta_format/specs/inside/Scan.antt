@@ -72,13 +72,13 @@ StepsAt place most old c (Err stop.OutOfMemory) new = Unit {0}
 abbrev pub Steps : Limits → Scanner → ℕ → Result (Option Found) Stop → Scanner → Type 0
 Steps most old c result new = StepsAt old.place most old c result new
 
--- The bytes took the machine from one state to the other, or to a fault.
-abbrev pub Scans : Limits → Scanner → List Found → List ℕ → Result (Unit {0}) Stop → Scanner → List Found → Type 0
-Scans most old before bytes (Ok u) new found = run most (scan_state old (outers before)) bytes ≡ scan_state new (outers found)
-Scans most old before bytes (Err stop.BadTag) new found = run most (scan_state old (outers before)) bytes ≡ record { at = new.at; out = outers found; mode = broken bad_tag new.at }
-Scans most old before bytes (Err stop.TooDeep) new found = run most (scan_state old (outers before)) bytes ≡ record { at = new.at; out = outers found; mode = broken too_deep new.at }
-Scans most old before bytes (Err stop.TooLong) new found = run most (scan_state old (outers before)) bytes ≡ record { at = new.at; out = outers found; mode = broken too_long new.at }
-Scans most old before bytes (Err stop.OutOfMemory) new found = Unit {0}
+-- The bytes took the machine from this state to that of a scanner and what it found, or to a fault.
+abbrev pub Scans : Limits → State → List ℕ → Result (Unit {0}) Stop → Scanner → List Found → Type 0
+Scans most from bytes (Ok u) new found = run most from bytes ≡ scan_state new (outers found)
+Scans most from bytes (Err stop.BadTag) new found = run most from bytes ≡ record { at = new.at; out = outers found; mode = broken bad_tag new.at }
+Scans most from bytes (Err stop.TooDeep) new found = run most from bytes ≡ record { at = new.at; out = outers found; mode = broken too_deep new.at }
+Scans most from bytes (Err stop.TooLong) new found = run most from bytes ≡ record { at = new.at; out = outers found; mode = broken too_long new.at }
+Scans most from bytes (Err stop.OutOfMemory) new found = Unit {0}
 
 -- Where bytes are read that have no limit of length.
 
