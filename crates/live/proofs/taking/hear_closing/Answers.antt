@@ -7,7 +7,7 @@ use Rattle.tellings.specs.Voice.{came_text}
 use Rattle.live.specs.Records.{edge, left}
 use Rattle.live.specs.Taking.{HearingFailed}
 use Rattle.live.proofs.Turns.{heard_unwritten, heard_failed, heard, TurnGave, TurnBroke}
-use Rattle.live.proofs.taking.hear.Goals as goal
+use Rattle.live.proofs.taking.hear_closing.Goals as goal
 
 pub returns-in-Err-clause-err : goal.returns-in-Err-clause-err
 returns-in-Err-clause-err g c = λ w h.
