@@ -53,8 +53,9 @@ module _ {C : Type 0} (o : Edge C) (seat : Seat) (w : World) (h g : HostView) (c
   told-of t bs is are wrote =
       subst (λ (s : Contents). Appends a b (came_text o.voice s (told bs))) is (subst (λ (l : List Reply). Appends a b (came_text o.voice g.store.sheet.contents l)) are wrote)
 
-  pub heard : Ran (Taken (hearing o.after true) None seat (at w c h.store.disk)) [] g d replies → Appends a b (came_text o.voice g.store.sheet.contents replies) → Heard o seat (at w c h.store.disk) (left g d a b)
-  heard p wrote = (p.beats, p.leads, p.form, p.stands, told-of p.leads p.beats p.stands.stands.contents p.replied wrote)
+  pub heard_closing : (closed : Bool) → Ran (Taken (hearing o.after true) None seat (at w c h.store.disk)) [] g d replies → Appends a b (came_text o.voice g.store.sheet.contents replies)
+      → closed ≡ list_any has_closed replies → HeardClosing o seat (at w c h.store.disk) (left g d a b) closed
+  heard_closing closed p wrote is = ((p.beats, p.leads, p.form, p.stands, told-of p.leads p.beats p.stands.stands.contents p.replied wrote), is ∙ ap (λ (l : List Reply). list_any has_closed l) p.replied)
 
   pub heard_failed : (why : EdgeCause) → TurnBroke o.after seat w h g c d [] replies why
       → Appends a b (came_text o.voice g.store.sheet.contents replies) → HearingFailed o seat (at w c h.store.disk) (left g d a b) (fault_of_cause why)

@@ -1,12 +1,14 @@
-use Rattle.std.proofs.Common.{sym, subst}
+use Rattle.std.proofs.Common.{◌≡◌, sym, subst}
+use Rattle.std.specs.List.{list_any}
 use Rattle.std.specs.Prelude.{None, true}
 use Rattle.std.specs.Io.KnownBytes.{Appends}
 use Rattle.child_edge.specs.Edge.{Ran}
 use Rattle.child_edge.specs.Faithful.{at, Taken, hearing}
 use Rattle.tellings.specs.Voice.{came_text}
 use Rattle.live.specs.Records.{edge, left}
+use Rattle.live.specs.Saying.{has_closed}
 use Rattle.live.specs.Taking.{HearingFailed}
-use Rattle.live.proofs.Turns.{heard_unwritten, heard_failed, heard, TurnGave, TurnBroke}
+use Rattle.live.proofs.Turns.{heard_unwritten, heard_failed, heard_closing, TurnGave, TurnBroke}
 use Rattle.live.proofs.taking.hear_closing.Goals as goal
 
 pub returns-in-Err-clause-err : goal.returns-in-Err-clause-err
@@ -17,10 +19,11 @@ returns-in-Err-clause-err g c = λ w h.
 
 pub returns-in-Ok-clause-ok : goal.returns-in-Ok-clause-ok
 returns-in-Ok-clause-ok g c = λ w h.
-    heard (edge g.T.Tells.voice g.S.Children.after g.S.Sources.clock g.S.Sources.wakes) c.args.seat w c.args.host.now c.listen-taken.new.host c.args.sources.now c.listen-taken.new.children c.listen-taken.new.replies.items (g.W.Write.contents c.args.writer.now) (g.W.Write.contents c.events.new.writer) h
+    heard_closing (edge g.T.Tells.voice g.S.Children.after g.S.Sources.clock g.S.Sources.wakes) c.args.seat w c.args.host.now c.listen-taken.new.host c.args.sources.now c.listen-taken.new.children c.listen-taken.new.replies.items (g.W.Write.contents c.args.writer.now) (g.W.Write.contents c.events.new.writer) h c.any_closed.result
     (subst (λ x. Ran (Taken (hearing g.S.Children.after true) None c.args.seat (at w c.args.sources.now c.args.host.now.store.disk)) x c.listen-taken.new.host c.listen-taken.new.children c.listen-taken.new.replies.items) c.new-replies.ensures.items (c.in-Ok.ensures.ok w h))
     (subst (λ s. Appends (g.W.Write.contents c.args.writer.now) (g.W.Write.contents c.events.new.writer) (came_text g.T.Tells.voice s.contents c.listen-taken.new.replies.items)) c.sheet.ensures.sheet
     (subst (λ x. Appends (g.W.Write.contents c.args.writer.now) (g.W.Write.contents c.events.new.writer) (came_text g.T.Tells.voice c.sheet.result.now.contents x)) c.as_slice.ensures.value c.in_default.ensures.ok))
+    (subst (λ x. c.any_closed.result ≡ list_any has_closed x) c.as_slice-in-Ok.ensures.value c.any_closed.ensures)
 
 pub returns-clause-err : goal.returns-clause-err
 returns-clause-err g c = λ w h.
