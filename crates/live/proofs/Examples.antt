@@ -22,8 +22,11 @@ module _ {C : Type 0} (o : Edge C) (t : At C) (some : waits t.world ≢ []) wher
   answered_when_interrupted : (one : ChildReply) (end now seconds : ℕ) → is_some one.closed ≡ true → o.limit ≡ Some seconds → o.watches.clock t.children now
       → TurnGoesOn o (hold.Warned end) (reply.Child one ∷ []) t (hold.Limited (seconds_behind now seconds))
   answered_when_interrupted one end now seconds closed limit reads =
-      inr (some, subst (λ (b : Bool). BeginsAgain o t.children (b || false) (hold.Warned end) (hold.Limited (seconds_behind now seconds))) (sym closed)
-      (subst (λ l. UntimedBegins o.watches.clock t.children l (hold.Limited (seconds_behind now seconds))) (sym limit) (now, reads, refl)))
+      inr (
+        some,
+        subst (λ (b : Bool). BeginsAgain o t.children (b || false) (hold.Warned end) (hold.Limited (seconds_behind now seconds))) (sym closed)
+            (subst (λ l. UntimedBegins o.watches.clock t.children l (hold.Limited (seconds_behind now seconds))) (sym limit) (now, reads, refl)),
+      )
 
   -- A piece that closes nothing begins no time.
   a_piece_begins_nothing : (held behind : Hold) → TurnGoesOn o held [] t behind → behind ≡ held
