@@ -94,7 +94,7 @@ const ACCEPT: Word = Word {
 const WAIT_TIMEOUT: Word = Word {
     name: "timeout",
     given: Given::Value("SECONDS"),
-    help: "Interrupt the interpreters in a wait that takes longer than this",
+    help: "Interrupt the interpreters where a line takes longer than this",
 };
 
 const FIELD_TIMEOUT: Word = Word {

@@ -74,7 +74,7 @@ lines were lost since an interpreter ended: what that line gives is written, wha
 was reported is on the disk, and standard error has `stopped at line N`.\n\n\
 With --json each line is one object, which programs read (docs/JSON.md). With\n\
 --timeout SECONDS (1 to 1,000,000) the interpreters that are at something are sent\n\
-SIGINT where a `wait` takes longer, which is reported as of `interrupt NAME`, and\n\
+SIGINT where a line takes longer in a `wait`, reported as of `interrupt NAME`, and\n\
 are stopped where they haven't answered two seconds later. With either lines are\n\
 those of `live`, each taken when it comes, but while no `wait` holds lines back\n\
 nothing is taken of an interpreter; and neither goes with --strict.\n\n\

@@ -36,7 +36,7 @@ fn is_free(held: Hold) -> bool
 {
     match held {
         Hold::Free => true,
-        Hold::Wait | Hold::Until(_) | Hold::Limited(_) => false,
+        Hold::Wait | Hold::Until(_) | Hold::Limited(_) | Hold::Warned(_) => false,
     }
 }
 
@@ -46,7 +46,7 @@ fn first_at(stand: Stand, at: usize) -> usize
 {
     match stand.held {
         Hold::Free => at,
-        Hold::Wait | Hold::Until(_) | Hold::Limited(_) => stand.first,
+        Hold::Wait | Hold::Until(_) | Hold::Limited(_) | Hold::Warned(_) => stand.first,
     }
 }
 
@@ -359,7 +359,7 @@ pub(crate) fn step<D: Disk, S: Sources, T: Tells, W: Write>(
 {
     match stand.held {
         Hold::Free => take_next(alloc, host, sources, plan, ids, stand, tells, writer),
-        Hold::Wait | Hold::Until(_) | Hold::Limited(_) => {
+        Hold::Wait | Hold::Until(_) | Hold::Limited(_) | Hold::Warned(_) => {
             match take_beside(alloc, host, sources, plan, ids, stand, tells, writer) {
                 Ok(next) => Ok(Some(next)),
                 Err(fault) => Err(fault),

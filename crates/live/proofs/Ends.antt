@@ -114,6 +114,7 @@ takes-led-course : {C : Type 0} (o : Edge C) (p : LivePlace C) (a : Arrival) (t 
 takes-led-course o p a t (broken.all it q taken there) = subst (λ (x : At _). Course p.run.world p.run.disk it.beats x.world x.disk) there (takes-course o p a it q taken)
 takes-led-course o p a t (broken.up_to beats e broke) = goes-on p.run beats t (takes-up-to-goes o.after p beats e t a broke)
 takes-led-course o p a t (broken.so_far beats so) = goes-on p.run beats t (takes-so-far-goes o.after p beats t a so)
+takes-led-course o p a t (broken.heard seat beats is took) = goes-on p.run beats t (taken-goes o.after true None seat p.run beats t took)
 takes-led-course o p a t (broken.interrupted k text over limited front) =
     goes-on p.run [] t (no_beats (at p.run.world t.children p.run.disk) [] t refl (interrupts-stay o (waits p.run.world) k p.run text t front))
 

@@ -6,3 +6,4 @@ pub mod Ends
 pub mod InManner
 pub mod Gatherings
 pub mod Groups
+pub mod Examples

@@ -1,6 +1,7 @@
 -- A life's turn, and the end of a wait's time.
-use Rattle.std.proofs.Common.{◌≡◌, ◌+◌, ◌<◌, inl, inr, ℕ, suc, true, false, List, [], ◌∷◌, ◌++◌, Option, Some, None, refl, ap, sym, subst, length, arith, append-nil, append_assoc, ◌∙◌}
-use Rattle.std.specs.Prelude.{Result, Ok, Err, OnOk, IfErr, IfOk, slice_get}
+use Rattle.std.proofs.Common.{◌≡◌, ◌+◌, ◌<◌, inl, inr, ℕ, suc, Bool, true, false, true≢false, List, [], ◌∷◌, ◌++◌, Option, Some, None, refl, ap, sym, subst, length, arith, append-nil, append_assoc, ◌∙◌}
+use Rattle.std.specs.Prelude.{◌&&◌, not, if◌then◌else◌, Result, Ok, Err, OnOk, IfErr, IfOk, slice_get}
+use Rattle.std.specs.List.{list_any}
 use Rattle.std.proofs.KnownBytes.{Appends-nil, Appends-trans}
 use Rattle.std.specs.Io.KnownBytes.{Appends}
 use Rattle.host_events.specs.declared.reply.Reply.{Reply}
@@ -26,12 +27,12 @@ use Rattle.offline_programs.specs.declared.fault.RunFault.TheVariants as fault
 use Rattle.live.specs.declared.holding.Hold.{Hold}
 use Rattle.live.specs.declared.holding.Hold.TheVariants as hold
 use Rattle.live.specs.Records.{Brought, Edge, brought, left}
-use Rattle.live.specs.Saying.{Begins, SaidDone, WaitGoesOn, IsLimited, IsUntil, over_text, seconds_behind}
+use Rattle.live.specs.Saying.{Begins, BeginsAgain, SaidDone, StallsAtEnd, TurnGoesOn, UntimedBegins, WaitGoesOn, IsLimited, has_closed, has_limit, is_held, over_text, seconds_behind}
 use Rattle.arrivals.specs.Lines.{InputLine}
 use Rattle.live.specs.Arrivals.{Arrival, line, life, time_over, InterruptsLife, LivePlace, place, respite, said_by}
 use Rattle.live.specs.Broken.{TakesLed}
 use Rattle.live.specs.Broken as broken
-use Rattle.live.specs.Taking.{Warned, WarnedUnwritten, Heard, HeardLed, HeardUnwritten, Said, SaidLed, SaidUnwritten, SayingFailed, HearingFailed, Stalled, StalledUnwritten, StallingFailed, StallingLed, TakingFailed, TookArrival, TookUnwritten}
+use Rattle.live.specs.Taking.{Warned, WarnedUnwritten, Heard, HeardClosing, HeardLed, HeardUnwritten, Said, SaidLed, SaidUnwritten, SayingFailed, HearingFailed, Stalled, StalledUnwritten, StallingFailed, StallingLed, TakingFailed, TookArrival, TookUnwritten}
 use Rattle.live.specs.Taking as inside
 
 -- What a life's turn gives.
@@ -52,8 +53,9 @@ module _ {C : Type 0} (o : Edge C) (seat : Seat) (w : World) (h g : HostView) (c
   told-of t bs is are wrote =
       subst (λ (s : Contents). Appends a b (came_text o.voice s (told bs))) is (subst (λ (l : List Reply). Appends a b (came_text o.voice g.store.sheet.contents l)) are wrote)
 
-  pub heard : Ran (Taken (hearing o.after true) None seat (at w c h.store.disk)) [] g d replies → Appends a b (came_text o.voice g.store.sheet.contents replies) → Heard o seat (at w c h.store.disk) (left g d a b)
-  heard p wrote = (p.beats, p.leads, p.form, p.stands, told-of p.leads p.beats p.stands.stands.contents p.replied wrote)
+  pub heard_closing : (closed : Bool) → Ran (Taken (hearing o.after true) None seat (at w c h.store.disk)) [] g d replies → Appends a b (came_text o.voice g.store.sheet.contents replies)
+      → closed ≡ list_any has_closed replies → HeardClosing o seat (at w c h.store.disk) (left g d a b) closed
+  heard_closing closed p wrote is = ((p.beats, p.leads, p.form, p.stands, told-of p.leads p.beats p.stands.stands.contents p.replied wrote), is ∙ ap (λ (l : List Reply). list_any has_closed l) p.replied)
 
   pub heard_failed : (why : EdgeCause) → TurnBroke o.after seat w h g c d [] replies why
       → Appends a b (came_text o.voice g.store.sheet.contents replies) → HearingFailed o seat (at w c h.store.disk) (left g d a b) (fault_of_cause why)
@@ -86,6 +88,42 @@ goes_on_somehow held w = go (waits w) refl
     go [] e = (hold.Free, inl (e, refl))
     go (s ∷ ss) e = (held, inr (λ none. let wrong : s ∷ ss ≡ [] = sym e ∙ none in absurd cc, refl))
 
+-- The time that begins again, or doesn't.
+
+pub again_by : {C : Type 0} (o : Edge C) (c : C) (again : Bool) (held behind : Hold) → (again ≡ true → UntimedBegins o.watches.clock c o.limit behind) → (again ≡ false → behind ≡ held)
+    → BeginsAgain o c again held behind
+again_by o c true held behind begins stays = begins refl
+again_by o c false held behind begins stays = stays refl
+
+-- a wait that begins again holds lines back as it did
+untimed-held : {C : Type 0} (K : C → ℕ → Type 0) (c : C) (limit : Option ℕ) (behind : Hold) → UntimedBegins K c limit behind → is_held behind ≡ true
+untimed-held K c None behind begins = ap is_held begins
+untimed-held K c (Some seconds) behind begins = ap is_held begins.2
+
+limited-held : (held : Hold) (closed : Bool) → (has_limit held && closed) ≡ true → is_held held ≡ true
+limited-held hold.Free closed is = absurd (true≢false (sym is))
+limited-held hold.Wait closed is = refl
+limited-held (hold.Until end) closed is = refl
+limited-held (hold.Limited end) closed is = refl
+limited-held (hold.Warned end) closed is = refl
+
+again-held : {C : Type 0} (o : Edge C) (c : C) (held behind : Hold) (closed again : Bool) → again ≡ (has_limit held && closed) → BeginsAgain o c again held behind → is_held behind ≡ is_held held
+again-held o c held behind closed false is begins = ap is_held begins
+again-held o c held behind closed true is begins = untimed-held o.watches.clock c o.limit behind begins ∙ sym (limited-held held closed (sym is))
+
+-- so what is printed of it is the same
+over-again : {C : Type 0} (o : Edge C) (c : C) (number : ℕ) (before held behind : Hold) (closed : Bool) → BeginsAgain o c (has_limit held && closed) held behind
+    → over_text o.voice number before behind ≡ over_text o.voice number before held
+over-again o c number before held behind closed begins =
+    ap (λ (x : Bool). if is_held before && not x then o.voice.note (note.Waited number false) else []) (again-held o c held behind closed (has_limit held && closed) refl begins)
+
+turn-goes-on : {C : Type 0} (o : Edge C) (held on behind : Hold) (replies : List Reply) (t : At C) → WaitGoesOn held t.world on → BeginsAgain o t.children (has_limit on && list_any has_closed replies) on behind
+    → TurnGoesOn o held replies t behind
+turn-goes-on o held on behind replies t (inl none) again =
+    inl (none.0, subst (λ (x : Hold). BeginsAgain o t.children (has_limit x && list_any has_closed replies) x behind) none.1 again)
+turn-goes-on o held on behind replies t (inr some) again =
+    inr (some.0, subst (λ (x : Hold). BeginsAgain o t.children (has_limit x && list_any has_closed replies) x behind) some.1 again)
+
 module _ {C : Type 0} (o : Edge C) (p : LivePlace C) (h : HostView) (c : C) (a b : Option (List ℕ)) where
   -- what came of an arrival and couldn't be printed
   pub took_untold : (x : Arrival) (f : RunFault) → IsUntold o.voice f → TookUnwritten o p x (left h c a b) → TakingFailed o p x (left h c a b) f
@@ -97,13 +135,8 @@ module _ {C : Type 0} (o : Edge C) (p : LivePlace C) (h : HostView) (c : C) (a b
   took_untold x fault.InUse why q = absurd why
   took_untold x (fault.Host y) why q = absurd why
 
-  life-all : (seat : Seat) (beats : List Beat) (t : At C) → Taken (hearing o.after true) None seat p.run beats t → TakesLed o p (life seat) t
-  life-all seat beats t q =
-      let on = goes_on_somehow p.held t.world in
-      broken.all (brought beats (came_text o.voice (sheet_in t.world) (told beats) ++ over_text o.voice p.number p.held on.0)) (place t p.number on.0) (refl, q, refl, on.1) refl
-
   led-life : (seat : Seat) (t : At C) → HeardLed o.after seat p.run t → TakesLed o p (life seat) t
-  led-life seat t (inside.all beats q) = life-all seat beats t q
+  led-life seat t (inside.all beats q) = broken.heard seat beats refl q
   led-life seat t (inside.up_to beats e q) = broken.up_to beats e (broken.life_up_to seat q)
   led-life seat t (inside.none q) = broken.so_far [] (broken.life_so_far seat refl q)
 
@@ -118,35 +151,41 @@ module _ {C : Type 0} (o : Edge C) (p : LivePlace C) (h : HostView) (c : C) (a b
 
   -- a life was taken, and that a wait is over couldn't be printed
   pub life_untold : (seat : Seat) (f : RunFault) (mid : Option (List ℕ)) → Heard o seat p.run (left h c a mid) → IsUntold o.voice f → TakingFailed o p (life seat) (left h c a b) f
-  life_untold seat f mid q is = took_untold (life seat) f is (q.1, h.store.disk, life-all seat q.0 (at q.1 c h.store.disk) q.2, inl (q.3, refl))
+  life_untold seat f mid q is = took_untold (life seat) f is (q.1, h.store.disk, broken.heard seat q.0 refl q.2, inl (q.3, refl))
 
-  pub life_took : (seat : Seat) (mid : Option (List ℕ)) (held : Hold) (q : Heard o seat p.run (left h c a mid)) → WaitGoesOn p.held q.1 held → Appends mid b (over_text o.voice p.number p.held held)
-      → TookArrival o p (life seat) (left h c a b) p.number held
-  life_took seat mid held q on wrote =
-      (brought q.0 (came_text o.voice (sheet_in q.1) (told q.0) ++ over_text o.voice p.number p.held held), q.1, (refl, q.2, refl, on), q.3, Appends-trans a mid b (came_text o.voice (sheet_in q.1) (told q.0)) (over_text o.voice p.number p.held held) q.4 wrote)
+  pub life_took : (seat : Seat) (mid : Option (List ℕ)) (closed : Bool) (on held : Hold) (q : HeardClosing o seat p.run (left h c a mid) closed) → WaitGoesOn p.held q.0.1 on
+      → BeginsAgain o c (has_limit on && closed) on held → Appends mid b (over_text o.voice p.number p.held on) → TookArrival o p (life seat) (left h c a b) p.number held
+  life_took seat mid closed on held q goes again wrote = (
+    brought q.0.0 (came_text o.voice (sheet_in q.0.1) (told q.0.0) ++ over_text o.voice p.number p.held held),
+    q.0.1,
+    (refl, q.0.2, refl, turn-goes-on o p.held on held (told q.0.0) (at q.0.1 c h.store.disk) goes (subst (λ (x : Bool). BeginsAgain o c (has_limit on && x) on held) q.1 again)),
+    q.0.3,
+    Appends-trans a mid b (came_text o.voice (sheet_in q.0.1) (told q.0.0)) (over_text o.voice p.number p.held held) q.0.4
+        (subst (Appends mid b) (sym (over-again o c p.number p.held on held closed again)) wrote),
+  )
 
-  time-all : (timed : IsUntil p.held) (beats : List Beat) (t : At C) → EachOf (Taken (hearing o.after false) None) (waits p.run.world) p.run beats t → TakesLed o p time_over t
+  time-all : (timed : StallsAtEnd p.held) (beats : List Beat) (t : At C) → EachOf (Taken (hearing o.after false) None) (waits p.run.world) p.run beats t → TakesLed o p time_over t
   time-all timed beats t q = broken.all (brought beats (came_text o.voice (sheet_in t.world) (told beats) ++ o.voice.note (note.Waited p.number true))) (place t p.number hold.Free) (inl (timed, refl, q, refl, refl)) refl
 
-  led-time : (timed : IsUntil p.held) (t : At C) → StallingLed o.after (waits p.run.world) p.run t → TakesLed o p time_over t
+  led-time : (timed : StallsAtEnd p.held) (t : At C) → StallingLed o.after (waits p.run.world) p.run t → TakesLed o p time_over t
   led-time timed t (inside.each beats q) = time-all timed beats t q
   led-time timed t (inside.first beats q) = broken.so_far beats (broken.time_so_far timed q)
   led-time timed t (inside.up_to beats e q) = broken.up_to beats e (broken.time_up_to timed q)
 
-  time-unwritten : IsUntil p.held → StalledUnwritten o (waits p.run.world) p.run (left h c a b) → TookUnwritten o p time_over (left h c a b)
+  time-unwritten : StallsAtEnd p.held → StalledUnwritten o (waits p.run.world) p.run (left h c a b) → TookUnwritten o p time_over (left h c a b)
   time-unwritten timed q = (q.0, q.1, led-time timed (at q.0 c q.1) q.2, q.3)
 
-  pub time_failed : IsUntil p.held → (f : RunFault) → StallingFailed o (waits p.run.world) p.run (left h c a b) f → TakingFailed o p time_over (left h c a b) f
+  pub time_failed : StallsAtEnd p.held → (f : RunFault) → StallingFailed o (waits p.run.world) p.run (left h c a b) f → TakingFailed o p time_over (left h c a b) f
   time_failed timed f (inside.stopped e beats failed t d q stopped wrote) = inside.stopped e beats failed t d (broken.time_up_to timed q) stopped wrote
   time_failed timed f (inside.refused beats t q stands wrote) = inside.refused beats t (broken.time_so_far timed q) stands wrote
   time_failed timed f (inside.untold why q) = inside.untold why (time-unwritten timed q)
   time_failed timed f (inside.unwritten q) = inside.unwritten (time-unwritten timed q)
 
   -- each life that waits stalled, and that the wait is over couldn't be printed
-  pub time_untold : IsUntil p.held → (f : RunFault) (mid : Option (List ℕ)) → Stalled o (waits p.run.world) p.run (left h c a mid) → IsUntold o.voice f → TakingFailed o p time_over (left h c a b) f
+  pub time_untold : StallsAtEnd p.held → (f : RunFault) (mid : Option (List ℕ)) → Stalled o (waits p.run.world) p.run (left h c a mid) → IsUntold o.voice f → TakingFailed o p time_over (left h c a b) f
   time_untold timed f mid q is = took_untold time_over f is (q.1, h.store.disk, time-all timed q.0 (at q.1 c h.store.disk) q.2, inl (q.3, refl))
 
-  pub time_took : IsUntil p.held → (mid : Option (List ℕ)) → Stalled o (waits p.run.world) p.run (left h c a mid) → Appends mid b (o.voice.note (note.Waited p.number true))
+  pub time_took : StallsAtEnd p.held → (mid : Option (List ℕ)) → Stalled o (waits p.run.world) p.run (left h c a mid) → Appends mid b (o.voice.note (note.Waited p.number true))
       → TookArrival o p time_over (left h c a b) p.number hold.Free
   time_took timed mid q wrote =
       (brought q.0 (came_text o.voice (sheet_in q.1) (told q.0) ++ o.voice.note (note.Waited p.number true)), q.1, inl (timed, refl, q.2, refl, refl), q.3, Appends-trans a mid b (came_text o.voice (sheet_in q.1) (told q.0)) (o.voice.note (note.Waited p.number true)) q.4 wrote)
@@ -178,7 +217,7 @@ module _ {C : Type 0} (o : Edge C) (seats : List Seat) (s : At C) where
 module _ {C : Type 0} (o : Edge C) (w : World) (h : HostView) (c d : C) (number : ℕ) (held : Hold) (a b : Option (List ℕ)) (limited : IsLimited held) (stands : IsHost h w) where
   -- each was interrupted, and they have two seconds more
   pub warned_took : (now : ℕ) → o.watches.clock d now → Warned o (waits w) (at w c h.store.disk) (left h d a b)
-      → TookArrival o (place (at w c h.store.disk) number held) time_over (left h d a b) number (hold.Until (seconds_behind now respite))
+      → TookArrival o (place (at w c h.store.disk) number held) time_over (left h d a b) number (hold.Warned (seconds_behind now respite))
   warned_took now reads q = (brought [] q.0, w, inr (limited, refl, q.1, refl, (now, reads, refl)), stands, q.2)
 
   pub warned_untold : (f : RunFault) → IsUntold o.voice f → WarnedUnwritten o (waits w) (at w c h.store.disk) d → TakingFailed o (place (at w c h.store.disk) number held) time_over (left h d a b) f

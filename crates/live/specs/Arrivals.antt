@@ -23,7 +23,7 @@ use Rattle.worksheet.specs.Contents.{Contents}
 use Rattle.live.specs.declared.holding.Hold.{Hold}
 use Rattle.live.specs.declared.holding.Hold.TheVariants as hold
 use Rattle.live.specs.Records.{Brought, Edge, Watches, brought}
-use Rattle.live.specs.Saying.{MayGroup, SaidDone, IsLimited, IsUntil, Begins, WaitGoesOn, over_text, seconds_behind, time_of}
+use Rattle.live.specs.Saying.{MayGroup, SaidDone, IsLimited, StallsAtEnd, Begins, TurnGoesOn, WaitGoesOn, over_text, seconds_behind, time_of}
 
 -- what came
 pub data Arrival : Type 0 where
@@ -72,6 +72,7 @@ input_at hold.Free false = input.Empty
 input_at hold.Wait is_there = input.HeldBack
 input_at (hold.Until end) is_there = input.HeldBack
 input_at (hold.Limited end) is_there = input.HeldBack
+input_at (hold.Warned end) is_there = input.HeldBack
 
 -- For how long a watch may take where the clock reads this: for what is left of a wait's time, and else without a limit.
 abbrev pub patience_at : Hold → ℕ → Option ℕ
@@ -79,6 +80,7 @@ patience_at hold.Free now = None
 patience_at hold.Wait now = None
 patience_at (hold.Until end) now = Some (end - now)
 patience_at (hold.Limited end) now = Some (end - now)
+patience_at (hold.Warned end) now = Some (end - now)
 
 -- a wait has a time, and it is over where the clock reads this
 abbrev pub IsOver : Hold → ℕ → Type 0
@@ -111,7 +113,7 @@ TakesGroup o p ls it q =
 -- The time of a wait is over, and so is the wait: each life in which an item still waits counts as stalled.
 abbrev pub EndsWait : {C : Type 0} → Edge C → LivePlace C → Brought → LivePlace C → Type 0
 EndsWait o p it q =
-    IsUntil p.held × (q.number ≡ p.number) × OneTurn (hearing o.after false) (waits p.run.world) p.run it.beats q.run
+    StallsAtEnd p.held × (q.number ≡ p.number) × OneTurn (hearing o.after false) (waits p.run.world) p.run it.beats q.run
     × (it.text ≡ came_text o.voice (sheet_in q.run.world) (told it.beats) ++ o.voice.note (note.Waited q.number true)) × (q.held ≡ hold.Free)
 
 -- The interpreter of this life's session was interrupted by one call, and what came of it is printed.
@@ -124,11 +126,12 @@ InterruptsLife o seat s text t =
 abbrev pub respite : ℕ
 respite = 2
 
--- The time of a wait that names none is over: each life in which an item waits is interrupted, and from then on there are two seconds more.
+-- The time of a line is over in a wait that names none: each life in which an item waits is interrupted, and from then on there are two
+-- seconds more.
 abbrev pub Warns : {C : Type 0} → Edge C → LivePlace C → Brought → LivePlace C → Type 0
 Warns o p it q =
     IsLimited p.held × (q.number ≡ p.number) × EachOf (InterruptsLife o) (waits p.run.world) p.run it.text q.run × (it.beats ≡ [])
-    × ((now : ℕ) × o.watches.clock q.run.children now × (q.held ≡ hold.Until (seconds_behind now respite)))
+    × ((now : ℕ) × o.watches.clock q.run.children now × (q.held ≡ hold.Warned (seconds_behind now respite)))
 
 -- What came of an arrival, by what it is: what it brought, and the place after it.
 abbrev pub TakesArrival : {C : Type 0} → Edge C → LivePlace C → Arrival → Brought → LivePlace C → Type 0
@@ -140,7 +143,8 @@ TakesArrival o p (together ls) it q = TakesGroup o p ls it q
 TakesArrival o p part it q = (p.held ≡ hold.Free) × (it.beats ≡ []) × (it.text ≡ []) × (q ≡ p)
 TakesArrival o p (life seat) it q =
     (q.number ≡ p.number) × Taken (hearing o.after true) None seat p.run it.beats q.run
-    × (it.text ≡ came_text o.voice (sheet_in q.run.world) (told it.beats) ++ over_text o.voice q.number p.held q.held) × WaitGoesOn p.held q.run.world q.held
+    × (it.text ≡ came_text o.voice (sheet_in q.run.world) (told it.beats) ++ over_text o.voice q.number p.held q.held)
+    × TurnGoesOn o p.held (told it.beats) q.run q.held
 TakesArrival o p time_over it q = EndsWait o p it q ⊎ Warns o p it q
 
 -- What is printed of those entries of an arrival that came before a fault, where so many lines were taken before it and this is the

@@ -1,10 +1,12 @@
 -- What comes of one line of a live input. (docs/SCRIPT.md, "Live".)
 use Rattle.std.specs.Prelude.{◌≡◌, ◌≢◌, ◌⊎◌, ℕ, ◌+◌, ◌-◌, ◌*◌, ◌^◌, ◌≤◌, ◌&&◌, not, min, Bool, true, false, List, [], Option, Some, None, IsSome, is_some, length, if◌then◌else◌}
-use Rattle.std.specs.List.{AllByRecursion}
+use Rattle.std.specs.List.{AllByRecursion, list_any}
 use Rattle.host_events.specs.Commands.{op_of}
 use Rattle.host_events.specs.declared.command.Command.{Command}
 use Rattle.host_events.specs.declared.event.Event.{Event}
 use Rattle.host_events.specs.declared.event.Event.TheVariants as event
+use Rattle.host_events.specs.declared.reply.Reply.{Reply}
+use Rattle.host_events.specs.declared.reply.Reply.TheVariants as reply
 use Rattle.session_engine.specs.World.{World, sheet_in}
 use Rattle.child_edge.specs.Faithful.{Relation, At, at, Beat, Served, ServedUpTo}
 use Rattle.child_edge.specs.Interrupts.{Interrupts}
@@ -59,14 +61,15 @@ time_of hold.Free = None
 time_of hold.Wait = None
 time_of (hold.Until end) = Some end
 time_of (hold.Limited end) = Some end
+time_of (hold.Warned end) = Some end
 
 -- a wait that ends by its time
 abbrev pub IsTimed : Hold → Type 0
 IsTimed held = IsSome (time_of held)
 
--- a wait that is over where its time is
-abbrev pub IsUntil : Hold → Type 0
-IsUntil held = (end : ℕ) × (held ≡ hold.Until end)
+-- a wait that is over where its time is: one that names its seconds, or one whose interpreters were interrupted
+abbrev pub StallsAtEnd : Hold → Type 0
+StallsAtEnd held = (end : ℕ) × ((held ≡ hold.Until end) ⊎ (held ≡ hold.Warned end))
 
 -- a wait at the end of whose time interpreters are interrupted
 abbrev pub IsLimited : Hold → Type 0
@@ -76,7 +79,7 @@ IsLimited held = (end : ℕ) × (held ≡ hold.Limited end)
 abbrev pub seconds_behind : ℕ → ℕ → ℕ
 seconds_behind now seconds = min (now + seconds * 1000) (2 ^ 64 - 1)
 
--- A wait that names no seconds lasts as long as it takes. Where each may take so many, its time is over so many after what the clock reads
+-- A wait that names no seconds lasts as long as it takes. Where a line may take so many, its time is over so many after what the clock reads
 -- where it begins.
 abbrev pub UntimedBegins : {C : Type 0} → Clock C → C → Option ℕ → Hold → Type 0
 UntimedBegins K c None held = held ≡ hold.Wait
@@ -103,6 +106,35 @@ is_held hold.Free = false
 is_held hold.Wait = true
 is_held (hold.Until end) = true
 is_held (hold.Limited end) = true
+is_held (hold.Warned end) = true
+
+-- whether a wait names no seconds and has a time: that of a line, before its interpreters were interrupted or after
+abbrev pub has_limit : Hold → Bool
+has_limit hold.Free = false
+has_limit hold.Wait = false
+has_limit (hold.Until end) = false
+has_limit (hold.Limited end) = true
+has_limit (hold.Warned end) = true
+
+-- something closed: the banner of an interpreter, an answer, or completions
+abbrev pub has_closed : Reply → Bool
+has_closed reply.Done = false
+has_closed (reply.Field id) = false
+has_closed (reply.Asked number) = false
+has_closed (reply.Refused why) = false
+has_closed (reply.Child one) = is_some one.closed
+has_closed reply.Nothing = false
+
+-- a wait stays as it is, or begins again where the sources stand so
+abbrev pub BeginsAgain : {C : Type 0} → Edge C → C → Bool → Hold → Hold → Type 0
+BeginsAgain o c false held behind = behind ≡ held
+BeginsAgain o c true held behind = UntimedBegins o.watches.clock c o.limit behind
+
+-- The wait after a life's turn that gave these replies: it goes on as long as an item waits for an answer. Where something closed, the next
+-- line of that session was sent, so the time of a line begins again.
+abbrev pub TurnGoesOn : {C : Type 0} → Edge C → Hold → List Reply → At C → Hold → Type 0
+TurnGoesOn o held replies t behind =
+    ((waits t.world ≡ []) × (behind ≡ hold.Free)) ⊎ ((waits t.world ≢ []) × BeginsAgain o t.children (has_limit held && list_any has_closed replies) held behind)
 
 -- what is printed of a wait of this line that goes on or not, by how it stood before and how it stands
 abbrev pub over_text : Voice → ℕ → Hold → Hold → List ℕ

@@ -1,5 +1,6 @@
 -- What a line, a life's turn and the end of a wait leave, and what a fault at one of them leaves.
-use Rattle.std.specs.Prelude.{◌≡◌, ◌⊎◌, ℕ, false, true, List, [], ◌∷◌, ◌++◌, Option, Some, None, IfSome, map}
+use Rattle.std.specs.Prelude.{◌≡◌, ◌⊎◌, ℕ, false, true, List, [], ◌∷◌, ◌++◌, Bool, Option, Some, None, IfSome, map}
+use Rattle.std.specs.List.{list_any}
 use Rattle.std.specs.Io.KnownBytes.{Appends}
 use Rattle.disk_model.specs.Disk.{DiskView}
 use Rattle.host_events.specs.declared.event.Event.{Event}
@@ -28,7 +29,7 @@ use Rattle.live.specs.declared.holding.Hold.{Hold}
 use Rattle.live.specs.declared.holding.Hold.TheVariants as hold
 use Rattle.live.specs.declared.stepping.Stand.{Stand}
 use Rattle.live.specs.Records.{Brought, Edge, Left, Lines, Turn, Watches}
-use Rattle.live.specs.Saying.{MayGroup, IsCommand, SaidDone, SaidUpTo, Begins, IsTimed}
+use Rattle.live.specs.Saying.{MayGroup, IsCommand, SaidDone, SaidUpTo, Begins, IsTimed, has_closed}
 use Rattle.live.specs.Arrivals.{Arrival, line, together, part, life, time_over, LivePlace, Comes, InterruptsLife, IsOver, TakesArrival, front_text, Lived, lines_in, WatchTells, place, woken_at}
 use Rattle.live.specs.Broken.{TakesUpTo, TakesSoFar, TakesLed, LivedBroke, LivedUpTo, LivedSoFar, LivedLed}
 use Rattle.live.specs.Live.{AreTooMany, EndComes, NoMoreComes}
@@ -38,6 +39,10 @@ abbrev pub Heard : {C : Type 0} → Edge C → Seat → At C → Left C → Type
 Heard o seat s left =
     (beats : List Beat) × (t : World) × Taken (hearing o.after true) None seat s beats (at t left.sources left.host.store.disk) × IsHost left.host t
     × Appends left.out left.now (came_text o.voice (sheet_in t) (told beats))
+
+-- the same, and whether something closed
+abbrev pub HeardClosing : {C : Type 0} → Edge C → Seat → At C → Left C → Bool → Type 0
+HeardClosing o seat s left closed = (heard : Heard o seat s left) × (closed ≡ list_any has_closed (told heard.0))
 
 -- a life that was taken, or a part of what came of it, led from here to there
 pub data HeardLed {C : Type 0} (R : Relation C) (seat : Seat) (s t : At C) : Type 0 where

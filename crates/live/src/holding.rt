@@ -1,15 +1,15 @@
 //! Waits that hold back the lines after them.
-ghost use Rattle.std.specs.Prelude.{◌≡◌, IfErr, IfOk, false, true};
+ghost use Rattle.std.specs.Prelude.{◌≡◌, ◌&&◌, IfErr, IfOk, false, true};
 ghost use Rattle.std.specs.Io.KnownBytes.{Appends};
 ghost use Rattle.session_engine.specs.World.{World};
 ghost use Rattle.session_engine.specs.Host.{IsHost};
 ghost use Rattle.arrivals.specs.Watching.{InputMayCome, TimeMayCome};
 ghost use Rattle.tellings.specs.Voice.{IsUntold};
 ghost use Rattle.live.specs.Saying as saying;
-ghost use Rattle.live.specs.Saying.{IsLimited, IsTimed, IsUntil, WaitGoesOn, over_text};
+ghost use Rattle.live.specs.Saying.{IsLimited, IsTimed, StallsAtEnd, UntimedBegins, WaitGoesOn, over_text, seconds_behind};
 ghost use Rattle.live.specs.Arrivals.{IsOver, input_at, patience_at};
 
-use arrivals::Input;
+use arrivals::{Input, Sources};
 use child_edge::is_idle;
 use disk_model::Disk;
 use offline_programs::RunFault;
@@ -26,8 +26,42 @@ pub enum Hold {
     Wait,
     /// Until no item waits, or until this moment of the sources' clock, in milliseconds.
     Until(u64),
-    /// The same, but at this moment interpreters are interrupted, and have two seconds more.
+    /// The same, but at this moment interpreters are interrupted, and have two seconds more. It begins again
+    /// where one answers.
     Limited(u64),
+    /// The same, after interpreters were interrupted: at this moment what still waits has stalled.
+    Warned(u64),
+}
+
+/// The moment so many seconds after this one.
+fn seconds_after(now: u64, seconds: u32) -> u64
+    ensures { result ≡ seconds_behind now seconds }
+{
+    now.saturating_add(u64::from(seconds) * 1_000)
+}
+
+/// The wait until so many seconds after this moment.
+pub fn wait_for(now: u64, seconds: u32) -> Hold
+    ensures { result ≡ Hold.Until (seconds_behind now seconds) }
+{
+    Hold::Until(seconds_after(now, seconds))
+}
+
+/// The wait of lines that were interrupted, until so many seconds after this moment.
+pub(crate) fn warned_for(now: u64, seconds: u32) -> Hold
+    ensures { result ≡ Hold.Warned (seconds_behind now seconds) }
+{
+    Hold::Warned(seconds_after(now, seconds))
+}
+
+/// The wait of a line that names no seconds, where a line may take so many, if there is a limit.
+pub(crate) fn untimed_wait<S: Sources>(sources: &S, limit: Option<u32>) -> Hold
+    ensures { UntimedBegins S.clock sources.now limit result }
+{
+    match limit {
+        None => Hold::Wait,
+        Some(seconds) => Hold::Limited(seconds_after(sources.now(), seconds)),
+    }
 }
 
 /// The wait that goes on after an event, if it does.
@@ -43,7 +77,7 @@ fn is_held(held: Hold) -> bool
 {
     match held {
         Hold::Free => false,
-        Hold::Wait | Hold::Until(_) | Hold::Limited(_) => true,
+        Hold::Wait | Hold::Until(_) | Hold::Limited(_) | Hold::Warned(_) => true,
     }
 }
 
@@ -78,7 +112,7 @@ pub(crate) fn input(held: Hold, is_ready: bool) -> Input
 {
     match held {
         Hold::Free => { if is_ready { Input::Ready } else { Input::Empty } }
-        Hold::Wait | Hold::Until(_) | Hold::Limited(_) => Input::HeldBack,
+        Hold::Wait | Hold::Until(_) | Hold::Limited(_) | Hold::Warned(_) => Input::HeldBack,
     }
 }
 
@@ -89,7 +123,7 @@ pub(crate) fn patience(held: Hold, now: u64) -> Option<u64>
 {
     match held {
         Hold::Free | Hold::Wait => None,
-        Hold::Until(end) | Hold::Limited(end) => Some(end.saturating_sub(now)),
+        Hold::Until(end) | Hold::Limited(end) | Hold::Warned(end) => Some(end.saturating_sub(now)),
     }
 }
 
@@ -101,17 +135,44 @@ pub(crate) fn is_over(held: Hold, now: u64) -> bool
 {
     match held {
         Hold::Free | Hold::Wait => false,
-        Hold::Until(end) | Hold::Limited(end) => now >= end,
+        Hold::Until(end) | Hold::Limited(end) | Hold::Warned(end) => now >= end,
     }
 }
 
 /// Whether interpreters are interrupted where the time of a wait is over.
 pub(crate) fn is_limited(held: Hold) -> bool
     ensures limited { result ≡ true → IsLimited held }
-    ensures until { result ≡ false → IsTimed held → IsUntil held }
+    ensures stalls { result ≡ false → IsTimed held → StallsAtEnd held }
 {
     match held {
         Hold::Limited(_) => true,
+        Hold::Free | Hold::Wait | Hold::Until(_) | Hold::Warned(_) => false,
+    }
+}
+
+/// Whether a wait has the time of a line, before interpreters were interrupted or after.
+fn has_limit(held: Hold) -> bool
+    ensures { result ≡ saying.has_limit held }
+{
+    match held {
         Hold::Free | Hold::Wait | Hold::Until(_) => false,
+        Hold::Limited(_) | Hold::Warned(_) => true,
+    }
+}
+
+/// The wait after a life's turn in which something closed or not: the time that a line may take begins again.
+pub(crate) fn begin_again<S: Sources>(
+    sources: &S,
+    limit: Option<u32>,
+    held: Hold,
+    closed: bool,
+) -> Hold
+    ensures again { (saying.has_limit held && closed) ≡ true → UntimedBegins S.clock sources.now limit result }
+    ensures stays { (saying.has_limit held && closed) ≡ false → result ≡ held }
+{
+    if has_limit(held) && closed {
+        untimed_wait(sources, limit)
+    } else {
+        held
     }
 }

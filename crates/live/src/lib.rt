@@ -11,9 +11,9 @@ mod stepping;
 mod taking;
 mod timing;
 
-pub use holding::{Hold, go_on};
+pub use holding::{Hold, go_on, wait_for};
 pub use living::{LiveEnd, live, live_by};
 pub use manner::Manner;
-pub use saying::{say_command, wait_for};
+pub use saying::say_command;
 pub use stepping::next_turn;
 pub use taking::{hear, tell_stalled};

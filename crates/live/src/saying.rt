@@ -9,11 +9,11 @@ ghost use Rattle.sheet_text.specs.LiveLines.{live_line_of};
 ghost use Rattle.arrivals.specs.Lines.{whole};
 ghost use Rattle.tellings.specs.Voice.{IsUntold};
 ghost use Rattle.live.specs.Records.{edge, edge_by, left};
-ghost use Rattle.live.specs.Saying.{UntimedBegins, WaitGoesOn, seconds_behind};
+ghost use Rattle.live.specs.Saying.{WaitGoesOn};
 ghost use Rattle.live.specs.Arrivals.{line as the_line, place};
 ghost use Rattle.live.specs.Taking.{Said, SayingFailed, TakingFailed, TookArrival};
 
-use crate::holding::{Hold, go_on, tell_over};
+use crate::holding::{Hold, go_on, tell_over, untimed_wait, wait_for};
 use crate::manner::Manner;
 use arrivals::Sources;
 use child_edge::{EdgeFault, interrupt, serve};
@@ -49,30 +49,6 @@ fn say_interrupt<D: Disk, S: Sources, T: Tells, W: Write>(
     match tells.note(Note::Interrupted(number, name, told), writer) {
         Ok(()) => Ok(Hold::Free),
         Err(fault) => Err(fault),
-    }
-}
-
-/// The moment so many seconds after this one.
-fn seconds_after(now: u64, seconds: u32) -> u64
-    ensures { result ≡ seconds_behind now seconds }
-{
-    now.saturating_add(u64::from(seconds) * 1_000)
-}
-
-/// The wait until so many seconds after this moment.
-pub fn wait_for(now: u64, seconds: u32) -> Hold
-    ensures { result ≡ Hold.Until (seconds_behind now seconds) }
-{
-    Hold::Until(seconds_after(now, seconds))
-}
-
-/// The wait of a line that names no seconds, within this limit of them, where there is one.
-fn untimed_wait<S: Sources>(sources: &S, limit: Option<u32>) -> Hold
-    ensures { UntimedBegins S.clock sources.now limit result }
-{
-    match limit {
-        None => Hold::Wait,
-        Some(seconds) => Hold::Limited(seconds_after(sources.now(), seconds)),
     }
 }
 

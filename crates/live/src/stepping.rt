@@ -168,10 +168,12 @@ fn take_turn<R: Read, D: Disk, S: Sources, T: Tells, W: Write>(
     let Stand { number, held } = stand;
     match woken {
         Woken::Input => take_input(alloc, manner, host, sources, lines, number, tells, writer),
-        Woken::Life(seat) => match take_life(alloc, host, sources, seat, stand, tells, writer) {
-            Ok(held) => Ok(Some(Stand { number, held })),
-            Err(fault) => Err(fault),
-        },
+        Woken::Life(seat) => {
+            match take_life(alloc, manner, host, sources, seat, stand, tells, writer) {
+                Ok(held) => Ok(Some(Stand { number, held })),
+                Err(fault) => Err(fault),
+            }
+        }
         Woken::TimeOver => match end_time(alloc, host, sources, stand, tells, writer) {
             Ok(held) => Ok(Some(Stand { number, held })),
             Err(fault) => Err(fault),

@@ -1,16 +1,19 @@
 //! What comes of a life's turn, and of lives that have stalled.
 ghost use Rattle.std.specs.Prelude.{◌≡◌, IfErr, IfOk, None, OnOk, false};
+ghost use Rattle.std.specs.List.{list_any};
 ghost use Rattle.disk_model.specs.Disk.{SameDisk};
 ghost use Rattle.session_engine.specs.World.{World};
 ghost use Rattle.session_engine.specs.Host.{IsHost};
 ghost use Rattle.child_edge.specs.Broken.{TurnSoFar, TurnStopped};
 ghost use Rattle.child_edge.specs.Edge.{BrokeOff, ByCause, Ran};
 ghost use Rattle.child_edge.specs.Faithful.{at, EachOf, Taken, hearing};
-ghost use Rattle.live.specs.Records.{edge, left};
+ghost use Rattle.live.specs.Records.{edge, edge_by, left};
+ghost use Rattle.live.specs.Saying as saying;
 ghost use Rattle.live.specs.Arrivals.{life, place};
-ghost use Rattle.live.specs.Taking.{Heard, HearingFailed, Stalled, StallingFailed, TakingFailed, TookArrival};
+ghost use Rattle.live.specs.Taking.{Heard, HeardClosing, HearingFailed, Stalled, StallingFailed, TakingFailed, TookArrival};
 
-use crate::holding::{Hold, tell_over};
+use crate::holding::{Hold, begin_again, tell_over};
+use crate::manner::Manner;
 use crate::stepping::Stand;
 use arrivals::Sources;
 use child_calls::Seat;
@@ -23,6 +26,52 @@ use sheet_programs::run_fault;
 use std::alloc::Global;
 use std::io::Write;
 use tellings::Tells;
+
+/// Whether something closed: a banner, an answer, or completions.
+fn has_closed(reply: &Reply) -> bool
+    ensures { result ≡ saying.has_closed reply.now }
+{
+    match reply {
+        Reply::Child(told) => told.closed.is_some(),
+        Reply::Done | Reply::Field(_) | Reply::Asked(_) | Reply::Refused(_) | Reply::Nothing =>
+            false,
+    }
+}
+
+/// Whether one of these replies says so.
+fn any_closed(replies: &[Reply]) -> bool
+    ensures { result ≡ list_any saying.has_closed replies.now }
+{
+    replies.iter().any(|reply| has_closed(reply))
+}
+
+/// Takes a life's turn, and tells what comes of it. Whether something closed.
+fn hear_closing<D: Disk, S: Sources, T: Tells, W: Write>(
+    alloc: Global,
+    host: &mut Host<D>,
+    sources: &mut S,
+    seat: Seat,
+    tells: &T,
+    writer: &mut W,
+) -> Result<bool, RunFault>
+    ensures same { SameDisk host.old.store.disk host.new.store.disk }
+    ensures ok { (w : World) → IsHost host.old w → IfOk result (HeardClosing (edge T.voice S.after S.clock S.wakes)
+        seat (at w sources.old host.old.store.disk)
+        (left host.new sources.new (W.contents writer.old) (W.contents writer.new))) }
+    ensures err { (w : World) → IsHost host.old w → IfErr result (HearingFailed (edge T.voice S.after S.clock S.wakes)
+        seat (at w sources.old host.old.store.disk)
+        (left host.new sources.new (W.contents writer.old) (W.contents writer.new))) }
+{
+    let mut replies = Vec::new(alloc);
+    let taken = listen(host, sources, seat, &mut replies);
+    if let Err(fault) = tells.events(host.sheet(), replies.as_slice(), writer) {
+        return Err(fault);
+    }
+    match taken {
+        Ok(()) => Ok(any_closed(replies.as_slice())),
+        Err(cause) => Err(run_fault(cause)),
+    }
+}
 
 /// Takes a life's turn, and tells what comes of it.
 ///
@@ -43,20 +92,16 @@ pub fn hear<D: Disk, S: Sources, T: Tells, W: Write>(
         seat (at w sources.old host.old.store.disk)
         (left host.new sources.new (W.contents writer.old) (W.contents writer.new))) }
 {
-    let mut replies = Vec::new(alloc);
-    let taken = listen(host, sources, seat, &mut replies);
-    if let Err(fault) = tells.events(host.sheet(), replies.as_slice(), writer) {
-        return Err(fault);
-    }
-    match taken {
-        Ok(()) => Ok(()),
-        Err(cause) => Err(run_fault(cause)),
+    match hear_closing(alloc, host, sources, seat, tells, writer) {
+        Ok(_) => Ok(()),
+        Err(fault) => Err(fault),
     }
 }
 
-/// Takes what a life has, and gives the wait that goes on.
+/// Takes what a life has, and gives the wait that goes on. Where something closed, the time of a line begins again.
 pub(crate) fn take_life<D: Disk, S: Sources, T: Tells, W: Write>(
     alloc: Global,
+    manner: Manner,
     host: &mut Host<D>,
     sources: &mut S,
     seat: Seat,
@@ -65,15 +110,18 @@ pub(crate) fn take_life<D: Disk, S: Sources, T: Tells, W: Write>(
     writer: &mut W,
 ) -> Result<Hold, RunFault>
     ensures same { SameDisk host.old.store.disk host.new.store.disk }
-    ensures ok { (w : World) → IsHost host.old w → IfOk result (TookArrival (edge T.voice S.after S.clock S.wakes)
+    ensures ok { (w : World) → IsHost host.old w → IfOk result (TookArrival (edge_by manner T.voice S.after S.clock S.wakes)
         (place (at w sources.old host.old.store.disk) stand.number stand.held) (life seat)
         (left host.new sources.new (W.contents writer.old) (W.contents writer.new)) stand.number) }
-    ensures err { (w : World) → IsHost host.old w → IfErr result (TakingFailed (edge T.voice S.after S.clock S.wakes)
+    ensures err { (w : World) → IsHost host.old w → IfErr result (TakingFailed (edge_by manner T.voice S.after S.clock S.wakes)
         (place (at w sources.old host.old.store.disk) stand.number stand.held) (life seat)
         (left host.new sources.new (W.contents writer.old) (W.contents writer.new))) }
 {
-    match hear(alloc, host, sources, seat, tells, writer) {
-        Ok(()) => tell_over(stand.held, stand.number, host, tells, writer),
+    match hear_closing(alloc, host, sources, seat, tells, writer) {
+        Ok(closed) => match tell_over(stand.held, stand.number, host, tells, writer) {
+            Ok(held) => Ok(begin_again(sources, manner.limit, held, closed)),
+            Err(fault) => Err(fault),
+        },
         Err(fault) => Err(fault),
     }
 }

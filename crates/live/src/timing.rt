@@ -6,12 +6,11 @@ ghost use Rattle.session_engine.specs.Host.{IsHost};
 ghost use Rattle.child_edge.specs.Faithful.{at};
 ghost use Rattle.tellings.specs.Voice.{IsUntold};
 ghost use Rattle.live.specs.Records.{edge, left};
-ghost use Rattle.live.specs.Saying.{IsLimited, IsTimed, IsUntil};
+ghost use Rattle.live.specs.Saying.{IsLimited, IsTimed, StallsAtEnd};
 ghost use Rattle.live.specs.Arrivals.{place, time_over};
 ghost use Rattle.live.specs.Taking.{TakingFailed, TookArrival, Warned, WarnedUnwritten};
 
-use crate::holding::{Hold, is_limited};
-use crate::saying::wait_for;
+use crate::holding::{Hold, is_limited, warned_for};
 use crate::stepping::Stand;
 use crate::taking::tell_stalled;
 use arrivals::Sources;
@@ -37,10 +36,10 @@ fn end_wait<D: Disk, S: Sources, T: Tells, W: Write>(
     writer: &mut W,
 ) -> Result<(), RunFault>
     ensures same { SameDisk host.old.store.disk host.new.store.disk }
-    ensures ok { (held : Hold) (w : World) → IsUntil held → IsHost host.old w → OnOk result (TookArrival (edge T.voice S.after S.clock S.wakes)
+    ensures ok { (held : Hold) (w : World) → StallsAtEnd held → IsHost host.old w → OnOk result (TookArrival (edge T.voice S.after S.clock S.wakes)
         (place (at w sources.old host.old.store.disk) number held) time_over
         (left host.new sources.new (W.contents writer.old) (W.contents writer.new)) number Hold.Free) }
-    ensures err { (held : Hold) (w : World) → IsUntil held → IsHost host.old w → IfErr result (TakingFailed (edge T.voice S.after S.clock S.wakes)
+    ensures err { (held : Hold) (w : World) → StallsAtEnd held → IsHost host.old w → IfErr result (TakingFailed (edge T.voice S.after S.clock S.wakes)
         (place (at w sources.old host.old.store.disk) number held) time_over
         (left host.new sources.new (W.contents writer.old) (W.contents writer.new))) }
 {
@@ -76,7 +75,7 @@ fn interrupt_each<D: Disk, S: Sources, T: Tells, W: Write>(
     Ok(())
 }
 
-/// The time is over that a wait may take: each life in which an item waits is interrupted, and has two seconds
+/// The time is over that a line may take: each life in which an item waits is interrupted, and has two seconds
 /// more.
 fn end_limit<D: Disk, S: Sources, T: Tells, W: Write>(
     alloc: Global,
@@ -96,7 +95,7 @@ fn end_limit<D: Disk, S: Sources, T: Tells, W: Write>(
         return Err(RunFault::OutOfMemory);
     };
     match interrupt_each(host, sources, seats.as_slice(), tells, writer) {
-        Ok(()) => Ok(wait_for(sources.now(), RESPITE)),
+        Ok(()) => Ok(warned_for(sources.now(), RESPITE)),
         Err(fault) => Err(fault),
     }
 }

@@ -188,7 +188,7 @@ bytes() {
 }
 
 # An interpreter that answers each line with it but `loop`, at which it loops until it is interrupted (in `env --default-signal=INT`: also
-# where this script was started with the signal ignored), and `deaf`, at which it loops for ever.
+# where this script was started with the signal ignored), and `deaf`, at which it loops for ever. At `slow` it takes 0.4 seconds.
 cat >turns.sh <<'END'
 trap 'over=1' INT
 printf '\002verbatim:\005'
@@ -197,6 +197,7 @@ while IFS= read -r l; do
     case $l in
     loop) while [ -z "$over" ]; do sleep 0.05; done; l=interrupted ;;
     deaf) trap '' INT; while :; do sleep 0.05; done ;;
+    slow) sleep 0.4 ;;
     esac
     printf '\002verbatim:%s\005' "$l"
 done

@@ -192,13 +192,19 @@ run_json 'a script with a line that is too long' 0 "#$(repeated 65535 x)\n#$(rep
 {"type":"end"}
 END_OF_JSON
 
-# Limits of time of a run. The one that hears no interrupt is beside the others.
+# Limits of time of a run. Three are beside the others: one that hears no interrupt, and two that take longer than the least limit, a
+# second, since it is one of each line.
 turns='session a plain env --default-signal=INT sh turns.sh\n'
-rm -f deaf deaf.alt sheet sheet.alt
-"$tmhost" create deaf
-"$tmhost" create sheet
+for name in deaf slow loops sheet; do
+    rm -f "$name" "$name.alt"
+    "$tmhost" create "$name"
+done
 printf "$turns"'new 0 a deaf\neval 1\nwait\nprint 1\n' >given.deaf
 { "$tmhost" run --json --timeout 1 deaf <given.deaf 2>&1; echo "status $?"; } >deaf.told &
+printf "$turns"'new 0 a slow\nnew 1 a slow\nnew 2 a slow\nnew 3 a slow\neval 1\neval 2\neval 3\neval 4\nwait\n' >given.slow
+{ "$tmhost" run --timeout 1 slow <given.slow 2>&1; echo "status $?"; } >slow.told &
+printf "$turns"'new 0 a loop\nnew 1 a loop\neval 1\neval 2\nwait\n' >given.loops
+{ "$tmhost" run --timeout 1 loops <given.loops 2>&1; echo "status $?"; } >loops.told &
 printf "$turns"'new 0 a loop\nnew 1 a y\neval 1\nwait\neval 2\nwait\n' >given
 compare 'a wait that takes too long has its interpreter interrupted' "$(answer run --timeout 1 sheet <given)" \
     "$(ending 'ok\nfield 1\nfield 2\nasked\nbanner a\ninterrupted a\nanswered 1\nasked\nanswered 2\n' 0)"
@@ -222,6 +228,10 @@ status 0
 END_OF_JSON
 wait
 compare 'one that hears no interrupt stalls' "$(cat deaf.told)" "$(cat wanted)"
+compare 'lines that together take longer than one may' "$(cat slow.told)" \
+    "$(ending 'ok\nfield 1\nfield 2\nfield 3\nfield 4\nasked\nasked\nasked\nasked\nbanner a\nanswered 1\nanswered 2\nanswered 3\nanswered 4\n' 0)"
+compare 'a line after one that was interrupted has a time of its own' "$(cat loops.told)" \
+    "$(ending 'ok\nfield 1\nfield 2\nasked\nasked\nbanner a\ninterrupted a\nanswered 1\ninterrupted a\nanswered 2\n' 0)"
 for seconds in 0 1000001 x ''; do
     words "no time of a run: $seconds" 2 "error: this is no time: SECONDS is a number from 1 to 1000000\n\nFor more information, try 'tmhost run --help'.\n" run --timeout "$seconds" sheet
 done

@@ -7,7 +7,7 @@ use Rattle.live.specs.Records.{between, edge_by, left, turn}
 use Rattle.live.specs.Arrivals.{life, time_over, place}
 use Rattle.live.specs.Taking.{MayTurn, TurnFailed, TurnTook, taking}
 use Rattle.live.proofs.Coming.{keeps_all}
-use Rattle.live.proofs.InManner.{life_failed_by, time_failed_by}
+use Rattle.live.proofs.InManner.{time_failed_by}
 use Rattle.live.proofs.stepping.take_turn.Goals as goal
 
 pub returns-in-Input-clause-err : goal.returns-in-Input-clause-err
@@ -33,7 +33,7 @@ returns-in-Err-clause-err g c = λ is_there w there h.
     (λ t. TurnFailed (edge_by c.args.manner g.T.Tells.voice g.S.Children.after g.S.Sources.clock g.S.Sources.wakes) (place (at w c.args.sources.now c.args.host.now.store.disk) c.args.stand.number c.args.stand.held) (turn t is_there) (left c.take_life.new.host c.take_life.new.sources (g.W.Write.contents c.args.writer.now) (g.W.Write.contents c.take_life.new.writer)) (between (to_come c.args.lines.now.held (g.R.Read.remaining c.args.lines.now.reader)) (to_come c.args.lines.now.held (g.R.Read.remaining c.args.lines.now.reader))) c.in-Err.fault)
     (sym c.in-Life.is)
     (taking (life c.in-Life.seat) refl (keeps_all (to_come c.args.lines.now.held (g.R.Read.remaining c.args.lines.now.reader)))
-    (life_failed_by c.args.manner g.T.Tells.voice g.S.Children.after g.S.Sources.clock g.S.Sources.wakes (place (at w c.args.sources.now c.args.host.now.store.disk) c.args.stand.number c.args.stand.held) c.in-Life.seat (left c.take_life.new.host c.take_life.new.sources (g.W.Write.contents c.args.writer.now) (g.W.Write.contents c.take_life.new.writer)) c.in-Err.fault (c.in-Err.ensures.err w h)))
+    (c.in-Err.ensures.err w h))
 
 pub end_time-requires : goal.end_time-requires
 end_time-requires g c = subst (MayTurn c.args.stand.held) c.in-TimeOver.is c.requires.turn

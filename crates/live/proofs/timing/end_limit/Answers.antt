@@ -17,7 +17,7 @@ returns-in-Ok-interrupt_each-clause-ok g c = λ number held w limited h.
     let leaves = left c.args.host.now c.interrupt_each.new.sources (g.W.Write.contents c.args.writer.now) (g.W.Write.contents c.interrupt_each.new.writer) in
     subst
     (λ begun. TookArrival (edge g.T.Tells.voice g.S.Children.after g.S.Sources.clock g.S.Sources.wakes) (place (at w c.args.sources.now c.args.host.now.store.disk) number held) time_over leaves number begun)
-    (sym c.wait_for.ensures)
+    (sym c.warned_for.ensures)
     (warned_took (edge g.T.Tells.voice g.S.Children.after g.S.Sources.clock g.S.Sources.wakes) w c.args.host.now c.args.sources.now c.interrupt_each.new.sources number held (g.W.Write.contents c.args.writer.now) (g.W.Write.contents c.interrupt_each.new.writer) limited h c.now.result c.now.ensures
     (subst (λ seats. Warned (edge g.T.Tells.voice g.S.Children.after g.S.Sources.clock g.S.Sources.wakes) seats (at w c.args.sources.now c.args.host.now.store.disk) leaves) (c.as_slice.ensures.value ∙ c.in-Ok.ensures w h) (c.in-Ok-interrupt_each.ensures.ok w h)))
 
