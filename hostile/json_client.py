@@ -125,7 +125,8 @@ class Client:
             self.begun += 1
             self.lives[name] = Life(self.begun, name)
         self.must(it["life"] == self.lives[name].number, it, f"{name!r} has the life {self.lives[name].number}")
-        self.lives[name].waiting.append(Asked(id, self.inputs[id], int(words[2]) if words[0] == b"complete" else None))
+        text = b" ".join(words[3:]) if words[0] == b"complete" and words[3:] else self.inputs[id]
+        self.lives[name].waiting.append(Asked(id, text, int(words[2]) if words[0] == b"complete" else None))
         if words[0] == b"eval":
             self.answers[id] = {}
 

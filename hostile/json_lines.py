@@ -10,7 +10,7 @@ BAD_LINES = [
     b"foo", b" print", b"print ", b"print 01", b"print -1", b"print 1 ", b"print 4294967296", b"wait ", b"wait 0", b"wait 01", b"wait 1000001", b"wait x", b"wait 1 ",
     b"wait\r\r", b"\r\r", b" ", b"\xef\xbb\xbfprint", b"checkpoint ", b"checkpoint 1", b"session", b"session ", b"session a", b"session a ", b"session a tabs p", b"new 0", b"new",
     b"new x a", b"new 01 a x", b"set", b"set ", b"set x y", b"remove", b"remove ", b"remove 1 ", b"remove 01", b"remove +1", b"remove 10000000000", b"move 1", b"move 1  2",
-    b"move 1 2 ", b"clear -1", b"clear 1\xff", b"eval", b"eval 1 2", b"eval 01", b"complete", b"complete 1", b"complete 1 ", b"complete x 1", b"complete 1 01", b"stop",
+    b"move 1 2 ", b"clear -1", b"clear 1\xff", b"eval", b"eval 1 2", b"eval 01", b"complete", b"complete 1", b"complete 1 ", b"complete x 1", b"complete 1 01", b"complete 1 x y", b"complete 1  1 x", b"stop",
     b"interrupt", b"interrupt ", b"interrupt a b", b"interrupt \xc3\xa9", b"interrupt " + b"n" * 33, b"PRINT", b"evil 1", b"print\t1", b"print\x00", b"\x00", b"\xff\xfe",
     b'{"line":1,"type":"done"}', b"ok", b"answered 1", b"%", b"wait\x0c",
 ]
@@ -19,6 +19,7 @@ BAD_LINES = [
 REFUSED_LINES = [
     b"new 0  x", b"new 0 nobody x", b"session  tab p", b"session a.b plain p", b"session " + b"n" * 33 + b" plain p", b"session \xff plain p", b"stop ", b"stop nobody", b"stop \xff\x01",
     b"stop a b", b"interrupt nobody", b"interrupt -", b"set 0", b"set 4294967295 x", b"remove 0", b"clear 0", b"move 0 0", b"eval 0", b"complete 0 0", b"complete 4294967295 4294967295",
+    b"complete 0 0 ", b"complete 4294967295 9 \x10",
     b"print 0", b"print 4294967295", b"session w plain", b"session w plain ", b"session w tab p  q", b"session w tab p\x01", b"session w tab \xff", b"session w tab" + b" p" * 17,
     b"session w plain " + b"p" * 1_025,
 ]

@@ -168,14 +168,18 @@ class Maker:
         self.ask(id, b"eval %d" % id, False)
 
     def complete(self) -> None:
-        """Asks for completions at a cursor of a field's input, now and then at one that it doesn't have."""
+        """Asks for completions at a cursor of a field's input, or of another text, now and then at one that it doesn't have."""
         id = self.some_id()
         if id not in self.fields:
             return self.say(b"complete %d 0" % id)
         name, text = self.fields[id]
+        own = b""
+        if self.rng.random() < 0.4:
+            text = input_of(self.rng)
+            own = b" " + text
         fronts = {len(text.decode()[:count].encode()) for count in range(min(len(text), 40) + 1)}
         cursor = self.rng.choice(sorted(fronts)) if self.rng.random() < 0.8 else self.rng.randint(0, min(len(text), 30) + 2)
-        line, room = b"complete %d %d" % (id, cursor), self.rooms[name]
+        line, room = b"complete %d %d%s" % (id, cursor, own), self.rooms[name]
         if not room.tab or cursor not in fronts or len(room.waiting) >= MOST_ITEMS:
             return self.say(line)
         self.ask(id, line, True)

@@ -113,7 +113,7 @@ class Model:
         if not field(words[0]):
             return 2
         if verb == "complete":
-            return self.bad_cursor(int(words[0]), int(words[1]))
+            return self.bad_request(int(words[0]), int(words[1]), *words[2:])
         if verb == "move":
             return self.bad_place(int(words[0]), int(words[1]))
         return 3 if self.in_flight(int(words[0])) else self.bad_input(words[1]) if verb == "set" else None
@@ -121,12 +121,14 @@ class Model:
     def bad_input(self, text):
         return 7 if "\x10" in text or len(text.encode()) > 4095 else None
 
-    def bad_cursor(self, id, cursor):
+    # A request without a text of its own asks for the input of its field.
+    def bad_request(self, id, cursor, text=None):
         session, given, _ = self.fields[id]
         if not self.sessions[session].tab:
             return 12
-        fronts = [len(given[:n].encode()) for n in range(len(given) + 1)]
-        return None if cursor in fronts else 13
+        text = given if text is None else text
+        fronts = [len(text[:n].encode()) for n in range(len(text) + 1)]
+        return self.bad_input(text) or (None if cursor in fronts else 13)
 
     def bad_place(self, id, after):
         if after and after not in self.fields:
@@ -242,7 +244,7 @@ VERBS = EDITS | {"eval", "complete", "stop", "checkpoint"}
 def words_of(line):
     """The verb and the words of a line that `scripts` makes."""
     verb, _, rest = line.partition(" ")
-    parts = {"session": 2, "new": 2, "set": 1, "move": 1, "complete": 1}.get(verb, 0)
+    parts = {"session": 2, "new": 2, "set": 1, "move": 1, "complete": 2}.get(verb, 0)
     words = rest.split(" ", parts)
     return verb, words + [""] * (parts + 1 - len(words)) if verb in ("new", "set") else words
 
@@ -365,7 +367,8 @@ def scripts(rng, length, kinds, completes):
                     [f"set {some()} {text}", f"clear {some()}", f"move {some()} {after}", f"stop {rng.choice(names)}"]
                     + [f"remove {some()}", "# remark", "", "print", "no command", "stop nobody", f"set {some()} \x10"]
                     + ["checkpoint"] * 2
-                    + [f"complete {some()} {rng.randint(0, 3)}"] * completes
+                    + [f"complete {some()} {rng.randint(0, 3)}", f"complete {some()} {rng.randint(0, 3)} {text}"] * completes
+                    + [f"complete {some()} 0 \x10"] * completes
                     + [f"session {rng.choice(names)} plain p"] * (rng.random() < 0.2)
                 )
             )

@@ -51,6 +51,13 @@ pub enum Command {
         id: u32,
         cursor: u32,
     },
+    /// The interpreter of a field's session is asked what can stand at a cursor in this text, as by a
+    /// Complete: the text stands in the place of the field's input. The worksheet stays as it is.
+    CompleteText {
+        id: u32,
+        cursor: u32,
+        text: Octets,
+    },
     /// The interpreter of a session is stopped, and the items that wait in it are lost. The name may be
     /// any bytes.
     Stop {
@@ -64,8 +71,8 @@ pub enum Command {
 impl Command {
     ghost use Rattle.host_events.specs.Commands.{op_of};
 
-    /// The op of a command that only changes the worksheet. An Eval, a Complete, a Stop and a
-    /// Checkpoint have none.
+    /// The op of a command that only changes the worksheet. An Eval, a Complete, a CompleteText, a
+    /// Stop and a Checkpoint have none.
     pub fn into_op(self) -> Option<Op>
         ensures { result ≡ op_of self }
     {
@@ -86,6 +93,7 @@ impl Command {
             Command::Clear { id } => Some(Op::Clear { id }),
             Command::Eval { .. }
             | Command::Complete { .. }
+            | Command::CompleteText { .. }
             | Command::Stop { .. }
             | Command::Checkpoint => None,
         }

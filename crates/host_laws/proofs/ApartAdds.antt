@@ -113,6 +113,7 @@ accepted w (command.Move id place) h = Adds.an_op (op.Move id place) refl refl
 accepted w (command.Clear id) h = Adds.an_op (op.Clear id) refl refl
 accepted w (command.Eval id) h = Adds.an_op (op.Clear id) refl (ap (λ (os : List Op). os ++ op.Clear id ∷ []) (item_ops (session_of_field w id) (line_of_field w id) (life_of w (session_of_field w id)) w))
 accepted w (command.Complete id cursor) h = Adds.nothing (item_ops (session_of_field w id) (request_of_field w id cursor) (life_of w (session_of_field w id)) w)
+accepted w (command.CompleteText id cursor text) h = Adds.nothing (item_ops (session_of_field w id) (item.Complete id text cursor) (life_of w (session_of_field w id)) w)
 accepted w (command.Stop name) h =
     if_stopped (λ p. Adds w (with_op_if p (without_life name w))) w reason.Stopped (life_of w name) (Adds.nothing refl)
     (λ l id e f. Adds.a_reason id reason.Stopped (shows_none w l id h (its_own w name l e) (first_counts id (waiting_in l) f)) refl)

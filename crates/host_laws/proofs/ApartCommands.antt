@@ -162,6 +162,26 @@ stopped n m w x a = go (bytes_eq m n) refl
       adds = here.adds ∙ sym there.adds;
     }
 
+-- requests for a field that are the same in both
+record RequestAlike (n : List ℕ) (w x : World) (id : ℕ) (i k : Item) : Type 0 where
+  alike : AreAlike n (itemed w (session_of_field w id) i) (itemed x (session_of_field x id) k)
+  about : bytes_eq (session_of_field w id) n ≡ bytes_eq (session_of_field x id) n
+  says : bytes_eq (session_of_field w id) n ≡ true → asking w (session_of_field w id) i ≡ asking x (session_of_field x id) k
+  adds : added w (itemed w (session_of_field w id) i) ≡ added x (itemed x (session_of_field x id) k)
+
+requests_alike : (n : List ℕ) (w x : World) (id : ℕ) (i k : Item) → AreAlike n w x → i ≡ k
+    → number_if (bytes_eq (session_of_field w id) n) (life_of w n) (w.begun + 1) ≡ number_if (bytes_eq (session_of_field x id) n) (life_of x n) (x.begun + 1) → RequestAlike n w x id i k
+requests_alike n w x id i k a t e =
+    let m = session_of_field w id in
+    let j = session_of_field x id in
+    let g = asks_alike n w x m j i k a (session_of_alike w x id a.ops) t e in
+    record {
+      alike = g.alike;
+      about = g.about;
+      says = g.says;
+      adds = nothing_added w x (itemed w m i).ops (itemed x j k).ops (item_ops m i (life_of w m) w) (item_ops j k (life_of x j) x);
+    }
+
 accepted_same : (n : List ℕ) (w x : World) (c : Command) → AreAlike n w x → begins n w (event.Command c) ≡ begins n x (event.Command c)
     → Same n w x (event.Command c) (outcome_of w c) (outcome_of x c) (after w c) (after x c)
 accepted_same n w x (command.Session name tab words) a e = with_one n w x (event.Command (command.Session name tab words)) (replies reply.Done) (replies reply.Done) (op.Session name tab words) a refl refl
@@ -185,17 +205,12 @@ accepted_same n w x (command.Eval id) a e =
       adds = eval_adds id (session_of_field w id) (session_of_field x id) (line_of_field w id) (line_of_field x id) w x;
     }
 accepted_same n w x (command.Complete id cursor) a e =
-    let s : session_of_field w id ≡ session_of_field x id = session_of_alike w x id a.ops in
     let t : request_of_field w id cursor ≡ request_of_field x id cursor = ap (λ (text : List ℕ). item.Complete id text cursor) (input_of_alike w x id a.ops) in
-    let g = asks_alike n w x (session_of_field w id) (session_of_field x id) (request_of_field w id cursor) (request_of_field x id cursor) a s t e in
-    record {
-      alike = g.alike;
-      about = g.about;
-      says = g.says;
-      adds = nothing_added w x (itemed w (session_of_field w id) (request_of_field w id cursor)).ops (itemed x (session_of_field x id) (request_of_field x id cursor)).ops
-          (item_ops (session_of_field w id) (request_of_field w id cursor) (life_of w (session_of_field w id)) w)
-          (item_ops (session_of_field x id) (request_of_field x id cursor) (life_of x (session_of_field x id)) x);
-    }
+    let g = requests_alike n w x id (request_of_field w id cursor) (request_of_field x id cursor) a t e in
+    record { alike = g.alike; about = g.about; says = g.says; adds = g.adds }
+accepted_same n w x (command.CompleteText id cursor text) a e =
+    let g = requests_alike n w x id (item.Complete id text cursor) (item.Complete id text cursor) a refl e in
+    record { alike = g.alike; about = g.about; says = g.says; adds = g.adds }
 
 -- what isn't refused is accepted
 passed : (w : World) (c : Command) (o : Outcome) (v : World) → GivesByParts w (event.Command c) o v → is_refusal_reply o.reply ≡ false → (o ≡ outcome_of w c) × (v ≡ after w c)
@@ -245,6 +260,7 @@ item_begins_alike n w x id a is js h =
 pub begins_alike : (n : List ℕ) (w x : World) (e : Event) → AreAlike n w x → (is js : List ℕ) → begins n w e ++ is ≡ begins n x e ++ js → (begins n w e ≡ begins n x e) × (is ≡ js)
 begins_alike n w x (event.Command (command.Eval id)) a is js h = item_begins_alike n w x id a is js h
 begins_alike n w x (event.Command (command.Complete id cursor)) a is js h = item_begins_alike n w x id a is js h
+begins_alike n w x (event.Command (command.CompleteText id cursor text)) a is js h = item_begins_alike n w x id a is js h
 begins_alike n w x (event.Command (command.Session name tab words)) a is js h = (refl, h)
 begins_alike n w x (event.Command (command.New place session input)) a is js h = (refl, h)
 begins_alike n w x (event.Command (command.Set id input)) a is js h = (refl, h)

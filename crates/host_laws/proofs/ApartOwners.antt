@@ -137,6 +137,7 @@ accepted_owned w (command.Eval id) h none =
     owned_op (with_item w (session_of_field w id) (line_of_field w id) (life_of w (session_of_field w id))) (op.Clear id) tt
     (owned_item w (session_of_field w id) (line_of_field w id) (life_of w (session_of_field w id)) refl (t.0, sym t.1) h)
 accepted_owned w (command.Complete id cursor) h none = owned_item w (session_of_field w id) (request_of_field w id cursor) (life_of w (session_of_field w id)) refl tt h
+accepted_owned w (command.CompleteText id cursor text) h none = owned_item w (session_of_field w id) (item.Complete id text cursor) (life_of w (session_of_field w id)) refl tt h
 accepted_owned w (command.Stop m) h none =
     if_stopped (λ p. Owned (with_op_if p (without_life m w))) w reason.Stopped (life_of w m) (owned_without w m h) (λ l id e f. owned_op (without_life m w) (op.Lost id reason.Stopped) tt (owned_without w m h))
 accepted_owned w command.Checkpoint h none = record { below = h.below; lives = h.lives }
@@ -166,6 +167,7 @@ accepted_ops w (command.Move id place) = (op.Move id place ∷ [], refl)
 accepted_ops w (command.Clear id) = (op.Clear id ∷ [], refl)
 accepted_ops w (command.Eval id) = (op.Clear id ∷ [], ap (λ (os : List Op). os ++ op.Clear id ∷ []) (item_ops (session_of_field w id) (line_of_field w id) (life_of w (session_of_field w id)) w))
 accepted_ops w (command.Complete id cursor) = ([], item_ops (session_of_field w id) (request_of_field w id cursor) (life_of w (session_of_field w id)) w ∙ sym (append-nil w.ops))
+accepted_ops w (command.CompleteText id cursor text) = ([], item_ops (session_of_field w id) (item.Complete id text cursor) (life_of w (session_of_field w id)) w ∙ sym (append-nil w.ops))
 accepted_ops w (command.Stop m) =
     if_stopped (λ p. (more : List Op) × ((with_op_if p (without_life m w)).ops ≡ w.ops ++ more)) w reason.Stopped (life_of w m) ([], sym (append-nil w.ops)) (λ l id e f. (op.Lost id reason.Stopped ∷ [], refl))
 accepted_ops w command.Checkpoint = ([], sym (append-nil w.ops))

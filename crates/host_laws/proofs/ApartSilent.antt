@@ -5,6 +5,7 @@ use Rattle.std.specs.Str.{bytes_eq}
 use Rattle.worksheet.specs.declared.refusal.Refusal.{Refusal}
 use Rattle.worksheet.specs.Checks.{first_of}
 use Rattle.plugin_core.specs.declared.item.Item.{Item}
+use Rattle.plugin_core.specs.declared.item.Item.TheVariants as item
 use Rattle.plugin_core.specs.declared.step.Step.{Step}
 use Rattle.plugin_core.specs.declared.step.Ended.{Ended}
 use Rattle.block_tree.specs.declared.reason.Reason.{Reason}
@@ -102,6 +103,7 @@ accepted_silent n w (command.Move id place) h = (refl, refl)
 accepted_silent n w (command.Clear id) h = (refl, refl)
 accepted_silent n w (command.Eval id) h = ask_silent n (session_of_field w id) w (line_of_field w id) (life_of w (session_of_field w id)) h
 accepted_silent n w (command.Complete id cursor) h = ask_silent n (session_of_field w id) w (request_of_field w id cursor) (life_of w (session_of_field w id)) h
+accepted_silent n w (command.CompleteText id cursor text) h = ask_silent n (session_of_field w id) w (item.Complete id text cursor) (life_of w (session_of_field w id)) h
 accepted_silent n w (command.Stop m) h = stop_silent n m w (life_of w m) (λ l e. first_has m w.lives l e) h
 accepted_silent n w command.Checkpoint h = (refl, refl)
 

@@ -6,6 +6,7 @@ use Rattle.worksheet.specs.declared.op.Op.TheVariants as op
 use Rattle.worksheet.specs.declared.refusal.Refusal.{Refusal}
 use Rattle.worksheet.specs.declared.refusal.Refusal.TheVariants as refusal
 use Rattle.worksheet.specs.Checks.{first_of}
+use Rattle.plugin_core.specs.declared.item.Item.TheVariants as item
 use Rattle.plugin_core.specs.declared.step.Ended.{Ended}
 use Rattle.plugin_core.specs.declared.step.Step.{Step}
 use Rattle.block_tree.specs.declared.reason.Reason.{Reason}
@@ -49,6 +50,7 @@ same_outcome w (command.Move id place) = refl
 same_outcome w (command.Clear id) = refl
 same_outcome w (command.Eval id) = asked_told w (line_of_field w id) (Some (op.Clear id)) (session_of_field w id) (life_of w (session_of_field w id))
 same_outcome w (command.Complete id cursor) = asked_told w (request_of_field w id cursor) None (session_of_field w id) (life_of w (session_of_field w id))
+same_outcome w (command.CompleteText id cursor text) = asked_told w (item.Complete id text cursor) None (session_of_field w id) (life_of w (session_of_field w id))
 same_outcome w (command.Stop name) = stopped_told w (life_of w name)
 same_outcome w command.Checkpoint = refl
 
@@ -61,6 +63,7 @@ same_after w (command.Move id place) = refl
 same_after w (command.Clear id) = refl
 same_after w (command.Eval id) = asked_leads w (line_of_field w id) (Some (op.Clear id)) (session_of_field w id) (life_of w (session_of_field w id))
 same_after w (command.Complete id cursor) = asked_leads w (request_of_field w id cursor) None (session_of_field w id) (life_of w (session_of_field w id))
+same_after w (command.CompleteText id cursor text) = asked_leads w (item.Complete id text cursor) None (session_of_field w id) (life_of w (session_of_field w id))
 same_after w (command.Stop name) = stopped_leads w name (life_of w name) refl
 same_after w command.Checkpoint = refl
 

@@ -1,5 +1,7 @@
 -- Worked examples of the definitions.
 use Rattle.std.proofs.Common.{◌≡◌, ℕ, List, [], ◌∷◌, refl, true, false, Some, None}
+use Rattle.std.specs.Str.{is_utf8, chars}
+use lib.Utf8.{encode}
 use Rattle.worksheet.specs.declared.op.Op.{Op}
 use Rattle.worksheet.specs.declared.op.Op.TheVariants as op
 use Rattle.worksheet.specs.declared.refusal.Refusal.TheVariants as refusal
@@ -142,6 +144,22 @@ still_free = refl
 -- it keeps the field's input
 keeps_its_text : waiting_in (begun_with with_tab a (request_of_field with_tab 1 2)) ≡ item.Complete 1 (195 ∷ 169 ∷ []) 2 ∷ []
 keeps_its_text = refl
+
+-- or the text in its place, whose cursors are its own
+text_in_its_place : (does with_tab (command.CompleteText 1 1 x)).lives ≡ begun_with with_tab a (item.Complete 1 x 1) ∷ []
+text_in_its_place = refl
+
+behind_its_text : first_of (command_refusals with_tab (command.CompleteText 1 1 x)) ≡ None
+unfolding is_utf8 chars encode
+behind_its_text = refl
+
+past_its_text : first_of (command_refusals with_tab (command.CompleteText 1 2 x)) ≡ Some refusal.BadCursor
+unfolding is_utf8 chars encode
+past_its_text = refl
+
+-- a text that no input may be, with a line feed, is refused before the cursor is looked at
+no_line_feed : first_of (command_refusals with_tab (command.CompleteText 1 9 (10 ∷ []))) ≡ Some refusal.BadInput
+no_line_feed = refl
 
 -- A checkpoint. There were the session, a field that was removed and one after it. Left are the session, the number of the field and the
 -- field.

@@ -36,8 +36,8 @@ use Rattle.host_events.specs.declared.event.ChildEvent.TheVariants as child
 use Rattle.host_events.specs.declared.event.Event.{Event}
 use Rattle.host_events.specs.declared.event.Event.TheVariants as event
 use Rattle.host_events.specs.declared.outcome.Outcome.{Outcome}
-use Rattle.session_engine.specs.World.{World, Going, world_at_opening, kept_at_end, life_of, session_of_field, waiting_in, with_number, with_op_if}
-use Rattle.session_engine.specs.inside.Words.{line_of_field, request_of_field, waits_in, renewed, with_op, begun_with, joined_by, with_piece}
+use Rattle.session_engine.specs.World.{World, Going, world_at_opening, kept_at_end, life_of, session_of_field, input_of, waiting_in, with_number, with_op_if}
+use Rattle.session_engine.specs.inside.Words.{line_of_field, waits_in, renewed, with_op, begun_with, joined_by, with_piece}
 use Rattle.session_engine.specs.Refused.{command_refusals}
 use Rattle.session_engine.specs.Does.{Gives, Runs, op_by}
 use Rattle.session_engine.specs.inside.Parts.{goes_on, with_item, without_life}
@@ -196,13 +196,13 @@ module _ (id : ℕ) where
           (λ quiet. subst (λ (os : List Op). Bare (field_of (os ++ op.Clear other ∷ []) id)) (sym ops) (still_none w.ops (op.Clear other) id tt quiet)) h
 
   -- no line more, and the same ops
-  completed : (w : World) (other cursor : ℕ) → Sound w → IsQuiet id w → IsQuiet id (after w (command.Complete other cursor))
-  completed w other cursor s h =
+  completed : (w : World) (other cursor : ℕ) (text : List ℕ) → Sound w → IsQuiet id w → IsQuiet id (after w (command.CompleteText other cursor text))
+  completed w other cursor text s h =
       let name = session_of_field w other in
-      let i = request_of_field w other cursor in
+      let i = item.Complete other text cursor in
       let more = line_more w name i (life_of w name) refl s in
       let ops = item_ops w name i (life_of w name) in
-      fewer w (after w (command.Complete other cursor)) (omega (arith, more)) (λ quiet. subst (λ (os : List Op). Bare (field_of os id)) (sym ops) quiet) h
+      fewer w (after w (command.CompleteText other cursor text)) (omega (arith, more)) (λ quiet. subst (λ (os : List Op). Bare (field_of os id)) (sym ops) quiet) h
 
   accepted_so : (w : World) (c : Command) → Sound w → first_of (command_refusals w c) ≡ None → IsQuiet id w → IsQuiet id (after w c)
   accepted_so w (command.Session name tab words) s first h = with_one w (op.Session name tab words) tt h
@@ -212,7 +212,8 @@ module _ (id : ℕ) where
   accepted_so w (command.Move other place) s first h = with_one w (op.Move other place) tt h
   accepted_so w (command.Clear other) s first h = with_one w (op.Clear other) tt h
   accepted_so w (command.Eval other) s first h = evaluated w other s first h
-  accepted_so w (command.Complete other cursor) s first h = completed w other cursor s h
+  accepted_so w (command.Complete other cursor) s first h = completed w other cursor (input_of w other) s h
+  accepted_so w (command.CompleteText other cursor text) s first h = completed w other cursor text s h
   accepted_so w (command.Stop name) s first h =
       if_stopped (λ p. IsQuiet id (with_op_if p (without_life name w))) w reason.Stopped (life_of w name) (stopped w name h)
       (

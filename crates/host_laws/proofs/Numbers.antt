@@ -6,6 +6,7 @@ use Rattle.std.proofs.lemmas.Bool.Decides.{nat_tests}
 use Rattle.worksheet.specs.declared.op.Op.{Op}
 use Rattle.worksheet.specs.declared.op.Op.TheVariants as op
 use Rattle.plugin_core.specs.declared.item.Item.{Item}
+use Rattle.plugin_core.specs.declared.item.Item.TheVariants as item
 use Rattle.worksheet.specs.declared.refusal.Refusal.{Refusal}
 use Rattle.worksheet.specs.Checks.{first_of}
 use Rattle.plugin_core.specs.declared.step.Ended.{Ended}
@@ -106,6 +107,7 @@ module _ (w : World) where
   does_so (command.Clear id) = Becomes.all_stay refl refl refl
   does_so (command.Eval id) = asks_so (line_of_field w id) (Some (op.Clear id)) (session_of_field w id) (life_of w (session_of_field w id)) refl
   does_so (command.Complete id cursor) = asks_so (request_of_field w id cursor) None (session_of_field w id) (life_of w (session_of_field w id)) refl
+  does_so (command.CompleteText id cursor text) = asks_so (item.Complete id text cursor) None (session_of_field w id) (life_of w (session_of_field w id)) refl
   does_so (command.Stop name) = ends_so reason.Stopped true (life_of w name) reply.Done (λ l h. its_own w name l h)
   does_so command.Checkpoint = Becomes.all_stay refl refl refl
 

@@ -9,6 +9,8 @@ use Rattle.meta_format.proofs.EveryStream.{a_reading}
 use Rattle.worksheet.specs.declared.op.Op.TheVariants as op
 use Rattle.worksheet.specs.declared.refusal.Refusal.{Refusal}
 use Rattle.worksheet.specs.Checks.{first_of}
+use Rattle.plugin_core.specs.declared.item.Item.{Item}
+use Rattle.plugin_core.specs.declared.item.Item.TheVariants as item
 use Rattle.plugin_core.specs.Laws.{OneReading}
 use Rattle.plugin_core.specs.Past.{received, stream_of}
 use Rattle.plugin_core.specs.Steps.{Reads, step_of}
@@ -95,6 +97,10 @@ an_event_does_one_thing one w e d f a b = one_does one w e d f a b
 -- Where it leads is settled by what it returned.
 
 module _ (one : OneReading) (w : World) where
+  asking_accepts : (i : Item) (name : List ℕ) (l : Option Going) → is_refusal_reply (asks_item w i None name l).told.reply ≡ false
+  asking_accepts i name None = refl
+  asking_accepts i name (Some l) = refl
+
   -- what is accepted isn't reported as refused
   accepts : (c : Command) → is_refusal_reply (does w c).told.reply ≡ false
   accepts (command.Session name tab words) = refl
@@ -108,11 +114,8 @@ module _ (one : OneReading) (w : World) where
       go : (l : Option Going) → is_refusal_reply (asks_item w (line_of_field w id) (Some (op.Clear id)) (session_of_field w id) l).told.reply ≡ false
       go None = refl
       go (Some l) = refl
-  accepts (command.Complete id cursor) = go (life_of w (session_of_field w id))
-    where
-      go : (l : Option Going) → is_refusal_reply (asks_item w (request_of_field w id cursor) None (session_of_field w id) l).told.reply ≡ false
-      go None = refl
-      go (Some l) = refl
+  accepts (command.Complete id cursor) = asking_accepts (request_of_field w id cursor) (session_of_field w id) (life_of w (session_of_field w id))
+  accepts (command.CompleteText id cursor text) = asking_accepts (item.Complete id text cursor) (session_of_field w id) (life_of w (session_of_field w id))
   accepts (command.Stop name) = go (life_of w name)
     where
       go : (l : Option Going) → is_refusal_reply (ends_life w reason.Stopped true l reply.Done).told.reply ≡ false

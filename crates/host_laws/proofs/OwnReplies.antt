@@ -31,6 +31,7 @@ done w (command.Move id after) = tt
 done w (command.Clear id) = tt
 done w (command.Eval id) = asked w _ _ (session_of_field w id) (life_of w (session_of_field w id))
 done w (command.Complete id cursor) = asked w _ _ (session_of_field w id) (life_of w (session_of_field w id))
+done w (command.CompleteText id cursor text) = asked w _ _ (session_of_field w id) (life_of w (session_of_field w id))
 done w (command.Stop name) = stopped w (life_of w name)
 done w command.Checkpoint = tt
 

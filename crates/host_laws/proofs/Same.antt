@@ -7,7 +7,7 @@ use Rattle.worksheet.specs.declared.refusal.Refusal.{Refusal}
 use Rattle.worksheet.specs.declared.refusal.Refusal.TheVariants as refusal
 use Rattle.worksheet.specs.Contents.{Contents}
 use Rattle.worksheet.specs.Ops.{sheet_of}
-use Rattle.worksheet.specs.Checks.{Allowed, field_in, has_field, has_session, session_named, first_of, first_refusal}
+use Rattle.worksheet.specs.Checks.{Allowed, field_in, has_field, has_session, is_input, session_named, first_of, first_refusal}
 use Rattle.worksheet.specs.Checks.{refusals as sheet_refusals}
 use Rattle.worksheet.proofs.Existence.{allowed_goes_on}
 use Rattle.worksheet.proofs.NextLaws.{same_next}
@@ -92,6 +92,12 @@ module _ (w : World) (b : List Op) (same : sheet_of w.ops ≡ sheet_of b) where
       ∷ (refusal.NoTab, not (takes_tab (session_named s.sessions (by_field (field_in s.fields id) [] (λ f. f.session)))))
       ∷ (refusal.BadCursor, not (is_cursor (by_field (field_in s.fields id) [] (λ f. f.input)) cursor))
       ∷ queue_refusals w (life_of w (by_field (field_in s.fields id) [] (λ f. f.session)))) same
+  refusals_same (command.CompleteText id cursor text) =
+      ap (λ (s : Contents). (refusal.NoField, not (has_field s id))
+      ∷ (refusal.NoTab, not (takes_tab (session_named s.sessions (by_field (field_in s.fields id) [] (λ f. f.session)))))
+      ∷ (refusal.BadInput, not (is_input text))
+      ∷ (refusal.BadCursor, not (is_cursor text cursor))
+      ∷ queue_refusals w (life_of w (by_field (field_in s.fields id) [] (λ f. f.session)))) same
   refusals_same (command.Stop name) = ap (λ (s : Contents). (refusal.NoSession, not (has_session s name)) ∷ []) same
   refusals_same command.Checkpoint = ap (λ (s : Contents). (refusal.JournalFull, not (fits_anew_in w.room s)) ∷ []) same
 
@@ -114,6 +120,9 @@ module _ (w : World) (b : List Op) (same : sheet_of w.ops ≡ sheet_of b) where
       asks_same (session_of_field w id) (request_of_field w id cursor) (life_of w (session_of_field w id))
       ∙ ap (λ (n : List ℕ). asks (by_ops b w) n (request_of_field w id cursor) (life_of w n)) (session_same id)
       ∙ ap (λ (i : Item). asks (by_ops b w) (session_of_field (by_ops b w) id) i (life_of w (session_of_field (by_ops b w) id))) (request_same id cursor)
+  outcome_same (command.CompleteText id cursor text) =
+      asks_same (session_of_field w id) (item.Complete id text cursor) (life_of w (session_of_field w id))
+      ∙ ap (λ (n : List ℕ). asks (by_ops b w) n (item.Complete id text cursor) (life_of w n)) (session_same id)
   outcome_same (command.Stop name) = refl
   outcome_same command.Checkpoint = refl
 
@@ -191,6 +200,17 @@ module _ (w : World) (b : List Op) (h : Sound w) (allowed : Allowed b) (same : s
         allowed = allowed;
       }
 
+  by_text : (id cursor : ℕ) (text : List ℕ) → LeadsOn w b (command.CompleteText id cursor text)
+  by_text id cursor text =
+      let name = session_of_field w id in
+      let i = item.Complete id text cursor in
+      record {
+        ops = b;
+        is = sym (ap (λ (n : List ℕ). with_item (by_ops b w) n i (life_of w n)) (session_same w b same id)) ∙ item_same w b name i (life_of w name);
+        same = ap (λ (os : List Op). sheet_of os) (ops_item w name i (life_of w name)) ∙ same;
+        allowed = allowed;
+      }
+
   leads_on : (c : Command) → first_of (command_refusals w c) ≡ None → LeadsOn w b c
   leads_on (command.Session name tab words) first = by_op (command.Session name tab words) (op.Session name tab words) refl first
   leads_on (command.New place session input) first = by_op (command.New place session input) (op.New place session input) refl first
@@ -200,6 +220,7 @@ module _ (w : World) (b : List Op) (h : Sound w) (allowed : Allowed b) (same : s
   leads_on (command.Clear id) first = by_op (command.Clear id) (op.Clear id) refl first
   leads_on (command.Eval id) first = by_eval id first
   leads_on (command.Complete id cursor) first = by_complete id cursor
+  leads_on (command.CompleteText id cursor text) first = by_text id cursor text
   leads_on (command.Stop name) first =
       let p = kept_at_end w reason.Stopped (life_of w name) in
       let u = without_life name w in

@@ -39,8 +39,8 @@ use Rattle.host_events.specs.declared.event.Event.TheVariants as event
 use Rattle.host_events.specs.declared.outcome.Outcome.{Outcome}
 use Rattle.host_events.specs.Commands.{op_of}
 use Rattle.session_engine.specs.Host.{HasField}
-use Rattle.session_engine.specs.World.{World, Going, kept_at_end, sheet_in, waiting_in, life_of, session_of_field, with_number, with_op_if}
-use Rattle.session_engine.specs.inside.Words.{line_of_field, with_op, request_of_field, with_piece, full}
+use Rattle.session_engine.specs.World.{World, Going, kept_at_end, sheet_in, waiting_in, life_of, session_of_field, input_of, with_number, with_op_if}
+use Rattle.session_engine.specs.inside.Words.{line_of_field, with_op, with_piece, full}
 use Rattle.session_engine.specs.inside.Parts.{with_life, without_life, with_item, goes_on}
 use Rattle.session_engine.specs.Does.{op_by}
 use Rattle.session_engine.specs.Refused.{command_refusals, refusals_but_room}
@@ -275,6 +275,7 @@ no_answer (command.Move other place) o e id prompt out is = let no : Some (op.Mo
 no_answer (command.Clear other) o e id prompt out is = let no : Some (op.Clear other) ≡ Some (op.Answer id prompt out) = e ∙ ap (λ (p : Op). Some p) is in cc
 no_answer (command.Eval other) o e id prompt out is = cc
 no_answer (command.Complete other cursor) o e id prompt out is = cc
+no_answer (command.CompleteText other cursor text) o e id prompt out is = cc
 no_answer (command.Stop name) o e id prompt out is = cc
 no_answer command.Checkpoint o e id prompt out is = cc
 
@@ -325,10 +326,10 @@ as_evaluated w id h first =
           (by_op w.ops f a h.allowed some o next (subst (λ (os : List Op). Has (sheet_of (os ++ o ∷ [])) f) same shows));
     }
 
-as_completed : (w : World) (id cursor : ℕ) → Sound w → Stepped w (event.Command (command.Complete id cursor)) (after w (command.Complete id cursor))
-as_completed w id cursor h =
+as_completed : (w : World) (c : Command) (id cursor : ℕ) (text : List ℕ) → Sound w → Stepped w (event.Command c) (after w (command.CompleteText id cursor text))
+as_completed w c id cursor text h =
     let name = session_of_field w id in
-    let i = request_of_field w id cursor in
+    let i = item.Complete id text cursor in
     record {
       sound = asked w name i (life_of w name) refl h tt;
       shown = λ own f a some shows. inl (subst (λ (os : List Op). Has (sheet_of os) f) (ops_item w name i (life_of w name)) shows);
@@ -342,7 +343,8 @@ accepted w (command.Remove id) h first = as_done w (command.Remove id) (op.Remov
 accepted w (command.Move id place) h first = as_done w (command.Move id place) (op.Move id place) refl h first
 accepted w (command.Clear id) h first = as_done w (command.Clear id) (op.Clear id) refl h first
 accepted w (command.Eval id) h first = as_evaluated w id h first
-accepted w (command.Complete id cursor) h first = as_completed w id cursor h
+accepted w (command.Complete id cursor) h first = as_completed w (command.Complete id cursor) id cursor (input_of w id) h
+accepted w (command.CompleteText id cursor text) h first = as_completed w (command.CompleteText id cursor text) id cursor text h
 accepted w (command.Stop name) h first = go (life_of w name) refl
   where
     go : (k : Option Going) → life_of w name ≡ k → Stepped w (event.Command (command.Stop name)) (with_op_if (kept_at_end w reason.Stopped k) (without_life name w))

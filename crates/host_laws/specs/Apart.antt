@@ -39,6 +39,7 @@ concerns name w (event.Command (command.Move id place)) = true
 concerns name w (event.Command (command.Clear id)) = true
 concerns name w (event.Command (command.Eval id)) = bytes_eq (session_of_field w id) name
 concerns name w (event.Command (command.Complete id cursor)) = bytes_eq (session_of_field w id) name
+concerns name w (event.Command (command.CompleteText id cursor text)) = bytes_eq (session_of_field w id) name
 concerns name w (event.Command (command.Stop other)) = bytes_eq other name
 concerns name w (event.Command command.Checkpoint) = true
 
@@ -59,6 +60,7 @@ begins name w (event.Command (command.Move id place)) = []
 begins name w (event.Command (command.Clear id)) = []
 begins name w (event.Command (command.Eval id)) = number_if (bytes_eq (session_of_field w id) name) (life_of w name) (w.begun + 1)
 begins name w (event.Command (command.Complete id cursor)) = number_if (bytes_eq (session_of_field w id) name) (life_of w name) (w.begun + 1)
+begins name w (event.Command (command.CompleteText id cursor text)) = number_if (bytes_eq (session_of_field w id) name) (life_of w name) (w.begun + 1)
 begins name w (event.Command (command.Stop other)) = []
 begins name w (event.Command command.Checkpoint) = []
 

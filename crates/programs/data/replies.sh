@@ -36,7 +36,7 @@ complete 1
 complete x 1
 complete 1 x
 complete 1  1
-complete 1 1 
+complete 1 01 x
 complete 1 01
 complete 1 4294967296
 stop
@@ -72,7 +72,7 @@ both 'inputs and names are refused in order' \
     'session a plain p\nnew 0 a \020\nnew 0 a \377\nnew 9 a \020\nnew 9 b x\nnew 0 \nsession a plain \nremove 0\nset 1 \020\nclear 4294967295\nnew 0 a \t\nprint\n' \
     'ok\nrefused 7 BadInput\nrefused 7 BadInput\nrefused 2 NoField\nrefused 1 NoSession\nrefused 1 NoSession\nrefused 4 SessionExists\nrefused 2 NoField\nrefused 2 NoField\nrefused 2 NoField\nfield 1\n#1 a\n> \\x09\n?\n' \
     '#1 a\n> \\x09\n?\n'
-memory 'what wants an interpreter or a disk, in memory' 'wait\nstop a\neval 1\ncomplete 1 1\ncheckpoint\n' 'bad line 1\nbad line 2\nbad line 3\nbad line 4\nbad line 5\n'
+memory 'what wants an interpreter or a disk, in memory' 'wait\nstop a\neval 1\ncomplete 1 1\ncomplete 1 1 x\ncheckpoint\n' 'bad line 1\nbad line 2\nbad line 3\nbad line 4\nbad line 5\nbad line 6\n'
 memory 'a carriage return at the end in memory' '\r' 'bad line 1\n'
 
 # How long the file is after each op: 11, and 5 and the payload's length for each.

@@ -46,6 +46,7 @@ as_op w (command.Move id place) o e = let is : op.Move id place ≡ o = cc in su
 as_op w (command.Clear id) o e = let is : op.Clear id ≡ o = cc in subst (λ (o : Op). IsOp w (command.Clear id) o) is (record { refusals_are = refl; does_is = refl; takes = refl })
 as_op w (command.Eval id) o e = cc
 as_op w (command.Complete id cursor) o e = cc
+as_op w (command.CompleteText id cursor text) o e = cc
 as_op w (command.Stop name) o e = cc
 as_op w command.Checkpoint o e = cc
 

@@ -1,27 +1,29 @@
--- Lemmas on a Complete.
+-- Lemmas on requests of completions.
 use Rattle.std.proofs.Common.{◌≡◌, ◌≤◌, ◌<◌, inl, inr, ⊎_elim, ℕ, zero, suc, List, [], ◌∷◌, length, refl, ap, sym, ◌∙◌, subst, arith, Bool, true, false, Option, Some, None}
-use Rattle.std.specs.Prelude.{nat_le, nat_lt, is_some, ◌&&◌, not, drop, slice_index}
+use Rattle.std.specs.Prelude.{nat_le, nat_lt, ◌&&◌, not, drop, slice_index}
 use Rattle.std.proofs.lemmas.Bool.Decides.{nat_tests}
 use Rattle.std.specs.Str.{IsCharBoundary}
 use Rattle.disk_model.specs.Disk.{DiskView}
 use Rattle.worksheet.specs.declared.refusal.Refusal.{Refusal}
 use Rattle.worksheet.specs.declared.refusal.Refusal.TheVariants as refusal
 use Rattle.worksheet.specs.declared.field.Field.{Field}
-use Rattle.worksheet.specs.Checks.{first_of, field_in, session_named}
+use Rattle.worksheet.specs.Checks.{first_of, field_in}
 use Rattle.worksheet.proofs.Finds.{none_applies}
 use Rattle.plugin_core.specs.declared.item.Item.{Item}
 use Rattle.plugin_core.specs.declared.item.Item.TheVariants as item
+use Rattle.host_events.specs.declared.command.Command.{Command}
 use Rattle.host_events.specs.declared.command.Command.TheVariants as command
 use Rattle.host_events.specs.declared.event.Event.TheVariants as event
 use Rattle.host_events.specs.declared.reply.Reply.TheVariants as reply
 use Rattle.session_engine.specs.World.{World, sheet_in, life_of, session_of_field, input_of}
-use Rattle.session_engine.specs.inside.Words.{by_field, request_of_field, takes_tab, lives_are_spent}
-use Rattle.session_engine.specs.Refused.{command_refusals, begins_inside, is_cursor, queue_refusals}
-use Rattle.session_engine.specs.Does.{does, tells, behind, CommandDoes, MayDo}
-use Rattle.session_engine.specs.Host.{OnDisk}
+use Rattle.session_engine.specs.inside.Words.{by_field}
+use Rattle.session_engine.specs.Refused.{begins_inside, is_cursor, queue_refusals, cursor_refusals, tab_refusals}
+use Rattle.session_engine.specs.Does.{Does, asks_completions, asks_item, does, tells, behind, CommandDoes, MayDo}
+use Rattle.session_engine.specs.Host.{HasField, OnDisk}
 use Rattle.session_engine.specs.inside.Parts.{asks, with_item}
-use Rattle.session_engine.specs.inside.Commits.{GivesRequest, RefusesComplete}
+use Rattle.session_engine.specs.inside.Commits.{GivesRequest, RefusesRequest}
 use Rattle.session_engine.proofs.Asking.{asked_told, asked_leads, asked_on_disk, session_is}
+use Rattle.session_engine.proofs.Changing.{first_behind}
 
 -- Cursors.
 
@@ -69,74 +71,58 @@ no_boundary text at h = go (is_cursor text at) refl
     go true e = absurd (h (boundary_at_cursor text at e))
     go false e = refl
 
--- The first refusal.
+-- The first refusal at a cursor.
 
-abbrev chain : (has tab cursor : Bool) → List (Refusal × Bool) → List (Refusal × Bool)
-chain has tab cursor rs = (refusal.NoField, not has) ∷ (refusal.NoTab, not tab) ∷ (refusal.BadCursor, not cursor) ∷ rs
+module _ (w : World) (name text : List ℕ) (cursor : ℕ) where
+  pub bad_cursor : (IsCharBoundary text cursor → ⊥) → first_of (cursor_refusals w name text cursor) ≡ Some refusal.BadCursor
+  bad_cursor bad = ap (λ (b : Bool). first_of ((refusal.BadCursor, not b) ∷ queue_refusals w (life_of w name))) (no_boundary text cursor bad)
 
-pub no_field_first : (w : World) (id cursor : ℕ) → field_in (sheet_in w).fields id ≡ None → first_of (command_refusals w (command.Complete id cursor)) ≡ Some refusal.NoField
-no_field_first w id cursor e =
-    ap (λ (b : Bool). first_of (chain b (takes_tab (session_named (sheet_in w).sessions (session_of_field w id))) (is_cursor (input_of w id) cursor) (queue_refusals w (life_of w (session_of_field w id)))))
-    (ap (λ (o : Option Field). is_some o) e)
+  pub good_cursor : IsCharBoundary text cursor → first_of (cursor_refusals w name text cursor) ≡ first_of (queue_refusals w (life_of w name))
+  good_cursor good = ap (λ (b : Bool). first_of ((refusal.BadCursor, not b) ∷ queue_refusals w (life_of w name))) (cursor_at_boundary text cursor good)
 
-module _ (w : World) (id cursor : ℕ) (f : Field) (e : field_in (sheet_in w).fields id ≡ Some f) where
-  abbrev tab_of : Bool
-  tab_of = takes_tab (session_named (sheet_in w).sessions f.session)
+-- What is asked of the field's input.
 
-  pub input_is : input_of w id ≡ f.input
+module _ (w : World) (id cursor : ℕ) (f : Field) (e : field_in (sheet_in w).fields id ≡ Some f) (tab : first_of (tab_refusals w id) ≡ None) where
+  input_is : input_of w id ≡ f.input
   input_is = ap (λ (o : Option Field). by_field o [] (λ g. g.input)) e
 
-  pub request_is : request_of_field w id cursor ≡ item.Complete id f.input cursor
-  request_is = ap (λ (t : List ℕ). item.Complete id t cursor) input_is
+  at_field : (text : List ℕ) → first_of (cursor_refusals w (session_of_field w id) text cursor) ≡ first_of (cursor_refusals w f.session text cursor)
+  at_field text = ap (λ (n : List ℕ). first_of (cursor_refusals w n text cursor)) (session_is w id f e)
 
-  at_field : first_of (command_refusals w (command.Complete id cursor)) ≡ first_of (chain true tab_of (is_cursor f.input cursor) (queue_refusals w (life_of w f.session)))
-  at_field =
-      ap (λ (b : Bool). first_of (chain b (takes_tab (session_named (sheet_in w).sessions (session_of_field w id))) (is_cursor (input_of w id) cursor) (queue_refusals w (life_of w (session_of_field w id)))))
-      (ap (λ (o : Option Field). is_some o) e)
-      ∙ ap (λ (n : List ℕ). first_of (chain true (takes_tab (session_named (sheet_in w).sessions n)) (is_cursor (input_of w id) cursor) (queue_refusals w (life_of w n)))) (session_is w id f e)
-      ∙ ap (λ (t : List ℕ). first_of (chain true tab_of (is_cursor t cursor) (queue_refusals w (life_of w f.session)))) input_is
+  asks_is : (text : List ℕ) (i : Item) → i ≡ item.Complete id text cursor → asks_completions w id text cursor ≡ asks_item w i None f.session (life_of w f.session)
+  asks_is text i is =
+      ap (λ (n : List ℕ). asks_item w (item.Complete id text cursor) None n (life_of w n)) (session_is w id f e)
+      ∙ ap (λ (j : Item). asks_item w j None f.session (life_of w f.session)) (sym is)
 
-  pub no_tab_first : takes_tab (session_named (sheet_in w).sessions f.session) ≡ false → first_of (command_refusals w (command.Complete id cursor)) ≡ Some refusal.NoTab
-  no_tab_first plain = at_field ∙ ap (λ (b : Bool). first_of (chain true b (is_cursor f.input cursor) (queue_refusals w (life_of w f.session)))) plain
+  pub input_asked : (i : Item) → i ≡ item.Complete id f.input cursor → first_of (cursor_refusals w f.session f.input cursor) ≡ None → GivesRequest w (command.Complete id cursor) f.session i
+  input_asked i is none = record {
+    none = first_behind (tab_refusals w id) (cursor_refusals w (session_of_field w id) (input_of w id) cursor) tab
+        ∙ at_field (input_of w id)
+        ∙ ap (λ (t : List ℕ). first_of (cursor_refusals w f.session t cursor)) input_is
+        ∙ none;
+    takes = refl;
+    left = (none_applies (cursor_refusals w f.session f.input cursor) none).1.1.0;
+    has = subst (λ (j : Item). HasField (sheet_in w) j) (sym is) tt;
+    does_is = ap (λ (t : List ℕ). asks_completions w id t cursor) input_is ∙ asks_is f.input i is;
+  }
 
-  behind_tab : takes_tab (session_named (sheet_in w).sessions f.session) ≡ true
-      → first_of (command_refusals w (command.Complete id cursor)) ≡ first_of (chain true true (is_cursor f.input cursor) (queue_refusals w (life_of w f.session)))
-  behind_tab tab = at_field ∙ ap (λ (b : Bool). first_of (chain true b (is_cursor f.input cursor) (queue_refusals w (life_of w f.session)))) tab
+-- What a request does.
 
-  pub bad_cursor_first : takes_tab (session_named (sheet_in w).sessions f.session) ≡ true → (IsCharBoundary f.input cursor → ⊥) → first_of (command_refusals w (command.Complete id cursor)) ≡ Some refusal.BadCursor
-  bad_cursor_first tab bad = behind_tab tab ∙ ap (λ (b : Bool). first_of (chain true true b (queue_refusals w (life_of w f.session)))) (no_boundary f.input cursor bad)
+pub request_refused : (w : World) (c : Command) (r : Refusal) → RefusesRequest w c r → MayDo w (event.Command c) (tells w (reply.Refused r))
+request_refused w c r why = ⊎_elim
+    (λ first. subst (λ (x : Option Refusal). CommandDoes w c x (tells w (reply.Refused r))) (sym first) refl)
+    (λ want. subst (λ (x : Option Refusal). CommandDoes w c x (tells w (reply.Refused r))) (sym want.0) (inr (want.1, ap (λ (x : Refusal). tells w (reply.Refused x)) want.2)))
+    why
 
-  pub queue_first : takes_tab (session_named (sheet_in w).sessions f.session) ≡ true → IsCharBoundary f.input cursor
-      → first_of (command_refusals w (command.Complete id cursor)) ≡ first_of (queue_refusals w (life_of w f.session))
-  queue_first tab good = behind_tab tab ∙ ap (λ (b : Bool). first_of (chain true true b (queue_refusals w (life_of w f.session)))) (cursor_at_boundary f.input cursor good)
+module _ (w : World) (c : Command) (name : List ℕ) (i : Item) (g : GivesRequest w c name i) where
+  pub request_done : MayDo w (event.Command c) (does w c)
+  request_done = subst (λ (x : Option Refusal). CommandDoes w c x (does w c)) (sym g.none) (inl refl)
 
--- What a Complete does.
+  pub request_told : asks w name i (life_of w name) ≡ (does w c).told
+  request_told = sym (ap (λ (d : Does). d.told) g.does_is ∙ asked_told w i None name (life_of w name))
 
-module _ (w : World) (id cursor : ℕ) where
-  pub complete_refused : (r : Refusal) → RefusesComplete w id cursor r → MayDo w (event.Command (command.Complete id cursor)) (tells w (reply.Refused r))
-  complete_refused r why = ⊎_elim
-      (λ first. subst (λ (x : Option Refusal). CommandDoes w (command.Complete id cursor) x (tells w (reply.Refused r))) (sym first) refl)
-      (λ want. subst (λ (x : Option Refusal). CommandDoes w (command.Complete id cursor) x (tells w (reply.Refused r))) (sym want.0) (inr (refl, ap (λ (x : Refusal). tells w (reply.Refused x)) want.1)))
-      why
+  pub request_leads : with_item w name i (life_of w name) ≡ behind w (does w c)
+  request_leads = sym (ap (behind w) g.does_is ∙ asked_leads w i None name (life_of w name))
 
-  pub complete_done : first_of (command_refusals w (command.Complete id cursor)) ≡ None → MayDo w (event.Command (command.Complete id cursor)) (does w (command.Complete id cursor))
-  complete_done none = subst (λ (x : Option Refusal). CommandDoes w (command.Complete id cursor) x (does w (command.Complete id cursor))) (sym none) (inl refl)
-
-  -- a life is left for it
-  pub life_left : first_of (command_refusals w (command.Complete id cursor)) ≡ None → lives_are_spent w.begun (life_of w (session_of_field w id)) ≡ false
-  life_left none = (none_applies (command_refusals w (command.Complete id cursor)) none).1.1.1.1.0
-
-  pub complete_told : (name : List ℕ) (i : Item) → GivesRequest w id cursor name i → asks w name i (life_of w name) ≡ (does w (command.Complete id cursor)).told
-  complete_told name i g =
-      ap (λ (n : List ℕ). asks w n i (life_of w n)) g.session
-      ∙ ap (λ (j : Item). asks w (session_of_field w id) j (life_of w (session_of_field w id))) g.request
-      ∙ sym (asked_told w (request_of_field w id cursor) None (session_of_field w id) (life_of w (session_of_field w id)))
-
-  pub complete_leads : (name : List ℕ) (i : Item) → GivesRequest w id cursor name i → with_item w name i (life_of w name) ≡ behind w (does w (command.Complete id cursor))
-  complete_leads name i g =
-      ap (λ (n : List ℕ). with_item w n i (life_of w n)) g.session
-      ∙ ap (λ (j : Item). with_item w (session_of_field w id) j (life_of w (session_of_field w id))) g.request
-      ∙ sym (asked_leads w (request_of_field w id cursor) None (session_of_field w id) (life_of w (session_of_field w id)))
-
-  pub complete_on_disk : (old new : DiskView) → new ≡ old → OnDisk w.ops (does w (command.Complete id cursor)).anew (does w (command.Complete id cursor)).op old new
-  complete_on_disk old new same = asked_on_disk w (request_of_field w id cursor) None (session_of_field w id) (life_of w (session_of_field w id)) old new same
+  pub request_on_disk : (old new : DiskView) → new ≡ old → OnDisk w.ops (does w c).anew (does w c).op old new
+  request_on_disk old new same = subst (λ (d : Does). OnDisk w.ops d.anew d.op old new) (sym g.does_is) (asked_on_disk w i None name (life_of w name) old new same)

@@ -127,6 +127,10 @@ asks_item w i given name (Some l) = record {
   lives = replace_named (λ g. g.name) l.name (record l { past = l.past ++ accepted i ∷ [] }) w.lives;
 }
 
+-- the session of a field is asked what can stand at a cursor in a text, and the worksheet stays as it is
+abbrev pub asks_completions : World → ℕ → List ℕ → ℕ → Does
+asks_completions w id text cursor = asks_item w (item.Complete id text cursor) None (session_of_field w id) (life_of w (session_of_field w id))
+
 -- a life ends from outside; where none goes on, only this is returned
 abbrev pub ends_life : World → Reason → Bool → Option Going → Reply → Does
 ends_life w why killed None else_told = tells w else_told
@@ -152,8 +156,9 @@ does w (command.Move id after) = changes w (op.Move id after)
 does w (command.Clear id) = changes w (op.Clear id)
 -- the line of the field is asked, and its answer is taken away
 does w (command.Eval id) = asks_item w (item.Line id (input_of w id)) (Some (op.Clear id)) (session_of_field w id) (life_of w (session_of_field w id))
--- its input is asked at the cursor, and the worksheet stays as it is
-does w (command.Complete id cursor) = asks_item w (item.Complete id (input_of w id) cursor) None (session_of_field w id) (life_of w (session_of_field w id))
+-- its input is asked at the cursor, or the text that stands in its place
+does w (command.Complete id cursor) = asks_completions w id (input_of w id) cursor
+does w (command.CompleteText id cursor text) = asks_completions w id text cursor
 does w (command.Stop name) = ends_life w reason.Stopped true (life_of w name) reply.Done
 -- only the journal changes: it is rewritten
 does w command.Checkpoint = record { told = replies reply.Done; op = None; anew = true; begun = w.begun; lives = w.lives }

@@ -3,7 +3,7 @@
 use Rattle.std.specs.Prelude.{ℕ, ◌+◌, ◌&&◌, not, Bool, true, false, List, [], ◌∷◌, ◌++◌, length, drop, nat_le, nat_lt, Option, is_none, is_some}
 use Rattle.std.specs.Option.{option_map_or}
 use Rattle.block_tree.specs.declared.reason.Reason.TheVariants as reason
-use Rattle.worksheet.specs.Checks.{has_session, has_field, refusals, session_named}
+use Rattle.worksheet.specs.Checks.{has_session, has_field, is_input, refusals, session_named}
 use Rattle.worksheet.specs.declared.op.Op.{Op}
 use Rattle.worksheet.specs.declared.op.Op.TheVariants as op
 use Rattle.worksheet.specs.declared.refusal.Refusal.{Refusal}
@@ -48,8 +48,19 @@ begins_inside (b ∷ bs) = nat_le 128 b && nat_lt b 192
 abbrev pub is_cursor : List ℕ → ℕ → Bool
 is_cursor text at = nat_le at (length text) && not (begins_inside (drop at text))
 
--- The refusals of a command. Completions are asked of a session alone whose interpreter answers such requests, at a cursor in its
--- input.
+-- The refusals of completions for a field, before those of the text: there is no such field, or the interpreter of its session answers no
+-- such requests.
+abbrev pub tab_refusals : World → ℕ → List (Refusal × Bool)
+tab_refusals w id =
+    (refusal.NoField, not (has_field (sheet_in w) id))
+    ∷ (refusal.NoTab, not (option_map_or (λ s. s.tab) (session_named (sheet_in w).sessions (session_of_field w id)) false))
+    ∷ []
+
+-- and after those: this is no cursor in the text, or the session with this name takes no item more
+abbrev pub cursor_refusals : World → List ℕ → List ℕ → ℕ → List (Refusal × Bool)
+cursor_refusals w name text cursor = (refusal.BadCursor, not (is_cursor text cursor)) ∷ queue_refusals w (life_of w name)
+
+-- The refusals of a command. Completions are asked at a cursor in the input of a field, or in a text that may be one.
 abbrev pub command_refusals : World → Command → List (Refusal × Bool)
 command_refusals w (command.Session name tab words) = op_refusals w (op.Session name tab words)
 command_refusals w (command.New after session input) = op_refusals w (op.New after session input)
@@ -61,11 +72,9 @@ command_refusals w (command.Eval id) =
     (refusal.NoField, not (has_field (sheet_in w) id))
     ∷ (refusal.InFlight, in_flight w id)
     ∷ (queue_refusals w (life_of w (session_of_field w id)) ++ (refusal.JournalFull, not (fits_in w.room w.end (op.Clear id))) ∷ [])
-command_refusals w (command.Complete id cursor) =
-    (refusal.NoField, not (has_field (sheet_in w) id))
-    ∷ (refusal.NoTab, not (option_map_or (λ s. s.tab) (session_named (sheet_in w).sessions (session_of_field w id)) false))
-    ∷ (refusal.BadCursor, not (is_cursor (input_of w id) cursor))
-    ∷ queue_refusals w (life_of w (session_of_field w id))
+command_refusals w (command.Complete id cursor) = tab_refusals w id ++ cursor_refusals w (session_of_field w id) (input_of w id) cursor
+command_refusals w (command.CompleteText id cursor text) =
+    tab_refusals w id ++ (refusal.BadInput, not (is_input text)) ∷ cursor_refusals w (session_of_field w id) text cursor
 command_refusals w (command.Stop name) = (refusal.NoSession, not (has_session (sheet_in w) name)) ∷ []
 -- the ops that make the worksheet again have no room: the gate after their records isn't in the area
 command_refusals w command.Checkpoint = (refusal.JournalFull, not (nat_le (end_anew (sheet_in w) + 1) w.room)) ∷ []

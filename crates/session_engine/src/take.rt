@@ -55,6 +55,7 @@ impl<D: Disk> Engine<D> {
         match command {
             Command::Eval { id } => self.eval(id),
             Command::Complete { id, cursor } => Ok(self.complete(id, cursor)),
+            Command::CompleteText { id, cursor, text } => Ok(self.complete_text(id, cursor, text)),
             Command::Stop { name } => self.stop(name),
             Command::Checkpoint => self.checkpoint(),
             other => match other.into_op() {

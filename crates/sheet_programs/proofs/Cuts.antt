@@ -41,6 +41,7 @@ does_told w (command.Move id after) None d edit (inl is) = subst (λ (x : Does).
 does_told w (command.Clear id) None d edit (inl is) = subst (λ (x : Does). is_wrong x.told.reply ≡ is_refused x.told.reply) (sym is) refl
 does_told w (command.Eval id) None d edit (inl is) = absurd (false≢true edit)
 does_told w (command.Complete id cursor) None d edit (inl is) = absurd (false≢true edit)
+does_told w (command.CompleteText id cursor text) None d edit (inl is) = absurd (false≢true edit)
 does_told w (command.Stop name) None d edit (inl is) = absurd (false≢true edit)
 does_told w command.Checkpoint None d edit (inl is) = absurd (false≢true edit)
 

@@ -60,6 +60,7 @@ does_alone w (command.Move id after) None d edit (inl is) = ap (λ (x : Does). x
 does_alone w (command.Clear id) None d edit (inl is) = ap (λ (x : Does). x.told.effect) is
 does_alone w (command.Eval id) None d edit (inl is) = absurd (false≢true edit)
 does_alone w (command.Complete id cursor) None d edit (inl is) = absurd (false≢true edit)
+does_alone w (command.CompleteText id cursor text) None d edit (inl is) = absurd (false≢true edit)
 does_alone w (command.Stop name) None d edit (inl is) = absurd (false≢true edit)
 does_alone w command.Checkpoint None d edit (inl is) = absurd (false≢true edit)
 

@@ -60,6 +60,7 @@ fn is_edit(command: &Command) -> bool
         | Command::Clear { .. } => true,
         Command::Eval { .. }
         | Command::Complete { .. }
+        | Command::CompleteText { .. }
         | Command::Stop { .. }
         | Command::Checkpoint => false,
     }

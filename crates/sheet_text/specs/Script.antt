@@ -102,9 +102,21 @@ two_numbers rest = numbers_behind (number_written (before_space rest)) (behind_s
 abbrev pub move_of : List ℕ → Option Command
 move_of rest = option_map (λ numbers. command.Move numbers.0 numbers.1) (two_numbers rest)
 
--- ID CURSOR
+-- the text after the space that ends a cursor; where that space is missing, the input of the field is meant
+abbrev pub complete_at : ℕ → Option ℕ → Option (List ℕ) → Option Command
+complete_at id None text = None
+complete_at id (Some cursor) None = Some (command.Complete id cursor)
+complete_at id (Some cursor) (Some text) = Some (command.CompleteText id cursor text)
+
+-- CURSOR, or CURSOR TEXT
+abbrev pub complete_behind : Option ℕ → Option (List ℕ) → Option Command
+complete_behind None rest = None
+complete_behind (Some id) None = None
+complete_behind (Some id) (Some rest) = complete_at id (number_written (before_space rest)) (behind_space rest)
+
+-- ID CURSOR, or ID CURSOR TEXT
 abbrev pub complete_of : List ℕ → Option Command
-complete_of rest = option_map (λ numbers. command.Complete numbers.0 numbers.1) (two_numbers rest)
+complete_of rest = complete_behind (number_written (before_space rest)) (behind_space rest)
 
 -- the command of this name, with what comes after the space that ends the name
 abbrev pub command_of : List ℕ → List ℕ → Option Command
@@ -152,6 +164,7 @@ keeps_bytes (command.Move id after) = false
 keeps_bytes (command.Clear id) = false
 keeps_bytes (command.Eval id) = false
 keeps_bytes (command.Complete id cursor) = false
+keeps_bytes (command.CompleteText id cursor text) = true
 keeps_bytes (command.Stop name) = true
 keeps_bytes command.Checkpoint = false
 

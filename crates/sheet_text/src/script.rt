@@ -165,14 +165,39 @@ fn read_move(rest: &[u8]) -> Result<Command, LineFault>
     Ok(Command::Move { id, after })
 }
 
-/// `ID CURSOR`
-fn read_complete(rest: &[u8]) -> Result<Command, LineFault>
+/// `CURSOR`, or `CURSOR TEXT`
+fn read_cursor(alloc: Global, id: u32, rest: &[u8]) -> Result<Command, LineFault>
+    ensures ok { IfOk result (λ told. said.complete_behind (Some id) (Some rest.now) ≡ Some told) }
+    ensures bad { IsErrOf result fault.BadLine
+        → said.complete_behind (Some id) (Some rest.now) ≡ None }
+    ensures memory { IsErrOf result fault.OutOfMemory
+        → said.wants_memory_for (said.complete_behind (Some id) (Some rest.now)) ≡ true }
+{
+    let (cursor, text) = split_space(rest);
+    let cursor = number(cursor)?;
+    match text {
+        None => Ok(Command::Complete { id, cursor }),
+        Some(text) => Ok(Command::CompleteText {
+            id,
+            cursor,
+            text: copied(alloc, text)?,
+        }),
+    }
+}
+
+/// `ID CURSOR`, or `ID CURSOR TEXT`
+fn read_complete(alloc: Global, rest: &[u8]) -> Result<Command, LineFault>
     ensures ok { IfOk result (λ told. said.complete_of rest.now ≡ Some told) }
     ensures bad { IsErrOf result fault.BadLine → said.complete_of rest.now ≡ None }
-    ensures held { IsErrOf result fault.OutOfMemory → ⊥ }
+    ensures memory { IsErrOf result fault.OutOfMemory
+        → said.wants_memory_for (said.complete_of rest.now) ≡ true }
 {
-    let (id, cursor) = two_numbers(rest)?;
-    Ok(Command::Complete { id, cursor })
+    let (id, rest) = split_space(rest);
+    let id = number(id)?;
+    let Some(rest) = rest else {
+        return Err(LineFault::BadLine);
+    };
+    read_cursor(alloc, id, rest)
 }
 
 /// The command of this name, with what comes after the space that ends the name.
@@ -197,7 +222,7 @@ fn read_command(alloc: Global, name: &[u8], rest: &[u8]) -> Result<Command, Line
     } else if name == b"eval".as_slice() {
         Ok(Command::Eval { id: number(rest)? })
     } else if name == b"complete".as_slice() {
-        read_complete(rest)
+        read_complete(alloc, rest)
     } else if name == b"stop".as_slice() {
         Ok(Command::Stop {
             name: copied(alloc, rest)?,

@@ -8,6 +8,7 @@ use Rattle.worksheet.specs.declared.refusal.Refusal.TheVariants as refusal
 use Rattle.worksheet.specs.Checks.{first_of}
 use Rattle.block_tree.specs.declared.reason.Reason.{Reason}
 use Rattle.block_tree.specs.declared.reason.Reason.TheVariants as reason
+use Rattle.plugin_core.specs.declared.item.Item.TheVariants as item
 use Rattle.plugin_core.specs.Past.{received, stream_of}
 use Rattle.plugin_core.specs.Steps.{Reads, step_of}
 use Rattle.host_events.specs.declared.command.Command.{Command}
@@ -38,6 +39,7 @@ outcome_of w (command.Move id place) = replies reply.Done
 outcome_of w (command.Clear id) = replies reply.Done
 outcome_of w (command.Eval id) = asks w (session_of_field w id) (line_of_field w id) (life_of w (session_of_field w id))
 outcome_of w (command.Complete id cursor) = asks w (session_of_field w id) (request_of_field w id cursor) (life_of w (session_of_field w id))
+outcome_of w (command.CompleteText id cursor text) = asks w (session_of_field w id) (item.Complete id text cursor) (life_of w (session_of_field w id))
 outcome_of w (command.Stop name) = stops (life_of w name)
 outcome_of w command.Checkpoint = replies reply.Done
 
@@ -51,6 +53,7 @@ after w (command.Move id place) = with_op (op.Move id place) w
 after w (command.Clear id) = with_op (op.Clear id) w
 after w (command.Eval id) = with_op (op.Clear id) (with_item w (session_of_field w id) (line_of_field w id) (life_of w (session_of_field w id)))
 after w (command.Complete id cursor) = with_item w (session_of_field w id) (request_of_field w id cursor) (life_of w (session_of_field w id))
+after w (command.CompleteText id cursor text) = with_item w (session_of_field w id) (item.Complete id text cursor) (life_of w (session_of_field w id))
 after w (command.Stop name) = with_op_if (kept_at_end w reason.Stopped (life_of w name)) (without_life name w)
 after w command.Checkpoint = renewed w
 

@@ -27,16 +27,16 @@ use Rattle.host_events.specs.declared.outcome.Outcome.{Outcome}
 use Rattle.host_events.specs.declared.reply.Reply.{Reply}
 use Rattle.host_events.specs.declared.reply.Reply.TheVariants as reply
 use Rattle.host_events.specs.declared.outcome.Effect.TheVariants as effect
-use Rattle.session_engine.specs.World.{World, Going, waiting_in, with_op_if, fits_in, kept_at_end, life_of, sheet_in, session_of_field}
-use Rattle.session_engine.specs.inside.Words.{with_op, fits, if_fits, request_of_field}
-use Rattle.session_engine.specs.Refused.{command_refusals}
-use Rattle.host_events.specs.declared.command.Command.TheVariants as command
-use Rattle.session_engine.specs.Does.{replies, refused}
+use Rattle.session_engine.specs.World.{World, Going, waiting_in, with_op_if, fits_in, kept_at_end, life_of, sheet_in}
+use Rattle.session_engine.specs.inside.Words.{with_op, fits, if_fits, lives_are_spent}
+use Rattle.session_engine.specs.Refused.{command_refusals, command_takes_memory}
+use Rattle.host_events.specs.declared.command.Command.{Command}
+use Rattle.session_engine.specs.Does.{replies, refused, does, asks_item}
 use Rattle.session_engine.specs.inside.Parts.{eval_refusals, asks, with_item}
 use Rattle.session_engine.specs.inside.Engines.{StandsAt}
 use Rattle.session_engine.specs.declared.commits.LoseFault.{LoseFault}
 use Rattle.session_engine.specs.declared.commits.LoseFault.TheVariants as loses
-use Rattle.session_engine.specs.Host.{OnDisk}
+use Rattle.session_engine.specs.Host.{HasField, OnDisk}
 
 -- the op is on the disk and in the worksheet, after these
 pub record Committed (old : StoreView) (ops : List Op) (o : Op) (new : StoreView) : Type 0 where
@@ -177,14 +177,14 @@ Evaluated w name id line old new o =
     ((o ≡ asks w name line (life_of w name)) × StandsAt new (with_op (op.Clear id) (with_item w name line (life_of w name))))
     ⊎ ((o ≡ refused refusal.OutOfMemory) × StandsAt new w × (new.store.disk ≡ old.store.disk))
 
--- What completions are asked with: the session of the field, and its input at the cursor. No refusal applies.
-pub record GivesRequest (w : World) (id cursor : ℕ) (name : List ℕ) (i : Item) : Type 0 where
-  pub none : first_of (command_refusals w (command.Complete id cursor)) ≡ None
-  pub session : name ≡ session_of_field w id
-  pub request : i ≡ request_of_field w id cursor
+-- What this command asks completions with: the name of the session, and the request. No refusal applies.
+pub record GivesRequest (w : World) (c : Command) (name : List ℕ) (i : Item) : Type 0 where
+  pub none : first_of (command_refusals w c) ≡ None
+  pub takes : command_takes_memory w c ≡ true
+  pub left : lives_are_spent w.begun (life_of w name) ≡ false
+  pub has : HasField (sheet_in w) i
+  pub does_is : does w c ≡ asks_item w i None name (life_of w name)
 
--- why a Complete is refused
-abbrev pub RefusesComplete : World → ℕ → ℕ → Refusal → Type 0
-RefusesComplete w id cursor r =
-    (first_of (command_refusals w (command.Complete id cursor)) ≡ Some r)
-    ⊎ ((first_of (command_refusals w (command.Complete id cursor)) ≡ None) × (r ≡ refusal.OutOfMemory))
+-- why it asks none
+abbrev pub RefusesRequest : World → Command → Refusal → Type 0
+RefusesRequest w c r = (first_of (command_refusals w c) ≡ Some r) ⊎ ((first_of (command_refusals w c) ≡ None) × (command_takes_memory w c ≡ true) × (r ≡ refusal.OutOfMemory))
