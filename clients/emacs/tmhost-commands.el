@@ -238,7 +238,7 @@ TAB says that it answers requests of completions.  Give NAME."
 
 (defun tmhost-completion-at-point ()
   "What can stand at point, by the interpreter of the field.
-The input is saved first, since the interpreter is asked about what is saved."
+It is asked about the text as it stands here, which isn't saved by that."
   (let* ((field (tmhost-view-field-at (point)))
          (session (and field (tmhost-sheet-session
                               (tmhost-field-session field)))))
@@ -250,19 +250,16 @@ The input is saved first, since the interpreter is asked about what is saved."
 
 (defun tmhost--ask-completions (field)
   "What can stand at point in FIELD; nil where that isn't told in time."
-  (let ((cursor (tmhost-text-bytes
-                 (tmhost-text-input
-                  (buffer-substring-no-properties (tmhost-view-head-end field)
-                                                  (point)))))
-        (is-over nil) (told nil))
-    (tmhost-sheet-save
-     field
-     (lambda (is-saved)
-       (if is-saved
-           (tmhost-sheet-complete field cursor
-                                  (lambda (object)
-                                    (setq told object is-over t)))
-         (setq is-over t))))
+  (let* ((begin (tmhost-view-head-end field))
+         (text-to (lambda (end)
+                    (tmhost-text-input
+                     (buffer-substring-no-properties begin end))))
+         (is-over nil) (told nil))
+    (tmhost-sheet-complete field
+                           (funcall text-to (tmhost-view-input-end field))
+                           (tmhost-text-bytes (funcall text-to (point)))
+                           (lambda (object)
+                             (setq told object is-over t)))
     (tmhost-talk-wait (lambda () is-over) tmhost-completion-patience)
     told))
 

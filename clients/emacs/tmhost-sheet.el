@@ -235,12 +235,12 @@ One that was removed meanwhile doesn't keep the others from it."
     (message "%s: %s%s" (tmhost-session-name session) why
              (if left (format "; not evaluated: %d more" (length left)) ""))))
 
-(defun tmhost-sheet-complete (field cursor taker)
-  "Ask what can stand in FIELD, which is saved, behind CURSOR bytes.
+(defun tmhost-sheet-complete (field text cursor taker)
+  "Ask what can stand in TEXT, in FIELD's place, behind CURSOR bytes.
 TAKER is given what is told, nil for nothing."
   (let ((request (cons (tmhost-field-session field) taker)))
     (tmhost-talk-send
-     (format "complete %d %d" (tmhost-field-id field) cursor)
+     (format "complete %d %d %s" (tmhost-field-id field) cursor text)
      (lambda (reply)
        (if (equal (alist-get 'type reply) "asked")
            (setq tmhost-sheet--requests

@@ -25,19 +25,14 @@ export class Completions {
   }
 
   /**
-   * Asks for completions at the cursor of a cell. Its text is saved first, so that a save on its way isn't taken for another page's.
+   * Asks for completions at the cursor of a cell, in its text as it stands on the page: it isn't saved by that, and keeps its output.
    * @type {(view: CellView) => Promise<void>}
    */
   async open(view) {
     const { selectionStart: cursor, value: text } = view.text;
     const isThere = () => view.text.value === text && view.text.selectionStart === cursor;
     view.page.note("asking for completions");
-    const isSaved = await view.save();
-    if (!isSaved || !isThere()) {
-      view.page.note(isSaved ? "" : "no completions: the cell is not saved");
-      return;
-    }
-    const told = await ask("complete", { id: view.id, text, base: text, cursor });
+    const told = await ask("complete", { id: view.id, text, cursor });
     view.page.note(told.refused ? `no completions: ${told.says}` : "");
     if (told.refused || !isThere()) return;
     const rest = (told.rest ?? []).filter((one) => one !== "");

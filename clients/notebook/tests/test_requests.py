@@ -108,7 +108,7 @@ class Requests(Case):
                       {"call": "new", "session": "a", "text": "", "after": 7}, {"call": "session", "name": "a b\nc", "words": "x", "tab": False},
                       {"call": "session", "name": "a", "words": "", "tab": False}, {"call": "stop", "session": "a\nremove 1"},
                       {"call": "eval", "id": 5}, {"call": "output", "id": 5, "start": 0},
-                      {"call": "complete", "id": 5, "text": "\ud800", "base": "", "cursor": 1},
+                      {"call": "complete", "id": 5, "text": "\ud800", "cursor": 1},
         ]
         for asked in nonsense:
             with self.subTest(asked=asked):

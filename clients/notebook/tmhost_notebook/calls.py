@@ -242,14 +242,11 @@ def call_session(book: Book, asked: Facts) -> Facts:
 
 
 def call_complete(book: Book, asked: Facts) -> Facts:
-    """What can stand at a cursor, which counts the characters before it, as JavaScript does. The cell's text is saved first."""
+    """What can stand at a cursor in a text, which the cell needn't have yet. The cursor counts the characters before it, as JavaScript does."""
     id, given, cursor = number(asked, "id"), text(asked, "text"), number(asked, "cursor")
-    with book.order:
-        at = keep_text(book, asked, id)
     before = given.encode("utf-16-le", "surrogatepass")[: 2 * cursor].decode("utf-16-le", "replace")
     place = len(before.replace("\n", "\u2028").encode("utf-8"))
-    found = book.sheet.complete(id, place, timeout=COMPLETED_WITHIN)
-    return {**completion_facts(found), "at": at}
+    return completion_facts(book.sheet.complete(id, place, timeout=COMPLETED_WITHIN, text=given))
 
 
 def completion_facts(found: Optional[Completions]) -> Facts:

@@ -88,6 +88,7 @@ class Calls(AsyncCase):
         sheet = await self.open_async("a_tab")
         cell = await sheet.new("a_tab", "pr")
         self.assertEqual(await cell.complete(), Completions("pr", ("a", "\u00e9", b"\xe9")))
+        self.assertEqual(await cell.complete(text="p"), Completions("p", ("a", "\u00e9", b"\xe9")))
 
     async def test_sessions_side_by_side(self) -> None:
         sheet = await self.open_async("a", "b")

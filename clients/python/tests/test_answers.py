@@ -217,6 +217,24 @@ class Completing(Case):
         self.assertEqual(cell.state, "empty")
         self.assert_exact(sheet)
 
+    def test_completions_of_a_text(self) -> None:
+        """It isn't the cell's, which keeps what it shows."""
+        sheet = self.sheet("a_tab")
+        cell = sheet.new("a_tab", "x")
+        cell.evaluate()
+        self.assertEqual(cell.complete(text="pr\u00e9"), Completions("pr\u00e9", ("a", "\u00e9", b"\xe9")))
+        self.assertEqual(cell.complete(2, text="pr\u00e9"), Completions("pr", ("a", "\u00e9", b"\xe9")))
+        self.assertEqual(cell.complete(text="a\nb"), Completions("a\u2028b", ("a", "\u00e9", b"\xe9")))
+        self.assertEqual(cell.complete(text=""), Completions("", ("a", "\u00e9", b"\xe9")))
+        with self.assertRaises(Refused) as raised:
+            cell.complete(3, text="pr\u00e9")
+        self.assertEqual(raised.exception.name, "BadCursor")
+        with self.assertRaises(Refused) as raised:
+            cell.complete(text="x" * 4096)
+        self.assertEqual(raised.exception.name, "BadInput")
+        self.assertEqual((cell.state, cell.input, cell.text), ("answered", "x", "x"))
+        self.assert_exact(sheet)
+
     def test_quotes(self) -> None:
         cell = self.sheet("a_tab").new("a_tab", 'f("x"')
         self.assertRaises(Refused, cell.complete, 7)

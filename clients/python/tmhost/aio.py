@@ -79,8 +79,10 @@ class AsyncCell(CellView):
     async def evaluate(self, timeout: Optional[float] = None) -> Answer:
         return await self._worksheet.evaluate(self, timeout)
 
-    async def complete(self, cursor: Optional[int] = None, timeout: Optional[float] = None) -> Optional[Completions]:
-        return await self._worksheet.complete(self, cursor, timeout)
+    async def complete(
+        self, cursor: Optional[int] = None, timeout: Optional[float] = None, text: Optional[str] = None
+    ) -> Optional[Completions]:
+        return await self._worksheet.complete(self, cursor, timeout, text)
 
 
 class AsyncWorksheet:
@@ -240,15 +242,16 @@ class AsyncWorksheet:
         return evaluation
 
     async def complete(
-        self, cell: AsyncCellLike, cursor: Optional[int] = None, timeout: Optional[float] = None
+        self, cell: AsyncCellLike, cursor: Optional[int] = None, timeout: Optional[float] = None, text: Optional[str] = None
     ) -> Optional[Completions]:
-        """What can stand at a cursor in the input of a cell; the cursor is the number of bytes before it, in UTF-8, None for the end. None
-        where the interpreter's answer can't be read. Waits for that answer."""
+        """What can stand at a cursor in the input of a cell, or in a text in its place, which the worksheet doesn't get; the cursor is the number
+        of bytes before it, in UTF-8, the end of a line counted as three, None for the end. None where the interpreter's answer can't be
+        read. Waits for that answer."""
         id, moment = id_of(self, cell), Moment(timeout)
         if cursor is None:
-            cursor = len(self._field(id).input.encode("utf-8"))
+            cursor = commands.length_of(self._field(id).input if text is None else text)
         future: "asyncio.Future[Optional[Completions]]" = new_future()
-        await self._connection.do(commands.Complete(id, cursor, future), moment.left(self._timeout))
+        await self._connection.do(commands.Complete(id, cursor, future, text), moment.left(self._timeout))
         return await outcome(future, moment.left(), "complete")
 
     # ---- the whole

@@ -86,8 +86,8 @@ class Cell(CellView):
     def evaluate(self, timeout: Optional[float] = None) -> Answer:
         return self._worksheet.evaluate(self, timeout)
 
-    def complete(self, cursor: Optional[int] = None, timeout: Optional[float] = None) -> Optional[Completions]:
-        return self._worksheet.complete(self, cursor, timeout)
+    def complete(self, cursor: Optional[int] = None, timeout: Optional[float] = None, text: Optional[str] = None) -> Optional[Completions]:
+        return self._worksheet.complete(self, cursor, timeout, text)
 
 
 class Worksheet:
@@ -248,14 +248,17 @@ class Worksheet:
         self._connection.do(commands.Eval(evaluation.id, evaluation), timeout)
         return evaluation
 
-    def complete(self, cell: CellLike, cursor: Optional[int] = None, timeout: Optional[float] = None) -> Optional[Completions]:
-        """What can stand at a cursor in the input of a cell; the cursor is the number of bytes before it, in UTF-8, None for the end. None
-        where the interpreter's answer can't be read. Waits for that answer."""
+    def complete(
+        self, cell: CellLike, cursor: Optional[int] = None, timeout: Optional[float] = None, text: Optional[str] = None
+    ) -> Optional[Completions]:
+        """What can stand at a cursor in the input of a cell, or in a text in its place, which the worksheet doesn't get; the cursor is the number
+        of bytes before it, in UTF-8, the end of a line counted as three, None for the end. None where the interpreter's answer can't be
+        read. Waits for that answer."""
         id, moment = id_of(self, cell), Moment(timeout)
         if cursor is None:
-            cursor = len(self._field(id).input.encode("utf-8"))
+            cursor = commands.length_of(self._field(id).input if text is None else text)
         future: "Future[Optional[Completions]]" = Future()
-        self._connection.do(commands.Complete(id, cursor, future), moment.left(self._timeout))
+        self._connection.do(commands.Complete(id, cursor, future, text), moment.left(self._timeout))
         return outcome(future, moment.left(), "complete")
 
     # ---- the whole

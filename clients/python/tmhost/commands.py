@@ -28,6 +28,11 @@ def input_of(text: str) -> str:
     return text.replace("\n", LINE_END)
 
 
+def length_of(text: str) -> int:
+    """How many bytes a text has in a worksheet."""
+    return len(input_of(text).encode("utf-8", "surrogatepass"))
+
+
 def checked_name(name: str, refusal: str, number: int) -> str:
     """A name that no session may have could be a part of another line, so it isn't sent; the refusal is that of the host."""
     if not NAME.fullmatch(name):
@@ -203,13 +208,17 @@ class Eval(OfCell[None]):
 
 @dataclasses.dataclass
 class Complete(OfCell[None]):
+    """Of the input of a cell, or of a text in its place."""
+
     cursor: int
     waiter: "Settles[Optional[Completions]]"
+    text: Optional[str] = None
     word = "complete"
 
     @property
     def line(self) -> str:
-        return f"complete {self.id} {self.cursor}"
+        asked = f"complete {self.id} {self.cursor}"
+        return asked if self.text is None else f"{asked} {input_of(self.text)}"
 
     def taken(self, mirror: Mirror, reply: Reply) -> None:
         life = expected(reply, Asked).life

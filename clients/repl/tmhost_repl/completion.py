@@ -1,7 +1,7 @@
 """Completions at TAB, which the interpreter of the session tells.
 
-It is asked about the input of a cell, so a line that is typed gets its cell at the first TAB, at the end of the worksheet. Enter evaluates
-this cell, and a line that is given up takes it away.
+It is asked about a text in the place of the input of one of the session's cells. Where there is none yet, the line that is typed gets its
+cell at the first TAB. Enter evaluates this cell, and a line that is given up takes it away.
 """
 
 import contextlib
@@ -23,6 +23,11 @@ class Draft:
     def __init__(self, worksheet: Worksheet) -> None:
         self.worksheet = worksheet
         self._cell: Optional[Cell] = None
+
+    def any_of(self, session: str, text: str) -> Cell:
+        """A cell of this session, be it a new one with this text."""
+        found = next((cell for cell in self.worksheet.cells if cell.session == session), None)
+        return found or self.with_text(session, text)
 
     def with_text(self, session: str, text: str) -> Cell:
         """A cell at the end with this text."""
@@ -89,10 +94,10 @@ class Completer:
         session = self.worksheet.sessions[self.session]
         if not self.is_on or not session.tab or session.waiting or not front.strip():
             return []
-        behind = readline.get_line_buffer()[len(front) :]
-        cell = self.draft.with_text(self.session, self.prefix + front + behind)
+        text = self.prefix + front + readline.get_line_buffer()[len(front) :]
+        cell = self.draft.any_of(self.session, text)
         cursor = len((self.prefix + front).replace("\n", LINE_END).encode("utf-8", "surrogatepass"))
-        return matches(cell.complete(cursor, STARTING if session.life is None else SECONDS), front)
+        return matches(cell.complete(cursor, STARTING if session.life is None else SECONDS, text), front)
 
     def _display(self, substitution: str, found: Sequence[str], longest: int) -> None:
         """The words alone, and the line again below them."""
