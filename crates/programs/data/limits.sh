@@ -184,13 +184,15 @@ without_memory() {
     shift 2
     while [ $((high - low)) -gt 256 ]; do
         middle=$(((low + high) / 2))
-        if (ulimit -v $middle && exec "$tmhost" "$@") </dev/null >told 2>errors; then high=$middle; else low=$middle; fi
+        if (ulimit -v $middle && exec "$tmhost" "$@") </dev/null >text 2>errors; then high=$middle; else low=$middle; fi
     done
     compare "$name without memory" "$(ulimit -v $low && answer "$@" </dev/null)" "$(ending "$text" 1)"
 }
 without_memory 'a notebook' 'fault 43 OutOfMemory\n' export notebook big
-without_memory 'a worksheet' 'fault 33 OutOfMemory\n' show big
-rm -f told big big.alt saved saved.alt many page.awk
+for program in show 'export html' live run 'run --strict'; do
+    without_memory "$program" 'fault 33 OutOfMemory\n' $program big
+done
+rm -f big big.alt saved saved.alt many page.awk
 
 # Calls on real files that fail each time: NAME CALL ERROR STATUS TEXT WORDS. Where the system has no filter of calls the case counts so.
 python3 failing.py fsync EIO true
@@ -204,14 +206,14 @@ failing() {
 rm -f sheet sheet.alt made made.alt
 "$tmhost" create sheet
 printf 'session a plain p\nnew 0 a x\n' >given
-"$tmhost" run sheet <given >told
+"$tmhost" run sheet <given >text
 printf 'set 1 y\n' >given
 failing 'a sync of data that fails' fdatasync EIO 1 'fault 32 Disk\n' run sheet <given
 failing 'a sync of data that fails while a worksheet is made' fdatasync EIO 1 'fault 32 Disk\n' create made
 failing 'a read that fails' pread64 EIO 1 'fault 32 Disk\n' show sheet
 failing 'a lock that fails' flock EIO 1 'fault 32 Disk\n' show sheet
 failing 'a file system without a service of locks' flock ENOLCK 0 '#1 a\n> x\n?\n' show sheet
-rm -f told made made.alt
+rm -f made made.alt
 
 # Inputs and outputs that fail.
 compare 'a script that is a folder' "$(answer run sheet </)" "$(ending 'fault 40 Input\n' 1)"
