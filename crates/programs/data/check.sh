@@ -25,6 +25,7 @@ while IFS= read -r line; do
             odd) printf '\002verbatim:\377\303\251\357\277\276\005'; continue ;;
             looks) until grep -q '^+ another$' text; do sleep 0.01; done ;;
             heads) until grep -q '^worksheet three$' text; do sleep 0.01; done ;;
+            opens) until grep -q '^TAP version 13$' text; do sleep 0.01; done ;;
         esac
     fi
     case $line in
@@ -418,6 +419,9 @@ made "$a"'new 0 a x\neval 1\nwait\n'
 "$tmhost" check --format tap sheet >/dev/full 2>errors
 compare 'a report on a full output' "$? $(cat errors)" '1 fault 42 Output'
 sent 'a report on a full output' ''
+made "$a"'new 0 a opens\neval 1\nwait\n'
+timeout 10 "$tmhost" check --format tap sheet >text 2>errors
+compare 'the front of a report that is read at once' "$? $(cat text errors)" "$(printf '0 TAP version 13\nok 1 - field 1 of a\n1..1')"
 
 # Several worksheets: each below a line with its path, and the total at the end. They are made so: PATH SCRIPT.
 made_at() {

@@ -218,6 +218,24 @@ interpreter p "$banner" '\002verbatim:A\005' ''
 script 'lives that go on are stopped at the end' "$one"'eval 1\n' 'ok\nfield 1\nasked\nbanner a\nanswered 1\nasked\n' '#1 a\n> x\n?\n'
 ended 'lives that go on are stopped at the end' 1
 
+# An interpreter that has begun another program, which outlives it and holds its output: a stop doesn't wait for that one.
+cat >p.sh <<'END_OF_CHILD'
+echo $$ >>lives
+sleep 15 &
+echo $! >begun
+printf '\002verbatim:\005'
+read -r line
+printf '\002verbatim:A\005'
+read -r line
+END_OF_CHILD
+rm -f lives sheet sheet.alt
+"$tmhost" create sheet
+printf "$one"'stop a\nset 1 y\n' >given
+compare 'a stop beside what an interpreter began' "$(timeout 10 "$tmhost" run sheet <given; kill -0 "$(cat begun)" && echo 'that goes on')" \
+    "$(printf 'ok\nfield 1\nasked\nbanner a\nanswered 1\nended a Stopped lost 0\nok\nthat goes on')"
+kill "$(cat begun)"
+ended 'a stop beside what an interpreter began' 1
+
 # What takes a reason away.
 then=exit
 interpreter p "$banner" '\002verbatim:hal'

@@ -257,7 +257,9 @@ say 'print\n'
 hears 'objects of a worksheet' '{"field":{"id":1,"input":"x","output":'"$block"',"prompt":"> ","session":"a","shown":"A","state":"answered"},"line":7,"more":true,"type":"field"}\n{"fields":[1],"line":7,"next":2,"sessions":[{"life":1,"name":"a","tab":false,"waiting":0,"words":["sh","p.sh"]}],"type":"sheet"}\n'
 say 'interrupt a\n'
 hears 'an object of an interrupt' '{"line":8,"outcome":"idle","type":"interrupted"}\n'
-hang_up 'a talk in JSON' '{"type":"end"}\n' '#1 a\n> x\nA\n'
+say 'new 1 a y\nset 2 z\n'
+hears 'objects of lines that come together' '{"id":2,"line":9,"type":"made"}\n{"line":10,"type":"done"}\n'
+hang_up 'a talk in JSON' '{"type":"end"}\n' '#1 a\n> x\nA\n#2 a\n> z\n?\n'
 
 # Faults: before the worksheet is open it is the only object, and then the last one.
 faulty() {

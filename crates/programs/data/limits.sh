@@ -172,21 +172,48 @@ compare 'many fields as JSON' "$("$tmhost" export json big </dev/null | cksum)" 
         printf '],"next":30001,"sessions":[{"life":null,"name":"a","tab":false,"waiting":0,"words":["sh"]}],"type":"sheet"}\n{"type":"end"}\n'
     } | cksum)"
 
-# The same answer alone. With a little less memory, in units of 1,024 bytes, than its notebook takes, that is reported.
+# The same answer alone, and a little less memory, in units of 1,024 bytes, than these words take: NAME TEXT WORDS. That is reported.
 {
     printf 'TMWSHEET\001AR\000\000\000\011\001\001a\000\001\000\002shR\000\000\000\012\002\000\000\000\000\001a\000\001y'
     printf 'R\000\036\204\224\007\000\000\000\001\000\002> \002verbatim:'
     answer_of_many
     printf '\005\000'
 } >big
-low=0
-high=262144
-while [ $((high - low)) -gt 256 ]; do
-    middle=$(((low + high) / 2))
-    if (ulimit -v $middle && exec "$tmhost" export notebook big) </dev/null >text 2>errors; then high=$middle; else low=$middle; fi
+without_memory() {
+    name=$1 text=$2 low=0 high=262144
+    shift 2
+    while [ $((high - low)) -gt 256 ]; do
+        middle=$(((low + high) / 2))
+        if (ulimit -v $middle && exec "$tmhost" "$@") </dev/null >text 2>errors; then high=$middle; else low=$middle; fi
+    done
+    compare "$name without memory" "$(ulimit -v $low && answer "$@" </dev/null)" "$(ending "$text" 1)"
+}
+without_memory 'a notebook' 'fault 43 OutOfMemory\n' export notebook big
+for program in show 'export html' live run 'run --strict'; do
+    without_memory "$program" 'fault 33 OutOfMemory\n' $program big
 done
-compare 'a notebook without memory' "$(ulimit -v $low && answer export notebook big </dev/null)" "$(ending 'fault 43 OutOfMemory\n' 1)"
 rm -f big big.alt saved saved.alt many page.awk
+
+# Calls on real files that fail each time: NAME CALL ERROR STATUS TEXT WORDS. Where the system has no filter of calls the case counts so.
+python3 failing.py fsync EIO true
+filtered=$?
+failing() {
+    name=$1 call=$2 error=$3 want=$(ending "$5" "$4")
+    shift 5
+    if [ $filtered = 0 ]; then got=$(python3 failing.py "$call" "$error" "$tmhost" "$@" 2>&1; echo "status $?"); else got=$want; fi
+    compare "$name" "$got" "$want"
+}
+rm -f sheet sheet.alt made made.alt
+"$tmhost" create sheet
+printf 'session a plain p\nnew 0 a x\n' >given
+"$tmhost" run sheet <given >text
+printf 'set 1 y\n' >given
+failing 'a sync of data that fails' fdatasync EIO 1 'fault 32 Disk\n' run sheet <given
+failing 'a sync of data that fails while a worksheet is made' fdatasync EIO 1 'fault 32 Disk\n' create made
+failing 'a read that fails' pread64 EIO 1 'fault 32 Disk\n' show sheet
+failing 'a lock that fails' flock EIO 1 'fault 32 Disk\n' show sheet
+failing 'a file system without a service of locks' flock ENOLCK 0 '#1 a\n> x\n?\n' show sheet
+rm -f made made.alt
 
 # Inputs and outputs that fail.
 compare 'a script that is a folder' "$(answer run sheet </)" "$(ending 'fault 40 Input\n' 1)"

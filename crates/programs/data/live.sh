@@ -379,4 +379,27 @@ wait $host
 compare 'a run tells of the first session at once' "$? $(tail -n 2 talk.told | tr '\n' ' ')$(cat errors)" '0 answered 1 answered 2 '
 compare 'a run tells of the first session at once, shown' "$(answer show sheet </dev/null)" "$(ending '#1 a\n> x\nx\n#2 b\n> y\nseen\n' 0)"
 
+# What lines that are taken together give is there before the next line is taken: this interpreter begins when it has read it.
+cat >reads.sh <<'END_OF_CHILD'
+said=late
+for n in $(seq 100); do
+    if grep -q '^field 3$' talk.told; then said=seen && break; fi
+    sleep 0.05
+done
+printf '\002verbatim:\005'
+IFS= read -r l
+printf '\002verbatim:%s\005' "$said"
+read -r l
+END_OF_CHILD
+for form in '' --strict; do
+    rm -f sheet sheet.alt
+    "$tmhost" create sheet
+    printf 'session a plain sh reads.sh\nnew 0 a x\neval 1\nnew 1 a y\nnew 2 a z\nwait\n' >given
+    timeout 10 "$tmhost" run $form sheet <given >talk.told 2>errors
+    compare "a run tells of lines that are taken together at once $form" "$? $(cat talk.told errors)" \
+        "$(printf '0 ok\nfield 1\nasked\nfield 2\nfield 3\nbanner a\nanswered 1')"
+    compare "a run tells of lines that are taken together at once $form, shown" "$(answer show sheet </dev/null)" \
+        "$(ending '#1 a\n> x\nseen\n#2 a\n> y\n?\n#3 a\n> z\n?\n' 0)"
+done
+
 counted live

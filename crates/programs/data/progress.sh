@@ -34,6 +34,10 @@ differs='\r\033[K\r1 of 2, 1 differs\033[K\r\033[K\r2 of 2, 2 differ\033[K\r\033
 sends 'two that differ, on a terminal' 1 "$differs" check sheet
 sends 'two that differ, twice, on a terminal' 1 "$differs$differs" check sheet sheet
 
+# An acceptance is written in the place of the line.
+compare 'acceptances and their progress on one terminal' "$(python3 screen.py left - "$tmhost" check --accept sheet; echo "status $?")" \
+    "$(ending '#1 a\na] differs\n- differs\n+ another\naccepted 1\n#2 a\na] differs\n- differs\n+ another\naccepted 2\nsame 0 accepted 2 unanswered 0\n' 0)"
+
 # Where no field shows an answer, and at faults: the output can't be written, and there is no worksheet.
 made ''
 sends 'an empty worksheet on a terminal' 0 '\r\033[K' check sheet
