@@ -77,7 +77,7 @@ With --json each line is one object, which programs read (docs/JSON.md). With\n\
 SIGINT where a line takes longer in a `wait`, reported as of `interrupt NAME`, and\n\
 are stopped where they haven't answered two seconds later. With either lines are\n\
 those of `live`, each taken when it comes, but while no `wait` holds lines back\n\
-nothing is taken of an interpreter; and neither goes with --strict.\n\n\
+nothing is taken of an interpreter. With --strict a time that is over is wrong.\n\n\
 Status: 0 where the script ran to its end, without --strict also where it has bad\n\
 lines and refused commands; 1 at a fault; 2 where the words are refused; 3 where\n\
 --strict stopped it.\n\n\

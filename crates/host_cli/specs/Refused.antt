@@ -40,12 +40,9 @@ no_jobs_text = codes "error: this is no number of jobs: N is a number from 1 to 
 abbrev pub strict_jobs_text : List ℕ
 strict_jobs_text = codes "error: --jobs goes with no --strict\n\nFor more information, try 'tmhost eval --help'.\n"
 
--- what is printed of words that ask for no run: that name no time, or JSON or a time of a strict run
+-- what is printed of words that ask for no run, since they name no time
 abbrev pub no_run_seconds_text : List ℕ
 no_run_seconds_text = codes "error: this is no time: SECONDS is a number from 1 to 1000000\n\nFor more information, try 'tmhost run --help'.\n"
-
-abbrev pub strict_lines_text : List ℕ
-strict_lines_text = codes "error: --strict goes with no --json and no --timeout\n\nFor more information, try 'tmhost run --help'.\n"
 
 -- what is printed of words that ask for no check: of a time, of a format, of two of them, of the name of a session, of numbers of fields, and
 -- of a format in which nothing is accepted

@@ -21,7 +21,7 @@ use Rattle.command_words.specs.Asked.{CheckView, EvalView, RunView, TaskView, as
 use Rattle.command_words.specs.declared.words.Task.{Task}
 use Rattle.command_words.specs.Asked as asked
 use Rattle.host_cli.specs.Plans.{AsksNoPlan, AsksPlan, check_jobs_asked, limit_asked, CheckBounds, CheckPlan, are_several, check_bounds, check_plan, several_refused}
-use Rattle.host_cli.specs.Refused.{RefusesJobs, RefusesPlan, RefusesRequest, RefusesWith, ShowsText, no_check_seconds_text, no_format_text, no_run_seconds_text, strict_lines_text, RefusesSeveral}
+use Rattle.host_cli.specs.Refused.{RefusesJobs, RefusesPlan, RefusesRequest, RefusesWith, ShowsText, no_check_seconds_text, no_format_text, no_run_seconds_text, RefusesSeveral}
 use Rattle.host_cli.specs.declared.outside.Outside.{Outside}
 use Rattle.host_cli.specs.declared.plans.JobsFault.{JobsFault}
 use Rattle.host_cli.specs.declared.plans.PlanFault.{PlanFault}
@@ -301,13 +301,9 @@ module _ {Y D P S I W E Q : Type 0} (o : OutsideView D P S I W E) where
   RunsNothing text old new ending = (new.places ≡ old.places) × (new.sources ≡ old.sources) × (new.input ≡ old.input) × (new.output ≡ old.output)
       × RefusesWith text o.said old.errors new.errors ending
 
-  -- `run --json`, or with a limit of time, or both: what `live` does where lines come first; it goes with no `--strict`
-  abbrev pub RunsUnless : Bool → Outside Y D P S I W E Q → Outside Y D P S I W E Q → Ending → Type 0 → Type 0
-  RunsUnless true old new ending runs = RunsNothing strict_lines_text old new ending
-  RunsUnless false old new ending runs = runs
-
+  -- `run --json`, or with a limit of time, or both, strict or not: what `live` does where lines come first
   abbrev pub RunsByLines : Outside Y D P S I W E Q → Outside Y D P S I W E Q → Ending → Text → RunView → Option ℕ → Type 0
-  RunsByLines old new ending path words limit = RunsUnless words.strict old new ending (LivesAs (line_by_line limit) (voice_by words.json) old new ending path)
+  RunsByLines old new ending path words limit = LivesAs (line_by_line limit words.strict) (voice_by words.json) old new ending path
 
   -- `run` as its words ask for it, within this limit of time, where there is one
   abbrev pub RunsWithin : Outside Y D P S I W E Q → Outside Y D P S I W E Q → Ending → Text → RunView → Option ℕ → Type 0

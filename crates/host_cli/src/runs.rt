@@ -1,14 +1,13 @@
 //! `run` and `live` over the worksheet at a path, with lines of the input.
 ghost use Rattle.std.specs.Prelude.{◌≡◌, ◌||◌, false, is_some, true};
 ghost use Rattle.command_words.specs.Asked.{run_view};
-ghost use Rattle.host_cli.specs.Tasks.{DoesLive, DoesRun, LivesAs, RunsAs, RunsByLines, RunsWithin, outer, voice_by};
-ghost use Rattle.live.specs.Records.{line_by_line};
+ghost use Rattle.host_cli.specs.Tasks.{DoesLive, DoesRun, LivesAs, RunsAs, RunsByLines, RunsWithin, outer};
 ghost use Rattle.tellings.specs.Json.{in_json};
 ghost use Rattle.tellings.specs.Words.{in_words};
 
 use crate::outside::{Outside, System};
 use crate::plans::read_limit;
-use crate::refusing::{refuse_run_limit, refuse_strict_lines};
+use crate::refusing::refuse_run_limit;
 use command_words::RunWords;
 use live::Manner;
 use program_endings::{Ending, end_unheld, run_live, run_script, run_strictly};
@@ -93,6 +92,7 @@ pub(crate) fn live_at<Y: System>(alloc: Global, outside: &mut Outside<Y>, path: 
         Manner {
             lines_first: false,
             limit: None,
+            strict: false,
         },
         &InWords,
         path,
@@ -111,36 +111,14 @@ pub(crate) fn live_json_at<Y: System>(alloc: Global, outside: &mut Outside<Y>, p
         Manner {
             lines_first: false,
             limit: None,
+            strict: false,
         },
         &InJson { alloc },
         path,
     )
 }
 
-/// Lines of the input, which come first, in words or in lines of JSON.
-fn run_lines<Y: System>(
-    alloc: Global,
-    outside: &mut Outside<Y>,
-    path: &str,
-    json: bool,
-    limit: Option<u32>,
-) -> Ending
-    ensures does { LivesAs (outer Y.Places.Places Y.Disk.Disk Y.Disk.closed Y.Sources.after
-        Y.Sources.clock Y.Sources.wakes Y.Input.Read Y.Output.Write Y.Output.brought Y.Errors.Write) (line_by_line limit) (voice_by json) outside.old outside.new result path.now }
-    ensures leaves { outside.new.progress ≡ outside.old.progress }
-{
-    let manner = Manner {
-        lines_first: true,
-        limit,
-    };
-    if json {
-        live_told(alloc, outside, manner, &InJson { alloc }, path)
-    } else {
-        live_told(alloc, outside, manner, &InWords, path)
-    }
-}
-
-/// `run --json`, or with a limit of time, or both, which go with no `--strict`.
+/// `run --json`, or with a limit of time, or both: lines of the input, which come first.
 fn run_by_lines<Y: System>(
     alloc: Global,
     outside: &mut Outside<Y>,
@@ -152,10 +130,15 @@ fn run_by_lines<Y: System>(
         Y.Sources.clock Y.Sources.wakes Y.Input.Read Y.Output.Write Y.Output.brought Y.Errors.Write) outside.old outside.new result path.now (run_view words.entry) limit }
     ensures leaves { outside.new.progress ≡ outside.old.progress }
 {
-    if words.strict {
-        refuse_strict_lines(&mut outside.errors)
+    let manner = Manner {
+        lines_first: true,
+        limit,
+        strict: words.strict,
+    };
+    if words.json {
+        live_told(alloc, outside, manner, &InJson { alloc }, path)
     } else {
-        run_lines(alloc, outside, path, words.json, limit)
+        live_told(alloc, outside, manner, &InWords, path)
     }
 }
 

@@ -10,19 +10,16 @@ use Rattle.recovery.specs.Sheets.{IsSheetImage}
 use Rattle.journal.specs.declared.opening.OpenCause.TheVariants as opens
 use Rattle.host_events.specs.declared.outcome.HostFault.TheVariants as hosts
 use Rattle.child_edge.specs.Faithful.{Relation}
-use Rattle.live.specs.Records.{Edge, Outside}
-use Rattle.live.specs.Live.{LiveDone, TellsLive}
+use Rattle.sheet_programs.specs.Records.{Outside, manner}
 use Rattle.offline_programs.specs.Faults.{TellsShow, Untouched}
 use Rattle.offline_programs.specs.Input.{longest_standard_input}
 use Rattle.offline_programs.specs.declared.fault.RunFault.{RunFault}
 use Rattle.offline_programs.specs.declared.fault.RunFault.TheVariants as fault
-use Rattle.sheet_programs.specs.Records.{manner}
 use Rattle.sheet_programs.specs.Strict.{RunDone, TellsRun}
 use Rattle.sheet_programs.proofs.Runs.{err_same}
 use Rattle.sheet_text.specs.Texts.{sheet_text}
 use Rattle.program_endings.specs.Ending.{answer_of}
 use Rattle.program_endings.specs.Programs.{RunAnswer, ShownOf}
-use Rattle.program_endings.specs.LiveProgram.{LivesOn}
 use Rattle.program_endings.specs.Records.{Calling, DoesNothing, GivenDisk, Writing, outside_after, outside_before, text_after, text_before, view_given}
 
 no-error : {P : Type 0} (why : RunFault) → IsErrOf {T = Bool} (Ok true) why → P
@@ -85,29 +82,6 @@ module _ {D C W : Type 0} (R : Relation C) (stream : Option (List ℕ)) (g : Giv
     same = same;
     ran = tt;
     short = tt;
-    unopened = λ e. unopened (of-call why (fault.Open opens.Disk) e);
-    failed = λ e. failed (of-call why (fault.Host hosts.Disk) e);
-    fault = told;
-  }
-
-module _ {D C W : Type 0} (o : Edge C) (stream : Option (List ℕ)) (g : GivenDisk D) (later : D) (q : Calling C) (w : Writing W) (closed : g.how.closed later) (same : SameDisk (view_given g) (g.how.view later)) where
-  pub live_answered : (r : Result Unit RunFault) → OnOk r (LiveDone o stream (outside_before g q w) (outside_after g later q w))
-      → IfErr r (TellsLive o stream (outside_before g q w) (outside_after g later q w) (DoesNothing q w × Untouched (view_given g) (g.how.view later))) → (IsErrOf r (fault.Open opens.Disk) → Rises (view_given g).faults (g.how.view later).faults)
-      → (IsErrOf r (fault.Host hosts.Disk) → Rises (view_given g).faults (g.how.view later).faults) → LivesOn o stream g q w (answer_of r)
-  live_answered (Ok done) lived told unopened failed = record {
-    later = later;
-    closed = closed;
-    same = same;
-    lived = (refl, lived);
-    unopened = λ e. no-error (fault.Open opens.Disk) e;
-    failed = λ e. no-error (fault.Host hosts.Disk) e;
-    fault = tt;
-  }
-  live_answered (Err why) lived told unopened failed = record {
-    later = later;
-    closed = closed;
-    same = same;
-    lived = tt;
     unopened = λ e. unopened (of-call why (fault.Open opens.Disk) e);
     failed = λ e. failed (of-call why (fault.Host hosts.Disk) e);
     fault = told;

@@ -53,7 +53,7 @@ TellsEval said old new told (Err why) = told ≡ true → Appends (said old) (sa
 abbrev pub LastOfEval : {O : Type 0} → Voice → (O → Option (List ℕ)) → O → O → Bool → EvaluationAnswer → Type 0
 LastOfEval V contents old new told (Ok end) = new ≡ old
 LastOfEval V contents old new told (Err (evals.NoField id)) = (V.takes_memory ≡ false → new ≡ old) × (told ≡ true → Appends (contents old) (contents new) (V.frame (frame.NoField id)))
-LastOfEval V contents old new told (Err (evals.Run why)) = LastTold V contents old new told (Err why)
+LastOfEval V contents old new told (Err (evals.Run why)) = LastTold {T = Bool} V contents old new told (Err why)
 
 -- What `eval` answers on a disk between what stands first and last, and what it has written and done then.
 pub record EvaluatesTo {D C O : Type 0} (o : Setting C) (g : GivenDisk D) (q : Calling C) (w : Writing O) (answer : EvaluationAnswer) : Type 0 where

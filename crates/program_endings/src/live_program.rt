@@ -1,12 +1,13 @@
-//! The program `live`, and `run --json`, over a worksheet's files, from its files on.
-ghost use Rattle.std.specs.Prelude.{◌≡◌, IfErr, IfOk};
+//! The programs `live`, `run --json` and `run --timeout` over a worksheet's files, from its files on.
+ghost use Rattle.std.specs.Prelude.{◌≡◌, ◌&&◌, IfErr, IfOk};
 ghost use Rattle.live.specs.Records.{edge_by};
 ghost use Rattle.program_endings.specs.Ending.{TellsFault, status_of};
 ghost use Rattle.program_endings.specs.LiveProgram.{LastTold, LiveAnswer, LiveEnded, LiveUnopened, LivesOn};
 ghost use Rattle.program_endings.specs.Records.{calling, given_disk, streams, writing};
+ghost use Rattle.program_endings.specs.StrictProgram.{TellsStop, strict_status};
 ghost use Rattle.sheet_files.specs.Closing.{closable};
 
-use crate::ending::answered;
+use crate::strict_program::end_strict;
 use crate::telling::no_files;
 use crate::{Ending, end_program};
 use arrivals::Sources;
@@ -26,13 +27,13 @@ fn live_on<R: Read, W: Write, D: Close, S: Sources, T: Tells>(
     output: &mut W,
     disk: D,
     sources: &mut S,
-) -> Result<bool, RunFault>
+) -> Result<Option<u64>, RunFault>
     ensures { LivesOn (edge_by manner T.voice S.after S.clock S.wakes) (R.remaining input.old) (given_disk (closable D.view D.closed) disk)
         (calling sources.old sources.new) (writing W.contents output.old output.new) result }
 {
     let LiveEnd { disk, answer } = live_by(alloc, manner, input, tells, output, disk, sources);
     disk.close();
-    answered(answer)
+    answer
 }
 
 /// Writes the voice's first message, goes on live, and writes its last.
@@ -44,7 +45,7 @@ fn live_framed<R: Read, W: Write, D: Close, S: Sources, T: Tells>(
     output: &mut W,
     disk: D,
     sources: &mut S,
-) -> Result<bool, RunFault>
+) -> Result<Option<u64>, RunFault>
     ensures { LiveAnswer (edge_by manner T.voice S.after S.clock S.wakes) (R.remaining input.old) (given_disk (closable D.view D.closed) disk)
         (calling sources.old sources.new) (writing W.contents output.old output.new) result }
 {
@@ -53,8 +54,8 @@ fn live_framed<R: Read, W: Write, D: Close, S: Sources, T: Tells>(
         return Err(fault);
     }
     match live_on(alloc, manner, input, tells, output, disk, sources) {
-        Ok(whole) => match tells.frame(Frame::End, output) {
-            Ok(()) => Ok(whole),
+        Ok(stopped) => match tells.frame(Frame::End, output) {
+            Ok(()) => Ok(stopped),
             Err(fault) => Err(fault),
         },
         Err(fault) => Err(fault),
@@ -62,12 +63,26 @@ fn live_framed<R: Read, W: Write, D: Close, S: Sources, T: Tells>(
 }
 
 /// Tells a fault last, and whether all went out.
-fn tell_last<W: Write, T: Tells>(answer: Result<bool, RunFault>, tells: &T, output: &mut W) -> bool
+fn tell_last<A: Copy, W: Write, T: Tells>(
+    answer: Result<A, RunFault>,
+    tells: &T,
+    output: &mut W,
+) -> bool
     ensures { LastTold T.voice W.contents output.old output.new result answer }
 {
     match answer {
         Ok(_) => true,
         Err(fault) => tells.fault(fault, output),
+    }
+}
+
+/// The same ending, where what stands last went out or didn't.
+fn with_last(ending: Ending, said: bool) -> Ending
+    ensures { result ≡ record { status = ending.status; told = ending.told && said } }
+{
+    Ending {
+        status: ending.status,
+        told: ending.told && said,
     }
 }
 
@@ -84,14 +99,25 @@ pub(crate) fn end_told<W: Write, E: Write, T: Tells>(
     ensures told { TellsFault E.contents errors.old errors.new result.told answer }
 {
     let said = tell_last(answer, tells, output);
-    let ending = end_program(answer, errors);
-    Ending {
-        status: ending.status,
-        told: ending.told && said,
-    }
+    with_last(end_program(answer, errors), said)
 }
 
-/// Holds the worksheet on a disk open, and tells the fault.
+/// The same where it may have stopped after a line, whose number is printed on standard error.
+fn end_stopped<W: Write, E: Write, T: Tells>(
+    answer: Result<Option<u64>, RunFault>,
+    tells: &T,
+    output: &mut W,
+    errors: &mut E,
+) -> Ending
+    ensures last { LastTold T.voice W.contents output.old output.new result.told answer }
+    ensures status { result.status ≡ strict_status answer }
+    ensures told { TellsStop E.contents errors.old errors.new result.told answer }
+{
+    let said = tell_last(answer, tells, output);
+    with_last(end_strict(answer, errors), said)
+}
+
+/// Holds the worksheet on a disk open, and tells the fault, or where it stopped.
 fn end_live<R: Read, W: Write, E: Write, D: Close, S: Sources, T: Tells>(
     alloc: Global,
     manner: Manner,
@@ -106,12 +132,13 @@ fn end_live<R: Read, W: Write, E: Write, D: Close, S: Sources, T: Tells>(
         (streams (writing W.contents output.old output.new) (writing E.contents errors.old errors.new)) result }
 {
     let answer = live_framed(alloc, manner, input, tells, output, disk, sources);
-    end_told(answer, tells, output, errors)
+    end_stopped(answer, tells, output, errors)
 }
 
-/// The whole program `live`, or `run --json` where lines come first, on its files, or on why they weren't
+/// The whole program `live`, or `run` line by line where lines come first, on its files, or on why they weren't
 /// opened: its lines come from `input`, which is read only where there are files, and what comes of them and
-/// of interpreters goes to `output`, flushed at once. The line of a fault goes to `errors`.
+/// of interpreters goes to `output`, flushed at once. The line of a fault goes to `errors`, and so does that of
+/// the line after which a strict input stopped.
 pub fn run_live<R: Read, W: Write, E: Write, D: Close, S: Sources, T: Tells>(
     alloc: Global,
     manner: Manner,

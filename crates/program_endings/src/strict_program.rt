@@ -16,7 +16,7 @@ use std::alloc::Global;
 use std::io::{Read, Write};
 
 /// Ends the program by where a strict run stopped, which is printed on a line, or by its fault.
-fn end_strict<E: Write>(answer: Result<Option<u64>, RunFault>, errors: &mut E) -> Ending
+pub(crate) fn end_strict<E: Write>(answer: Result<Option<u64>, RunFault>, errors: &mut E) -> Ending
     ensures status { result.status ≡ strict_status answer }
     ensures told { TellsStop E.contents errors.old errors.new result.told answer }
 {

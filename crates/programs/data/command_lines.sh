@@ -33,8 +33,6 @@ told 'eval with two paths' 'error: this is no field: ID is a number, as 3' eval 
 told 'run with a flag alone' 'error: the following required arguments were not provided:' run --strict
 told 'run with a flag twice' "error: the argument '--strict' cannot be used multiple times" run --strict --strict a
 told 'run with a flag that has a value' "error: unexpected value 'yes' for '--strict' found; no more were expected" run --strict=yes a
-told 'JSON of a strict run' 'error: --strict goes with no --json and no --timeout' run --json --strict a
-told 'a limit of a strict run' 'error: --strict goes with no --json and no --timeout' run --strict --timeout 1 a
 told 'eval with a flag alone' 'error: the following required arguments were not provided:' eval --unanswered
 told 'run with the flag of eval' "error: unexpected argument '--unanswered' found" run --unanswered a
 told 'show with the flag of run' "error: unexpected argument '--strict' found" show --strict a

@@ -78,6 +78,48 @@ strict 'the other session is waited for' 'session a plain sh p.sh\nsession b pla
 interpreter p "$banner"
 strict 'a request that is lost' 'session a tab sh p.sh\nnew 0 a x\ncomplete 1 1\nwait\nset 1 y\n' 3 'ok\nfield 1\nasked\nbanner a\nended a Ended lost 1\nstopped at line 4\n' '#1 a\n> x\n?\n'
 
+# The same within a limit of time, whose lines are those of `live`: NAME SCRIPT STATUS TEXT SHEET.
+by_lines() {
+    printf "$2" >given
+    rm -f sheet sheet.alt
+    "$tmhost" create sheet
+    compare "$1, within a time" "$(answer run --strict --timeout 60 sheet <given)" "$(ending "$4" "$3")"
+    compare "$1, within a time, shown" "$(answer show sheet </dev/null)" "$(ending "$5" 0)"
+}
+by_lines 'each line right' 'session a plain p\nnew 0 a x\nprint\nwait 1\nset 1 y\n' 0 'ok\nfield 1\n#1 a\n> x\n?\nok\n' '#1 a\n> y\n?\n'
+by_lines 'a bad line' 'session a plain p\nfoo\nnew 0 a x\n' 3 'ok\nbad line 2\nstopped at line 2\n' ''
+by_lines 'a refusal' 'session a plain p\nnew 0 a x\nremove 7\nremove 1\n' 3 'ok\nfield 1\nrefused 2 NoField\nstopped at line 3\n' '#1 a\n> x\n?\n'
+by_lines 'a print of no field' 'session a plain p\nnew 0 a x\nprint 1\nprint 2\nset 1 y\n' 3 'ok\nfield 1\n#1 a\n> x\n?\nrefused 2 NoField\nstopped at line 4\n' '#1 a\n> x\n?\n'
+by_lines 'an interrupt of no session' 'interrupt b\nsession b plain p\n' 3 'refused 1 NoSession\nstopped at line 1\n' ''
+interpreter p "$banner"
+by_lines 'an interpreter that ends' "$one"'set 1 y\n' 3 'ok\nfield 1\nasked\nbanner a\nended a Ended lost 1\nstopped at line 4\n' '#1 a\n> x\n? Ended\n'
+interpreter p "$banner" '\002verbatim:A\005'
+by_lines 'a stop by which a line is lost' 'session a plain sh p.sh\nnew 0 a x\neval 1\nstop a\nset 1 y\n' 3 'ok\nfield 1\nasked\nended a Stopped lost 1\nstopped at line 4\n' '#1 a\n> x\n? Stopped\n'
+
+# A time that is over is wrong. It takes a second, the shortest time.
+cat >q.sh <<'END_OF_CHILD'
+printf '\002verbatim:\005'
+read -r line
+exec sleep 60
+END_OF_CHILD
+rm -f sheet sheet.alt
+"$tmhost" create sheet
+printf 'session a plain sh q.sh\nnew 0 a x\neval 1\nwait\nset 1 y\n' >given
+compare 'a time that is over' "$(answer run --strict --timeout 1 sheet <given)" \
+    "$(ending 'ok\nfield 1\nasked\nbanner a\ninterrupted a\nstopped at line 4\n' 3)"
+rm -f sheet sheet.alt
+"$tmhost" create sheet
+printf 'session a plain p\nfoo\nnew 0 a x\n' >given
+cat >wanted <<'END_OF_JSON'
+{"format":1,"program":"tmhost","protocol":2,"type":"hello","version":"0.1.0"}
+{"line":1,"type":"done"}
+{"line":2,"type":"bad"}
+{"type":"end"}
+stopped at line 2
+status 3
+END_OF_JSON
+compare 'a bad line, as JSON' "$(answer run --strict --json sheet <given)" "$(cat wanted)"
+
 # Words, faults, and what is reported where standard error takes nothing.
 rm -f sheet sheet.alt
 "$tmhost" create sheet

@@ -1,9 +1,5 @@
-use Rattle.std.proofs.Common.{Ok, refl, subst}
-use Rattle.live.specs.Records.{edge_by}
-use Rattle.sheet_files.specs.Closing.{closable}
-use Rattle.program_endings.specs.LiveProgram.{LivesOn}
+use Rattle.std.proofs.Common.{refl}
 use Rattle.program_endings.specs.LiveProgram as ends
-use Rattle.program_endings.specs.Records.{calling, given_disk, writing}
 use Rattle.program_endings.proofs.live_program.live_framed.Goals as goal
 
 pub returns-in-Err : goal.returns-in-Err
@@ -15,10 +11,7 @@ returns-in-Ok-frame g c =
 
 pub returns-in-Err-frame : goal.returns-in-Err-frame
 returns-in-Err-frame g c =
-    ends.unended c.in-Err-frame.fault c.frame.new.writer c.live_on.new.output refl c.in-Err-frame.ensures.err.0 c.in-Err-frame.ensures.err.1 (c.in_default.ensures.ok, c.in_default.ensures.still)
-    (subst (λ whole. LivesOn (edge_by c.args.manner g.T.Tells.voice g.S.Children.after g.S.Sources.clock g.S.Sources.wakes) (g.R.Read.remaining c.args.input.now) (given_disk (closable g.D.Disk.view g.D.Close.closed) c.args.disk)
-    (calling c.args.sources.now c.live_on.new.sources) (writing g.W.Write.contents c.frame.new.writer c.live_on.new.output) (Ok whole))
-    c.in-Ok.ensures.lived.0 c.in-Ok.ensures)
+    ends.unended c.in-Err-frame.fault c.frame.new.writer c.live_on.new.output c.in-Ok.stopped refl c.in-Err-frame.ensures.err.0 c.in-Err-frame.ensures.err.1 (c.in_default.ensures.ok, c.in_default.ensures.still) c.in-Ok.ensures
 
 pub returns-in-Err-live_on : goal.returns-in-Err-live_on
 returns-in-Err-live_on g c =
