@@ -33,14 +33,16 @@ use Rattle.live.specs.Arrivals as came
 use Rattle.live.specs.Broken.{TakesUpTo, TakesSoFar, TakesLed, LivedBefore, LivedBroke, LivedUpTo, LivedSoFar, LivedLed, taken_beats}
 use Rattle.live.specs.Broken as broken
 use Rattle.live.specs.Live as ends
-use Rattle.live.specs.Live.{AreFirst, LiveDone, LiveLed, LiveUnread, TellsLive, begin_at}
+use Rattle.live.specs.Live.{AreFirst, LiveCame, LiveDone, LiveLed, LiveUnread, TellsLive, begin_at}
 use Rattle.live.specs.Taking as inside
 use Rattle.live.specs.Taking.{Ended, EndedBy, EndedUnwritten, IsFront, LivedThrough, LivedTo, LivedUnwritten, LivingFailed}
 
 -- The stops.
 
-pub ended : {C : Type 0} (o : Edge C) (p : LivePlace C) (h : HostView) (c d : C) (out now : Option (List ℕ)) (old : Option (List InputLine)) → StopsIn o.after h c d → LivedThrough o p (left h c out now) old → Ended o p (left h d out now) old
-ended o p h c d out now old stops t = (t.0, t.1, t.2, c, t.3, t.4, t.5, stops.0 t.2.run.world t.3.1)
+pub ended : {C : Type 0} (o : Edge C) (p : LivePlace C) (h : HostView) (c d : C) (out now : Option (List ℕ)) (old : Option (List InputLine)) (cut : Option ℕ) → StopsIn o.after h c d
+    → LivedThrough o p (left h c out now) old cut → Ended o p (left h d out now) old cut
+ended o p h c d out now old None stops t = (t.0, t.1, t.2, c, t.3, t.4, t.5, stops.0 t.2.run.world t.3.1)
+ended o p h c d out now old (Some number) stops t = (t.0, t.1, t.2, c, t.3, t.4, t.5, t.6, stops.0 t.2.run.world t.3.1)
 
 ended-unwritten : {C : Type 0} (o : Edge C) (p : LivePlace C) (h : HostView) (c d : C) (out now : Option (List ℕ)) (old : Option (List InputLine)) → StopsIn o.after h c d → LivedUnwritten o p (left h c out now) old
     → EndedUnwritten o p (left h d out now) old
@@ -173,8 +175,8 @@ module _ {C : Type 0} (o : Edge C) (stream : Option (List ℕ)) (disk now : Disk
   abbrev behind : Outside C
   behind = outside back d b
 
-  pub live_done : Ended o begun (left h d a b) old → LiveDone o stream before behind
-  live_done t = record {
+  live-done : Ended o begun (left h d a b) old None → LiveDone o stream before behind
+  live-done t = record {
     start = start;
     now = now;
     opened = opened;
@@ -207,6 +209,18 @@ module _ {C : Type 0} (o : Edge C) (stream : Option (List ℕ)) (disk now : Disk
     moments = subst (LeavesFronts start it.beats now) (to.2 ∙ sym same) ((lived-course o begun came it q to.0).moments held);
     stops = stops;
     wrote = to.3;
+  }
+
+  pub live_came : (cut : Option ℕ) → Ended o begun (left h d a b) old cut → LiveCame o stream before behind cut
+  unfolding was-unread
+  live_came None t = live-done t
+  live_came (Some number) t = record {
+    it = was-unread t.0 t.1 t.2 t.3 t.4 t.6 t.8;
+    strict = t.7.0;
+    count = t.7.2;
+    sources = t.5;
+    holds = subst (HoldsSheet t.2.run.world) (sym same) t.4.1.stands.images;
+    at = t.7.1;
   }
 
   led : EndedUnwritten o begun (left h d a b) old → LiveLed o stream before behind
