@@ -1,5 +1,5 @@
 -- The end of a live worksheet, and the moments up to it.
-use Rattle.std.proofs.Common.{◌≡◌, inl, inr, ℕ, zero, suc, List, [], ◌∷◌, ◌++◌, Option, Some, None, refl, ap, sym, ◌∙◌, subst, length, arith}
+use Rattle.std.proofs.Common.{◌≡◌, true≢false, inl, inr, ℕ, zero, suc, List, [], ◌∷◌, ◌++◌, Option, Some, None, refl, ap, sym, ◌∙◌, subst, length, arith}
 use Rattle.std.specs.Prelude.{IfSome, option_map, false, true}
 use Rattle.disk_model.specs.Disk.{DiskView, Rises, SameDisk, greatest_count}
 use Rattle.host_events.specs.declared.event.Event.{Event}
@@ -308,3 +308,8 @@ live_failed_since o disk now start c leaves old same ended = go ended
 -- it isn't reported that the disk wasn't opened
 pub ended_open : {C : Type 0} (o : Edge C) (p : LivePlace C) (leaves : Left C) (old : Option (List InputLine)) (why : OpenCause) → EndedBy o p leaves old (fault.Open why) → ⊥
 ended_open o p leaves old why t = elim t [ ]
+
+-- an input that isn't strict was taken to its end
+pub whole_if_lax : {C : Type 0} (o : Edge C) (stream : Option (List ℕ)) (first last : Outside C) (cut : Option ℕ) → o.strict ≡ false → LiveCame o stream first last cut → cut ≡ None
+whole_if_lax o stream first last None lax came = refl
+whole_if_lax o stream first last (Some number) lax came = absurd (true≢false (sym came.strict ∙ lax))

@@ -36,6 +36,7 @@ module _ {C : Type 0} (o : Edge C) (t : At C) (some : waits t.world ≢ []) wher
   a_piece_begins_nothing (hold.Until end) behind (inr on) = on.1
   a_piece_begins_nothing (hold.Limited end) behind (inr on) = on.1
   a_piece_begins_nothing (hold.Warned end) behind (inr on) = on.1
+  a_piece_begins_nothing hold.Stopped behind (inr on) = on.1
 
   -- A wait that names its seconds has no more of them, whatever closes.
   seconds_stay : (end : ℕ) (replies : List Reply) (behind : Hold) → TurnGoesOn o (hold.Until end) replies t behind → behind ≡ hold.Until end

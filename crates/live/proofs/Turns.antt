@@ -113,6 +113,7 @@ limited-held hold.Wait closed is = refl
 limited-held (hold.Until end) closed is = refl
 limited-held (hold.Limited end) closed is = refl
 limited-held (hold.Warned end) closed is = refl
+limited-held hold.Stopped closed is = absurd (true≢false (sym is))
 
 again-held : {C : Type 0} (o : Edge C) (c : C) (held behind : Hold) (closed again : Bool) → again ≡ (has_limit held && closed) → BeginsAgain o c again held behind → is_held behind ≡ is_held held
 again-held o c held behind closed false is begins = ap is_held begins
