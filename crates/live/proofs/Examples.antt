@@ -1,6 +1,6 @@
 -- Worked examples of the time of a line.
-use Rattle.std.proofs.Common.{◌≡◌, ◌≢◌, inl, inr, ℕ, ◌+◌, ◌*◌, ◌-◌, ◌^◌, ◌≤◌, true, false, List, [], ◌∷◌, Some, refl, ap, sym, ◌∙◌, subst}
-use Rattle.std.specs.Prelude.{Bool, ◌&&◌, ◌||◌, min, is_some}
+use Rattle.std.proofs.Common.{◌≡◌, ◌≢◌, inl, inr, ℕ, ◌+◌, ◌*◌, ◌-◌, ◌^◌, ◌≤◌, true, false, List, [], ◌∷◌, Some, refl, sym, subst}
+use Rattle.std.specs.Prelude.{Bool, ◌||◌, min, is_some}
 use Rattle.host_events.specs.declared.reply.ChildReply.{ChildReply}
 use Rattle.host_events.specs.declared.reply.Reply.{Reply}
 use Rattle.host_events.specs.declared.reply.Reply.TheVariants as reply
@@ -9,7 +9,7 @@ use Rattle.child_edge.specs.Seats.{waits}
 use Rattle.live.specs.declared.holding.Hold.{Hold}
 use Rattle.live.specs.declared.holding.Hold.TheVariants as hold
 use Rattle.live.specs.Records.{Clock, Edge}
-use Rattle.live.specs.Saying.{BeginsAgain, TurnGoesOn, UntimedBegins, has_limit, seconds_behind}
+use Rattle.live.specs.Saying.{BeginsAgain, TurnGoesOn, UntimedBegins, seconds_behind}
 use Rattle.live.specs.Arrivals.{IsOver}
 
 -- The time of a line isn't over before so many seconds after what the clock read where it began, or the last moment that it can read.

@@ -25,7 +25,6 @@ use Rattle.sheet_programs.proofs.Grouped.{beats_from, kept_done, outcomes_from}
 use Rattle.tellings.specs.Voice.{IsUntold, Voice, numbered_text}
 use Rattle.offline_programs.specs.declared.fault.RunFault.{RunFault}
 use Rattle.live.specs.declared.holding.Hold.{Hold}
-use Rattle.live.specs.declared.saying.Beginning.{Beginning}
 use Rattle.live.specs.declared.holding.Hold.TheVariants as hold
 use Rattle.live.specs.Records.{Brought, Edge, brought, left}
 use Rattle.live.specs.Saying.{MayGroup, SaysEdit, WaitGoesOn, line_goes_wrong, stop_if}

@@ -1,7 +1,7 @@
 use Rattle.std.proofs.Common.{[], refl, sym, subst, arith, ◌∙◌}
 use Rattle.std.proofs.KnownBytes.{Appends-nil}
 use Rattle.child_edge.specs.Faithful.{at}
-use Rattle.live.specs.Records.{edge, edge_by, left}
+use Rattle.live.specs.Records.{edge_by, left}
 use Rattle.live.specs.Arrivals.{place, time_over}
 use Rattle.live.specs.Broken.{time_so_far}
 use Rattle.live.specs.Taking.{Stalled, StalledSo, StallingFailed, TookArrival, refused}
