@@ -35,7 +35,7 @@ fn is_free(held: Hold) -> bool
     ensures { result ≡ not (is_held held) }
 {
     match held {
-        Hold::Free => true,
+        Hold::Free | Hold::Stopped => true,
         Hold::Wait | Hold::Until(_) | Hold::Limited(_) | Hold::Warned(_) => false,
     }
 }
@@ -45,7 +45,7 @@ fn first_at(stand: Stand, at: usize) -> usize
     ensures { result ≡ steps.first_by (is_held stand.held) stand.first at }
 {
     match stand.held {
-        Hold::Free => at,
+        Hold::Free | Hold::Stopped => at,
         Hold::Wait | Hold::Until(_) | Hold::Limited(_) | Hold::Warned(_) => stand.first,
     }
 }
@@ -359,7 +359,11 @@ pub(crate) fn step<D: Disk, S: Sources, T: Tells, W: Write>(
 {
     match stand.held {
         Hold::Free => take_next(alloc, host, sources, plan, ids, stand, tells, writer),
-        Hold::Wait | Hold::Until(_) | Hold::Limited(_) | Hold::Warned(_) => {
+        Hold::Wait
+        | Hold::Until(_)
+        | Hold::Limited(_)
+        | Hold::Warned(_)
+        | Hold::Stopped => {
             match take_beside(alloc, host, sources, plan, ids, stand, tells, writer) {
                 Ok(next) => Ok(Some(next)),
                 Err(fault) => Err(fault),

@@ -1,5 +1,5 @@
 -- The end of a live worksheet, and the moments up to it.
-use Rattle.std.proofs.Common.{◌≡◌, inl, inr, ℕ, zero, suc, List, [], ◌∷◌, ◌++◌, Option, Some, None, refl, ap, sym, ◌∙◌, subst, length, arith}
+use Rattle.std.proofs.Common.{◌≡◌, true≢false, inl, inr, ℕ, zero, suc, List, [], ◌∷◌, ◌++◌, Option, Some, None, refl, ap, sym, ◌∙◌, subst, length, arith}
 use Rattle.std.specs.Prelude.{IfSome, option_map, false, true}
 use Rattle.disk_model.specs.Disk.{DiskView, Rises, SameDisk, greatest_count}
 use Rattle.host_events.specs.declared.event.Event.{Event}
@@ -33,14 +33,16 @@ use Rattle.live.specs.Arrivals as came
 use Rattle.live.specs.Broken.{TakesUpTo, TakesSoFar, TakesLed, LivedBefore, LivedBroke, LivedUpTo, LivedSoFar, LivedLed, taken_beats}
 use Rattle.live.specs.Broken as broken
 use Rattle.live.specs.Live as ends
-use Rattle.live.specs.Live.{AreFirst, LiveDone, LiveLed, LiveUnread, TellsLive, begin_at}
+use Rattle.live.specs.Live.{AreFirst, LiveCame, LiveDone, LiveLed, LiveUnread, TellsLive, begin_at}
 use Rattle.live.specs.Taking as inside
 use Rattle.live.specs.Taking.{Ended, EndedBy, EndedUnwritten, IsFront, LivedThrough, LivedTo, LivedUnwritten, LivingFailed}
 
 -- The stops.
 
-pub ended : {C : Type 0} (o : Edge C) (p : LivePlace C) (h : HostView) (c d : C) (out now : Option (List ℕ)) (old : Option (List InputLine)) → StopsIn o.after h c d → LivedThrough o p (left h c out now) old → Ended o p (left h d out now) old
-ended o p h c d out now old stops t = (t.0, t.1, t.2, c, t.3, t.4, t.5, stops.0 t.2.run.world t.3.1)
+pub ended : {C : Type 0} (o : Edge C) (p : LivePlace C) (h : HostView) (c d : C) (out now : Option (List ℕ)) (old : Option (List InputLine)) (cut : Option ℕ) → StopsIn o.after h c d
+    → LivedThrough o p (left h c out now) old cut → Ended o p (left h d out now) old cut
+ended o p h c d out now old None stops t = (t.0, t.1, t.2, c, t.3, t.4, t.5, stops.0 t.2.run.world t.3.1)
+ended o p h c d out now old (Some number) stops t = (t.0, t.1, t.2, c, t.3, t.4, t.5, t.6, stops.0 t.2.run.world t.3.1)
 
 ended-unwritten : {C : Type 0} (o : Edge C) (p : LivePlace C) (h : HostView) (c d : C) (out now : Option (List ℕ)) (old : Option (List InputLine)) → StopsIn o.after h c d → LivedUnwritten o p (left h c out now) old
     → EndedUnwritten o p (left h d out now) old
@@ -173,8 +175,8 @@ module _ {C : Type 0} (o : Edge C) (stream : Option (List ℕ)) (disk now : Disk
   abbrev behind : Outside C
   behind = outside back d b
 
-  pub live_done : Ended o begun (left h d a b) old → LiveDone o stream before behind
-  live_done t = record {
+  live-done : Ended o begun (left h d a b) old None → LiveDone o stream before behind
+  live-done t = record {
     start = start;
     now = now;
     opened = opened;
@@ -207,6 +209,18 @@ module _ {C : Type 0} (o : Edge C) (stream : Option (List ℕ)) (disk now : Disk
     moments = subst (LeavesFronts start it.beats now) (to.2 ∙ sym same) ((lived-course o begun came it q to.0).moments held);
     stops = stops;
     wrote = to.3;
+  }
+
+  pub live_came : (cut : Option ℕ) → Ended o begun (left h d a b) old cut → LiveCame o stream before behind cut
+  unfolding was-unread
+  live_came None t = live-done t
+  live_came (Some number) t = record {
+    it = was-unread t.0 t.1 t.2 t.3 t.4 t.6 t.8;
+    strict = t.7.0;
+    count = t.7.2;
+    sources = t.5;
+    holds = subst (HoldsSheet t.2.run.world) (sym same) t.4.1.stands.images;
+    at = t.7.1;
   }
 
   led : EndedUnwritten o begun (left h d a b) old → LiveLed o stream before behind
@@ -294,3 +308,8 @@ live_failed_since o disk now start c leaves old same ended = go ended
 -- it isn't reported that the disk wasn't opened
 pub ended_open : {C : Type 0} (o : Edge C) (p : LivePlace C) (leaves : Left C) (old : Option (List InputLine)) (why : OpenCause) → EndedBy o p leaves old (fault.Open why) → ⊥
 ended_open o p leaves old why t = elim t [ ]
+
+-- an input that isn't strict was taken to its end
+pub whole_if_lax : {C : Type 0} (o : Edge C) (stream : Option (List ℕ)) (first last : Outside C) (cut : Option ℕ) → o.strict ≡ false → LiveCame o stream first last cut → cut ≡ None
+whole_if_lax o stream first last None lax came = refl
+whole_if_lax o stream first last (Some number) lax came = absurd (true≢false (sym came.strict ∙ lax))

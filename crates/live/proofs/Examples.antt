@@ -1,6 +1,6 @@
 -- Worked examples of the time of a line.
-use Rattle.std.proofs.Common.{◌≡◌, ◌≢◌, inl, inr, ℕ, ◌+◌, ◌*◌, ◌-◌, ◌^◌, ◌≤◌, true, false, List, [], ◌∷◌, Some, refl, ap, sym, ◌∙◌, subst}
-use Rattle.std.specs.Prelude.{Bool, ◌&&◌, ◌||◌, min, is_some}
+use Rattle.std.proofs.Common.{◌≡◌, ◌≢◌, inl, inr, ℕ, ◌+◌, ◌*◌, ◌-◌, ◌^◌, ◌≤◌, true, false, List, [], ◌∷◌, Some, refl, sym, subst}
+use Rattle.std.specs.Prelude.{Bool, ◌||◌, min, is_some}
 use Rattle.host_events.specs.declared.reply.ChildReply.{ChildReply}
 use Rattle.host_events.specs.declared.reply.Reply.{Reply}
 use Rattle.host_events.specs.declared.reply.Reply.TheVariants as reply
@@ -9,7 +9,7 @@ use Rattle.child_edge.specs.Seats.{waits}
 use Rattle.live.specs.declared.holding.Hold.{Hold}
 use Rattle.live.specs.declared.holding.Hold.TheVariants as hold
 use Rattle.live.specs.Records.{Clock, Edge}
-use Rattle.live.specs.Saying.{BeginsAgain, TurnGoesOn, UntimedBegins, has_limit, seconds_behind}
+use Rattle.live.specs.Saying.{BeginsAgain, TurnGoesOn, UntimedBegins, seconds_behind}
 use Rattle.live.specs.Arrivals.{IsOver}
 
 -- The time of a line isn't over before so many seconds after what the clock read where it began, or the last moment that it can read.
@@ -36,6 +36,7 @@ module _ {C : Type 0} (o : Edge C) (t : At C) (some : waits t.world ≢ []) wher
   a_piece_begins_nothing (hold.Until end) behind (inr on) = on.1
   a_piece_begins_nothing (hold.Limited end) behind (inr on) = on.1
   a_piece_begins_nothing (hold.Warned end) behind (inr on) = on.1
+  a_piece_begins_nothing hold.Stopped behind (inr on) = on.1
 
   -- A wait that names its seconds has no more of them, whatever closes.
   seconds_stay : (end : ℕ) (replies : List Reply) (behind : Hold) → TurnGoesOn o (hold.Until end) replies t behind → behind ≡ hold.Until end

@@ -1,5 +1,5 @@
 -- What came, one after the other.
-use Rattle.std.proofs.Common.{◌≡◌, ◌+◌, inl, inr, ℕ, Bool, true, false, length, length-append, map, arith, List, [], ◌∷◌, ◌++◌, Option, Some, None, refl, ap, sym, ◌∙◌, subst, append_assoc, append-nil}
+use Rattle.std.proofs.Common.{◌≡◌, ◌≢◌, ◌+◌, inl, inr, ℕ, Bool, true, false, length, length-append, map, arith, List, [], ◌∷◌, ◌++◌, Option, Some, None, refl, ap, sym, ◌∙◌, subst, append_assoc, append-nil}
 use Rattle.std.specs.Prelude.{IfOk, IfSome, Result, Ok, Err}
 use Rattle.std.proofs.lemmas.List.{length-map}
 use Rattle.std.proofs.KnownBytes.{Appends-nil, Appends-trans}
@@ -11,15 +11,17 @@ use Rattle.arrivals.specs.Lines.{InputLine, whole as full}
 use Rattle.arrivals.specs.declared.sources.Woken.TheVariants as woken
 use Rattle.offline_programs.specs.declared.fault.RunFault.{RunFault}
 use Rattle.offline_programs.specs.declared.fault.RunFault.TheVariants as fault
+use Rattle.live.specs.declared.holding.Hold.TheVariants as hold
 use Rattle.live.specs.declared.stepping.Stand.{Stand}
 use Rattle.live.specs.Records.{Brought, Edge, Left, Lines, Turn, between, brought, left}
-use Rattle.live.specs.Arrivals.{Arrival, LivePlace, WatchTells, Comes, TakesArrival, Lived, front_text, lines_in, place, woken_at}
+use Rattle.live.specs.Arrivals.{Arrival, ArrivalComes, LivePlace, WatchTells, Comes, TakesArrival, Lived, front_text, lines_in, place, woken_at}
 use Rattle.live.specs.Arrivals as kind
 use Rattle.live.specs.Broken.{LivedBefore}
 use Rattle.live.specs.Live.{AreTooMany}
 use Rattle.live.specs.Taking as inside
 use Rattle.live.specs.Taking.{ComingFailed, IsFront, LivedThrough, LivedUnwritten, LivingFailed, Steps, TakesLines, TakingFailed, TookUnwritten, TurnComes, TurnFailed, TurnTook}
 use Rattle.live.proofs.Coming.{comes_by, input_told, lines_on}
+use Rattle.live.proofs.Stopping.{stops_strictly}
 
 -- A step.
 
@@ -42,13 +44,13 @@ abbrev pub joined : Brought → Brought → Brought
 joined first rest = brought (first.beats ++ rest.beats) (first.text ++ rest.text)
 
 pub lived-more : {C : Type 0} (o : Edge C) (p : LivePlace C) (came : List Arrival) (it : Brought) (mid : LivePlace C) (a : Arrival) (c : C) (last : Brought) (q : LivePlace C)
-    → Lived o p came it mid → Comes o.watches mid.held mid.run.children a c → TakesArrival o (woken_at mid c) a last q → Lived o p (came ++ a ∷ []) (joined it last) q
+    → Lived o p came it mid → ArrivalComes o mid a c → TakesArrival o (woken_at mid c) a last q → Lived o p (came ++ a ∷ []) (joined it last) q
 lived-more o p [] it mid a c last q h comes takes = (
   c,
   q,
   last,
   brought [] [],
-  subst (λ m. Comes o.watches m.held m.run.children a c) h.2 comes,
+  subst (λ m. ArrivalComes o m a c) h.2 comes,
   subst (λ m. TakesArrival o (woken_at m c) a last q) h.2 takes,
   (refl, refl, refl),
   ap (λ x. x ++ last.beats) h.0 ∙ sym (append-nil last.beats),
@@ -141,7 +143,7 @@ unfolding none_lived
 none_came o w h c stand out old stands = refl
 
 module _ {C : Type 0} (o : Edge C) (p : LivePlace C) (stand : Stand) (h : HostView) (c : C) (out now : Option (List ℕ)) (g : HostView) (d : C) (later : Option (List ℕ)) (old new behind : Option (List InputLine))
-    (so : LivingSoFar o p stand (left h c out now) (between old new)) where
+    (so : LivingSoFar o p stand (left h c out now) (between old new)) (going : stand.held ≢ hold.Stopped) where
   -- where it stands, and what is left after a step more
   abbrev here : LivePlace C
   here = place (at so.leads c h.store.disk) stand.number stand.held
@@ -157,7 +159,7 @@ module _ {C : Type 0} (o : Edge C) (p : LivePlace C) (stand : Stand) (h : HostVi
     came = so.came ++ t.0 ∷ [];
     all = joined so.all took.0;
     leads = took.1;
-    lived = lived-more o p so.came so.all here t.0 t.1 took.0 (place (at took.1 d g.store.disk) next.number next.held) so.lived t.2 took.2;
+    lived = lived-more o p so.came so.all here t.0 t.1 took.0 (place (at took.1 d g.store.disk) next.number next.held) so.lived (going, t.2) took.2;
     stands = took.3;
     wrote = Appends-trans out now later so.all.text took.0.text so.wrote took.4;
     lines = lines-more old new behind so.came t.0 so.lines t.3;
@@ -171,11 +173,24 @@ module _ {C : Type 0} (o : Edge C) (p : LivePlace C) (stand : Stand) (h : HostVi
   no-more : Appends now later [] → Appends out later so.all.text
   no-more none = subst (Appends out later) (append-nil so.all.text) (Appends-trans out now later so.all.text [] so.wrote none)
 
-  pub all_lived : Steps o here step (between new behind) None → LivedThrough o p whole old
+  pub all_lived : Steps o here step (between new behind) None → LivedThrough o p whole old None
   all_lived t = (so.came, so.all, here, (so.lived, t.0.1, sym t.0.0, no-more t.0.2), t.1, lines-end old new so.came so.lines t.2)
 
+  -- a strict one stopped after a step more
+  pub stopped_lived : (next : Stand) → Steps o here step (between new behind) (Some next) → next.held ≡ hold.Stopped → LivedThrough o p whole old (Some next.number)
+  stopped_lived next t stopped =
+      let on = one_lived next t in (
+        on.came,
+        on.all,
+        place (at on.leads d g.store.disk) next.number next.held,
+        (on.lived, on.stands, refl, on.wrote),
+        refl,
+        lines-front old behind on.came on.lines,
+        (stops_strictly o (woken_at here t.1) t.0 t.4.0 (place (at t.4.1 d g.store.disk) next.number next.held) t.4.2 going stopped, stopped, refl),
+      )
+
   before : (a : Arrival) (mid : C) → Comes o.watches stand.held c a mid → LivedBefore o p (so.came ++ a ∷ []) a so.all (woken_at here mid)
-  before a mid comes = record { before = so.came; mid = here; sources = mid; are = refl; lived = so.lived; comes = comes; here = refl }
+  before a mid comes = record { before = so.came; mid = here; sources = mid; are = refl; lived = so.lived; comes = (going, comes); here = refl }
 
   -- with one more the lines are still the first ones
   front : (a : Arrival) → TakesLines a (between new behind) → IsFront old (so.came ++ a ∷ [])

@@ -1,6 +1,6 @@
 -- Lines that were gathered, taken by themselves or together.
 use Rattle.std.proofs.Common.{◌≡◌, ◌+◌, ◌≤◌, ◌<◌, inl, inr, ℕ, false, List, [], ◌∷◌, ◌++◌, Option, Some, refl, ap, sym, ◌∙◌, subst, length, arith, append-nil}
-use Rattle.std.specs.Prelude.{◌⊎◌}
+use Rattle.std.specs.Prelude.{◌⊎◌, ◌&&◌, Bool}
 use Rattle.std.specs.List.{AllByRecursion}
 use Rattle.std.proofs.KnownBytes.{Appends-nil}
 use Rattle.disk_model.specs.Disk.{DiskView, SameDisk}
@@ -11,6 +11,7 @@ use Rattle.session_engine.specs.World.{World, sheet_in}
 use Rattle.session_engine.specs.Does.{Runs}
 use Rattle.session_engine.specs.Host.{HostView}
 use Rattle.child_edge.specs.Faithful.{At, at}
+use Rattle.child_edge.specs.Told.{told}
 use Rattle.arrivals.specs.Lines.{whole}
 use Rattle.sheet_text.specs.Script.{line_of}
 use Rattle.sheet_text.specs.LiveLines.{script_or_form}
@@ -26,7 +27,7 @@ use Rattle.offline_programs.specs.declared.fault.RunFault.{RunFault}
 use Rattle.live.specs.declared.holding.Hold.{Hold}
 use Rattle.live.specs.declared.holding.Hold.TheVariants as hold
 use Rattle.live.specs.Records.{Brought, Edge, brought, left}
-use Rattle.live.specs.Saying.{MayGroup, SaysEdit, WaitGoesOn}
+use Rattle.live.specs.Saying.{MayGroup, SaysEdit, WaitGoesOn, line_goes_wrong, stop_if}
 use Rattle.live.specs.Arrivals.{LivePlace, TakesArrival, line, place, said_by, together}
 use Rattle.live.specs.Broken as broken
 use Rattle.live.specs.Taking.{Said, SayingFailed, TakingFailed, TookArrival}
@@ -44,7 +45,7 @@ goes-free w = go (goes_on_somehow hold.Free w)
     go (behind, inl p) = inl (p.0, refl)
     go (behind, inr p) = inr (p.0, refl)
 
-module _ {C : Type 0} (o : Edge C) (s : At C) (before : ℕ) (h : HostView) (c : C) (a b : Option (List ℕ)) (l : List ℕ) (said : Command) (is : line_of l ≡ Some (says.Command said)) where
+module _ {C : Type 0} (o : Edge C) (s : At C) (before : ℕ) (h : HostView) (c : C) (a b : Option (List ℕ)) (l : List ℕ) (said : Command) (is : line_of l ≡ Some (says.Command said)) (lax : o.strict ≡ false) where
   says-so : said_by (whole l) ≡ Some (live.Script (says.Command said))
   says-so = ap (λ (x : Option ScriptLine). script_or_form x l) is
 
@@ -53,7 +54,9 @@ module _ {C : Type 0} (o : Edge C) (s : At C) (before : ℕ) (h : HostView) (c :
   alone_took begun q =
       let free = subst (λ (x : Hold). Said o (before + 1) (Some (live.Script (says.Command said))) s (left h c a b) x) q.3 q in
       let own = subst (λ (x : Option LiveLine). Said o (before + 1) x s (left h c a b) hold.Free) (sym says-so) free in
-      line_took o s before h c a b (whole l) b hold.Free hold.Free own (goes-free own.1) (Appends-nil b)
+      let wrong : Bool = line_goes_wrong s.world (said_by (whole l)) (told own.0.beats) in
+      subst (λ (x : Bool). TookArrival o (place s before hold.Free) (line (whole l)) (left h c a b) (before + 1) (stop_if (x && wrong) hold.Free)) lax
+      (line_took o s before h c a b (whole l) b (record { wait = hold.Free; wrong = wrong }) hold.Free (own, refl) (goes-free own.1) (Appends-nil b))
 
   pub alone_failed : (f : RunFault) → SayingFailed o (before + 1) (Some (live.Script (says.Command said))) s (left h c a b) f
       → TakingFailed o (place s before hold.Free) (line (whole l)) (left h c a b) f
@@ -85,7 +88,7 @@ group_unsaid V given w events h g a b f outcomes p is few (inl why) = untold why
 group_unsaid V given w events h g a b f outcomes p is few (inr more) = absurd (few_outcomes w events h g p few (subst (λ (os : List Outcome). most_commands < length os) (sym is) more))
 
 module _ {C : Type 0} (o : Edge C) (w : World) (h g : HostView) (c : C) (before : ℕ) (a b : Option (List ℕ)) (given : List (List ℕ)) (events : List Event) (edits : AllByRecursion SaysEdit given)
-    (are : events ≡ lines_events given) (many : 2 ≤ length events) (few : length events ≤ most_commands) (same : SameDisk h.store.disk g.store.disk) where
+    (are : events ≡ lines_events given) (many : 2 ≤ length events) (few : length events ≤ most_commands) (same : SameDisk h.store.disk g.store.disk) (lax : o.strict ≡ false) where
   abbrev here : LivePlace C
   here = place (at w c h.store.disk) before hold.Free
 
@@ -112,7 +115,7 @@ module _ {C : Type 0} (o : Edge C) (w : World) (h g : HostView) (c : C) (before 
       let own : Joins given es = subst (λ (x : List Event). Joins given x) (sym all) joined in
       let lots : 2 ≤ length es = subst (λ (x : List Event). 2 ≤ length x) (sym all) many in
       let bounded : length es ≤ most_commands = subst (λ (x : List Event). length x ≤ most_commands) (sym all) few in
-      (refl, refl, refl, may-group, kept_done given w es h g c own k lots bounded same, ap (λ (os : List Outcome). numbered_text o.voice (before + 1) (sheet_in k.leads) os) (sym (outcomes_from w es k.told k.leads k.runs)))
+      (refl, refl, refl, may-group, kept_done given w es h g c own k lots bounded same, ap (λ (os : List Outcome). numbered_text o.voice (before + 1) (sheet_in k.leads) os) (sym (outcomes_from w es k.told k.leads k.runs)), lax)
 
   pub group_took : GroupTold o.voice before w events (host_call h g a b) → TookArrival o here (together given) (left g c a b) (before + length events) hold.Free
   group_took (p, wrote) =

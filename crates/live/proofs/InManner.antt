@@ -1,4 +1,4 @@
--- What comes of commands, interrupts and times is the same in every manner, and so is what a fault at a life's turn leaves.
+-- What comes of commands and interrupts is the same in every manner, and so is what a fault at a life's turn or a stall leaves.
 use Rattle.std.proofs.Common.{ℕ, List, Option, Some}
 use Rattle.host_events.specs.declared.command.Command.{Command}
 use Rattle.child_calls.specs.declared.seat.Seat.{Seat}
@@ -12,10 +12,7 @@ use Rattle.live.specs.declared.holding.Hold.{Hold}
 use Rattle.live.specs.declared.manner.Manner.{Manner}
 use Rattle.live.specs.Records.{Brought, Clock, Left, Watch, edge, edge_by}
 use Rattle.live.specs.Saying.{Begins, SaidDone}
-use Rattle.live.specs.Arrivals.{Arrival, LivePlace, TakesArrival, time_over}
-use Rattle.live.specs.Broken.{TakesLed}
-use Rattle.live.specs.Broken as broken
-use Rattle.live.specs.Taking.{HearingFailed, SaidLed, SaidUnwritten, SayingFailed, TakingFailed, TookUnwritten}
+use Rattle.live.specs.Taking.{HearingFailed, SaidLed, SaidUnwritten, SayingFailed, StallingFailed}
 use Rattle.live.specs.Taking as inside
 
 module _ {C : Type 0} (manner : Manner) (V : Voice) (R : Relation C) (K : Clock C) (W : Watch C) where
@@ -44,29 +41,14 @@ module _ {C : Type 0} (manner : Manner) (V : Voice) (R : Relation C) (K : Clock 
       → SayingFailed (edge_by manner V R K W) number (Some (live.Interrupt name)) s leaves f
   interrupt_failed_by name number s leaves f q = saying-failed (Some (live.Interrupt name)) s (λ begun b. b) (λ n it t p. p) number leaves f q
 
-  module _ (p : LivePlace C) (a : Arrival) (takes : (it : Brought) (q : LivePlace C) → TakesArrival (edge V R K W) p a it q → TakesArrival (edge_by manner V R K W) p a it q) where
-    takes-led : (t : At C) → TakesLed (edge V R K W) p a t → TakesLed (edge_by manner V R K W) p a t
-    takes-led t (broken.all it q taken there) = broken.all it q (takes it q taken) there
-    takes-led t (broken.up_to beats e broke) = broken.up_to beats e broke
-    takes-led t (broken.so_far beats so) = broken.so_far beats so
-    takes-led t (broken.heard seat beats is took) = broken.heard seat beats is took
-    takes-led t (broken.interrupted k text over limited front) = broken.interrupted k text over limited front
-
-    took-unwritten : (leaves : Left C) → TookUnwritten (edge V R K W) p a leaves → TookUnwritten (edge_by manner V R K W) p a leaves
-    took-unwritten leaves q = (q.0, q.1, takes-led (at q.0 leaves.sources q.1) q.2, q.3)
-
-    taking-failed : (leaves : Left C) (f : RunFault) → TakingFailed (edge V R K W) p a leaves f → TakingFailed (edge_by manner V R K W) p a leaves f
-    taking-failed leaves f (inside.stopped why beats e t d broke stopped wrote) = inside.stopped why beats e t d broke stopped wrote
-    taking-failed leaves f (inside.broke ls is group broke same wrote) = inside.broke ls is group broke same wrote
-    taking-failed leaves f (inside.refused beats t so stands wrote) = inside.refused beats t so stands wrote
-    taking-failed leaves f (inside.untold why q) = inside.untold why (took-unwritten leaves q)
-    taking-failed leaves f (inside.unwritten q) = inside.unwritten (took-unwritten leaves q)
-
   pub hearing_failed_by : (seat : Seat) (s : At C) (leaves : Left C) (f : RunFault) → HearingFailed (edge V R K W) seat s leaves f → HearingFailed (edge_by manner V R K W) seat s leaves f
   hearing_failed_by seat s leaves f (inside.stopped why beats e t d broke stopped wrote) = inside.stopped why beats e t d broke stopped wrote
   hearing_failed_by seat s leaves f (inside.refused t same stands wrote) = inside.refused t same stands wrote
   hearing_failed_by seat s leaves f (inside.untold why q) = inside.untold why q
   hearing_failed_by seat s leaves f (inside.unwritten q) = inside.unwritten q
 
-  pub time_failed_by : (p : LivePlace C) (leaves : Left C) (f : RunFault) → TakingFailed (edge V R K W) p time_over leaves f → TakingFailed (edge_by manner V R K W) p time_over leaves f
-  time_failed_by p leaves f q = taking-failed p time_over (λ it x t. t) leaves f q
+  pub stalling_failed_by : (seats : List Seat) (s : At C) (leaves : Left C) (f : RunFault) → StallingFailed (edge V R K W) seats s leaves f → StallingFailed (edge_by manner V R K W) seats s leaves f
+  stalling_failed_by seats s leaves f (inside.stopped why beats e t d broke stopped wrote) = inside.stopped why beats e t d broke stopped wrote
+  stalling_failed_by seats s leaves f (inside.refused beats t so stands wrote) = inside.refused beats t so stands wrote
+  stalling_failed_by seats s leaves f (inside.untold why q) = inside.untold why q
+  stalling_failed_by seats s leaves f (inside.unwritten q) = inside.unwritten q

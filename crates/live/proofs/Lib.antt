@@ -1,6 +1,7 @@
 pub mod Said
 pub mod Turns
 pub mod Coming
+pub mod Stopping
 pub mod Goings
 pub mod Ends
 pub mod InManner

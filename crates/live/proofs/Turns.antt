@@ -21,18 +21,21 @@ use Rattle.child_edge.specs.Seats.{waits}
 use Rattle.child_edge.specs.Told.{told}
 use Rattle.tellings.specs.Voice.{IsUntold, came_text}
 use Rattle.tellings.specs.declared.note.Note.TheVariants as note
+use Rattle.sheet_programs.specs.Strict.{is_wrong}
 use Rattle.sheet_programs.specs.Told.{fault_of_cause}
 use Rattle.offline_programs.specs.declared.fault.RunFault.{RunFault}
 use Rattle.offline_programs.specs.declared.fault.RunFault.TheVariants as fault
 use Rattle.live.specs.declared.holding.Hold.{Hold}
+use Rattle.live.specs.declared.saying.Beginning.{Beginning}
+use Rattle.live.specs.declared.taking.Heeded.{Heeded}
 use Rattle.live.specs.declared.holding.Hold.TheVariants as hold
 use Rattle.live.specs.Records.{Brought, Edge, brought, left}
-use Rattle.live.specs.Saying.{Begins, BeginsAgain, SaidDone, StallsAtEnd, TurnGoesOn, UntimedBegins, WaitGoesOn, IsLimited, has_closed, has_limit, is_held, over_text, seconds_behind}
+use Rattle.live.specs.Saying.{Begins, BeginsAgain, SaidDone, StallsAtEnd, TurnGoesOn, UntimedBegins, WaitGoesOn, IsLimited, has_closed, has_limit, is_held, line_goes_wrong, over_text, seconds_behind, stop_if}
 use Rattle.arrivals.specs.Lines.{InputLine}
 use Rattle.live.specs.Arrivals.{Arrival, line, life, time_over, InterruptsLife, LivePlace, place, respite, said_by}
 use Rattle.live.specs.Broken.{TakesLed}
 use Rattle.live.specs.Broken as broken
-use Rattle.live.specs.Taking.{Warned, WarnedUnwritten, Heard, HeardClosing, HeardLed, HeardUnwritten, Said, SaidLed, SaidUnwritten, SayingFailed, HearingFailed, Stalled, StalledUnwritten, StallingFailed, StallingLed, TakingFailed, TookArrival, TookUnwritten}
+use Rattle.live.specs.Taking.{Warned, WarnedUnwritten, Heard, HeardClosing, HeardLed, HeardUnwritten, Said, SaidLed, SaidSo, StalledSo, SaidUnwritten, SayingFailed, HearingFailed, Stalled, StalledUnwritten, StallingFailed, StallingLed, TakingFailed, TookArrival, TookUnwritten}
 use Rattle.live.specs.Taking as inside
 
 -- What a life's turn gives.
@@ -53,9 +56,13 @@ module _ {C : Type 0} (o : Edge C) (seat : Seat) (w : World) (h g : HostView) (c
   told-of t bs is are wrote =
       subst (λ (s : Contents). Appends a b (came_text o.voice s (told bs))) is (subst (λ (l : List Reply). Appends a b (came_text o.voice g.store.sheet.contents l)) are wrote)
 
-  pub heard_closing : (closed : Bool) → Ran (Taken (hearing o.after true) None seat (at w c h.store.disk)) [] g d replies → Appends a b (came_text o.voice g.store.sheet.contents replies)
-      → closed ≡ list_any has_closed replies → HeardClosing o seat (at w c h.store.disk) (left g d a b) closed
-  heard_closing closed p wrote is = ((p.beats, p.leads, p.form, p.stands, told-of p.leads p.beats p.stands.stands.contents p.replied wrote), is ∙ ap (λ (l : List Reply). list_any has_closed l) p.replied)
+  pub heard_closing : (heeded : Heeded) → Ran (Taken (hearing o.after true) None seat (at w c h.store.disk)) [] g d replies → Appends a b (came_text o.voice g.store.sheet.contents replies)
+      → heeded.closed ≡ list_any has_closed replies → heeded.wrong ≡ list_any is_wrong replies → HeardClosing o seat (at w c h.store.disk) (left g d a b) heeded
+  heard_closing heeded p wrote closed wrong = (
+    (p.beats, p.leads, p.form, p.stands, told-of p.leads p.beats p.stands.stands.contents p.replied wrote),
+    closed ∙ ap (λ (l : List Reply). list_any has_closed l) p.replied,
+    wrong ∙ ap (λ (l : List Reply). list_any is_wrong l) p.replied,
+  )
 
   pub heard_failed : (why : EdgeCause) → TurnBroke o.after seat w h g c d [] replies why
       → Appends a b (came_text o.voice g.store.sheet.contents replies) → HearingFailed o seat (at w c h.store.disk) (left g d a b) (fault_of_cause why)
@@ -106,6 +113,7 @@ limited-held hold.Wait closed is = refl
 limited-held (hold.Until end) closed is = refl
 limited-held (hold.Limited end) closed is = refl
 limited-held (hold.Warned end) closed is = refl
+limited-held hold.Stopped closed is = absurd (true≢false (sym is))
 
 again-held : {C : Type 0} (o : Edge C) (c : C) (held behind : Hold) (closed again : Bool) → again ≡ (has_limit held && closed) → BeginsAgain o c again held behind → is_held behind ≡ is_held held
 again-held o c held behind closed false is begins = ap is_held begins
@@ -153,19 +161,24 @@ module _ {C : Type 0} (o : Edge C) (p : LivePlace C) (h : HostView) (c : C) (a b
   pub life_untold : (seat : Seat) (f : RunFault) (mid : Option (List ℕ)) → Heard o seat p.run (left h c a mid) → IsUntold o.voice f → TakingFailed o p (life seat) (left h c a b) f
   life_untold seat f mid q is = took_untold (life seat) f is (q.1, h.store.disk, broken.heard seat q.0 refl q.2, inl (q.3, refl))
 
-  pub life_took : (seat : Seat) (mid : Option (List ℕ)) (closed : Bool) (on held : Hold) (q : HeardClosing o seat p.run (left h c a mid) closed) → WaitGoesOn p.held q.0.1 on
-      → BeginsAgain o c (has_limit on && closed) on held → Appends mid b (over_text o.voice p.number p.held on) → TookArrival o p (life seat) (left h c a b) p.number held
-  life_took seat mid closed on held q goes again wrote = (
+  pub life_took : (seat : Seat) (mid : Option (List ℕ)) (heeded : Heeded) (on held : Hold) (q : HeardClosing o seat p.run (left h c a mid) heeded) → WaitGoesOn p.held q.0.1 on
+      → BeginsAgain o c (has_limit on && heeded.closed) on held → Appends mid b (over_text o.voice p.number p.held on)
+      → TookArrival o p (life seat) (left h c a b) p.number (stop_if (o.strict && heeded.wrong) held)
+  life_took seat mid heeded on held q goes again wrote = (
     brought q.0.0 (came_text o.voice (sheet_in q.0.1) (told q.0.0) ++ over_text o.voice p.number p.held held),
     q.0.1,
-    (refl, q.0.2, refl, turn-goes-on o p.held on held (told q.0.0) (at q.0.1 c h.store.disk) goes (subst (λ (x : Bool). BeginsAgain o c (has_limit on && x) on held) q.1 again)),
+    (
+      refl,
+      q.0.2,
+      (held, refl, turn-goes-on o p.held on held (told q.0.0) (at q.0.1 c h.store.disk) goes (subst (λ (x : Bool). BeginsAgain o c (has_limit on && x) on held) q.1 again), ap (λ (x : Bool). stop_if (o.strict && x) held) q.2),
+    ),
     q.0.3,
     Appends-trans a mid b (came_text o.voice (sheet_in q.0.1) (told q.0.0)) (over_text o.voice p.number p.held held) q.0.4
-        (subst (Appends mid b) (sym (over-again o c p.number p.held on held closed again)) wrote),
+        (subst (Appends mid b) (sym (over-again o c p.number p.held on held heeded.closed again)) wrote),
   )
 
   time-all : (timed : StallsAtEnd p.held) (beats : List Beat) (t : At C) → EachOf (Taken (hearing o.after false) None) (waits p.run.world) p.run beats t → TakesLed o p time_over t
-  time-all timed beats t q = broken.all (brought beats (came_text o.voice (sheet_in t.world) (told beats) ++ o.voice.note (note.Waited p.number true))) (place t p.number hold.Free) (inl (timed, refl, q, refl, refl)) refl
+  time-all timed beats t q = broken.all (brought beats (came_text o.voice (sheet_in t.world) (told beats) ++ o.voice.note (note.Waited p.number true))) (place t p.number (stop_if (o.strict && list_any is_wrong (told beats)) hold.Free)) (inl (timed, refl, q, refl, refl)) refl
 
   led-time : (timed : StallsAtEnd p.held) (t : At C) → StallingLed o.after (waits p.run.world) p.run t → TakesLed o p time_over t
   led-time timed t (inside.each beats q) = time-all timed beats t q
@@ -185,10 +198,10 @@ module _ {C : Type 0} (o : Edge C) (p : LivePlace C) (h : HostView) (c : C) (a b
   pub time_untold : StallsAtEnd p.held → (f : RunFault) (mid : Option (List ℕ)) → Stalled o (waits p.run.world) p.run (left h c a mid) → IsUntold o.voice f → TakingFailed o p time_over (left h c a b) f
   time_untold timed f mid q is = took_untold time_over f is (q.1, h.store.disk, time-all timed q.0 (at q.1 c h.store.disk) q.2, inl (q.3, refl))
 
-  pub time_took : StallsAtEnd p.held → (mid : Option (List ℕ)) → Stalled o (waits p.run.world) p.run (left h c a mid) → Appends mid b (o.voice.note (note.Waited p.number true))
-      → TookArrival o p time_over (left h c a b) p.number hold.Free
-  time_took timed mid q wrote =
-      (brought q.0 (came_text o.voice (sheet_in q.1) (told q.0) ++ o.voice.note (note.Waited p.number true)), q.1, inl (timed, refl, q.2, refl, refl), q.3, Appends-trans a mid b (came_text o.voice (sheet_in q.1) (told q.0)) (o.voice.note (note.Waited p.number true)) q.4 wrote)
+  pub time_took : StallsAtEnd p.held → (mid : Option (List ℕ)) (wrong : Bool) → StalledSo o (waits p.run.world) p.run (left h c a mid) wrong → Appends mid b (o.voice.note (note.Waited p.number true))
+      → TookArrival o p time_over (left h c a b) p.number (stop_if (o.strict && wrong) hold.Free)
+  time_took timed mid wrong (q, is) wrote =
+      (brought q.0 (came_text o.voice (sheet_in q.1) (told q.0) ++ o.voice.note (note.Waited p.number true)), q.1, inl (timed, refl, q.2, refl, ap (λ (x : Bool). stop_if (o.strict && x) hold.Free) is), q.3, Appends-trans a mid b (came_text o.voice (sheet_in q.1) (told q.0)) (o.voice.note (note.Waited p.number true)) q.4 wrote)
 
 -- Lives that are interrupted, one after another.
 
@@ -214,11 +227,15 @@ module _ {C : Type 0} (o : Edge C) (seats : List Seat) (s : At C) where
       → Interrupts o.after s.world seat.name c came d → WarnedUnwritten o seats s d
   interrupt_untold k seat c d came a b so is done = (k + 1, so.0 ++ o.voice.note (note.Warned seat came), one-interrupted k seat c d came so.0 so.1 is done)
 
+and-true : (b : Bool) → (b && true) ≡ b
+and-true true = refl
+and-true false = refl
+
 module _ {C : Type 0} (o : Edge C) (w : World) (h : HostView) (c d : C) (number : ℕ) (held : Hold) (a b : Option (List ℕ)) (limited : IsLimited held) (stands : IsHost h w) where
   -- each was interrupted, and they have two seconds more
   pub warned_took : (now : ℕ) → o.watches.clock d now → Warned o (waits w) (at w c h.store.disk) (left h d a b)
-      → TookArrival o (place (at w c h.store.disk) number held) time_over (left h d a b) number (hold.Warned (seconds_behind now respite))
-  warned_took now reads q = (brought [] q.0, w, inr (limited, refl, q.1, refl, (now, reads, refl)), stands, q.2)
+      → TookArrival o (place (at w c h.store.disk) number held) time_over (left h d a b) number (stop_if (o.strict && true) (hold.Warned (seconds_behind now respite)))
+  warned_took now reads q = (brought [] q.0, w, inr (limited, refl, q.1, refl, (now, reads, ap (λ (x : Bool). stop_if x (hold.Warned (seconds_behind now respite))) (and-true o.strict))), stands, q.2)
 
   pub warned_untold : (f : RunFault) → IsUntold o.voice f → WarnedUnwritten o (waits w) (at w c h.store.disk) d → TakingFailed o (place (at w c h.store.disk) number held) time_over (left h d a b) f
   warned_untold f is q = took_untold o (place (at w c h.store.disk) number held) h d a b time_over f is (w, h.store.disk, broken.interrupted q.0 q.1 refl limited q.2, inl (stands, refl))
@@ -282,8 +299,10 @@ module _ {C : Type 0} (o : Edge C) (seats : List Seat) (s : At C) (g : HostView)
   told-at t bs is are wrote =
       subst (λ (x : Contents). Appends a b (came_text o.voice x (told bs))) is (subst (λ (l : List Reply). Appends a b (came_text o.voice g.store.sheet.contents l)) are wrote)
 
-  pub stalled : Ran (EachOf (Taken (hearing o.after false) None) seats s) [] g d replies → Appends a b (came_text o.voice g.store.sheet.contents replies) → Stalled o seats s (left g d a b)
-  stalled p wrote = (p.beats, p.leads, p.form, p.stands, told-at p.leads p.beats p.stands.stands.contents p.replied wrote)
+  pub stalled : (wrong : Bool) → Ran (EachOf (Taken (hearing o.after false) None) seats s) [] g d replies → Appends a b (came_text o.voice g.store.sheet.contents replies) → wrong ≡ list_any is_wrong replies
+      → StalledSo o seats s (left g d a b) wrong
+  stalled wrong p wrote is =
+      ((p.beats, p.leads, p.form, p.stands, told-at p.leads p.beats p.stands.stands.contents p.replied wrote), is ∙ ap (λ (l : List Reply). list_any is_wrong l) p.replied)
 
   pub stalling_failed : (why : EdgeCause) → StallingBroke o.after seats s g d replies why → Appends a b (came_text o.voice g.store.sheet.contents replies) → StallingFailed o seats s (left g d a b) (fault_of_cause why)
   stalling_failed (cause.Host f) p wrote = inside.stopped f p.beats p.failed p.leads p.disk p.form p.stopped (told-at p.leads p.beats p.stopped.contents p.replied wrote)
@@ -312,7 +331,8 @@ module _ {C : Type 0} (o : Edge C) (s : At C) (before : ℕ) (h : HostView) (c :
   line-all : (l : InputLine) (begun : Hold) (said : Brought) (t : At C) → Begins o s.children (said_by l) begun → SaidDone o (before + 1) (said_by l) s said t → TakesLed o (place s before hold.Free) (line l) t
   line-all l begun said t begins done =
       let on = goes_on_somehow begun t.world in
-      broken.all (brought said.beats (said.text ++ over_text o.voice (before + 1) begun on.0)) (place t (before + 1) on.0) (refl, refl, (said.text, done, (begun, begins, on.1, refl))) refl
+      broken.all (brought said.beats (said.text ++ over_text o.voice (before + 1) begun on.0)) (place t (before + 1) (stop_if (o.strict && line_goes_wrong s.world (said_by l) (told said.beats)) on.0))
+      (refl, refl, (said.text, done, (begun, on.0, begins, on.1, refl, refl))) refl
 
   led-line : (l : InputLine) (t : At C) → SaidLed o (said_by l) s t → TakesLed o (place s before hold.Free) (line l) t
   led-line l t (inside.all begun begins done) = let said = done (before + 1) in line-all l begun said.0 t begins said.1
@@ -334,10 +354,15 @@ module _ {C : Type 0} (o : Edge C) (s : At C) (before : ℕ) (h : HostView) (c :
   line_untold l f mid begun q is =
       took_untold o (place s before hold.Free) h c a b (line l) f is (q.1, h.store.disk, line-all l begun q.0 (at q.1 c h.store.disk) q.3 q.2, inl (q.4, refl))
 
-  pub line_took : (l : InputLine) (mid : Option (List ℕ)) (begun held : Hold) (q : Said o (before + 1) (said_by l) s (left h c a mid) begun) → WaitGoesOn begun q.1 held → Appends mid b (over_text o.voice (before + 1) begun held)
-      → TookArrival o (place s before hold.Free) (line l) (left h c a b) (before + 1) held
-  line_took l mid begun held q on wrote =
-      (brought q.0.beats (q.0.text ++ over_text o.voice (before + 1) begun held), q.1, (refl, refl, (q.0.text, q.2, (begun, q.3, on, refl))), q.4, Appends-trans a mid b q.0.text (over_text o.voice (before + 1) begun held) q.5 wrote)
+  pub line_took : (l : InputLine) (mid : Option (List ℕ)) (begun : Beginning) (on : Hold) (q : SaidSo o (before + 1) (said_by l) s (left h c a mid) begun) → WaitGoesOn begun.wait q.0.1 on
+      → Appends mid b (over_text o.voice (before + 1) begun.wait on) → TookArrival o (place s before hold.Free) (line l) (left h c a b) (before + 1) (stop_if (o.strict && begun.wrong) on)
+  line_took l mid begun on (q, wrong) goes wrote = (
+    brought q.0.beats (q.0.text ++ over_text o.voice (before + 1) begun.wait on),
+    q.1,
+    (refl, refl, (q.0.text, q.2, (begun.wait, on, q.3, goes, refl, ap (λ (x : Bool). stop_if (o.strict && x) on) wrong))),
+    q.4,
+    Appends-trans a mid b q.0.text (over_text o.voice (before + 1) begun.wait on) q.5 wrote,
+  )
 
 -- of one result
 pub if_ok_both : {T E : Type 0} (r : Result T E) (P Q S : T → Type 0) → ((x : T) → P x → Q x → S x) → IfOk r P → IfOk r Q → IfOk r S

@@ -1,5 +1,6 @@
 -- What came to a live worksheet, one after the other, and what came of it. (docs/EDGE.md, "Live".)
-use Rattle.std.specs.Prelude.{◌≡◌, ◌⊎◌, ℕ, ◌+◌, ◌-◌, ◌≤◌, Bool, false, true, List, [], ◌∷◌, ◌++◌, Option, Some, None, IsSomeAnd, length, map}
+use Rattle.std.specs.Prelude.{◌≡◌, ◌≢◌, ◌⊎◌, ℕ, ◌+◌, ◌-◌, ◌≤◌, ◌&&◌, Bool, false, true, List, [], ◌∷◌, ◌++◌, Option, Some, None, IsSomeAnd, length, map}
+use Rattle.std.specs.List.{list_any}
 use Rattle.child_calls.specs.declared.seat.Seat.{Seat}
 use Rattle.child_edge.specs.Faithful.{At, at, Beat, EachOf, Taken, OneTurn, hearing}
 use Rattle.child_edge.specs.Interrupts.{Interrupts}
@@ -16,6 +17,7 @@ use Rattle.sheet_text.specs.LiveLines.{live_line_of}
 use Rattle.sheet_text.specs.declared.live_line.LiveLine.{LiveLine}
 use Rattle.session_engine.specs.World.{sheet_in}
 use Rattle.child_edge.specs.Told.{told}
+use Rattle.sheet_programs.specs.Strict.{is_wrong}
 use Rattle.sheet_programs.specs.Together.{GroupDone}
 use Rattle.tellings.specs.Voice.{Voice, came_text, numbered_text, replied_text}
 use Rattle.tellings.specs.declared.note.Note.TheVariants as note
@@ -23,7 +25,7 @@ use Rattle.worksheet.specs.Contents.{Contents}
 use Rattle.live.specs.declared.holding.Hold.{Hold}
 use Rattle.live.specs.declared.holding.Hold.TheVariants as hold
 use Rattle.live.specs.Records.{Brought, Edge, Watches, brought}
-use Rattle.live.specs.Saying.{MayGroup, SaidDone, IsLimited, StallsAtEnd, Begins, TurnGoesOn, WaitGoesOn, over_text, seconds_behind, time_of}
+use Rattle.live.specs.Saying.{MayGroup, SaidDone, IsLimited, StallsAtEnd, Begins, TurnGoesOn, WaitGoesOn, line_goes_wrong, over_text, seconds_behind, stop_if, time_of}
 
 -- what came
 pub data Arrival : Type 0 where
@@ -73,6 +75,7 @@ input_at hold.Wait is_there = input.HeldBack
 input_at (hold.Until end) is_there = input.HeldBack
 input_at (hold.Limited end) is_there = input.HeldBack
 input_at (hold.Warned end) is_there = input.HeldBack
+input_at hold.Stopped is_there = input.HeldBack
 
 -- For how long a watch may take where the clock reads this: for what is left of a wait's time, and else without a limit.
 abbrev pub patience_at : Hold → ℕ → Option ℕ
@@ -81,6 +84,7 @@ patience_at hold.Wait now = None
 patience_at (hold.Until end) now = Some (end - now)
 patience_at (hold.Limited end) now = Some (end - now)
 patience_at (hold.Warned end) now = Some (end - now)
+patience_at hold.Stopped now = None
 
 -- a wait has a time, and it is over where the clock reads this
 abbrev pub IsOver : Hold → ℕ → Type 0
@@ -104,17 +108,20 @@ Comes m held c time_over d =
     ((is_there : Bool) × WatchTells m held c is_there (Some woken.TimeOver) d) ⊎ ((now : ℕ) × m.clock c now × IsOver held now × (d ≡ c))
 
 -- Lines that were there together were taken as one group: their commands went through one after another, no child was called, and what they
--- gave became durable at once. The reply to each is printed with the number of its line. No wait begins.
+-- gave became durable at once. The reply to each is printed with the number of its line. No wait begins. A strict input takes its lines one
+-- by one.
 abbrev pub TakesGroup : {C : Type 0} → Edge C → LivePlace C → List (List ℕ) → Brought → LivePlace C → Type 0
 TakesGroup o p ls it q =
     (p.held ≡ hold.Free) × (q.held ≡ hold.Free) × (q.number ≡ p.number + length ls) × MayGroup ls × GroupDone ls p.run it.beats q.run
-    × (it.text ≡ numbered_text o.voice (p.number + 1) (sheet_in q.run.world) (outcomes_of it.beats))
+    × (it.text ≡ numbered_text o.voice (p.number + 1) (sheet_in q.run.world) (outcomes_of it.beats)) × (o.strict ≡ false)
 
--- The time of a wait is over, and so is the wait: each life in which an item still waits counts as stalled.
+-- The time of a wait is over, and so is the wait: each life in which an item still waits counts as stalled. Where items were lost by that, a
+-- strict input stops.
 abbrev pub EndsWait : {C : Type 0} → Edge C → LivePlace C → Brought → LivePlace C → Type 0
 EndsWait o p it q =
     StallsAtEnd p.held × (q.number ≡ p.number) × OneTurn (hearing o.after false) (waits p.run.world) p.run it.beats q.run
-    × (it.text ≡ came_text o.voice (sheet_in q.run.world) (told it.beats) ++ o.voice.note (note.Waited q.number true)) × (q.held ≡ hold.Free)
+    × (it.text ≡ came_text o.voice (sheet_in q.run.world) (told it.beats) ++ o.voice.note (note.Waited q.number true))
+    × (q.held ≡ stop_if (o.strict && list_any is_wrong (told it.beats)) hold.Free)
 
 -- The interpreter of this life's session was interrupted by one call, and what came of it is printed.
 abbrev pub InterruptsLife : {C : Type 0} → Edge C → Seat → At C → List ℕ → At C → Type 0
@@ -127,24 +134,24 @@ abbrev pub respite : ℕ
 respite = 2
 
 -- The time of a line is over in a wait that names none: each life in which an item waits is interrupted, and from then on there are two
--- seconds more.
+-- seconds more. A strict input stops there.
 abbrev pub Warns : {C : Type 0} → Edge C → LivePlace C → Brought → LivePlace C → Type 0
 Warns o p it q =
     IsLimited p.held × (q.number ≡ p.number) × EachOf (InterruptsLife o) (waits p.run.world) p.run it.text q.run × (it.beats ≡ [])
-    × ((now : ℕ) × o.watches.clock q.run.children now × (q.held ≡ hold.Warned (seconds_behind now respite)))
+    × ((now : ℕ) × o.watches.clock q.run.children now × (q.held ≡ stop_if o.strict (hold.Warned (seconds_behind now respite))))
 
--- What came of an arrival, by what it is: what it brought, and the place after it.
+-- What came of an arrival, by what it is: what it brought, and the place after it. Where a line went wrong by it, a strict input stops there.
 abbrev pub TakesArrival : {C : Type 0} → Edge C → LivePlace C → Arrival → Brought → LivePlace C → Type 0
 TakesArrival o p (line l) it q =
     (p.held ≡ hold.Free) × (q.number ≡ p.number + 1) × ((said : List ℕ) × SaidDone o q.number (said_by l) p.run (brought it.beats said) q.run
-    × ((begun : Hold) × Begins o p.run.children (said_by l) begun × WaitGoesOn begun q.run.world q.held
-    × (it.text ≡ said ++ over_text o.voice q.number begun q.held)))
+    × ((begun : Hold) × (on : Hold) × Begins o p.run.children (said_by l) begun × WaitGoesOn begun q.run.world on
+    × (it.text ≡ said ++ over_text o.voice q.number begun on) × (q.held ≡ stop_if (o.strict && line_goes_wrong p.run.world (said_by l) (told it.beats)) on)))
 TakesArrival o p (together ls) it q = TakesGroup o p ls it q
 TakesArrival o p part it q = (p.held ≡ hold.Free) × (it.beats ≡ []) × (it.text ≡ []) × (q ≡ p)
 TakesArrival o p (life seat) it q =
     (q.number ≡ p.number) × Taken (hearing o.after true) None seat p.run it.beats q.run
-    × (it.text ≡ came_text o.voice (sheet_in q.run.world) (told it.beats) ++ over_text o.voice q.number p.held q.held)
-    × TurnGoesOn o p.held (told it.beats) q.run q.held
+    × ((on : Hold) × (it.text ≡ came_text o.voice (sheet_in q.run.world) (told it.beats) ++ over_text o.voice q.number p.held on)
+    × TurnGoesOn o p.held (told it.beats) q.run on × (q.held ≡ stop_if (o.strict && list_any is_wrong (told it.beats)) on))
 TakesArrival o p time_over it q = EndsWait o p it q ⊎ Warns o p it q
 
 -- What is printed of those entries of an arrival that came before a fault, where so many lines were taken before it and this is the
@@ -156,10 +163,14 @@ front_text V number part sheet beats = []
 front_text V number (life seat) sheet beats = came_text V sheet (told beats)
 front_text V number time_over sheet beats = came_text V sheet (told beats)
 
+-- This came at this place, at which something may come: after a strict input stopped nothing does.
+abbrev pub ArrivalComes : {C : Type 0} → Edge C → LivePlace C → Arrival → C → Type 0
+ArrivalComes o p a c = (p.held ≢ hold.Stopped) × Comes o.watches p.held p.run.children a c
+
 -- These came, one after the other, and each was taken when it came.
 abbrev pub Lived : {C : Type 0} → Edge C → LivePlace C → List Arrival → Brought → LivePlace C → Type 0
 Lived o p [] it q = (it.beats ≡ []) × (it.text ≡ []) × (q ≡ p)
 Lived {C = C} o p (a ∷ came) it q =
     (c : C) × (mid : LivePlace C) × (first : Brought) × (rest : Brought)
-    × Comes o.watches p.held p.run.children a c × TakesArrival o (woken_at p c) a first mid × Lived o mid came rest q
+    × ArrivalComes o p a c × TakesArrival o (woken_at p c) a first mid × Lived o mid came rest q
     × (it.beats ≡ first.beats ++ rest.beats) × (it.text ≡ first.text ++ rest.text)

@@ -11,7 +11,7 @@ use Rattle.arrivals.specs.Lines.{InputLine}
 use Rattle.sheet_programs.specs.Together.{GroupBroke}
 use Rattle.live.specs.Records.{Brought, Edge}
 use Rattle.live.specs.Saying.{MayGroup, IsCommand, SaidUpTo, IsLimited, StallsAtEnd}
-use Rattle.live.specs.Arrivals.{Arrival, line, together, life, time_over, LivePlace, Comes, InterruptsLife, TakesArrival, Lived, said_by, woken_at, front_text}
+use Rattle.live.specs.Arrivals.{Arrival, line, together, life, time_over, LivePlace, ArrivalComes, InterruptsLife, TakesArrival, Lived, said_by, woken_at, front_text}
 
 -- An arrival came up to this event, at which the host had a fault: these entries of it came before.
 pub data TakesUpTo {C : Type 0} (R : Relation C) (p : LivePlace C) (beats : List Beat) (e : Event) (t : At C) : Arrival → Type 0 where
@@ -53,7 +53,7 @@ pub record LivedBefore {C : Type 0} (o : Edge C) (p : LivePlace C) (came : List 
   pub sources : C
   pub are : came ≡ before ++ a ∷ []
   pub lived : Lived o p before it mid
-  pub comes : Comes o.watches mid.held mid.run.children a sources
+  pub comes : ArrivalComes o mid a sources
   pub here : q ≡ woken_at mid sources
 
 -- These came, the last of them up to this event, at which the host had a fault.

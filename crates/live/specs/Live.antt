@@ -1,5 +1,5 @@
 -- A live worksheet: what it leaves at the end of its input, and what a fault of it leaves.
-use Rattle.std.specs.Prelude.{◌≡◌, ◌+◌, ◌^◌, ◌≤◌, ◌⊎◌, ℕ, Bool, false, true, List, ◌++◌, Option, Some, None, IfSome, length}
+use Rattle.std.specs.Prelude.{◌≡◌, ◌≢◌, ◌+◌, ◌^◌, ◌≤◌, ◌⊎◌, ℕ, Bool, false, true, List, ◌++◌, Option, Some, None, IfSome, length}
 use Rattle.std.specs.Io.KnownBytes.{Appends}
 use Rattle.disk_model.specs.Disk.{DiskView, InModel, bytes_on}
 use Rattle.journal.specs.declared.opening.OpenCause.{OpenCause}
@@ -48,7 +48,7 @@ EndComes m held c d = (held ≡ hold.Free) × WatchTells m held c true (Some wok
 -- No more could come: a watch had no answer, or it returned the input while no line was there, and the read that followed failed.
 abbrev pub NoMoreComes : {C : Type 0} → Watches C → Hold → C → C → Type 0
 NoMoreComes m held c d =
-    ((is_there : Bool) × WatchTells m held c is_there None d) ⊎ ((held ≡ hold.Free) × WatchTells m held c false (Some woken.Input) d)
+    ((held ≢ hold.Stopped) × ((is_there : Bool) × WatchTells m held c is_there None d)) ⊎ ((held ≡ hold.Free) × WatchTells m held c false (Some woken.Input) d)
 
 -- Where the input came to its end, and no wait holds back that end: all of its lines were taken, this text was written, then each life
 -- that goes on was stopped. Each image of the disk that is given back is one of the worksheet after all events. At every moment since the
@@ -136,6 +136,21 @@ pub record LiveUnread {C : Type 0} (o : Edge C) (stream : Option (List ℕ)) (fi
   pub moments : LeavesFronts start all.beats now last.disk
   pub stops : Stops o.after (running leads.run.world) sources last.sources
   pub wrote : Appends first.written last.written all.text
+
+-- A strict input stopped after the line with this number, at which something went wrong, as at no line before. All up to there was taken, and
+-- what was returned is written. Each image of the disk that is given back is one of the worksheet after all events.
+pub record LiveCut {C : Type 0} (o : Edge C) (stream : Option (List ℕ)) (first last : Outside C) (number : ℕ) : Type 0 where
+  pub it : LiveUnread o stream first last
+  pub strict : o.strict ≡ true
+  pub count : number ≡ it.leads.number
+  pub sources : it.sources ≡ it.leads.run.children
+  pub holds : HoldsSheet it.leads.run.world last.disk
+  pub at : it.leads.held ≡ hold.Stopped
+
+-- It came to the end of its input; or it is a strict one, and stopped after the line with this number, at which something went wrong first.
+abbrev pub LiveCame : {C : Type 0} → Edge C → Option (List ℕ) → Outside C → Outside C → Option ℕ → Type 0
+LiveCame o stream first last None = LiveDone o stream first last
+LiveCame o stream first last (Some number) = LiveCut o stream first last number
 
 -- The writer failed. What came until then is on the disk as ever, and each life that goes on was stopped.
 pub record LiveLed {C : Type 0} (o : Edge C) (stream : Option (List ℕ)) (first last : Outside C) : Type 0 where

@@ -43,29 +43,31 @@ pub record Watches (C : Type 0) : Type 1 where
 abbrev pub watches : {C : Type 0} → Clock C → Watch C → Watches C
 watches clock wakes = record { clock = clock; wakes = wakes }
 
--- What stays the same in a run: the voice of what is written, what the children do at a call, how the sources are watched, and how many
--- seconds a wait that names none may take, where there is a limit.
+-- What stays the same in a run: the voice of what is written, what the children do at a call, how the sources are watched, how many
+-- seconds a wait that names none may take, where there is a limit, and whether the input stops after the first line that goes wrong.
 pub record Edge (C : Type 0) : Type 1 where
   pub voice : Voice
   pub after : Relation C
   pub watches : Watches C
   pub limit : Option ℕ
+  pub strict : Bool
 
 abbrev pub edge : {C : Type 0} → Voice → Relation C → Clock C → Watch C → Edge C
-edge voice after clock wakes = record { voice = voice; after = after; watches = record { clock = clock; wakes = wakes }; limit = None }
+edge voice after clock wakes = record { voice = voice; after = after; watches = record { clock = clock; wakes = wakes }; limit = None; strict = false }
 
 -- What comes first is taken first.
 abbrev pub as_it_comes : Manner
-as_it_comes = record { lines_first = false; limit = None }
+as_it_comes = record { lines_first = false; limit = None; strict = false }
 
--- While no wait holds lines back they come first, and a wait that names no seconds may take so many, where there is a limit.
-abbrev pub line_by_line : Option ℕ → Manner
-line_by_line limit = record { lines_first = true; limit = limit }
+-- While no wait holds lines back they come first, a wait that names no seconds may take so many, where there is a limit, and the input may be
+-- a strict one.
+abbrev pub line_by_line : Option ℕ → Bool → Manner
+line_by_line limit strict = record { lines_first = true; limit = limit; strict = strict }
 
 -- the same for lines that are taken in this manner
 abbrev pub edge_by : {C : Type 0} → Manner → Voice → Relation C → Clock C → Watch C → Edge C
 edge_by manner voice after clock wakes =
-    record { voice = voice; after = after; watches = watches clock (wakes_by manner.lines_first wakes); limit = manner.limit }
+    record { voice = voice; after = after; watches = watches clock (wakes_by manner.lines_first wakes); limit = manner.limit; strict = manner.strict }
 
 -- The lines to come, before a call and after it.
 pub record Lines : Type 0 where

@@ -1,5 +1,5 @@
 -- What comes of one line of a live input. (docs/SCRIPT.md, "Live".)
-use Rattle.std.specs.Prelude.{◌≡◌, ◌≢◌, ◌⊎◌, ℕ, ◌+◌, ◌-◌, ◌*◌, ◌^◌, ◌≤◌, ◌&&◌, not, min, Bool, true, false, List, [], Option, Some, None, IsSome, is_some, length, if◌then◌else◌}
+use Rattle.std.specs.Prelude.{◌≡◌, ◌≢◌, ◌⊎◌, ℕ, ◌+◌, ◌-◌, ◌*◌, ◌^◌, ◌≤◌, ◌&&◌, ◌||◌, not, min, Bool, true, false, List, [], Option, Some, None, IsSome, is_some, length, if◌then◌else◌}
 use Rattle.std.specs.List.{AllByRecursion, list_any}
 use Rattle.host_events.specs.Commands.{op_of}
 use Rattle.host_events.specs.declared.command.Command.{Command}
@@ -13,10 +13,12 @@ use Rattle.child_edge.specs.Interrupts.{Interrupts}
 use Rattle.child_edge.specs.declared.interrupting.Interrupted.{Interrupted}
 use Rattle.child_edge.specs.Seats.{waits}
 use Rattle.child_edge.specs.Told.{told}
+use Rattle.worksheet.specs.Checks.{has_field, has_session}
 use Rattle.sheet_text.specs.Script.{line_of}
 use Rattle.sheet_text.specs.declared.script.ScriptLine.TheVariants as line
 use Rattle.sheet_text.specs.declared.live_line.LiveLine.{LiveLine}
 use Rattle.sheet_text.specs.declared.live_line.LiveLine.TheVariants as live
+use Rattle.sheet_programs.specs.Strict.{is_wrong}
 use Rattle.sheet_programs.specs.Together.{most_commands}
 use Rattle.tellings.specs.Voice.{Voice, replied_text}
 use Rattle.tellings.specs.declared.note.Note.TheVariants as note
@@ -43,6 +45,21 @@ SaidDone o number (Some (live.Interrupt name)) s it t =
 abbrev pub SaidUpTo : {C : Type 0} → Relation C → Option LiveLine → At C → List Beat → Event → At C → Type 0
 SaidUpTo R l s beats e t = (c : Command) × (l ≡ Some (live.Script (line.Command c))) × ServedUpTo R s (event.Command c) beats e t
 
+-- What the line asks for isn't there: a field that the worksheet doesn't have, or the interpreter of no session.
+abbrev pub asks_in_vain : World → LiveLine → Bool
+asks_in_vain w (live.Script line.Skip) = false
+asks_in_vain w (live.Script (line.Command c)) = false
+asks_in_vain w (live.Script line.Wait) = false
+asks_in_vain w (live.Script line.Print) = false
+asks_in_vain w (live.PrintField id) = not (has_field (sheet_in w) id)
+asks_in_vain w (live.WaitFor seconds) = false
+asks_in_vain w (live.Interrupt name) = not (has_session (sheet_in w) name)
+
+-- The line isn't known, asks for what isn't there, or one of these replies, which it gave, is a refusal or tells that items were lost.
+abbrev pub line_goes_wrong : World → Option LiveLine → List Reply → Bool
+line_goes_wrong w None replies = true
+line_goes_wrong w (Some said) replies = asks_in_vain w said || list_any is_wrong replies
+
 -- a line that says a command of the host
 abbrev pub IsCommand : Option LiveLine → Type 0
 IsCommand l = (c : Command) × (l ≡ Some (live.Script (line.Command c)))
@@ -62,6 +79,7 @@ time_of hold.Wait = None
 time_of (hold.Until end) = Some end
 time_of (hold.Limited end) = Some end
 time_of (hold.Warned end) = Some end
+time_of hold.Stopped = None
 
 -- a wait that ends by its time
 abbrev pub IsTimed : Hold → Type 0
@@ -107,6 +125,7 @@ is_held hold.Wait = true
 is_held (hold.Until end) = true
 is_held (hold.Limited end) = true
 is_held (hold.Warned end) = true
+is_held hold.Stopped = false
 
 -- whether a wait names no seconds and has a time: that of a line, before its interpreters were interrupted or after
 abbrev pub has_limit : Hold → Bool
@@ -115,6 +134,12 @@ has_limit hold.Wait = false
 has_limit (hold.Until end) = false
 has_limit (hold.Limited end) = true
 has_limit (hold.Warned end) = true
+has_limit hold.Stopped = false
+
+-- nothing more is taken where that is so, and else this wait goes on
+abbrev pub stop_if : Bool → Hold → Hold
+stop_if false held = held
+stop_if true held = hold.Stopped
 
 -- something closed: the banner of an interpreter, an answer, or completions
 abbrev pub has_closed : Reply → Bool

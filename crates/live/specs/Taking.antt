@@ -21,15 +21,18 @@ use Rattle.arrivals.specs.declared.sources.Woken.TheVariants as woken
 use Rattle.sheet_text.specs.declared.live_line.LiveLine.{LiveLine}
 use Rattle.child_edge.specs.Told.{told}
 use Rattle.tellings.specs.Voice.{came_text, replied_text}
+use Rattle.sheet_programs.specs.Strict.{is_wrong}
 use Rattle.sheet_programs.specs.Together.{GroupBroke}
 use Rattle.sheet_programs.specs.Told.{StandsOrStopped}
 use Rattle.offline_programs.specs.declared.fault.RunFault.{RunFault}
 use Rattle.offline_programs.specs.declared.fault.RunFault.TheVariants as fault
 use Rattle.live.specs.declared.holding.Hold.{Hold}
 use Rattle.live.specs.declared.holding.Hold.TheVariants as hold
+use Rattle.live.specs.declared.saying.Beginning.{Beginning}
 use Rattle.live.specs.declared.stepping.Stand.{Stand}
+use Rattle.live.specs.declared.taking.Heeded.{Heeded}
 use Rattle.live.specs.Records.{Brought, Edge, Left, Lines, Turn, Watches}
-use Rattle.live.specs.Saying.{MayGroup, IsCommand, SaidDone, SaidUpTo, Begins, IsTimed, has_closed}
+use Rattle.live.specs.Saying.{MayGroup, IsCommand, SaidDone, SaidUpTo, Begins, IsTimed, has_closed, line_goes_wrong}
 use Rattle.live.specs.Arrivals.{Arrival, line, together, part, life, time_over, LivePlace, Comes, InterruptsLife, IsOver, TakesArrival, front_text, Lived, lines_in, WatchTells, place, woken_at}
 use Rattle.live.specs.Broken.{TakesUpTo, TakesSoFar, TakesLed, LivedBroke, LivedUpTo, LivedSoFar, LivedLed}
 use Rattle.live.specs.Live.{AreTooMany, EndComes, NoMoreComes}
@@ -40,9 +43,10 @@ Heard o seat s left =
     (beats : List Beat) × (t : World) × Taken (hearing o.after true) None seat s beats (at t left.sources left.host.store.disk) × IsHost left.host t
     × Appends left.out left.now (came_text o.voice (sheet_in t) (told beats))
 
--- the same, and whether something closed
-abbrev pub HeardClosing : {C : Type 0} → Edge C → Seat → At C → Left C → Bool → Type 0
-HeardClosing o seat s left closed = (heard : Heard o seat s left) × (closed ≡ list_any has_closed (told heard.0))
+-- the same, and whether something closed, and whether items were lost or something was refused
+abbrev pub HeardClosing : {C : Type 0} → Edge C → Seat → At C → Left C → Heeded → Type 0
+HeardClosing o seat s left heeded =
+    (heard : Heard o seat s left) × (heeded.closed ≡ list_any has_closed (told heard.0)) × (heeded.wrong ≡ list_any is_wrong (told heard.0))
 
 -- a life that was taken, or a part of what came of it, led from here to there
 pub data HeardLed {C : Type 0} (R : Relation C) (seat : Seat) (s t : At C) : Type 0 where
@@ -69,6 +73,10 @@ Said o number l s left begun =
     (it : Brought) × (t : World) × SaidDone o number l s it (at t left.sources left.host.store.disk)
     × Begins o s.children l begun × IsHost left.host t × Appends left.out left.now it.text
 
+-- the same, and whether the line went wrong
+abbrev pub SaidSo : {C : Type 0} → Edge C → ℕ → Option LiveLine → At C → Left C → Beginning → Type 0
+SaidSo o number l s left begun = (said : Said o number l s left begun.wait) × (begun.wrong ≡ line_goes_wrong s.world l (told said.0.beats))
+
 -- a line that was done, or a part of it, led from here to there
 pub data SaidLed {C : Type 0} (o : Edge C) (l : Option LiveLine) (s t : At C) : Type 0 where
   all : (begun : Hold) → Begins o s.children l begun → ((number : ℕ) → (it : Brought) × SaidDone o number l s it t) → SaidLed o l s t
@@ -92,6 +100,10 @@ abbrev pub Stalled : {C : Type 0} → Edge C → List Seat → At C → Left C �
 Stalled o seats s left =
     (beats : List Beat) × (t : World) × EachOf (Taken (hearing o.after false) None) seats s beats (at t left.sources left.host.store.disk) × IsHost left.host t
     × Appends left.out left.now (came_text o.voice (sheet_in t) (told beats))
+
+-- the same, and whether items were lost by that
+abbrev pub StalledSo : {C : Type 0} → Edge C → List Seat → At C → Left C → Bool → Type 0
+StalledSo o seats s left wrong = (stalled : Stalled o seats s left) × (wrong ≡ list_any is_wrong (told stalled.0))
 
 -- some of them were, the last of them or a part of what came of it
 pub data StallingLed {C : Type 0} (R : Relation C) (seats : List Seat) (s t : At C) : Type 0 where
@@ -209,11 +221,18 @@ IsFront old came = IfSome old (λ lines. (rest : List InputLine) × (lines ≡ l
 abbrev pub LivedTo : {C : Type 0} → Edge C → LivePlace C → Left C → List Arrival → Brought → LivePlace C → Type 0
 LivedTo o p left came it q = Lived o p came it q × IsHost left.host q.run.world × (q.run.disk ≡ left.host.store.disk) × Appends left.out left.now it.text
 
--- All came and was taken, up to the end of the input.
-abbrev pub LivedThrough : {C : Type 0} → Edge C → LivePlace C → Left C → Option (List InputLine) → Type 0
-LivedThrough {C = C} o p left old =
+-- a strict input stopped here, where so many lines were taken
+abbrev pub StopsAt : {C : Type 0} → Edge C → LivePlace C → ℕ → Type 0
+StopsAt o q number = (o.strict ≡ true) × (q.held ≡ hold.Stopped) × (number ≡ q.number)
+
+-- All came and was taken, up to the end of the input, or to where a strict one stopped.
+abbrev pub LivedThrough : {C : Type 0} → Edge C → LivePlace C → Left C → Option (List InputLine) → Option ℕ → Type 0
+LivedThrough {C = C} o p left old None =
     (came : List Arrival) × (it : Brought) × (q : LivePlace C) × LivedTo o p left came it q
     × EndComes o.watches q.held q.run.children left.sources × IfSome old (λ lines. lines ≡ lines_in came)
+LivedThrough {C = C} o p left old (Some number) =
+    (came : List Arrival) × (it : Brought) × (q : LivePlace C) × LivedTo o p left came it q
+    × (left.sources ≡ q.run.children) × IsFront old came × StopsAt o q number
 
 -- what came last couldn't be written
 abbrev pub LivedUnwritten : {C : Type 0} → Edge C → LivePlace C → Left C → Option (List InputLine) → Type 0
@@ -235,11 +254,14 @@ pub data LivingFailed {C : Type 0} (o : Edge C) (p : LivePlace C) (left : Left C
   untold : o.voice.takes_memory ≡ true → LivedUnwritten o p left old → LivingFailed o p left old fault.OutOfMemory
   unwritten : LivedUnwritten o p left old → LivingFailed o p left old fault.Output
 
--- All came and was taken, up to the end of the input, and each life that goes on was stopped after it.
-abbrev pub Ended : {C : Type 0} → Edge C → LivePlace C → Left C → Option (List InputLine) → Type 0
-Ended {C = C} o p left old =
+-- All came and was taken, up to the end of the input, or to where a strict one stopped, and each life that goes on was stopped after it.
+abbrev pub Ended : {C : Type 0} → Edge C → LivePlace C → Left C → Option (List InputLine) → Option ℕ → Type 0
+Ended {C = C} o p left old None =
     (came : List Arrival) × (it : Brought) × (q : LivePlace C) × (c : C) × LivedTo o p left came it q
     × EndComes o.watches q.held q.run.children c × IfSome old (λ lines. lines ≡ lines_in came) × Stops o.after (running q.run.world) c left.sources
+Ended {C = C} o p left old (Some number) =
+    (came : List Arrival) × (it : Brought) × (q : LivePlace C) × (c : C) × LivedTo o p left came it q
+    × (c ≡ q.run.children) × IsFront old came × StopsAt o q number × Stops o.after (running q.run.world) c left.sources
 
 -- What came last couldn't be written, and each life that goes on was stopped after it.
 abbrev pub EndedUnwritten : {C : Type 0} → Edge C → LivePlace C → Left C → Option (List InputLine) → Type 0

@@ -143,12 +143,12 @@ fn take_alone<D: Disk, S: Sources, T: Tells, W: Write>(
 ) -> Result<(), RunFault>
     requires { before + 1 < 2 ^ 64 }
     ensures same { SameDisk host.old.store.disk host.new.store.disk }
-    ensures ok { (manner : Manner) (l : List ℕ) (command : Said) (w : World) → event ≡ asks.Command command
+    ensures ok { (manner : Manner) (l : List ℕ) (command : Said) (w : World) → manner.strict ≡ false → event ≡ asks.Command command
         → line_of l ≡ Some (said.Command command) → IsHost host.old w
         → OnOk result (TookArrival (edge_by manner T.voice S.after S.clock S.wakes)
         (place (at w sources.old host.old.store.disk) before Hold.Free) (the_line (whole l))
         (left host.new sources.new (W.contents writer.old) (W.contents writer.new)) (before + 1) Hold.Free) }
-    ensures err { (manner : Manner) (l : List ℕ) (command : Said) (w : World) → event ≡ asks.Command command
+    ensures err { (manner : Manner) (l : List ℕ) (command : Said) (w : World) → manner.strict ≡ false → event ≡ asks.Command command
         → line_of l ≡ Some (said.Command command) → IsHost host.old w
         → IfErr result (TakingFailed (edge_by manner T.voice S.after S.clock S.wakes)
         (place (at w sources.old host.old.store.disk) before Hold.Free) (the_line (whole l))
@@ -179,13 +179,13 @@ pub(crate) fn take_gathered<D: Disk, S: Sources, T: Tells, W: Write>(
     requires few { length events.items ≤ most_commands }
     requires counted { before + most_commands + 1 < 2 ^ 64 }
     ensures same { SameDisk host.old.store.disk host.new.store.disk }
-    ensures ok { (manner : Manner) (given : List (List ℕ)) (w : World) → AllByRecursion SaysEdit given
+    ensures ok { (manner : Manner) (given : List (List ℕ)) (w : World) → manner.strict ≡ false → AllByRecursion SaysEdit given
         → events.items ≡ lines_events given → 1 ≤ length given → IsHost host.old w
         → OnOk result (TookArrival (edge_by manner T.voice S.after S.clock S.wakes)
         (place (at w sources.old host.old.store.disk) before Hold.Free) (arrival_of given)
         (left host.new sources.new (W.contents writer.old) (W.contents writer.new))
         (before + length events.items) Hold.Free) }
-    ensures err { (manner : Manner) (given : List (List ℕ)) (w : World) → AllByRecursion SaysEdit given
+    ensures err { (manner : Manner) (given : List (List ℕ)) (w : World) → manner.strict ≡ false → AllByRecursion SaysEdit given
         → events.items ≡ lines_events given → 1 ≤ length given → IsHost host.old w
         → IfErr result (TakingFailed (edge_by manner T.voice S.after S.clock S.wakes)
         (place (at w sources.old host.old.store.disk) before Hold.Free) (arrival_of given)

@@ -31,6 +31,8 @@ pub enum Hold {
     Limited(u64),
     /// The same, after interpreters were interrupted: at this moment what still waits has stalled.
     Warned(u64),
+    /// Nothing more is taken: in a strict input a line went wrong.
+    Stopped,
 }
 
 /// The moment so many seconds after this one.
@@ -76,7 +78,7 @@ fn is_held(held: Hold) -> bool
     ensures { result ≡ saying.is_held held }
 {
     match held {
-        Hold::Free => false,
+        Hold::Free | Hold::Stopped => false,
         Hold::Wait | Hold::Until(_) | Hold::Limited(_) | Hold::Warned(_) => true,
     }
 }
@@ -112,7 +114,8 @@ pub(crate) fn input(held: Hold, is_ready: bool) -> Input
 {
     match held {
         Hold::Free => { if is_ready { Input::Ready } else { Input::Empty } }
-        Hold::Wait | Hold::Until(_) | Hold::Limited(_) | Hold::Warned(_) => Input::HeldBack,
+        Hold::Wait | Hold::Until(_) | Hold::Limited(_) | Hold::Warned(_) | Hold::Stopped =>
+            Input::HeldBack,
     }
 }
 
@@ -122,7 +125,7 @@ pub(crate) fn patience(held: Hold, now: u64) -> Option<u64>
     ensures timed { TimeMayCome result → IsTimed held }
 {
     match held {
-        Hold::Free | Hold::Wait => None,
+        Hold::Free | Hold::Wait | Hold::Stopped => None,
         Hold::Until(end) | Hold::Limited(end) | Hold::Warned(end) => Some(end.saturating_sub(now)),
     }
 }
@@ -134,7 +137,7 @@ pub(crate) fn is_over(held: Hold, now: u64) -> bool
     ensures timed { result ≡ true → IsTimed held }
 {
     match held {
-        Hold::Free | Hold::Wait => false,
+        Hold::Free | Hold::Wait | Hold::Stopped => false,
         Hold::Until(end) | Hold::Limited(end) | Hold::Warned(end) => now >= end,
     }
 }
@@ -146,7 +149,7 @@ pub(crate) fn is_limited(held: Hold) -> bool
 {
     match held {
         Hold::Limited(_) => true,
-        Hold::Free | Hold::Wait | Hold::Until(_) | Hold::Warned(_) => false,
+        Hold::Free | Hold::Wait | Hold::Until(_) | Hold::Warned(_) | Hold::Stopped => false,
     }
 }
 
@@ -155,7 +158,7 @@ fn has_limit(held: Hold) -> bool
     ensures { result ≡ saying.has_limit held }
 {
     match held {
-        Hold::Free | Hold::Wait | Hold::Until(_) => false,
+        Hold::Free | Hold::Wait | Hold::Until(_) | Hold::Stopped => false,
         Hold::Limited(_) | Hold::Warned(_) => true,
     }
 }

@@ -10,6 +10,7 @@ mod saying;
 mod stepping;
 mod taking;
 mod timing;
+mod wrongs;
 
 pub use holding::{Hold, go_on, wait_for};
 pub use living::{LiveEnd, live, live_by};

@@ -1,5 +1,5 @@
 //! A worksheet that lives as long as its input.
-ghost use Rattle.std.specs.Prelude.{◌≡◌, IfErr, IsErrOf, OnOk};
+ghost use Rattle.std.specs.Prelude.{◌≡◌, IfErr, IfOk, IsErrOf, None};
 ghost use Rattle.disk_model.specs.Disk.{Rises, SameDisk};
 ghost use Rattle.session_engine.specs.World.{World};
 ghost use Rattle.session_engine.specs.Host.{IsHost};
@@ -9,12 +9,13 @@ ghost use Rattle.offline_programs.specs.declared.fault.RunFault.TheVariants as t
 ghost use Rattle.journal.specs.declared.opening.OpenCause.TheVariants as opens;
 ghost use Rattle.host_events.specs.declared.outcome.HostFault.TheVariants as hosts;
 ghost use Rattle.live.specs.Records.{edge, edge_by, left, outside};
-ghost use Rattle.live.specs.Live.{LiveDone, TellsLive, begin_at};
+ghost use Rattle.live.specs.Live.{LiveCame, TellsLive, begin_at};
 ghost use Rattle.live.specs.Taking.{Ended, EndedBy, LivedThrough, LivingFailed};
 
 use crate::holding::Hold;
 use crate::manner::Manner;
 use crate::stepping::{Stand, step};
+use crate::wrongs::is_stopped;
 use arrivals::{InputLines, Sources};
 use child_edge::stop_all;
 use disk_model::Disk;
@@ -28,7 +29,8 @@ use tellings::Tells;
 /// The most lines after which those of another group can be counted.
 const MOST_COUNTED: u64 = u64::MAX - 1_025;
 
-/// Takes what comes in this manner, one after the other, to the end of the input.
+/// Takes what comes in this manner, one after the other, to the end of the input, or to where a strict one stopped: then
+/// it gives how many lines were taken.
 fn live_on<R: Read, D: Disk, S: Sources, T: Tells, W: Write>(
     alloc: Global,
     manner: Manner,
@@ -37,9 +39,9 @@ fn live_on<R: Read, D: Disk, S: Sources, T: Tells, W: Write>(
     lines: &mut InputLines<R>,
     tells: &T,
     writer: &mut W,
-) -> Result<(), RunFault>
+) -> Result<Option<u64>, RunFault>
     ensures same { SameDisk host.old.store.disk host.new.store.disk }
-    ensures ok { (w : World) → IsHost host.old w → OnOk result (LivedThrough (edge_by manner T.voice S.after S.clock S.wakes)
+    ensures ok { (w : World) → IsHost host.old w → IfOk result (LivedThrough (edge_by manner T.voice S.after S.clock S.wakes)
         (begin_at w sources.old host.old.store.disk)
         (left host.new sources.new (W.contents writer.old) (W.contents writer.new))
         (to_come lines.old.held (R.remaining lines.old.reader))) }
@@ -58,8 +60,11 @@ fn live_on<R: Read, D: Disk, S: Sources, T: Tells, W: Write>(
         }
         match step(alloc, manner, host, sources, lines, stand, tells, writer) {
             Ok(Some(next)) => stand = next,
-            Ok(None) => return Ok(()),
+            Ok(None) => return Ok(None),
             Err(fault) => return Err(fault),
+        }
+        if is_stopped(stand.held) {
+            return Ok(Some(stand.number));
         }
     }
     Err(RunFault::InputTooLong)
@@ -74,9 +79,9 @@ fn live_and_stop<R: Read, D: Disk, S: Sources, T: Tells, W: Write>(
     lines: &mut InputLines<R>,
     tells: &T,
     writer: &mut W,
-) -> Result<(), RunFault>
+) -> Result<Option<u64>, RunFault>
     ensures same { SameDisk host.old.store.disk host.new.store.disk }
-    ensures ok { (w : World) → IsHost host.old w → OnOk result (Ended (edge_by manner T.voice S.after S.clock S.wakes)
+    ensures ok { (w : World) → IsHost host.old w → IfOk result (Ended (edge_by manner T.voice S.after S.clock S.wakes)
         (begin_at w sources.old host.old.store.disk)
         (left host.new sources.new (W.contents writer.old) (W.contents writer.new))
         (to_come lines.old.held (R.remaining lines.old.reader))) }
@@ -95,12 +100,16 @@ fn live_and_stop<R: Read, D: Disk, S: Sources, T: Tells, W: Write>(
 pub struct LiveEnd<D: Disk> {
     /// The disk, with what was reported.
     pub disk: D,
-    /// Nothing, or why it ended early.
-    pub answer: Result<(), RunFault>,
+    /// The number of the line after which a strict input stopped, nothing where the input was taken to its end, or why
+    /// it ended early.
+    pub answer: Result<Option<u64>, RunFault>,
 }
 
 /// As `live`, with lines taken in this manner: where they come first each one is taken when no wait holds it
 /// back, whatever children have, and what those wrote is taken in waits alone.
+///
+/// A strict input stops after the first line that goes wrong, and gives its number: one that isn't known, asks for a
+/// field or a session that isn't there or is refused, one in whose wait items were lost, or one whose time is over.
 ///
 /// Faults are those of `live`.
 pub fn live_by<R: Read, W: Write, D: Disk, S: Sources, T: Tells>(
@@ -114,7 +123,7 @@ pub fn live_by<R: Read, W: Write, D: Disk, S: Sources, T: Tells>(
 ) -> LiveEnd<D>
 where
     R: Drop,
-    ensures lived { OnOk result.answer (LiveDone (edge_by manner T.voice S.after S.clock S.wakes) (R.remaining reader)
+    ensures lived { IfOk result.answer (LiveCame (edge_by manner T.voice S.after S.clock S.wakes) (R.remaining reader)
         (outside (D.view disk) sources.old (W.contents writer.old))
         (outside (D.view result.disk) sources.new (W.contents writer.new))) }
     ensures same { SameDisk (D.view disk) (D.view result.disk) }
@@ -178,9 +187,10 @@ pub fn live<R: Read, W: Write, D: Disk, S: Sources, T: Tells>(
 ) -> LiveEnd<D>
 where
     R: Drop,
-    ensures lived { OnOk result.answer (LiveDone (edge T.voice S.after S.clock S.wakes) (R.remaining reader)
+    ensures lived { IfOk result.answer (LiveCame (edge T.voice S.after S.clock S.wakes) (R.remaining reader)
         (outside (D.view disk) sources.old (W.contents writer.old))
         (outside (D.view result.disk) sources.new (W.contents writer.new))) }
+    ensures whole { IfOk result.answer (λ stopped. stopped ≡ None) }
     ensures same { SameDisk (D.view disk) (D.view result.disk) }
     ensures fault { IfErr result.answer (TellsLive (edge T.voice S.after S.clock S.wakes) (R.remaining reader)
         (outside (D.view disk) sources.old (W.contents writer.old))
@@ -199,6 +209,7 @@ where
         Manner {
             lines_first: false,
             limit: None,
+            strict: false,
         },
         reader,
         tells,

@@ -9,4 +9,6 @@ pub struct Manner {
     /// How many seconds a line may take in a `wait` that names none, from when the last answer came or the wait
     /// began. Then each interpreter that is at something is interrupted, and has two seconds more.
     pub limit: Option<u32>,
+    /// Whether the input stops after the first line that goes wrong.
+    pub strict: bool,
 }

@@ -1,5 +1,5 @@
 //! What comes of a line.
-ghost use Rattle.std.specs.Prelude.{◌≡◌, ◌+◌, ◌<◌, ◌^◌, IfErr, IfOk, OnOk, Some};
+ghost use Rattle.std.specs.Prelude.{◌≡◌, ◌+◌, ◌<◌, ◌^◌, IfErr, IfOk, OnOk, Some, false};
 ghost use Rattle.std.specs.Io.KnownBytes.{Appends};
 ghost use Rattle.disk_model.specs.Disk.{SameDisk};
 ghost use Rattle.session_engine.specs.World.{World};
@@ -11,10 +11,11 @@ ghost use Rattle.tellings.specs.Voice.{IsUntold};
 ghost use Rattle.live.specs.Records.{edge, edge_by, left};
 ghost use Rattle.live.specs.Saying.{WaitGoesOn};
 ghost use Rattle.live.specs.Arrivals.{line as the_line, place};
-ghost use Rattle.live.specs.Taking.{Said, SayingFailed, TakingFailed, TookArrival};
+ghost use Rattle.live.specs.Taking.{Said, SaidSo, SayingFailed, TakingFailed, TookArrival};
 
 use crate::holding::{Hold, go_on, tell_over, untimed_wait, wait_for};
 use crate::manner::Manner;
+use crate::wrongs::{any_wrong, lacks_field, lacks_session, stop_if};
 use arrivals::Sources;
 use child_edge::{EdgeFault, interrupt, serve};
 use disk_model::Disk;
@@ -28,6 +29,32 @@ use std::io::Write;
 use tellings::{Note, Tells};
 use worksheet::Name;
 
+/// The wait that a line begins, and whether the line went wrong.
+#[derive(Clone, Copy, Debug)]
+pub(crate) struct Beginning {
+    pub(crate) wait: Hold,
+    pub(crate) wrong: bool,
+}
+
+/// No wait, of a line that went wrong or not.
+fn no_wait(wrong: bool) -> Beginning
+    ensures wait { result.wait ≡ Hold.Free }
+    ensures wrong { result.wrong ≡ wrong }
+{
+    Beginning {
+        wait: Hold::Free,
+        wrong,
+    }
+}
+
+/// This wait, of a line that didn't go wrong.
+fn waits(wait: Hold) -> Beginning
+    ensures wait { result.wait ≡ wait }
+    ensures right { result.wrong ≡ false }
+{
+    Beginning { wait, wrong: false }
+}
+
 /// Interrupts the interpreter of this session, where it is at something, and tells what came of it.
 fn say_interrupt<D: Disk, S: Sources, T: Tells, W: Write>(
     host: &mut Host<D>,
@@ -36,9 +63,9 @@ fn say_interrupt<D: Disk, S: Sources, T: Tells, W: Write>(
     number: u64,
     tells: &T,
     writer: &mut W,
-) -> Result<Hold, RunFault>
+) -> Result<Beginning, RunFault>
     ensures same { SameDisk host.old.store.disk host.new.store.disk }
-    ensures ok { (w : World) → IsHost host.old w → IfOk result (Said (edge T.voice S.after S.clock S.wakes)
+    ensures ok { (w : World) → IsHost host.old w → IfOk result (SaidSo (edge T.voice S.after S.clock S.wakes)
         number (Some (LiveLine.Interrupt name)) (at w sources.old host.old.store.disk)
         (left host.new sources.new (W.contents writer.old) (W.contents writer.new))) }
     ensures err { (w : World) → IsHost host.old w → IfErr result (SayingFailed (edge T.voice S.after S.clock S.wakes)
@@ -47,8 +74,40 @@ fn say_interrupt<D: Disk, S: Sources, T: Tells, W: Write>(
 {
     let told = interrupt(host, sources, name);
     match tells.note(Note::Interrupted(number, name, told), writer) {
-        Ok(()) => Ok(Hold::Free),
+        Ok(()) => Ok(no_wait(lacks_session(host, name))),
         Err(fault) => Err(fault),
+    }
+}
+
+/// Takes a command and all that comes of it, prints what it gave, and says whether it went wrong.
+fn say_telling<D: Disk, S: Sources, T: Tells, W: Write>(
+    alloc: Global,
+    host: &mut Host<D>,
+    sources: &mut S,
+    command: Command,
+    number: u64,
+    tells: &T,
+    writer: &mut W,
+) -> Result<Beginning, RunFault>
+    ensures same { SameDisk host.old.store.disk host.new.store.disk }
+    ensures ok { (w : World) → IsHost host.old w → IfOk result (SaidSo (edge T.voice S.after S.clock S.wakes)
+        number (Some (LiveLine.Script (ScriptLine.Command command))) (at w sources.old host.old.store.disk)
+        (left host.new sources.new (W.contents writer.old) (W.contents writer.new))) }
+    ensures err { (w : World) → IsHost host.old w → IfErr result (SayingFailed (edge T.voice S.after S.clock S.wakes)
+        number (Some (LiveLine.Script (ScriptLine.Command command))) (at w sources.old host.old.store.disk)
+        (left host.new sources.new (W.contents writer.old) (W.contents writer.new))) }
+{
+    match serve(alloc, host, sources, command) {
+        Ok(replies) => match tells.replies(number, host.sheet(), replies.as_slice(), writer) {
+            Ok(()) => Ok(no_wait(any_wrong(replies.as_slice()))),
+            Err(fault) => Err(fault),
+        },
+        Err(EdgeFault { replies, cause }) => {
+            match tells.replies(number, host.sheet(), replies.as_slice(), writer) {
+                Ok(()) => Err(run_fault(cause)),
+                Err(fault) => Err(fault),
+            }
+        }
     }
 }
 
@@ -74,17 +133,9 @@ pub fn say_command<D: Disk, S: Sources, T: Tells, W: Write>(
         number (Some (LiveLine.Script (ScriptLine.Command command))) (at w sources.old host.old.store.disk)
         (left host.new sources.new (W.contents writer.old) (W.contents writer.new))) }
 {
-    match serve(alloc, host, sources, command) {
-        Ok(replies) => match tells.replies(number, host.sheet(), replies.as_slice(), writer) {
-            Ok(()) => Ok(Hold::Free),
-            Err(fault) => Err(fault),
-        },
-        Err(EdgeFault { replies, cause }) => {
-            match tells.replies(number, host.sheet(), replies.as_slice(), writer) {
-                Ok(()) => Err(run_fault(cause)),
-                Err(fault) => Err(fault),
-            }
-        }
+    match say_telling(alloc, host, sources, command, number, tells, writer) {
+        Ok(begun) => Ok(begun.wait),
+        Err(fault) => Err(fault),
     }
 }
 
@@ -98,9 +149,9 @@ fn say_script<D: Disk, S: Sources, T: Tells, W: Write>(
     number: u64,
     tells: &T,
     writer: &mut W,
-) -> Result<Hold, RunFault>
+) -> Result<Beginning, RunFault>
     ensures same { SameDisk host.old.store.disk host.new.store.disk }
-    ensures ok { (w : World) → IsHost host.old w → IfOk result (Said (edge_by manner T.voice S.after S.clock S.wakes)
+    ensures ok { (w : World) → IsHost host.old w → IfOk result (SaidSo (edge_by manner T.voice S.after S.clock S.wakes)
         number (Some (LiveLine.Script said)) (at w sources.old host.old.store.disk)
         (left host.new sources.new (W.contents writer.old) (W.contents writer.new))) }
     ensures err { (w : World) → IsHost host.old w → IfErr result (SayingFailed (edge_by manner T.voice S.after S.clock S.wakes)
@@ -109,21 +160,21 @@ fn say_script<D: Disk, S: Sources, T: Tells, W: Write>(
 {
     match said {
         ScriptLine::Skip => match tells.note(Note::Nothing(number), writer) {
-            Ok(()) => Ok(Hold::Free),
+            Ok(()) => Ok(no_wait(false)),
             Err(fault) => Err(fault),
         },
-        ScriptLine::Wait => Ok(untimed_wait(sources, manner.limit)),
+        ScriptLine::Wait => Ok(waits(untimed_wait(sources, manner.limit))),
         ScriptLine::Print => match tells.sheet(number, host, writer) {
-            Ok(()) => Ok(Hold::Free),
+            Ok(()) => Ok(no_wait(false)),
             Err(fault) => Err(fault),
         },
         ScriptLine::Command(command) => {
-            say_command(alloc, host, sources, command, number, tells, writer)
+            say_telling(alloc, host, sources, command, number, tells, writer)
         }
     }
 }
 
-/// Does what a line says, and gives the wait that it begins.
+/// Does what a line says, and gives the wait that it begins, and whether it went wrong.
 fn say<D: Disk, S: Sources, T: Tells, W: Write>(
     alloc: Global,
     manner: Manner,
@@ -133,9 +184,9 @@ fn say<D: Disk, S: Sources, T: Tells, W: Write>(
     number: u64,
     tells: &T,
     writer: &mut W,
-) -> Result<Hold, RunFault>
+) -> Result<Beginning, RunFault>
     ensures same { SameDisk host.old.store.disk host.new.store.disk }
-    ensures ok { (w : World) → IsHost host.old w → IfOk result (Said (edge_by manner T.voice S.after S.clock S.wakes)
+    ensures ok { (w : World) → IsHost host.old w → IfOk result (SaidSo (edge_by manner T.voice S.after S.clock S.wakes)
         number (Some said) (at w sources.old host.old.store.disk)
         (left host.new sources.new (W.contents writer.old) (W.contents writer.new))) }
     ensures err { (w : World) → IsHost host.old w → IfErr result (SayingFailed (edge_by manner T.voice S.after S.clock S.wakes)
@@ -147,15 +198,15 @@ fn say<D: Disk, S: Sources, T: Tells, W: Write>(
             alloc, manner, host, sources, said, number, tells, writer,
         ),
         LiveLine::PrintField(id) => match tells.field(number, id, host, writer) {
-            Ok(()) => Ok(Hold::Free),
+            Ok(()) => Ok(no_wait(lacks_field(host, id))),
             Err(fault) => Err(fault),
         },
-        LiveLine::WaitFor(seconds) => Ok(wait_for(sources.now(), seconds)),
+        LiveLine::WaitFor(seconds) => Ok(waits(wait_for(sources.now(), seconds))),
         LiveLine::Interrupt(name) => say_interrupt(host, sources, name, number, tells, writer),
     }
 }
 
-/// Does what a line says, and gives the wait that it begins.
+/// Does what a line says, and gives the wait that it begins, and whether it went wrong.
 fn say_line<D: Disk, S: Sources, T: Tells, W: Write>(
     alloc: Global,
     manner: Manner,
@@ -165,9 +216,9 @@ fn say_line<D: Disk, S: Sources, T: Tells, W: Write>(
     number: u64,
     tells: &T,
     writer: &mut W,
-) -> Result<Hold, RunFault>
+) -> Result<Beginning, RunFault>
     ensures same { SameDisk host.old.store.disk host.new.store.disk }
-    ensures ok { (w : World) → IsHost host.old w → IfOk result (Said (edge_by manner T.voice S.after S.clock S.wakes)
+    ensures ok { (w : World) → IsHost host.old w → IfOk result (SaidSo (edge_by manner T.voice S.after S.clock S.wakes)
         number (live_line_of line.now) (at w sources.old host.old.store.disk)
         (left host.new sources.new (W.contents writer.old) (W.contents writer.new))) }
     ensures err { (w : World) → IsHost host.old w → IfErr result (SayingFailed (edge_by manner T.voice S.after S.clock S.wakes)
@@ -177,14 +228,15 @@ fn say_line<D: Disk, S: Sources, T: Tells, W: Write>(
     match read_live_line(alloc, line) {
         Ok(said) => say(alloc, manner, host, sources, said, number, tells, writer),
         Err(LineFault::BadLine) => match tells.note(Note::Bad(number), writer) {
-            Ok(()) => Ok(Hold::Free),
+            Ok(()) => Ok(no_wait(true)),
             Err(fault) => Err(fault),
         },
         Err(LineFault::OutOfMemory) => Err(RunFault::OutOfMemory),
     }
 }
 
-/// Takes a line after so many others, and gives the wait that goes on after it.
+/// Takes a line after so many others, and gives the wait that goes on after it. A strict input stops where it went
+/// wrong.
 pub(crate) fn take_line<D: Disk, S: Sources, T: Tells, W: Write>(
     alloc: Global,
     manner: Manner,
@@ -214,7 +266,10 @@ pub(crate) fn take_line<D: Disk, S: Sources, T: Tells, W: Write>(
         tells,
         writer,
     ) {
-        Ok(begun) => tell_over(begun, before + 1, host, tells, writer),
+        Ok(begun) => match tell_over(begun.wait, before + 1, host, tells, writer) {
+            Ok(on) => Ok(stop_if(manner.strict, begun.wrong, on)),
+            Err(fault) => Err(fault),
+        },
         Err(fault) => Err(fault),
     }
 }

@@ -18,6 +18,7 @@ use crate::manner::Manner;
 use crate::saying::{take_line, take_too_long};
 use crate::taking::take_life;
 use crate::timing::end_time;
+use crate::wrongs::stop_if;
 use arrivals::{Input, InputLines, NextLine, Sources, WatchFault, Woken};
 use disk_model::Disk;
 use offline_programs::RunFault;
@@ -79,9 +80,9 @@ fn take_next<R: Read, D: Disk, S: Sources, T: Tells, W: Write>(
             }
         }
         NextLine::TooLong => match take_too_long(host, number, tells, writer) {
-            Ok(held) => Ok(Some(Stand {
+            Ok(on) => Ok(Some(Stand {
                 number: number + 1,
-                held,
+                held: stop_if(manner.strict, true, on),
             })),
             Err(fault) => Err(fault),
         },
@@ -97,7 +98,7 @@ fn take_next<R: Read, D: Disk, S: Sources, T: Tells, W: Write>(
 }
 
 /// Takes the lines that are there already and only change the worksheet, or else the next line, or reads more
-/// of the input. `None` at its end.
+/// of the input. `None` at its end. A strict input takes its lines one by one.
 fn take_input<R: Read, D: Disk, S: Sources, T: Tells, W: Write>(
     alloc: Global,
     manner: Manner,
@@ -123,6 +124,9 @@ fn take_input<R: Read, D: Disk, S: Sources, T: Tells, W: Write>(
         (between (to_come lines.old.held (R.remaining lines.old.reader))
         (to_come lines.new.held (R.remaining lines.new.reader)))) }
 {
+    if manner.strict {
+        return take_next(alloc, manner, host, sources, lines, number, tells, writer);
+    }
     let events = gather(alloc, lines);
     let count = events.len() as u64;
     if count == 0 {
@@ -174,7 +178,7 @@ fn take_turn<R: Read, D: Disk, S: Sources, T: Tells, W: Write>(
                 Err(fault) => Err(fault),
             }
         }
-        Woken::TimeOver => match end_time(alloc, host, sources, stand, tells, writer) {
+        Woken::TimeOver => match end_time(alloc, manner, host, sources, stand, tells, writer) {
             Ok(held) => Ok(Some(Stand { number, held })),
             Err(fault) => Err(fault),
         },
@@ -263,7 +267,8 @@ pub(crate) fn step<R: Read, D: Disk, S: Sources, T: Tells, W: Write>(
     tells: &T,
     writer: &mut W,
 ) -> Result<Option<Stand>, RunFault>
-    requires { stand.number + most_commands + 1 < 2 ^ 64 }
+    requires few { stand.number + most_commands + 1 < 2 ^ 64 }
+    requires going { stand.held ≡ Hold.Stopped → ⊥ }
     ensures same { SameDisk host.old.store.disk host.new.store.disk }
     ensures ok { (w : World) → IsHost host.old w → IfOk result (Steps (edge_by manner T.voice S.after S.clock S.wakes)
         (place (at w sources.old host.old.store.disk) stand.number stand.held)

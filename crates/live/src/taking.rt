@@ -6,15 +6,17 @@ ghost use Rattle.session_engine.specs.World.{World};
 ghost use Rattle.session_engine.specs.Host.{IsHost};
 ghost use Rattle.child_edge.specs.Broken.{TurnSoFar, TurnStopped};
 ghost use Rattle.child_edge.specs.Edge.{BrokeOff, ByCause, Ran};
+ghost use Rattle.sheet_programs.specs.Strict.{is_wrong};
 ghost use Rattle.child_edge.specs.Faithful.{at, EachOf, Taken, hearing};
 ghost use Rattle.live.specs.Records.{edge, edge_by, left};
 ghost use Rattle.live.specs.Saying as saying;
 ghost use Rattle.live.specs.Arrivals.{life, place};
-ghost use Rattle.live.specs.Taking.{Heard, HeardClosing, HearingFailed, Stalled, StallingFailed, TakingFailed, TookArrival};
+ghost use Rattle.live.specs.Taking.{Heard, HeardClosing, HearingFailed, Stalled, StalledSo, StallingFailed, TakingFailed, TookArrival};
 
 use crate::holding::{Hold, begin_again, tell_over};
 use crate::manner::Manner;
 use crate::stepping::Stand;
+use crate::wrongs::{any_wrong, stop_if};
 use arrivals::Sources;
 use child_calls::Seat;
 use child_edge::{EdgeCause, listen, stall};
@@ -45,7 +47,27 @@ fn any_closed(replies: &[Reply]) -> bool
     replies.iter().any(|reply| has_closed(reply))
 }
 
-/// Takes a life's turn, and tells what comes of it. Whether something closed.
+/// What is heeded of a life's turn.
+#[derive(Clone, Copy, Debug)]
+pub(crate) struct Heeded {
+    /// Something closed.
+    pub(crate) closed: bool,
+    /// Something was refused, or items were lost.
+    pub(crate) wrong: bool,
+}
+
+/// What is heeded of these replies.
+fn heed(replies: &[Reply]) -> Heeded
+    ensures closed { result.closed ≡ list_any saying.has_closed replies.now }
+    ensures wrong { result.wrong ≡ list_any is_wrong replies.now }
+{
+    Heeded {
+        closed: any_closed(replies),
+        wrong: any_wrong(replies),
+    }
+}
+
+/// Takes a life's turn, and tells what comes of it. Whether something closed, and whether something went wrong.
 fn hear_closing<D: Disk, S: Sources, T: Tells, W: Write>(
     alloc: Global,
     host: &mut Host<D>,
@@ -53,7 +75,7 @@ fn hear_closing<D: Disk, S: Sources, T: Tells, W: Write>(
     seat: Seat,
     tells: &T,
     writer: &mut W,
-) -> Result<bool, RunFault>
+) -> Result<Heeded, RunFault>
     ensures same { SameDisk host.old.store.disk host.new.store.disk }
     ensures ok { (w : World) → IsHost host.old w → IfOk result (HeardClosing (edge T.voice S.after S.clock S.wakes)
         seat (at w sources.old host.old.store.disk)
@@ -68,7 +90,7 @@ fn hear_closing<D: Disk, S: Sources, T: Tells, W: Write>(
         return Err(fault);
     }
     match taken {
-        Ok(()) => Ok(any_closed(replies.as_slice())),
+        Ok(()) => Ok(heed(replies.as_slice())),
         Err(cause) => Err(run_fault(cause)),
     }
 }
@@ -99,6 +121,7 @@ pub fn hear<D: Disk, S: Sources, T: Tells, W: Write>(
 }
 
 /// Takes what a life has, and gives the wait that goes on. Where something closed, the time of a line begins again.
+/// A strict input stops where something went wrong.
 pub(crate) fn take_life<D: Disk, S: Sources, T: Tells, W: Write>(
     alloc: Global,
     manner: Manner,
@@ -118,8 +141,11 @@ pub(crate) fn take_life<D: Disk, S: Sources, T: Tells, W: Write>(
         (left host.new sources.new (W.contents writer.old) (W.contents writer.new))) }
 {
     match hear_closing(alloc, host, sources, seat, tells, writer) {
-        Ok(closed) => match tell_over(stand.held, stand.number, host, tells, writer) {
-            Ok(held) => Ok(begin_again(sources, manner.limit, held, closed)),
+        Ok(heeded) => match tell_over(stand.held, stand.number, host, tells, writer) {
+            Ok(held) => {
+                let on = begin_again(sources, manner.limit, held, heeded.closed);
+                Ok(stop_if(manner.strict, heeded.wrong, on))
+            }
             Err(fault) => Err(fault),
         },
         Err(fault) => Err(fault),
@@ -151,6 +177,34 @@ fn stall_each<D: Disk, S: Sources>(
     Ok(())
 }
 
+/// Tells the host of each of these lives that it stalled, tells what comes of it, and says whether items were lost.
+pub(crate) fn tell_stalled_so<D: Disk, S: Sources, T: Tells, W: Write>(
+    alloc: Global,
+    host: &mut Host<D>,
+    sources: &mut S,
+    seats: &[Seat],
+    tells: &T,
+    writer: &mut W,
+) -> Result<bool, RunFault>
+    ensures same { SameDisk host.old.store.disk host.new.store.disk }
+    ensures ok { (w : World) → IsHost host.old w → IfOk result (StalledSo (edge T.voice S.after S.clock S.wakes)
+        seats.now (at w sources.old host.old.store.disk)
+        (left host.new sources.new (W.contents writer.old) (W.contents writer.new))) }
+    ensures err { (w : World) → IsHost host.old w → IfErr result (StallingFailed (edge T.voice S.after S.clock S.wakes)
+        seats.now (at w sources.old host.old.store.disk)
+        (left host.new sources.new (W.contents writer.old) (W.contents writer.new))) }
+{
+    let mut replies = Vec::new(alloc);
+    let taken = stall_each(host, sources, seats, &mut replies);
+    if let Err(fault) = tells.events(host.sheet(), replies.as_slice(), writer) {
+        return Err(fault);
+    }
+    match taken {
+        Ok(()) => Ok(any_wrong(replies.as_slice())),
+        Err(cause) => Err(run_fault(cause)),
+    }
+}
+
 /// Tells the host of each of these lives that it stalled, and tells what comes of it.
 ///
 /// Faults are those of `say_command`.
@@ -170,13 +224,8 @@ pub fn tell_stalled<D: Disk, S: Sources, T: Tells, W: Write>(
         seats.now (at w sources.old host.old.store.disk)
         (left host.new sources.new (W.contents writer.old) (W.contents writer.new))) }
 {
-    let mut replies = Vec::new(alloc);
-    let taken = stall_each(host, sources, seats, &mut replies);
-    if let Err(fault) = tells.events(host.sheet(), replies.as_slice(), writer) {
-        return Err(fault);
-    }
-    match taken {
-        Ok(()) => Ok(()),
-        Err(cause) => Err(run_fault(cause)),
+    match tell_stalled_so(alloc, host, sources, seats, tells, writer) {
+        Ok(_) => Ok(()),
+        Err(fault) => Err(fault),
     }
 }

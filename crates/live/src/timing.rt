@@ -5,14 +5,16 @@ ghost use Rattle.session_engine.specs.World.{World};
 ghost use Rattle.session_engine.specs.Host.{IsHost};
 ghost use Rattle.child_edge.specs.Faithful.{at};
 ghost use Rattle.tellings.specs.Voice.{IsUntold};
-ghost use Rattle.live.specs.Records.{edge, left};
+ghost use Rattle.live.specs.Records.{edge, edge_by, left};
 ghost use Rattle.live.specs.Saying.{IsLimited, IsTimed, StallsAtEnd};
 ghost use Rattle.live.specs.Arrivals.{place, time_over};
 ghost use Rattle.live.specs.Taking.{TakingFailed, TookArrival, Warned, WarnedUnwritten};
 
 use crate::holding::{Hold, is_limited, warned_for};
+use crate::manner::Manner;
 use crate::stepping::Stand;
-use crate::taking::tell_stalled;
+use crate::taking::tell_stalled_so;
+use crate::wrongs::stop_if;
 use arrivals::Sources;
 use child_calls::Seat;
 use child_edge::{interrupt, waiting_lives};
@@ -26,28 +28,33 @@ use tellings::{Note, Tells};
 /// How many seconds interpreters have that were interrupted.
 const RESPITE: u32 = 2;
 
-/// Ends the wait of a line whose time is over: each life in which an item still waits has stalled.
+/// Ends the wait of a line whose time is over: each life in which an item still waits has stalled. A strict input stops
+/// where items were lost by that.
 fn end_wait<D: Disk, S: Sources, T: Tells, W: Write>(
     alloc: Global,
+    manner: Manner,
     host: &mut Host<D>,
     sources: &mut S,
     number: u64,
     tells: &T,
     writer: &mut W,
-) -> Result<(), RunFault>
+) -> Result<Hold, RunFault>
     ensures same { SameDisk host.old.store.disk host.new.store.disk }
-    ensures ok { (held : Hold) (w : World) → StallsAtEnd held → IsHost host.old w → OnOk result (TookArrival (edge T.voice S.after S.clock S.wakes)
+    ensures ok { (held : Hold) (w : World) → StallsAtEnd held → IsHost host.old w → IfOk result (TookArrival (edge_by manner T.voice S.after S.clock S.wakes)
         (place (at w sources.old host.old.store.disk) number held) time_over
-        (left host.new sources.new (W.contents writer.old) (W.contents writer.new)) number Hold.Free) }
-    ensures err { (held : Hold) (w : World) → StallsAtEnd held → IsHost host.old w → IfErr result (TakingFailed (edge T.voice S.after S.clock S.wakes)
+        (left host.new sources.new (W.contents writer.old) (W.contents writer.new)) number) }
+    ensures err { (held : Hold) (w : World) → StallsAtEnd held → IsHost host.old w → IfErr result (TakingFailed (edge_by manner T.voice S.after S.clock S.wakes)
         (place (at w sources.old host.old.store.disk) number held) time_over
         (left host.new sources.new (W.contents writer.old) (W.contents writer.new))) }
 {
     let Ok(seats) = waiting_lives(alloc, host) else {
         return Err(RunFault::OutOfMemory);
     };
-    match tell_stalled(alloc, host, sources, seats.as_slice(), tells, writer) {
-        Ok(()) => tells.note(Note::Waited(number, true), writer),
+    match tell_stalled_so(alloc, host, sources, seats.as_slice(), tells, writer) {
+        Ok(wrong) => match tells.note(Note::Waited(number, true), writer) {
+            Ok(()) => Ok(stop_if(manner.strict, wrong, Hold::Free)),
+            Err(fault) => Err(fault),
+        },
         Err(fault) => Err(fault),
     }
 }
@@ -76,18 +83,19 @@ fn interrupt_each<D: Disk, S: Sources, T: Tells, W: Write>(
 }
 
 /// The time is over that a line may take: each life in which an item waits is interrupted, and has two seconds
-/// more.
+/// more. A strict input stops there.
 fn end_limit<D: Disk, S: Sources, T: Tells, W: Write>(
     alloc: Global,
+    manner: Manner,
     host: &Host<D>,
     sources: &mut S,
     tells: &T,
     writer: &mut W,
 ) -> Result<Hold, RunFault>
-    ensures ok { (number : ℕ) (held : Hold) (w : World) → IsLimited held → IsHost host.now w → IfOk result (TookArrival (edge T.voice S.after S.clock S.wakes)
+    ensures ok { (number : ℕ) (held : Hold) (w : World) → IsLimited held → IsHost host.now w → IfOk result (TookArrival (edge_by manner T.voice S.after S.clock S.wakes)
         (place (at w sources.old host.now.store.disk) number held) time_over
         (left host.now sources.new (W.contents writer.old) (W.contents writer.new)) number) }
-    ensures err { (number : ℕ) (held : Hold) (w : World) → IsLimited held → IsHost host.now w → IfErr result (TakingFailed (edge T.voice S.after S.clock S.wakes)
+    ensures err { (number : ℕ) (held : Hold) (w : World) → IsLimited held → IsHost host.now w → IfErr result (TakingFailed (edge_by manner T.voice S.after S.clock S.wakes)
         (place (at w sources.old host.now.store.disk) number held) time_over
         (left host.now sources.new (W.contents writer.old) (W.contents writer.new))) }
 {
@@ -95,7 +103,10 @@ fn end_limit<D: Disk, S: Sources, T: Tells, W: Write>(
         return Err(RunFault::OutOfMemory);
     };
     match interrupt_each(host, sources, seats.as_slice(), tells, writer) {
-        Ok(()) => Ok(warned_for(sources.now(), RESPITE)),
+        Ok(()) => {
+            let held = warned_for(sources.now(), RESPITE);
+            Ok(stop_if(manner.strict, true, held))
+        }
         Err(fault) => Err(fault),
     }
 }
@@ -103,6 +114,7 @@ fn end_limit<D: Disk, S: Sources, T: Tells, W: Write>(
 /// Takes that the time of a wait is over, and gives the wait that goes on.
 pub(crate) fn end_time<D: Disk, S: Sources, T: Tells, W: Write>(
     alloc: Global,
+    manner: Manner,
     host: &mut Host<D>,
     sources: &mut S,
     stand: Stand,
@@ -111,18 +123,15 @@ pub(crate) fn end_time<D: Disk, S: Sources, T: Tells, W: Write>(
 ) -> Result<Hold, RunFault>
     requires { IsTimed stand.held }
     ensures same { SameDisk host.old.store.disk host.new.store.disk }
-    ensures ok { (w : World) → IsHost host.old w → IfOk result (TookArrival (edge T.voice S.after S.clock S.wakes)
+    ensures ok { (w : World) → IsHost host.old w → IfOk result (TookArrival (edge_by manner T.voice S.after S.clock S.wakes)
         (place (at w sources.old host.old.store.disk) stand.number stand.held) time_over
         (left host.new sources.new (W.contents writer.old) (W.contents writer.new)) stand.number) }
-    ensures err { (w : World) → IsHost host.old w → IfErr result (TakingFailed (edge T.voice S.after S.clock S.wakes)
+    ensures err { (w : World) → IsHost host.old w → IfErr result (TakingFailed (edge_by manner T.voice S.after S.clock S.wakes)
         (place (at w sources.old host.old.store.disk) stand.number stand.held) time_over
         (left host.new sources.new (W.contents writer.old) (W.contents writer.new))) }
 {
     if is_limited(stand.held) {
-        return end_limit(alloc, host, sources, tells, writer);
+        return end_limit(alloc, manner, host, sources, tells, writer);
     }
-    match end_wait(alloc, host, sources, stand.number, tells, writer) {
-        Ok(()) => Ok(Hold::Free),
-        Err(fault) => Err(fault),
-    }
+    end_wait(alloc, manner, host, sources, stand.number, tells, writer)
 }

@@ -13,7 +13,7 @@ use Rattle.live.proofs.Groups.{group_failed, group_took, joined}
 use Rattle.live.proofs.gathering.take_gathered.Goals as goal
 
 pub returns-then-len-gt1-clause-ok : goal.returns-then-len-gt1-clause-ok
-returns-then-len-gt1-clause-ok g c = λ manner given w edits are some h.
+returns-then-len-gt1-clause-ok g c = λ manner given w lax edits are some h.
     let many : 2 ≤ length c.args.events.items = omega (arith, c.if-len-gt1.true, c.len.ensures, c.args.events.ok) in
     let count = ap length are in
     let o = edge_by manner g.T.Tells.voice g.S.Children.after g.S.Sources.clock g.S.Sources.wakes in
@@ -21,11 +21,11 @@ returns-then-len-gt1-clause-ok g c = λ manner given w edits are some h.
     let now = left c.take_together.new.host c.args.sources.now (g.W.Write.contents c.args.writer.now) (g.W.Write.contents c.take_together.new.writer) in
     on_ok_weaker c.take_together.result
     (λ p. subst (λ a. TookArrival o s a now (c.args.before + length c.args.events.items) hold.Free) (as_group given (omega (arith, many, count, edits_count given edits)))
-    (group_took o w c.args.host.now c.take_together.new.host c.args.sources.now c.args.before (g.W.Write.contents c.args.writer.now) (g.W.Write.contents c.take_together.new.writer) given c.args.events.items edits are many c.requires.few c.take_together.ensures.same p))
+    (group_took o w c.args.host.now c.take_together.new.host c.args.sources.now c.args.before (g.W.Write.contents c.args.writer.now) (g.W.Write.contents c.take_together.new.writer) given c.args.events.items edits are many c.requires.few c.take_together.ensures.same lax p))
     (c.take_together.ensures.ok w h)
 
 pub returns-then-len-gt1-clause-err : goal.returns-then-len-gt1-clause-err
-returns-then-len-gt1-clause-err g c = λ manner given w edits are some h.
+returns-then-len-gt1-clause-err g c = λ manner given w lax edits are some h.
     let many : 2 ≤ length c.args.events.items = omega (arith, c.if-len-gt1.true, c.len.ensures, c.args.events.ok) in
     let count = ap length are in
     let o = edge_by manner g.T.Tells.voice g.S.Children.after g.S.Sources.clock g.S.Sources.wakes in
@@ -35,12 +35,12 @@ returns-then-len-gt1-clause-err g c = λ manner given w edits are some h.
     let now = left c.take_together.new.host c.args.sources.now a b in
     if_err_then c.take_together.result _ _
     (λ f p. subst (λ x. TakingFailed o s x now f) (as_group given (omega (arith, many, count, edits_count given edits)))
-    (group_failed o w c.args.host.now c.take_together.new.host c.args.sources.now c.args.before a b given c.args.events.items edits are many c.requires.few c.take_together.ensures.same f p))
+    (group_failed o w c.args.host.now c.take_together.new.host c.args.sources.now c.args.before a b given c.args.events.items edits are many c.requires.few c.take_together.ensures.same lax f p))
     (c.take_together.ensures.err given w h
-    (joined o w c.args.host.now c.take_together.new.host c.args.sources.now c.args.before a b given c.args.events.items edits are many c.requires.few c.take_together.ensures.same))
+    (joined o w c.args.host.now c.take_together.new.host c.args.sources.now c.args.before a b given c.args.events.items edits are many c.requires.few c.take_together.ensures.same lax))
 
 pub returns-in-Some-clause-ok : goal.returns-in-Some-clause-ok
-returns-in-Some-clause-ok g c = λ manner given w edits are some h.
+returns-in-Some-clause-ok g c = λ manner given w lax edits are some h.
     let o = edge_by manner g.T.Tells.voice g.S.Children.after g.S.Sources.clock g.S.Sources.wakes in
     let s = place (at w c.args.sources.now c.args.host.now.store.disk) c.args.before hold.Free in
     let now = left c.take_alone.new.host c.take_alone.new.sources (g.W.Write.contents c.args.writer.now) (g.W.Write.contents c.take_alone.new.writer) in
@@ -50,10 +50,10 @@ returns-in-Some-clause-ok g c = λ manner given w edits are some h.
     let count : c.args.before + 1 ≡ c.args.before + length c.args.events.items = sym (ap (λ es. c.args.before + length es) single) in
     on_ok_weaker c.take_alone.result
     (λ p. subst (λ n. TookArrival o s (arrival_of given) now n hold.Free) count (subst (λ ls. TookArrival o s (arrival_of ls) now (c.args.before + 1) hold.Free) (sym one.is) p))
-    (c.take_alone.ensures.ok manner one.line one.said w one.asks one.tells h)
+    (c.take_alone.ensures.ok manner one.line one.said w lax one.asks one.tells h)
 
 pub returns-in-Some-clause-err : goal.returns-in-Some-clause-err
-returns-in-Some-clause-err g c = λ manner given w edits are some h.
+returns-in-Some-clause-err g c = λ manner given w lax edits are some h.
     let o = edge_by manner g.T.Tells.voice g.S.Children.after g.S.Sources.clock g.S.Sources.wakes in
     let s = place (at w c.args.sources.now c.args.host.now.store.disk) c.args.before hold.Free in
     let now = left c.take_alone.new.host c.take_alone.new.sources (g.W.Write.contents c.args.writer.now) (g.W.Write.contents c.take_alone.new.writer) in
@@ -62,9 +62,9 @@ returns-in-Some-clause-err g c = λ manner given w edits are some h.
     let one = one_given given c.in-Some.event edits (sym single ∙ are) in
     if_err_then c.take_alone.result _ _
     (λ f p. subst (λ ls. TakingFailed o s (arrival_of ls) now f) (sym one.is) p)
-    (c.take_alone.ensures.err manner one.line one.said w one.asks one.tells h)
+    (c.take_alone.ensures.err manner one.line one.said w lax one.asks one.tells h)
 
 pub returns-clause-ok : goal.returns-clause-ok
-returns-clause-ok g c = λ manner given w edits are some h.
+returns-clause-ok g c = λ manner given w lax edits are some h.
     let count = ap length are in
     absurd (omega (arith, c.in-None.ensures.cases.0, c.args.events.ok, count, some, edits_count given edits))

@@ -1,5 +1,4 @@
 use Rattle.std.proofs.Common.{refl, sym, subst}
-use Rattle.std.proofs.lemmas.Result.{on_ok_weaker}
 use Rattle.session_engine.specs.World.{world_at_opening}
 use Rattle.host_events.specs.declared.outcome.HostFault.TheVariants as hosts
 use Rattle.journal.specs.declared.opening.OpenCause.TheVariants as opens
@@ -11,7 +10,8 @@ use Rattle.offline_programs.specs.declared.fault.RunFault.TheVariants as told
 use Rattle.sheet_programs.proofs.Runs.{opened_on, if_err_is, if_err_then}
 use Rattle.live.specs.Records.{edge_by, left}
 use Rattle.live.specs.Live.{begin_at, not_begun, unopened}
-use Rattle.live.proofs.Ends.{live_done, live_failed, live_failed_since, ended_open}
+use Rattle.live.proofs.Goings.{if_ok_then}
+use Rattle.live.proofs.Ends.{live_came, live_failed, live_failed_since, ended_open}
 use Rattle.live.proofs.living.live_by.Goals as goal
 
 pub returns-in_default-clause-same : goal.returns-in_default-clause-same
@@ -28,11 +28,11 @@ returns-clause-lived g c =
     let o = c.in-Ok-open.ensures.opens in
     let disk = g.D.Disk.view c.args.disk in
     let start = world_at_opening o.0 disk.room c.in-Ok-open.host.store.end in
-    on_ok_weaker c.live_and_stop-answer.result
-    (λ t. live_done (edge_by c.args.manner g.T.Tells.voice g.S.Children.after g.S.Sources.clock g.S.Sources.wakes) (g.R.Read.remaining c.args.reader) disk c.in-Ok-open.host.store.disk c.args.sources.now c.live_and_stop-answer.new.sources
+    if_ok_then c.live_and_stop-answer.result _ _
+    (λ cut t. live_came (edge_by c.args.manner g.T.Tells.voice g.S.Children.after g.S.Sources.clock g.S.Sources.wakes) (g.R.Read.remaining c.args.reader) disk c.in-Ok-open.host.store.disk c.args.sources.now c.live_and_stop-answer.new.sources
     (g.W.Write.contents c.args.writer.now) (g.W.Write.contents c.live_and_stop-answer.new.writer) start c.live_and_stop-answer.new.host (to_come c.in-Ok.lines.held (g.R.Read.remaining c.in-Ok.lines.reader))
     (opened_on disk c.in-Ok-open.host o.0 o.1 c.in-Ok-open.ensures.found c.in-Ok-open.ensures.ends c.in-Ok-open.ensures.looks) o.1.stands.images c.in-Ok.ensures.lines
-    (g.D.Disk.view c.close.result) c.close.ensures t)
+    (g.D.Disk.view c.close.result) c.close.ensures cut t)
     (c.live_and_stop-answer.ensures.ok start o.1)
 
 pub returns-clause-same : goal.returns-clause-same

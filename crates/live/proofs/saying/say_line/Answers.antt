@@ -5,7 +5,7 @@ use Rattle.child_edge.specs.Faithful.{at}
 use Rattle.tellings.specs.declared.note.Note.TheVariants as note
 use Rattle.live.specs.Records.{edge_by, left}
 use Rattle.live.specs.declared.holding.Hold.TheVariants as hold
-use Rattle.live.specs.Taking.{Said, SayingFailed, refused}
+use Rattle.live.specs.Taking.{SaidSo, SayingFailed, refused}
 use Rattle.live.proofs.Said.{said_still, still_unwritten, wants_command}
 use Rattle.live.proofs.saying.say_line.Goals as goal
 
@@ -18,10 +18,10 @@ returns-in-Ok-clause-err g c = λ w h.
 pub returns-in-Ok-note-clause-ok : goal.returns-in-Ok-note-clause-ok
 returns-in-Ok-note-clause-ok g c = λ w h.
     subst
-    (λ l. Said (edge_by c.args.manner g.T.Tells.voice g.S.Children.after g.S.Sources.clock g.S.Sources.wakes) c.args.number l (at w c.args.sources.now c.args.host.now.store.disk) (left c.args.host.now c.args.sources.now (g.W.Write.contents c.args.writer.now) (g.W.Write.contents c.note.new.writer)) hold.Free)
+    (λ l. SaidSo (edge_by c.args.manner g.T.Tells.voice g.S.Children.after g.S.Sources.clock g.S.Sources.wakes) c.args.number l (at w c.args.sources.now c.args.host.now.store.disk) (left c.args.host.now c.args.sources.now (g.W.Write.contents c.args.writer.now) (g.W.Write.contents c.note.new.writer)) c.no_wait.result)
     (sym (c.in-Err-BadLine.ensures.bad (ap (λ e. Err e) c.in-Err-BadLine.field-0-is)))
-    (said_still (edge_by c.args.manner g.T.Tells.voice g.S.Children.after g.S.Sources.clock g.S.Sources.wakes) c.args.number None w c.args.host.now c.args.sources.now (g.W.Write.contents c.args.writer.now) (g.W.Write.contents c.note.new.writer) hold.Free (g.T.Tells.voice.note (note.Bad c.args.number))
-    (refl, refl, refl) refl h c.in-Ok-note.ensures.ok)
+    (said_still (edge_by c.args.manner g.T.Tells.voice g.S.Children.after g.S.Sources.clock g.S.Sources.wakes) c.args.number None w c.args.host.now c.args.sources.now (g.W.Write.contents c.args.writer.now) (g.W.Write.contents c.note.new.writer) c.no_wait.result (g.T.Tells.voice.note (note.Bad c.args.number))
+    (refl, refl, refl) c.no_wait.ensures.wait c.no_wait.ensures.wrong h c.in-Ok-note.ensures.ok)
 
 pub returns-in-Err-clause-err : goal.returns-in-Err-clause-err
 returns-in-Err-clause-err g c = λ w h.

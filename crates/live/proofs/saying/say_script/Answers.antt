@@ -8,7 +8,8 @@ use Rattle.child_edge.specs.Faithful.{at}
 use Rattle.tellings.specs.declared.note.Note.TheVariants as note
 use Rattle.live.specs.Records.{edge_by, left}
 use Rattle.live.specs.declared.holding.Hold.TheVariants as hold
-use Rattle.live.specs.Taking.{Said, SayingFailed}
+use Rattle.live.specs.Saying.{UntimedBegins}
+use Rattle.live.specs.Taking.{SaidSo, SayingFailed}
 use Rattle.live.proofs.InManner.{command_failed_by}
 use Rattle.live.proofs.Said.{said_still, still_unwritten}
 use Rattle.live.proofs.saying.say_script.Goals as goal
@@ -16,10 +17,10 @@ use Rattle.live.proofs.saying.say_script.Goals as goal
 pub returns-in-Ok-clause-ok : goal.returns-in-Ok-clause-ok
 returns-in-Ok-clause-ok g c = λ w h.
     subst
-    (λ l. Said (edge_by c.args.manner g.T.Tells.voice g.S.Children.after g.S.Sources.clock g.S.Sources.wakes) c.args.number (Some (live.Script l)) (at w c.args.sources.now c.args.host.now.store.disk) (left c.args.host.now c.args.sources.now (g.W.Write.contents c.args.writer.now) (g.W.Write.contents c.note.new.writer)) hold.Free)
+    (λ l. SaidSo (edge_by c.args.manner g.T.Tells.voice g.S.Children.after g.S.Sources.clock g.S.Sources.wakes) c.args.number (Some (live.Script l)) (at w c.args.sources.now c.args.host.now.store.disk) (left c.args.host.now c.args.sources.now (g.W.Write.contents c.args.writer.now) (g.W.Write.contents c.note.new.writer)) c.no_wait.result)
     (sym c.in-Skip.is)
-    (said_still (edge_by c.args.manner g.T.Tells.voice g.S.Children.after g.S.Sources.clock g.S.Sources.wakes) c.args.number (Some (live.Script line.Skip)) w c.args.host.now c.args.sources.now (g.W.Write.contents c.args.writer.now) (g.W.Write.contents c.note.new.writer) hold.Free (g.T.Tells.voice.note (note.Nothing c.args.number))
-    (refl, refl, refl) refl h c.in-Ok.ensures.ok)
+    (said_still (edge_by c.args.manner g.T.Tells.voice g.S.Children.after g.S.Sources.clock g.S.Sources.wakes) c.args.number (Some (live.Script line.Skip)) w c.args.host.now c.args.sources.now (g.W.Write.contents c.args.writer.now) (g.W.Write.contents c.note.new.writer) c.no_wait.result (g.T.Tells.voice.note (note.Nothing c.args.number))
+    (refl, refl, refl) c.no_wait.ensures.wait c.no_wait.ensures.wrong h c.in-Ok.ensures.ok)
 
 pub returns-in-Err-clause-err : goal.returns-in-Err-clause-err
 returns-in-Err-clause-err g c = λ w h.
@@ -32,18 +33,18 @@ returns-in-Err-clause-err g c = λ w h.
 pub returns-in-Wait-clause-ok : goal.returns-in-Wait-clause-ok
 returns-in-Wait-clause-ok g c = λ w h.
     subst
-    (λ l. Said (edge_by c.args.manner g.T.Tells.voice g.S.Children.after g.S.Sources.clock g.S.Sources.wakes) c.args.number (Some (live.Script l)) (at w c.args.sources.now c.args.host.now.store.disk) (left c.args.host.now c.args.sources.now (g.W.Write.contents c.args.writer.now) (g.W.Write.contents c.args.writer.now)) c.untimed_wait.result)
+    (λ l. SaidSo (edge_by c.args.manner g.T.Tells.voice g.S.Children.after g.S.Sources.clock g.S.Sources.wakes) c.args.number (Some (live.Script l)) (at w c.args.sources.now c.args.host.now.store.disk) (left c.args.host.now c.args.sources.now (g.W.Write.contents c.args.writer.now) (g.W.Write.contents c.args.writer.now)) c.waits.result)
     (sym c.in-Wait.is)
-    (said_still (edge_by c.args.manner g.T.Tells.voice g.S.Children.after g.S.Sources.clock g.S.Sources.wakes) c.args.number (Some (live.Script line.Wait)) w c.args.host.now c.args.sources.now (g.W.Write.contents c.args.writer.now) (g.W.Write.contents c.args.writer.now) c.untimed_wait.result []
-    (refl, refl, refl) c.untimed_wait.ensures h (Appends-nil (g.W.Write.contents c.args.writer.now)))
+    (said_still (edge_by c.args.manner g.T.Tells.voice g.S.Children.after g.S.Sources.clock g.S.Sources.wakes) c.args.number (Some (live.Script line.Wait)) w c.args.host.now c.args.sources.now (g.W.Write.contents c.args.writer.now) (g.W.Write.contents c.args.writer.now) c.waits.result []
+    (refl, refl, refl) (subst (λ x. UntimedBegins g.S.Sources.clock c.args.sources.now c.args.manner.limit x) (sym c.waits.ensures.wait) c.untimed_wait.ensures) c.waits.ensures.right h (Appends-nil (g.W.Write.contents c.args.writer.now)))
 
 pub returns-in-Ok-sheet-clause-ok : goal.returns-in-Ok-sheet-clause-ok
 returns-in-Ok-sheet-clause-ok g c = λ w h.
     subst
-    (λ l. Said (edge_by c.args.manner g.T.Tells.voice g.S.Children.after g.S.Sources.clock g.S.Sources.wakes) c.args.number (Some (live.Script l)) (at w c.args.sources.now c.args.host.now.store.disk) (left c.args.host.now c.args.sources.now (g.W.Write.contents c.args.writer.now) (g.W.Write.contents c.sheet.new.writer)) hold.Free)
+    (λ l. SaidSo (edge_by c.args.manner g.T.Tells.voice g.S.Children.after g.S.Sources.clock g.S.Sources.wakes) c.args.number (Some (live.Script l)) (at w c.args.sources.now c.args.host.now.store.disk) (left c.args.host.now c.args.sources.now (g.W.Write.contents c.args.writer.now) (g.W.Write.contents c.sheet.new.writer)) c.no_wait-in-Ok-sheet.result)
     (sym c.in-Print.is)
-    (said_still (edge_by c.args.manner g.T.Tells.voice g.S.Children.after g.S.Sources.clock g.S.Sources.wakes) c.args.number (Some (live.Script line.Print)) w c.args.host.now c.args.sources.now (g.W.Write.contents c.args.writer.now) (g.W.Write.contents c.sheet.new.writer) hold.Free (g.T.Tells.voice.sheet c.args.number w)
-    (refl, refl, refl) refl h (c.in-Ok-sheet.ensures.ok w h))
+    (said_still (edge_by c.args.manner g.T.Tells.voice g.S.Children.after g.S.Sources.clock g.S.Sources.wakes) c.args.number (Some (live.Script line.Print)) w c.args.host.now c.args.sources.now (g.W.Write.contents c.args.writer.now) (g.W.Write.contents c.sheet.new.writer) c.no_wait-in-Ok-sheet.result (g.T.Tells.voice.sheet c.args.number w)
+    (refl, refl, refl) c.no_wait-in-Ok-sheet.ensures.wait c.no_wait-in-Ok-sheet.ensures.wrong h (c.in-Ok-sheet.ensures.ok w h))
 
 pub returns-in-Err-sheet-clause-err : goal.returns-in-Err-sheet-clause-err
 returns-in-Err-sheet-clause-err g c = λ w h.
@@ -56,14 +57,14 @@ returns-in-Err-sheet-clause-err g c = λ w h.
 pub returns-in-Command-clause-ok : goal.returns-in-Command-clause-ok
 returns-in-Command-clause-ok g c = λ w h.
     subst
-    (λ l. IfOk c.say_command.result (Said (edge_by c.args.manner g.T.Tells.voice g.S.Children.after g.S.Sources.clock g.S.Sources.wakes) c.args.number (Some (live.Script l)) (at w c.args.sources.now c.args.host.now.store.disk) (left c.say_command.new.host c.say_command.new.sources (g.W.Write.contents c.args.writer.now) (g.W.Write.contents c.say_command.new.writer))))
-    (sym c.in-Command.is) (c.say_command.ensures.ok w h)
+    (λ l. IfOk c.say_telling.result (SaidSo (edge_by c.args.manner g.T.Tells.voice g.S.Children.after g.S.Sources.clock g.S.Sources.wakes) c.args.number (Some (live.Script l)) (at w c.args.sources.now c.args.host.now.store.disk) (left c.say_telling.new.host c.say_telling.new.sources (g.W.Write.contents c.args.writer.now) (g.W.Write.contents c.say_telling.new.writer))))
+    (sym c.in-Command.is) (c.say_telling.ensures.ok w h)
 
 pub returns-in-Command-clause-err : goal.returns-in-Command-clause-err
 returns-in-Command-clause-err g c = λ w h.
     subst
-    (λ l. IfErr c.say_command.result (SayingFailed (edge_by c.args.manner g.T.Tells.voice g.S.Children.after g.S.Sources.clock g.S.Sources.wakes) c.args.number (Some (live.Script l)) (at w c.args.sources.now c.args.host.now.store.disk) (left c.say_command.new.host c.say_command.new.sources (g.W.Write.contents c.args.writer.now) (g.W.Write.contents c.say_command.new.writer))))
+    (λ l. IfErr c.say_telling.result (SayingFailed (edge_by c.args.manner g.T.Tells.voice g.S.Children.after g.S.Sources.clock g.S.Sources.wakes) c.args.number (Some (live.Script l)) (at w c.args.sources.now c.args.host.now.store.disk) (left c.say_telling.new.host c.say_telling.new.sources (g.W.Write.contents c.args.writer.now) (g.W.Write.contents c.say_telling.new.writer))))
     (sym c.in-Command.is)
-    (if_err_then c.say_command.result _ _
-    (λ f t. command_failed_by c.args.manner g.T.Tells.voice g.S.Children.after g.S.Sources.clock g.S.Sources.wakes c.in-Command.command c.args.number (at w c.args.sources.now c.args.host.now.store.disk) (left c.say_command.new.host c.say_command.new.sources (g.W.Write.contents c.args.writer.now) (g.W.Write.contents c.say_command.new.writer)) f t)
-    (c.say_command.ensures.err w h))
+    (if_err_then c.say_telling.result _ _
+    (λ f t. command_failed_by c.args.manner g.T.Tells.voice g.S.Children.after g.S.Sources.clock g.S.Sources.wakes c.in-Command.command c.args.number (at w c.args.sources.now c.args.host.now.store.disk) (left c.say_telling.new.host c.say_telling.new.sources (g.W.Write.contents c.args.writer.now) (g.W.Write.contents c.say_telling.new.writer)) f t)
+    (c.say_telling.ensures.err w h))

@@ -5,10 +5,10 @@ use Rattle.arrivals.specs.Lines.{whole, too_long}
 use Rattle.arrivals.specs.Held.{KeepsLines, to_come}
 use Rattle.std.proofs.KnownBytes.{Appends-nil}
 use Rattle.tellings.specs.declared.note.Note.TheVariants as note
-use Rattle.live.specs.Records.{between, brought, edge_by}
+use Rattle.live.specs.Records.{between, brought, edge_by, left}
 use Rattle.live.specs.declared.holding.Hold.TheVariants as hold
-use Rattle.live.specs.Arrivals.{line as the_line, part}
-use Rattle.live.specs.Taking.{TakesLines, taking}
+use Rattle.live.specs.Arrivals.{line as the_line, part, place}
+use Rattle.live.specs.Taking.{TakesLines, TookArrival, taking}
 use Rattle.live.proofs.Said.{still_unwritten}
 use Rattle.live.proofs.Turns.{line_failed, line_took}
 use Rattle.live.proofs.Coming.{keeps_more, line_given, same_ready}
@@ -44,9 +44,11 @@ returns-in-Ok-take_too_long-clause-ok g c = λ is_there w there h.
       (refl, same_ready old.held is_there true there c.in-TooLong.ensures.ready),
       subst (λ r. TakesLines (the_line too_long) (between (to_come old.held (g.R.Read.remaining old.reader)) (to_come new.held (g.R.Read.remaining r)))) (sym c.in-TooLong.ensures.reader)
           (line_given old.held new.held too_long (g.R.Read.remaining old.reader) c.in-TooLong.ensures.gives),
-      line_took (edge_by c.args.manner g.T.Tells.voice g.S.Children.after g.S.Sources.clock g.S.Sources.wakes) (at w c.args.sources.now c.args.host.now.store.disk) c.args.number c.args.host.now c.args.sources.now (g.W.Write.contents c.args.writer.now) (g.W.Write.contents c.take_too_long.new.writer) too_long (g.W.Write.contents c.take_too_long.new.writer) hold.Free c.in-Ok-take_too_long.held
-          (brought [] (g.T.Tells.voice.note (note.Bad (c.args.number + 1))), w, (refl, refl, refl), refl, h, c.in-Ok-take_too_long.ensures.ok)
-          (c.in-Ok-take_too_long.ensures.held w h) (Appends-nil (g.W.Write.contents c.take_too_long.new.writer)),
+      subst (λ held. TookArrival (edge_by c.args.manner g.T.Tells.voice g.S.Children.after g.S.Sources.clock g.S.Sources.wakes) (place (at w c.args.sources.now c.args.host.now.store.disk) c.args.number hold.Free) (the_line too_long) (left c.args.host.now c.args.sources.now (g.W.Write.contents c.args.writer.now) (g.W.Write.contents c.take_too_long.new.writer)) (c.args.number + 1) held)
+          (sym c.stop_if.ensures)
+          (line_took (edge_by c.args.manner g.T.Tells.voice g.S.Children.after g.S.Sources.clock g.S.Sources.wakes) (at w c.args.sources.now c.args.host.now.store.disk) c.args.number c.args.host.now c.args.sources.now (g.W.Write.contents c.args.writer.now) (g.W.Write.contents c.take_too_long.new.writer) too_long (g.W.Write.contents c.take_too_long.new.writer) (record { wait = hold.Free; wrong = true }) c.in-Ok-take_too_long.on
+          ((brought [] (g.T.Tells.voice.note (note.Bad (c.args.number + 1))), w, (refl, refl, refl), refl, h, c.in-Ok-take_too_long.ensures.ok), refl)
+          (c.in-Ok-take_too_long.ensures.held w h) (Appends-nil (g.W.Write.contents c.take_too_long.new.writer))),
     )
 
 pub returns-in-Err-take_too_long-clause-err : goal.returns-in-Err-take_too_long-clause-err

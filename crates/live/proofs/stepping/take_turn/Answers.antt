@@ -7,7 +7,6 @@ use Rattle.live.specs.Records.{between, edge_by, left, turn}
 use Rattle.live.specs.Arrivals.{life, time_over, place}
 use Rattle.live.specs.Taking.{MayTurn, TurnFailed, TurnTook, taking}
 use Rattle.live.proofs.Coming.{keeps_all}
-use Rattle.live.proofs.InManner.{time_failed_by}
 use Rattle.live.proofs.stepping.take_turn.Goals as goal
 
 pub returns-in-Input-clause-err : goal.returns-in-Input-clause-err
@@ -51,4 +50,4 @@ returns-in-Err-end_time-clause-err g c = λ is_there w there h.
     (λ t. TurnFailed (edge_by c.args.manner g.T.Tells.voice g.S.Children.after g.S.Sources.clock g.S.Sources.wakes) (place (at w c.args.sources.now c.args.host.now.store.disk) c.args.stand.number c.args.stand.held) (turn t is_there) (left c.end_time.new.host c.end_time.new.sources (g.W.Write.contents c.args.writer.now) (g.W.Write.contents c.end_time.new.writer)) (between (to_come c.args.lines.now.held (g.R.Read.remaining c.args.lines.now.reader)) (to_come c.args.lines.now.held (g.R.Read.remaining c.args.lines.now.reader))) c.in-Err-end_time.fault)
     (sym c.in-TimeOver.is)
     (taking time_over refl (keeps_all (to_come c.args.lines.now.held (g.R.Read.remaining c.args.lines.now.reader)))
-    (time_failed_by c.args.manner g.T.Tells.voice g.S.Children.after g.S.Sources.clock g.S.Sources.wakes (place (at w c.args.sources.now c.args.host.now.store.disk) c.args.stand.number c.args.stand.held) (left c.end_time.new.host c.end_time.new.sources (g.W.Write.contents c.args.writer.now) (g.W.Write.contents c.end_time.new.writer)) c.in-Err-end_time.fault (c.in-Err-end_time.ensures.err w h)))
+    (c.in-Err-end_time.ensures.err w h))

@@ -5,6 +5,7 @@ use Rattle.std.specs.Io.KnownBytes.{Appends}
 use Rattle.child_edge.specs.Edge.{Ran}
 use Rattle.child_edge.specs.Faithful.{at, Taken, hearing}
 use Rattle.tellings.specs.Voice.{came_text}
+use Rattle.sheet_programs.specs.Strict.{is_wrong}
 use Rattle.live.specs.Records.{edge, left}
 use Rattle.live.specs.Saying.{has_closed}
 use Rattle.live.specs.Taking.{HearingFailed}
@@ -19,11 +20,12 @@ returns-in-Err-clause-err g c = λ w h.
 
 pub returns-in-Ok-clause-ok : goal.returns-in-Ok-clause-ok
 returns-in-Ok-clause-ok g c = λ w h.
-    heard_closing (edge g.T.Tells.voice g.S.Children.after g.S.Sources.clock g.S.Sources.wakes) c.args.seat w c.args.host.now c.listen-taken.new.host c.args.sources.now c.listen-taken.new.children c.listen-taken.new.replies.items (g.W.Write.contents c.args.writer.now) (g.W.Write.contents c.events.new.writer) h c.any_closed.result
+    heard_closing (edge g.T.Tells.voice g.S.Children.after g.S.Sources.clock g.S.Sources.wakes) c.args.seat w c.args.host.now c.listen-taken.new.host c.args.sources.now c.listen-taken.new.children c.listen-taken.new.replies.items (g.W.Write.contents c.args.writer.now) (g.W.Write.contents c.events.new.writer) h c.heed.result
     (subst (λ x. Ran (Taken (hearing g.S.Children.after true) None c.args.seat (at w c.args.sources.now c.args.host.now.store.disk)) x c.listen-taken.new.host c.listen-taken.new.children c.listen-taken.new.replies.items) c.new-replies.ensures.items (c.in-Ok.ensures.ok w h))
     (subst (λ s. Appends (g.W.Write.contents c.args.writer.now) (g.W.Write.contents c.events.new.writer) (came_text g.T.Tells.voice s.contents c.listen-taken.new.replies.items)) c.sheet.ensures.sheet
     (subst (λ x. Appends (g.W.Write.contents c.args.writer.now) (g.W.Write.contents c.events.new.writer) (came_text g.T.Tells.voice c.sheet.result.now.contents x)) c.as_slice.ensures.value c.in_default.ensures.ok))
-    (subst (λ x. c.any_closed.result ≡ list_any has_closed x) c.as_slice-in-Ok.ensures.value c.any_closed.ensures)
+    (subst (λ x. c.heed.result.closed ≡ list_any has_closed x) c.as_slice-in-Ok.ensures.value c.heed.ensures.closed)
+    (subst (λ x. c.heed.result.wrong ≡ list_any is_wrong x) c.as_slice-in-Ok.ensures.value c.heed.ensures.wrong)
 
 pub returns-clause-err : goal.returns-clause-err
 returns-clause-err g c = λ w h.
