@@ -4,14 +4,17 @@
 
 mod gathering;
 pub mod holding;
+mod live_line;
 mod living;
 mod manner;
+mod numbers;
 mod saying;
 mod stepping;
 mod taking;
 mod timing;
 
 pub use holding::{Hold, go_on};
+pub use live_line::{LiveLine, read_live_line};
 pub use living::{LiveEnd, live, live_by};
 pub use manner::Manner;
 pub use saying::{say_command, wait_for};
