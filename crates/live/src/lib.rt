@@ -7,7 +7,6 @@ pub mod holding;
 mod live_line;
 mod living;
 mod manner;
-mod numbers;
 mod saying;
 mod stepping;
 mod taking;

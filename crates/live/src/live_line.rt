@@ -5,9 +5,8 @@ ghost use Rattle.sheet_text.specs.declared.script.LineFault.TheVariants as fault
 ghost use Rattle.sheet_export.specs.Formats.{format_named};
 ghost use Rattle.live.specs.LiveLines as live;
 
-use crate::numbers::{read_number, split_space};
 use sheet_export::{Format, format_in_bytes};
-use sheet_text::{LineFault, ScriptLine, read_line};
+use sheet_text::{LineFault, ScriptLine, read_line, read_number, split_space};
 use std::alloc::Global;
 use worksheet::Name;
 
