@@ -62,6 +62,7 @@ class Calls(AsyncCase):
             await three.remove()
             self.assertRaises(Gone, lambda: three.field)
             await sheet.checkpoint()
+            self.assertTrue(str(await sheet.export("script")).endswith("new 0 a two\u2028lines\nnew 1 a latin\n"))
             await self.assert_exact_now(sheet)
             held = self.shown(sheet)
         self.assertIsInstance(sheet.error, Closed)

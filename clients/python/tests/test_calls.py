@@ -1,5 +1,6 @@
 """Commands, what they change and what is refused."""
 
+import json
 import unittest
 from typing import Any, Callable, List
 
@@ -137,6 +138,27 @@ class Calls(Case):
         sheet.stop("a")
         self.assertEqual((cell.state, cell.evaluation), ("lost", None))
         self.assert_exact(sheet)
+
+    def test_exports(self) -> None:
+        sheet = self.open()
+        self.assertEqual([sheet.export(format) for format in ("script", "markdown")], ["", ""])
+        sheet.session("a", "sh x.sh")
+        sheet.new("a", "one\ntwo")
+        self.assertEqual(sheet.export("script"), "session a plain sh x.sh\nnew 0 a one\u2028two\n")
+        self.assertEqual(sheet.export("markdown"), "```a\none\ntwo\n```\n\n*no answer*\n")
+        page = sheet.export("html")
+        self.assertTrue(isinstance(page, str) and page.startswith("<!doctype html>") and "<title>worksheet</title>" in page)
+        self.assertEqual(json.loads(sheet.export("notebook"))["nbformat"], 4)
+        self.assertEqual([json.loads(line)["type"] for line in str(sheet.export("json")).splitlines()], ["hello", "field", "sheet", "end"])
+        for format in ("pdf", "", "html ", "script\nremove 1"):
+            self.assertRaises(BadLine, sheet.export, format)
+        self.assert_exact(sheet)
+
+    def test_an_export_that_is_no_text(self) -> None:
+        sheet = self.sheet()
+        sheet.new("a", "latin").evaluate()
+        told = sheet.export("markdown")
+        self.assertTrue(isinstance(told, bytes) and b"caf\xe9" in told)
 
     def test_a_cell_of_another_worksheet(self) -> None:
         sheet = self.sheet()

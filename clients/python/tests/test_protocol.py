@@ -229,6 +229,16 @@ class Objects(unittest.TestCase):
         self.assertEqual(talk.told({"line": 1, "type": "bad"}).events, [])
         self.assertIsInstance(waits.exception(0), BadLine)
 
+    def test_exports(self) -> None:
+        talk = Talk()
+        waits = [talk.send(commands.Export(format)) for format in ("script", "html", "markdown")]
+        told: Dict[str, Any] = {"type": "exported"}
+        talk.told({**told, "format": "script", "line": 1, "text": None}, {**told, "format": "html", "line": 2, "text": "<p>"})
+        talk.told({**told, "format": "markdown", "line": 3, "text": {"base64": "6Q=="}})
+        self.assertEqual([one.result(0) for one in waits], [None, "<p>", b"\xe9"])
+        talk.send(commands.Export("json"))
+        self.assertRaises(ProtocolError, talk.told, {**told, "format": "html", "line": 4, "text": ""})
+
     def test_a_look_behind_a_loss(self) -> None:
         """Whether a lost line keeps its reason isn't told, so its cell is looked at; who listens is told where it was another."""
         talk, evaluation = self.asked()

@@ -10,11 +10,11 @@ What a call returned is on the disk: a crash of this process, of the program or 
 from .aio import AsyncCell, AsyncCellLike, AsyncEvaluation, AsyncWorksheet
 from .blocking import Cell, CellLike, Evaluation, Worksheet
 from .checks import Checked, Compared, check
-from .errors import BadLine, Closed, Died, Gone, InUse, Lost, ProtocolError, Refused, TimedOut, TmhostError
+from .errors import BadLine, Closed, Died, Gone, InUse, Lost, NoScript, ProtocolError, Refused, TimedOut, TmhostError
 from .events import Answered, Banner, Completed, Default, Done, Ended, Event, Finished, OfLife, Stopped, Warned
 from .program import find_program
 from .protocol import Protocol
-from .reading import Asked, Interrupted, Made, OneField, Refusal, Reply, Sheet, StopReply, Waited
+from .reading import Asked, Exported, Interrupted, Made, OneField, Refusal, Reply, Sheet, StopReply, Waited
 from .runs import run
 from .values import Answer, Block, Completions, Field, LostItem, Session, Text, Turn, readable
 
@@ -42,6 +42,7 @@ __all__ = [
     "Ended",
     "Evaluation",
     "Event",
+    "Exported",
     "Field",
     "Finished",
     "Gone",
@@ -50,6 +51,7 @@ __all__ = [
     "Lost",
     "LostItem",
     "Made",
+    "NoScript",
     "OfLife",
     "OneField",
     "Protocol",

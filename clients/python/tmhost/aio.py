@@ -13,10 +13,10 @@ from . import commands, tasks
 from .cells import CellView, id_of
 from .commands import Command, R, input_of, matching, words_of
 from .connection import Moment
-from .errors import Closed, Refused, TimedOut, TmhostError
+from .errors import Closed, NoScript, Refused, TimedOut, TmhostError
 from .program import Program, path_word, words_of_program
 from .tasks import AsyncConnection, AsyncListener, new_future, outcome
-from .values import Answer, Completions, Field, LostItem, Session, Turn
+from .values import Answer, Completions, Field, LostItem, Session, Text, Turn
 
 AsyncCellLike = Union["AsyncCell", int]
 
@@ -265,6 +265,14 @@ class AsyncWorksheet:
     async def checkpoint(self) -> None:
         """Makes the file of the worksheet as short as what it shows allows."""
         await self._do(commands.Checkpoint())
+
+    async def export(self, format: str) -> Text:
+        """The worksheet in a format (docs/EXPORT.md): "script", "markdown", "html", "notebook" or "json". Raises NoScript where it has no script,
+        and BadLine where there is no such format."""
+        told = await self._do(commands.Export(format))
+        if told is None:
+            raise NoScript
+        return told
 
     async def refresh(self) -> None:
         """Has the whole worksheet told again. There is no need for it."""

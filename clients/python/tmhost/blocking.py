@@ -18,9 +18,9 @@ from . import commands
 from .cells import CellView, id_of
 from .commands import Command, R, input_of, matching, words_of
 from .connection import Connection, Listener, Moment, outcome
-from .errors import Closed, Refused, TimedOut, TmhostError
+from .errors import Closed, NoScript, Refused, TimedOut, TmhostError
 from .program import Program, path_word, refuse_uncreated, words_of_program
-from .values import Answer, Completions, Field, LostItem, Session, Turn
+from .values import Answer, Completions, Field, LostItem, Session, Text, Turn
 
 CellLike = Union["Cell", int]
 
@@ -272,6 +272,14 @@ class Worksheet:
     def checkpoint(self) -> None:
         """Makes the file of the worksheet as short as what it shows allows."""
         self._do(commands.Checkpoint())
+
+    def export(self, format: str) -> Text:
+        """The worksheet in a format (docs/EXPORT.md): "script", "markdown", "html", "notebook" or "json". Raises NoScript where it has no script,
+        and BadLine where there is no such format."""
+        told = self._do(commands.Export(format))
+        if told is None:
+            raise NoScript
+        return told
 
     def refresh(self) -> None:
         """Has the whole worksheet told again. There is no need for it."""

@@ -4,15 +4,16 @@ import dataclasses
 import re
 from typing import Any, Dict, Generic, Optional, Sequence, Tuple, Type, TypeVar, Union
 
-from .errors import Refused
+from .errors import BadLine, Refused
 from .mirror import Item, Mirror, Settles, out_of_step
-from .reading import Asked, Interrupted, Made, OneField, Reply, Sheet, StopReply, Waited
-from .values import LINE_END, Answer, Completions, Field, LostItem, Session
+from .reading import Asked, Exported, Interrupted, Made, OneField, Reply, Sheet, StopReply, Waited
+from .values import LINE_END, Answer, Completions, Field, LostItem, Session, Text
 
 R = TypeVar("R")
 K = TypeVar("K", bound=Reply)
 
 NAME = re.compile(r"[A-Za-z0-9_-]{1,32}")
+FORMATS = ("script", "markdown", "html", "notebook", "json")
 NOT_IN_A_WORD = re.compile(r"[ \n]")  # else one word would be two, or a line of its own
 
 
@@ -307,6 +308,25 @@ class Look(OfCell[bool]):
         self.is_told = is_other
         mirror.show(field)
         return is_other
+
+
+@dataclasses.dataclass
+class Export(Command[Optional[Text]]):
+    format: str
+    word = "export"
+    is_told = False
+
+    def __post_init__(self) -> None:
+        if self.format not in FORMATS:
+            raise BadLine(self.line)  # it could be a part of another line, so it isn't sent
+
+    @property
+    def line(self) -> str:
+        return f"export {self.format}"
+
+    def taken(self, mirror: Mirror, reply: Reply) -> Optional[Text]:
+        told = expected(reply, Exported)
+        return told.text if told.format == self.format else out_of_step(f"the format {told.format!r} of line {told.line}")
 
 
 AnyCommand = Command[Any]

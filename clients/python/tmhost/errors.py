@@ -29,6 +29,13 @@ class BadLine(TmhostError):
         return f"a bad line: {self.line[:60]!r}"
 
 
+class NoScript(TmhostError):
+    """No script makes the worksheet: a session has a word with a space, or there are more than 10,000 fields."""
+
+    def __str__(self) -> str:
+        return "no script makes the worksheet"
+
+
 class Lost(TmhostError):
     """The interpreter ended before it answered. `reason` is one of the nine names of docs/SCRIPT.md, as "Ended" or "Stopped"."""
 

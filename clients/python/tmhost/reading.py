@@ -93,6 +93,14 @@ class Interrupted(Reply):
     outcome: str
 
 
+@dataclasses.dataclass(frozen=True)
+class Exported(Reply):
+    """`text` is None where the worksheet has none in this format."""
+
+    format: str
+    text: Optional[Text]
+
+
 Told = Union[Hello, Fault, End, Reply, Event]
 
 
@@ -234,6 +242,7 @@ REPLIES: Dict[str, Callable[[Tuple[int, str, bool], Members], Reply]] = {
     ),
     "stopped": lambda front, told: StopReply(*front, told.string("session"), told.number("life"), lost(told)),
     "interrupted": lambda front, told: Interrupted(*front, outcome(told)),
+    "exported": lambda front, told: Exported(*front, told.string("format"), told.or_none("text", text)),
 }
 
 # What is told without a line, by its type: of an interpreter, with its session and its life in front, or of the program.

@@ -87,10 +87,10 @@ const LIVE_NOTES: &str =
     "Each line of standard input is taken when it comes, and what an interpreter\n\
 writes is taken when it comes: what either gives is written and flushed at once,\n\
 and what it reports as done is on the disk. Lines are those of `run`, of 65,536\n\
-bytes at most, and `print ID`, `wait SECONDS` and `interrupt NAME`, which sends\n\
-SIGINT to an interpreter that is at something. A `wait` holds back the lines after\n\
-it until no answer is awaited, or its time is over. At the end of the input each\n\
-interpreter is stopped.\n\n\
+bytes at most, and `print ID`, `wait SECONDS`, `export FORMAT`, which writes what\n\
+`export` does, and `interrupt NAME`, which sends SIGINT to an interpreter that is\n\
+at something. A `wait` holds back the lines after it until no answer is awaited,\n\
+or its time is over. At the end of the input each interpreter is stopped.\n\n\
 With --json each line is one object, which programs read (docs/JSON.md).\n\n\
 Status: 0 where the input came to its end, also where it had bad lines and refused\n\
 commands; 1 at a fault; 2 where the words are refused.\n\n\

@@ -3,6 +3,7 @@ use disk_model::Disk;
 use host_events::{Outcome, Reply};
 use offline_programs::RunFault;
 use session_engine::Host;
+use sheet_export::Format;
 use std::io::Write;
 use tellings::{Frame, Note, Tells};
 use worksheet::Sheet;
@@ -68,6 +69,16 @@ impl Tells for Silence {
         _line: u64,
         _id: u32,
         _host: &Host<D>,
+        _writer: &mut W,
+    ) -> Result<(), RunFault> {
+        Ok(())
+    }
+
+    fn export<W: Write>(
+        &self,
+        _line: u64,
+        _format: Format,
+        _sheet: &Sheet,
         _writer: &mut W,
     ) -> Result<(), RunFault> {
         Ok(())

@@ -18,8 +18,8 @@ use Rattle.child_edge.specs.Stops.{Stops}
 use Rattle.child_edge.proofs.Timeline.{Goes, goes_on_by, follows-goes, first-goes, taken-goes}
 use Rattle.arrivals.specs.Lines.{InputLine, input_lines}
 use Rattle.sheet_text.specs.declared.script.ScriptLine.TheVariants as line
-use Rattle.sheet_text.specs.declared.live_line.LiveLine.{LiveLine}
-use Rattle.sheet_text.specs.declared.live_line.LiveLine.TheVariants as live
+use Rattle.live.specs.declared.live_line.LiveLine.{LiveLine}
+use Rattle.live.specs.declared.live_line.LiveLine.TheVariants as live
 use Rattle.sheet_programs.specs.Run.{OpenedOn}
 use Rattle.offline_programs.specs.declared.fault.RunFault.{RunFault}
 use Rattle.offline_programs.specs.declared.fault.RunFault.TheVariants as fault
@@ -69,6 +69,7 @@ said-goes o number (Some (live.Script line.Print)) s it t p = no_beats s it.beat
 said-goes o number (Some (live.Script (line.Command c))) s it t p = follows-goes o.after s (Some (event.Command c)) it.beats None t p.0
 said-goes o number (Some (live.PrintField id)) s it t p = no_beats s it.beats t p.0 p.2
 said-goes o number (Some (live.WaitFor seconds)) s it t p = no_beats s it.beats t p.0 p.2
+said-goes o number (Some (live.Export format)) s it t p = no_beats s it.beats t p.0 p.2
 said-goes o number (Some (live.Interrupt name)) s it t p = no_beats (at s.world t.children s.disk) it.beats t p.0 p.2
 
 said-up-to-goes : {C : Type 0} (R : Relation C) (l : Option LiveLine) (s : At C) (beats : List Beat) (e : Event) (t : At C) → SaidUpTo R l s beats e t → Goes s.world s.disk beats t.world t.disk

@@ -14,11 +14,11 @@ use Rattle.child_edge.specs.Faithful.{At, at}
 use Rattle.child_edge.specs.Told.{told}
 use Rattle.arrivals.specs.Lines.{whole}
 use Rattle.sheet_text.specs.Script.{line_of}
-use Rattle.sheet_text.specs.LiveLines.{script_or_form}
+use Rattle.live.specs.LiveLines.{script_or_form}
 use Rattle.sheet_text.specs.declared.script.ScriptLine.{ScriptLine}
 use Rattle.sheet_text.specs.declared.script.ScriptLine.TheVariants as says
-use Rattle.sheet_text.specs.declared.live_line.LiveLine.{LiveLine}
-use Rattle.sheet_text.specs.declared.live_line.LiveLine.TheVariants as live
+use Rattle.live.specs.declared.live_line.LiveLine.{LiveLine}
+use Rattle.live.specs.declared.live_line.LiveLine.TheVariants as live
 use Rattle.sheet_programs.specs.Together.{Joins, lines_events, most_commands}
 use Rattle.sheet_programs.specs.inside.Grouping.{GroupKept, KeptUpTo, halted_by_disk, halted_by_memory, host_call}
 use Rattle.sheet_programs.proofs.Grouped.{beats_from, kept_done, outcomes_from}

@@ -4,8 +4,8 @@ use Rattle.host_events.specs.declared.command.Command.{Command}
 use Rattle.child_calls.specs.declared.seat.Seat.{Seat}
 use Rattle.child_edge.specs.Faithful.{Relation, At, at}
 use Rattle.sheet_text.specs.declared.script.ScriptLine.TheVariants as line
-use Rattle.sheet_text.specs.declared.live_line.LiveLine.{LiveLine}
-use Rattle.sheet_text.specs.declared.live_line.LiveLine.TheVariants as live
+use Rattle.live.specs.declared.live_line.LiveLine.{LiveLine}
+use Rattle.live.specs.declared.live_line.LiveLine.TheVariants as live
 use Rattle.tellings.specs.Voice.{Voice}
 use Rattle.offline_programs.specs.declared.fault.RunFault.{RunFault}
 use Rattle.live.specs.declared.holding.Hold.{Hold}

@@ -13,12 +13,12 @@ use Rattle.child_edge.specs.declared.serving.EdgeCause.TheVariants as cause
 use Rattle.session_engine.specs.Host.{HostView, IsHost}
 use Rattle.host_events.specs.declared.command.Command.{Command}
 use Rattle.child_edge.specs.Faithful.{At, at, Served, ServedUpTo}
-use Rattle.sheet_text.specs.LiveLines.{live_line_of, script_or_form}
+use Rattle.live.specs.LiveLines.{live_line_of, script_or_form}
 use Rattle.sheet_text.specs.Script.{line_of, wants_memory}
 use Rattle.sheet_text.specs.declared.script.ScriptLine.{ScriptLine}
 use Rattle.sheet_text.specs.declared.script.ScriptLine.TheVariants as line
-use Rattle.sheet_text.specs.declared.live_line.LiveLine.{LiveLine}
-use Rattle.sheet_text.specs.declared.live_line.LiveLine.TheVariants as live
+use Rattle.live.specs.declared.live_line.LiveLine.{LiveLine}
+use Rattle.live.specs.declared.live_line.LiveLine.TheVariants as live
 use Rattle.sheet_programs.specs.Strict.{is_wrong}
 use Rattle.sheet_programs.specs.Told.{fault_of_cause}
 use Rattle.child_edge.specs.Edge.{ByCause, Ran}

@@ -13,8 +13,8 @@ use Rattle.arrivals.specs.declared.sources.Input.{Input}
 use Rattle.arrivals.specs.declared.sources.Input.TheVariants as input
 use Rattle.arrivals.specs.declared.sources.Woken.{Woken}
 use Rattle.arrivals.specs.declared.sources.Woken.TheVariants as woken
-use Rattle.sheet_text.specs.LiveLines.{live_line_of}
-use Rattle.sheet_text.specs.declared.live_line.LiveLine.{LiveLine}
+use Rattle.live.specs.LiveLines.{live_line_of}
+use Rattle.live.specs.declared.live_line.LiveLine.{LiveLine}
 use Rattle.session_engine.specs.World.{sheet_in}
 use Rattle.child_edge.specs.Told.{told}
 use Rattle.sheet_programs.specs.Strict.{is_wrong}

@@ -1,3 +1,4 @@
+pub mod LiveLines
 pub mod Records
 pub mod Saying
 pub mod Arrivals

@@ -16,8 +16,8 @@ use Rattle.child_edge.specs.Told.{told}
 use Rattle.worksheet.specs.Checks.{has_field, has_session}
 use Rattle.sheet_text.specs.Script.{line_of}
 use Rattle.sheet_text.specs.declared.script.ScriptLine.TheVariants as line
-use Rattle.sheet_text.specs.declared.live_line.LiveLine.{LiveLine}
-use Rattle.sheet_text.specs.declared.live_line.LiveLine.TheVariants as live
+use Rattle.live.specs.declared.live_line.LiveLine.{LiveLine}
+use Rattle.live.specs.declared.live_line.LiveLine.TheVariants as live
 use Rattle.sheet_programs.specs.Strict.{is_wrong}
 use Rattle.sheet_programs.specs.Together.{most_commands}
 use Rattle.tellings.specs.Voice.{Voice, replied_text}
@@ -37,6 +37,7 @@ SaidDone o number (Some (live.Script line.Wait)) s it t = (it.beats ≡ []) × (
 SaidDone o number (Some (live.Script line.Print)) s it t = (it.beats ≡ []) × (it.text ≡ o.voice.sheet number s.world) × (t ≡ s)
 SaidDone o number (Some (live.PrintField id)) s it t = (it.beats ≡ []) × (it.text ≡ o.voice.field number id s.world) × (t ≡ s)
 SaidDone o number (Some (live.WaitFor seconds)) s it t = (it.beats ≡ []) × (it.text ≡ []) × (t ≡ s)
+SaidDone o number (Some (live.Export format)) s it t = (it.beats ≡ []) × (it.text ≡ o.voice.exported number format (sheet_in s.world)) × (t ≡ s)
 SaidDone o number (Some (live.Interrupt name)) s it t =
     (it.beats ≡ []) × ((came : Interrupted) × Interrupts o.after s.world name s.children came t.children × (it.text ≡ o.voice.note (note.Interrupted number name came)))
     × (t ≡ at s.world t.children s.disk)
@@ -54,6 +55,7 @@ asks_in_vain w (live.Script line.Print) = false
 asks_in_vain w (live.PrintField id) = not (has_field (sheet_in w) id)
 asks_in_vain w (live.WaitFor seconds) = false
 asks_in_vain w (live.Interrupt name) = not (has_session (sheet_in w) name)
+asks_in_vain w (live.Export format) = false
 
 -- The line isn't known, asks for what isn't there, or one of these replies, which it gave, is a refusal or tells that items were lost.
 abbrev pub line_goes_wrong : World → Option LiveLine → List Reply → Bool
@@ -113,6 +115,7 @@ Begins o c (Some (live.Script line.Print)) held = held ≡ hold.Free
 Begins o c (Some (live.PrintField id)) held = held ≡ hold.Free
 Begins o c (Some (live.WaitFor seconds)) held = (now : ℕ) × o.watches.clock c now × (held ≡ hold.Until (seconds_behind now seconds))
 Begins o c (Some (live.Interrupt name)) held = held ≡ hold.Free
+Begins o c (Some (live.Export format)) held = held ≡ hold.Free
 
 -- a wait goes on as long as an item waits for an answer
 abbrev pub WaitGoesOn : Hold → World → Hold → Type 0

@@ -18,7 +18,7 @@ use Rattle.arrivals.specs.Lines.{InputLine, whole}
 use Rattle.arrivals.specs.Held.{KeepsLines}
 use Rattle.arrivals.specs.declared.sources.Woken.{Woken}
 use Rattle.arrivals.specs.declared.sources.Woken.TheVariants as woken
-use Rattle.sheet_text.specs.declared.live_line.LiveLine.{LiveLine}
+use Rattle.live.specs.declared.live_line.LiveLine.{LiveLine}
 use Rattle.child_edge.specs.Told.{told}
 use Rattle.tellings.specs.Voice.{came_text, replied_text}
 use Rattle.sheet_programs.specs.Strict.{is_wrong}

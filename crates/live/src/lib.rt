@@ -4,6 +4,7 @@
 
 mod gathering;
 pub mod holding;
+mod live_line;
 mod living;
 mod manner;
 mod saying;
@@ -13,6 +14,7 @@ mod timing;
 mod wrongs;
 
 pub use holding::{Hold, go_on, wait_for};
+pub use live_line::{LiveLine, read_live_line};
 pub use living::{LiveEnd, live, live_by};
 pub use manner::Manner;
 pub use saying::say_command;

@@ -5,7 +5,7 @@ ghost use Rattle.disk_model.specs.Disk.{SameDisk};
 ghost use Rattle.session_engine.specs.World.{World};
 ghost use Rattle.session_engine.specs.Host.{IsHost};
 ghost use Rattle.child_edge.specs.Faithful.{at};
-ghost use Rattle.sheet_text.specs.LiveLines.{live_line_of};
+ghost use Rattle.live.specs.LiveLines.{live_line_of};
 ghost use Rattle.arrivals.specs.Lines.{whole};
 ghost use Rattle.tellings.specs.Voice.{IsUntold};
 ghost use Rattle.live.specs.Records.{edge, edge_by, left};
@@ -14,6 +14,7 @@ ghost use Rattle.live.specs.Arrivals.{line as the_line, place};
 ghost use Rattle.live.specs.Taking.{Said, SaidSo, SayingFailed, TakingFailed, TookArrival};
 
 use crate::holding::{Hold, go_on, tell_over, untimed_wait, wait_for};
+use crate::live_line::{LiveLine, read_live_line};
 use crate::manner::Manner;
 use crate::wrongs::{any_wrong, lacks_field, lacks_session, stop_if};
 use arrivals::Sources;
@@ -23,7 +24,7 @@ use host_events::Command;
 use offline_programs::RunFault;
 use session_engine::Host;
 use sheet_programs::run_fault;
-use sheet_text::{LineFault, LiveLine, ScriptLine, read_live_line};
+use sheet_text::{LineFault, ScriptLine};
 use std::alloc::Global;
 use std::io::Write;
 use tellings::{Note, Tells};
@@ -203,6 +204,13 @@ fn say<D: Disk, S: Sources, T: Tells, W: Write>(
         },
         LiveLine::WaitFor(seconds) => Ok(waits(wait_for(sources.now(), seconds))),
         LiveLine::Interrupt(name) => say_interrupt(host, sources, name, number, tells, writer),
+        LiveLine::Export(format) => match tells.export(number, format, host.sheet(), writer) {
+            Ok(()) => Ok(Beginning {
+                wait: Hold::Free,
+                wrong: false,
+            }),
+            Err(fault) => Err(fault),
+        },
     }
 }
 

@@ -1,4 +1,4 @@
-# Exports: worksheets as the lines that make them again, as Markdown, as pages and as notebooks.
+# Exports: worksheets as the lines that make them again, as Markdown, as pages and as notebooks, by `export` and by lines of `live`.
 
 header='TMWSHEET\001A'
 
@@ -394,6 +394,74 @@ compare 'its page' "$(fields_of)" "$(printf "$page_end")"
 compare 'its Markdown' "$(answer export markdown area </dev/null)" 'status 0'
 compare 'its notebook' "$(answer export notebook area </dev/null)" '{"cells":['"$cells_end"
 
+# A line of `live` exports too: NAME LINES TEXT, over the file `area`.
+live_exports() {
+    printf "$2" >given
+    compare "$1" "$(answer live area <given)" "$(ending "$3" 0)"
+}
+
+# The same in JSON, where the text that is wanted is the input here: TASK NAME LINES. The style of a page is left out.
+json_exports() {
+    cat >wanted
+    printf "$3" >given
+    answer "$1" --json area <given >text
+    compare "$2" "$(sed 's/<style>.*<\/style>/<style>/' text)" "$(cat wanted; echo 'status 0')"
+}
+live_exports 'no script by live' 'export script\nexport markdown\nprint\n' 'no script\n'
+json_exports live 'no script by live, in JSON' 'export script\nexport markdown\n' <<'END_OF_JSON'
+{"format":1,"program":"tmhost","protocol":2,"type":"hello","version":"0.1.0"}
+{"format":"script","line":1,"text":null,"type":"exported"}
+{"format":"markdown","line":2,"text":"","type":"exported"}
+{"type":"end"}
+END_OF_JSON
+answered x '> ' 'verbatim:A'
+live_exports 'exports by live' 'export script\n# x\nexport markdown\nexport notebook\nexport json\nexport pdf\n' 'session a plain sh w\nnew 0 a x\n```a\nx\n```\n\n```\nA\n```\nexport notebook needs --json\nexport json needs --json\nbad line 6\n'
+echo 'export html' >given
+answer live area <given >text
+compare 'a page by live' "$(sed '/^<style>$/,/^<\/style>$/d' text)" '<!doctype html>
+<html lang="en">
+<head>
+<meta charset="utf-8">
+<meta name="viewport" content="width=device-width, initial-scale=1">
+<meta name="color-scheme" content="light dark">
+<meta http-equiv="Content-Security-Policy" content="default-src '\''none'\''; style-src '\''unsafe-inline'\''">
+<title>worksheet</title>
+</head>
+<body>
+<h1 dir="ltr">worksheet</h1>
+<main>
+<section id="field-1">
+<header><a href="#field-1">#1</a> <bdi>a</bdi></header>
+<pre class="in" dir="ltr"><bdi>&gt; </bdi><code dir="ltr">x</code></pre>
+<pre class="out" dir="ltr">
+A</pre>
+</section>
+</main>
+</body>
+</html>
+status 0'
+for task in live run; do
+    json_exports $task "exports by $task, in JSON" 'export script\nexport markdown\nexport html\nexport notebook\nexport json\nexport pdf\n' <<'END_OF_JSON'
+{"format":1,"program":"tmhost","protocol":2,"type":"hello","version":"0.1.0"}
+{"format":"script","line":1,"text":"session a plain sh w\nnew 0 a x\n","type":"exported"}
+{"format":"markdown","line":2,"text":"```a\nx\n```\n\n```\nA\n```\n","type":"exported"}
+{"format":"html","line":3,"text":"<!doctype html>\n<html lang=\"en\">\n<head>\n<meta charset=\"utf-8\">\n<meta name=\"viewport\" content=\"width=device-width, initial-scale=1\">\n<meta name=\"color-scheme\" content=\"light dark\">\n<meta http-equiv=\"Content-Security-Policy\" content=\"default-src 'none'; style-src 'unsafe-inline'\">\n<title>worksheet</title>\n<style>\n</head>\n<body>\n<h1 dir=\"ltr\">worksheet</h1>\n<main>\n<section id=\"field-1\">\n<header><a href=\"#field-1\">#1</a> <bdi>a</bdi></header>\n<pre class=\"in\" dir=\"ltr\"><bdi>&gt; </bdi><code dir=\"ltr\">x</code></pre>\n<pre class=\"out\" dir=\"ltr\">\nA</pre>\n</section>\n</main>\n</body>\n</html>\n","type":"exported"}
+{"format":"notebook","line":4,"text":"{\"cells\":[{\"cell_type\":\"code\",\"execution_count\":null,\"id\":\"field-1\",\"metadata\":{\"tmhost\":{\"session\":\"a\"}},\"outputs\":[{\"data\":{\"text/plain\":\"A\"},\"execution_count\":null,\"metadata\":{},\"output_type\":\"execute_result\"}],\"source\":\"x\"}],\"metadata\":{},\"nbformat\":4,\"nbformat_minor\":5}","type":"exported"}
+{"format":"json","line":5,"text":"{\"format\":1,\"program\":\"tmhost\",\"protocol\":2,\"type\":\"hello\",\"version\":\"0.1.0\"}\n{\"field\":{\"id\":1,\"input\":\"x\",\"output\":{\"items\":[\"A\"],\"kind\":\"format\",\"tag\":\"verbatim\"},\"prompt\":\"> \",\"session\":\"a\",\"shown\":\"A\",\"state\":\"answered\"},\"type\":\"field\"}\n{\"fields\":[1],\"next\":2,\"sessions\":[{\"life\":null,\"name\":\"a\",\"tab\":false,\"waiting\":0,\"words\":[\"sh\",\"w\"]}],\"type\":\"sheet\"}\n{\"type\":\"end\"}\n","type":"exported"}
+{"line":6,"type":"bad"}
+{"type":"end"}
+END_OF_JSON
+done
+echo 'export script' >given
+compare 'an export by run' "$(answer run area <given)" "$(ending 'bad line 1\n' 0)"
+answered x '> ' 'verbatim:\351'
+json_exports live 'an export that is not UTF-8' 'export markdown\nexport html\n' <<'END_OF_JSON'
+{"format":1,"program":"tmhost","protocol":2,"type":"hello","version":"0.1.0"}
+{"format":"markdown","line":1,"text":{"base64":"YGBgYQp4CmBgYAoKYGBgCukKYGBgCg=="},"type":"exported"}
+{"format":"html","line":2,"text":"<!doctype html>\n<html lang=\"en\">\n<head>\n<meta charset=\"utf-8\">\n<meta name=\"viewport\" content=\"width=device-width, initial-scale=1\">\n<meta name=\"color-scheme\" content=\"light dark\">\n<meta http-equiv=\"Content-Security-Policy\" content=\"default-src 'none'; style-src 'unsafe-inline'\">\n<title>worksheet</title>\n<style>\n</head>\n<body>\n<h1 dir=\"ltr\">worksheet</h1>\n<main>\n<section id=\"field-1\">\n<header><a href=\"#field-1\">#1</a> <bdi>a</bdi></header>\n<pre class=\"in\" dir=\"ltr\"><bdi>&gt; </bdi><code dir=\"ltr\">x</code></pre>\n<pre class=\"out\" dir=\"ltr\">\n\\xe9</pre>\n</section>\n</main>\n</body>\n</html>\n","type":"exported"}
+{"type":"end"}
+END_OF_JSON
+
 # Faults: nothing is written.
 for format in script markdown html notebook; do
     words "$format of a file that is missing" 1 'fault 32 Disk\n' export $format nowhere.tm
@@ -408,8 +476,8 @@ words 'no format' 2 "error: there is no such format: FORMAT is script, markdown,
 
 # A worksheet that another has, and outputs that can't be written.
 talk
-say 'session a plain sh\nnew 0 a x\n# held\nprint 1\n'
-hears 'a worksheet in use, held' 'ok\nfield 1\n#1 a\n> x\n?\n'
+say 'session a plain sh\nnew 0 a x\n# held\nprint 1\nexport script\n'
+hears 'a worksheet in use, held' 'ok\nfield 1\n#1 a\n> x\n?\nsession a plain sh\nnew 0 a x\n'
 for format in script markdown html notebook; do
     words "$format of a worksheet in use" 1 'fault 35 InUse\n' export $format sheet
 done

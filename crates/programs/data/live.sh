@@ -61,6 +61,9 @@ END_OF_LINES
 printf 'wait\r\r\nwait 1\r\r\nprint 1\r\r\n\r\r\n\357\273\277print\nprint 1\r' >>given
 lives 'lines of no form' "$(printf 'bad line %s\\n' $(seq 60))" '' <given
 
+live 'formats of exports that there are none of' 'export\nexport \nexport pdf\nexport HTML\nexport html \nexport  html\nexports html\nexport html script\n' \
+    "$(printf 'bad line %s\\n' $(seq 8))" ''
+
 # Lines of scripts, in the words of `run`.
 live 'each line of a script' \
     'session a plain p\nsession b tab p q\nnew 0 a x\nnew 1 a y\nnew 0 b\nset 1 z\nmove 2 0\nclear 1\nremove 3\ncheckpoint\nstop a\n# a remark\n\nwait\ncomplete 1 0\nprint\n' \

@@ -58,6 +58,14 @@ format_named name = if bytes_eq name (codes "script") then Some format.Script
     else (if bytes_eq name (codes "notebook") then Some format.Notebook
     else (if bytes_eq name (codes "json") then Some format.Json else None))))
 
+-- its name
+abbrev pub format_name : Format → List ℕ
+format_name format.Script = codes "script"
+format_name format.Markdown = codes "markdown"
+format_name format.Html = codes "html"
+format_name format.Notebook = codes "notebook"
+format_name format.Json = codes "json"
+
 -- what comes after the last slash of these bytes, and this part where they have none
 abbrev pub behind_slash : List ℕ → List ℕ → List ℕ
 behind_slash part [] = part

@@ -1,5 +1,5 @@
 //! A worksheet on a disk, written in a format.
-ghost use Rattle.std.specs.Prelude.{◌≡◌, IfErr, IsErrOf, OnOk, false, true, []};
+ghost use Rattle.std.specs.Prelude.{◌≡◌, IfErr, IsErrOf, OnOk, Some, false, true, []};
 ghost use Rattle.std.specs.Io.KnownBytes.{Appends};
 ghost use Rattle.disk_model.specs.Disk.{InModel, Looks, Rises, SameDisk, bytes_on};
 ghost use Rattle.journal.specs.declared.opening.OpenCause.TheVariants as opens;
@@ -44,13 +44,39 @@ pub enum Format {
 pub fn format_named(name: &str) -> Option<Format>
     ensures { result ≡ exports.format_named name.now }
 {
-    match name {
-        "script" => Some(Format::Script),
-        "markdown" => Some(Format::Markdown),
-        "html" => Some(Format::Html),
-        "notebook" => Some(Format::Notebook),
-        "json" => Some(Format::Json),
-        _ => None,
+    format_in_bytes(name.as_bytes())
+}
+
+/// The same of a name in bytes.
+pub fn format_in_bytes(name: &[u8]) -> Option<Format>
+    ensures { result ≡ exports.format_named name.now }
+{
+    if name == b"script".as_slice() {
+        Some(Format::Script)
+    } else if name == b"markdown".as_slice() {
+        Some(Format::Markdown)
+    } else if name == b"html".as_slice() {
+        Some(Format::Html)
+    } else if name == b"notebook".as_slice() {
+        Some(Format::Notebook)
+    } else if name == b"json".as_slice() {
+        Some(Format::Json)
+    } else {
+        None
+    }
+}
+
+/// The name of a format, by which `format_named` finds it.
+pub fn format_name(format: Format) -> &'static str
+    ensures name { result.now ≡ exports.format_name format }
+    ensures found { exports.format_named result.now ≡ Some format }
+{
+    match format {
+        Format::Script => "script",
+        Format::Markdown => "markdown",
+        Format::Html => "html",
+        Format::Notebook => "notebook",
+        Format::Json => "json",
     }
 }
 
@@ -164,8 +190,12 @@ fn write_json<W: Write>(alloc: Global, sheet: &Sheet, out: &mut W) -> Result<(),
     }
 }
 
-/// Writes a worksheet in a format.
-fn write_in<W: Write>(
+/// Writes a worksheet in a format, with this title where the format has one.
+///
+/// `NoScript` where the worksheet has no text in this format, and `OutOfMemory` where there is no memory for
+/// a notebook or for JSON: nothing was written. `Output` where the writer fails: a part of the text may have
+/// gone out.
+pub fn write_in_format<W: Write>(
     alloc: Global,
     format: Format,
     title: &[u8],
@@ -204,7 +234,7 @@ fn tell_in<W: Write>(
     ensures err { IfErr result
         (TellsText format sheet.now.contents (out.new ≡ out.old)) }
 {
-    match write_in(alloc, format, title, sheet, out) {
+    match write_in_format(alloc, format, title, sheet, out) {
         Ok(()) => match out.flush() {
             Ok(()) => Ok(()),
             Err(_) => Err(ExportFault::Run(RunFault::Output)),

@@ -13,6 +13,9 @@ mod script;
 mod style;
 
 pub use fault::{ExportFault, export_fault_text};
-pub use formats::{Exported, Format, export, format_named, last_part, script_text, write_notebook};
+pub use formats::{
+    Exported, Format, export, format_in_bytes, format_name, format_named, last_part, script_text,
+    write_in_format, write_notebook,
+};
 pub use html::html_page;
 pub use markdown::markdown_text;

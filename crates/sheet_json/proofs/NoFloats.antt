@@ -11,7 +11,7 @@ use Rattle.serde_json.specs.Written.{has_float, items_have_float}
 use Rattle.sheet_json.specs.Bytes.{base64_data, bytes_data}
 use Rattle.sheet_json.specs.Blocks.{block_object, items_data, tree_data}
 use Rattle.sheet_json.specs.Lines.{json_line}
-use Rattle.sheet_json.specs.Objects.{answer_data, checked_data, completions_data, count, event_data, field_with, life_data, lost_data, reply_data, session_data, shown_data, telling_data, why_data}
+use Rattle.sheet_json.specs.Objects.{answer_data, checked_data, completions_data, count, event_data, export_data, field_with, life_data, lost_data, reply_data, session_data, shown_data, telling_data, why_data}
 use Rattle.sheet_json.specs.Sheets.{telling_line}
 use Rattle.sheet_json.specs.Shown.{still_field, whole_of}
 use Rattle.worksheet.specs.Contents.{Contents}
@@ -106,6 +106,10 @@ checked_none id session (told.differs input shows came) =
 checked_none id session (told.unanswered input shows why) =
     two (has_float (why_data why)) (has_float (bytes_data session)) _ (why_none why) (bytes_none session) (ap (λ b. b || false) (answer_none shows))
 
+export_none : (given : Option (List ℕ)) → (has_float (export_data given) || false) ≡ false
+export_none None = refl
+export_none (Some bytes) = ap (λ b. b || false) (bytes_none bytes)
+
 pub none_told : (t : Telling) → has_float (telling_data t) ≡ false
 none_told told.hello = refl
 none_told (told.reply line r) = reply_none line r
@@ -115,6 +119,7 @@ none_told (told.field line f) = ap (λ b. b || false) (field_none f.id f.session
 none_told (told.part line f) = ap (λ b. b || false) (field_none f.id f.session f.input f.state)
 none_told (told.shown f) = ap (λ b. b || false) (field_none f.id f.session f.input f.state)
 none_told (told.sheet line ids next sessions) = whole_none ids sessions next
+none_told (told.exported line format given) = export_none given
 none_told (told.whole ids next sessions) = whole_none ids sessions next
 none_told (told.fault n name None) = refl
 none_told (told.fault n name (Some offset)) = refl

@@ -19,7 +19,7 @@ use Rattle.serde_json.specs.Data as json
 use Rattle.serde_json.specs.View.{items_of}
 use Rattle.sheet_json.specs.Bytes.{base64_data, bytes_data}
 use Rattle.sheet_json.specs.Blocks.{block_object, items_data, tree_data}
-use Rattle.sheet_json.specs.Objects.{answer_data, checked_data, completions_data, count, event_data, field_with, ids_data, life_data, lost_data, losts_data, reply_data, session_data, sessions_data, telling_data, texts_data, typed, why_data}
+use Rattle.sheet_json.specs.Objects.{answer_data, checked_data, completions_data, count, event_data, export_data, field_with, ids_data, life_data, lost_data, losts_data, reply_data, session_data, sessions_data, telling_data, texts_data, typed, why_data}
 use Rattle.sheet_json.specs.Plain.{ArePlain, HasPlain, Is64, IsPlain, IsSoundAnswer, IsSoundCheck, IsSoundTelling, IsSoundEvent, IsSoundItem, IsSoundLife, IsSoundReply, IsSoundSession, IsSoundState}
 use Rattle.sheet_json.specs.Tellings.{CheckTold, Telling, Reply, EventTold, FieldShown, SessionShown, State}
 use Rattle.sheet_json.specs.Tellings as told
@@ -201,6 +201,10 @@ checked_plain id session (told.differs input shows came) i s =
 checked_plain id session (told.unanswered input shows why) i s =
     an_object (a_member (a_count i) (a_member a_text (a_member (why_plain why) (a_member (some_bytes session) (a_member (answer_plain shows s) (a_member a_text (a_member a_text no_more)))))))
 
+export_plain : (given : Option (List ℕ)) → IsPlain 66 (export_data given)
+export_plain None = no_value
+export_plain (Some bytes) = some_bytes bytes
+
 -- so its text is defined and one line, and reads back
 pub tellings_are_plain : (t : Telling) → IsSoundTelling t → IsPlain 67 (telling_data t)
 tellings_are_plain told.hello s = an_object (a_member (a_count (omega arith)) (a_member a_text (a_member (a_count (omega arith)) (a_member a_text (a_member a_text no_more)))))
@@ -213,6 +217,7 @@ tellings_are_plain (told.part line f) s = an_object (a_member (field_plain f.id 
 tellings_are_plain (told.shown f) s = an_object (a_member (field_plain f.id f.session f.input f.state s.0 s.1) a_type)
 tellings_are_plain (told.sheet line ids next sessions) s =
     an_object (a_member (ids_plain ids s.1) (a_member (a_count s.0) (a_member (a_count s.2) (a_member (sessions_plain sessions s.3) a_type))))
+tellings_are_plain (told.exported line format given) s = an_object (a_member a_text (a_member (a_count s) (a_member (export_plain given) a_type)))
 tellings_are_plain (told.whole ids next sessions) s = an_object (a_member (ids_plain ids s.0) (a_member (a_count s.1) (a_member (sessions_plain sessions s.2) a_type)))
 tellings_are_plain (told.fault n name None) s = an_object (a_member a_text (a_member (a_count s) a_type))
 tellings_are_plain (told.fault n name (Some offset)) s = an_object (a_member a_text (a_member (a_count s.0) (a_member (a_count s.1) a_type)))

@@ -1,6 +1,8 @@
 -- What is printed reads back.
-use Rattle.std.proofs.Common.{◌≡◌, ℕ, true, false, List, [], ◌∷◌, map, Option, Some, None, option_map, refl, ap, ◌∙◌}
+use Rattle.std.proofs.Common.{◌≡◌, ℕ, true, false, List, [], ◌∷◌, map, Option, Some, None, cond, option_map, refl, ap, ◌∙◌}
 use Rattle.std.specs.List.{AllByRecursion}
+use Rattle.std.specs.Prelude.{IfSome}
+use Rattle.std.specs.Str.{is_utf8}
 use Rattle.base64.specs.GeneralPurpose.{IsBytes}
 use Rattle.block_tree.specs.Tree.{Tree}
 use Rattle.block_tree.specs.declared.reason.Reason.{Reason}
@@ -14,15 +16,15 @@ use Rattle.plugin_core.specs.declared.item.Item.TheVariants as item
 use Rattle.sheet_text.specs.Replies.{reason_name}
 use Rattle.serde_json.specs.Data as json
 use Rattle.serde_json.specs.View.{items_of}
-use Rattle.sheet_json.specs.Bytes.{bytes_data}
+use Rattle.sheet_json.specs.Bytes.{base64_data, bytes_data}
 use Rattle.sheet_json.specs.Blocks.{tree_data}
-use Rattle.sheet_json.specs.Objects.{completions_data, count, lost_data, losts_data, texts_data}
+use Rattle.sheet_json.specs.Objects.{completions_data, count, export_data, lost_data, losts_data, texts_data}
 use Rattle.sheet_json.specs.Reading.{bytes_in, tree_in, HasBytes}
 use Rattle.sheet_json.specs.Tellings.{Telling, Reply, EventTold, FieldShown, SessionShown, State}
 use Rattle.sheet_json.specs.Tellings as told
 use Rattle.sheet_json.specs.Told.{completions_in, each_in, list_in, lost_in, of, option_in, reason_named, refusal_in, CompletionsHaveBytes, ItemHasBytes}
-use Rattle.sheet_json.specs.Laws.{CountsReadBack, EventsReadBack, RepliesReadBack}
-use Rattle.sheet_json.proofs.Back.{bytes_back, blocks_read_back}
+use Rattle.sheet_json.specs.Laws.{CountsReadBack, EventsReadBack, ExportsReadBack, RepliesReadBack}
+use Rattle.sheet_json.proofs.Back.{base64_back, bytes_back, blocks_read_back}
 
 refusal_back : (why : Refusal) → refusal_in (count (refusal_number why)) ≡ Some why
 refusal_back refusal.NoSession = refl
@@ -67,6 +69,15 @@ replies_read_back line (told.interrupted outcome) = refl
 
 pub counts_read_back : CountsReadBack
 counts_read_back = ((λ a u. refl), (λ a u over passed. refl), (λ id outcome. refl))
+
+export_back : (text : Option (List ℕ)) → IfSome text IsBytes → option_in bytes_in (export_data text) ≡ Some text
+export_back None good = refl
+export_back (Some text) good =
+    elim (is_utf8 text) as (λ b. option_in bytes_in (cond b (json.string text) (base64_data text)) ≡ Some (Some text))
+    [ true ↦ refl | false ↦ ap (option_map (λ x. Some x)) (base64_back text good) ]
+
+pub exports_read_back : ExportsReadBack
+exports_read_back line format text good = ap (of (Some (λ t. told.exported line format t))) (export_back text good)
 
 tree_back : (b : Tree) → HasBytes b → tree_in (tree_data b) ≡ Some b
 tree_back = blocks_read_back

@@ -1,5 +1,5 @@
 -- Laws of the definitions.
-use Rattle.std.specs.Prelude.{◌≡◌, ℕ, List, Some, map}
+use Rattle.std.specs.Prelude.{◌≡◌, ℕ, List, Option, Some, IfSome, map}
 use Rattle.std.specs.List.{AllByRecursion, flat_map}
 use Rattle.serde_json.specs.Data.{Data}
 use Rattle.serde_json.specs.Written.{compact_text}
@@ -13,7 +13,7 @@ use Rattle.sheet_json.specs.Plain.{IsPlain, IsSoundTelling}
 use Rattle.sheet_json.specs.Reading.{bytes_in, tree_in, HasBytes}
 use Rattle.sheet_json.specs.Tellings.{CheckTold, EventTold, FieldShown, Reply, SessionShown, Telling}
 use Rattle.sheet_json.specs.Tellings as told
-use Rattle.sheet_json.specs.Told.{checked_in, compared_in, counts_in, field_read, no_field_in, over_in, session_in, told_in, CheckHasBytes, EventHasBytes, StateHasBytes}
+use Rattle.sheet_json.specs.Told.{checked_in, compared_in, counts_in, exported_in, field_read, no_field_in, over_in, session_in, told_in, CheckHasBytes, EventHasBytes, StateHasBytes}
 
 -- Bytes read back, whatever they are.
 abbrev pub BytesReadBack : Type 0
@@ -49,6 +49,10 @@ abbrev pub ChecksReadBack : Type 0
 ChecksReadBack = ((id : ℕ) (session : List ℕ) (c : CheckTold) → IsBytes session → CheckHasBytes c → checked_in (telling_data (told.checked id session c)) ≡ Some (told.checked id session c))
     × ((same differ unanswered left_out : ℕ) → compared_in (telling_data (told.compared same differ unanswered left_out)) ≡ Some (told.compared same differ unanswered left_out))
     × ((id : ℕ) → no_field_in (telling_data (told.no_field id)) ≡ Some (told.no_field id))
+
+-- A worksheet in a format reads back, and that it has no text there.
+abbrev pub ExportsReadBack : Type 0
+ExportsReadBack = (line : ℕ) (format : List ℕ) (text : Option (List ℕ)) → IfSome text IsBytes → exported_in (telling_data (told.exported line format text)) ≡ Some (told.exported line format text)
 
 -- What a program tells has no float, no number of more than 64 bits, and nests 67 deep at most. So of each telling `line_bytes` gives
 -- the line of the definition, which is one line and reads back.

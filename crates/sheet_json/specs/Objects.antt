@@ -136,6 +136,17 @@ checked_data id session (told.unanswered input shows why) =
     object (member (codes "id") (count id) (member (codes "input") (string input) (member (codes "reason") (why_data why) (member (codes "session") (bytes_data session)
     (member (codes "shows") (answer_data shows) (judged (codes "unanswered")))))))
 
+-- Worksheets in a format.
+
+-- a text; null where there is none
+abbrev pub export_data : Option (List ℕ) → Data
+export_data None = null
+export_data (Some text) = bytes_data text
+
+abbrev pub exported_data : ℕ → List ℕ → Option (List ℕ) → Data
+exported_data line format text =
+    object (member (codes "format") (string format) (member (codes "line") (count line) (member (codes "text") (export_data text) (typed (codes "exported")))))
+
 -- All that is printed.
 abbrev pub telling_data : Telling → Data
 telling_data told.hello = object (member (codes "format") (count 1) (member (codes "program") (string (codes "tmhost")) (member (codes "protocol") (count 2) (member (codes "type") (string (codes "hello")) (member (codes "version") (string (codes "0.1.0")) no_members)))))
@@ -146,6 +157,7 @@ telling_data (told.field line f) = object (member (codes "field") (field_data f)
 telling_data (told.part line f) = object (member (codes "field") (field_data f) (member (codes "line") (count line) (member (codes "more") (boolean true) (typed (codes "field")))))
 telling_data (told.shown f) = object (member (codes "field") (field_data f) (typed (codes "field")))
 telling_data (told.sheet line ids next sessions) = object (member (codes "fields") (ids_data ids) (member (codes "line") (count line) (member (codes "next") (count next) (member (codes "sessions") (sessions_data sessions) (typed (codes "sheet"))))))
+telling_data (told.exported line format text) = exported_data line format text
 telling_data (told.whole ids next sessions) = object (member (codes "fields") (ids_data ids) (member (codes "next") (count next) (member (codes "sessions") (sessions_data sessions) (typed (codes "sheet")))))
 telling_data (told.fault n name None) = object (member (codes "name") (string name) (member (codes "number") (count n) (typed (codes "fault"))))
 telling_data (told.fault n name (Some offset)) = object (member (codes "name") (string name) (member (codes "number") (count n) (member (codes "offset") (count offset) (typed (codes "fault")))))

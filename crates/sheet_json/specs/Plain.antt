@@ -88,6 +88,7 @@ IsSoundTelling (told.field line f) = Is64 line × IsSoundField f
 IsSoundTelling (told.part line f) = Is64 line × IsSoundField f
 IsSoundTelling (told.shown f) = IsSoundField f
 IsSoundTelling (told.sheet line ids next sessions) = Is64 line × AllByRecursion Is64 ids × Is64 next × AllByRecursion IsSoundSession sessions
+IsSoundTelling (told.exported line format text) = Is64 line
 IsSoundTelling (told.whole ids next sessions) = AllByRecursion Is64 ids × Is64 next × AllByRecursion IsSoundSession sessions
 IsSoundTelling (told.fault n name None) = Is64 n
 IsSoundTelling (told.fault n name (Some offset)) = Is64 n × Is64 offset

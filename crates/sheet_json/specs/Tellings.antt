@@ -72,6 +72,8 @@ pub data Telling : Type 0 where
   field : ℕ → FieldShown → Telling
   part : ℕ → FieldShown → Telling
   shown : FieldShown → Telling
+  -- of the line with this number, which asks for the worksheet in the format of this name: its text, or that it has none
+  exported : ℕ → List ℕ → Option (List ℕ) → Telling
   -- the numbers of the fields in their order, the number of the next one, and the sessions
   sheet : ℕ → List ℕ → ℕ → List SessionShown → Telling
   whole : List ℕ → ℕ → List SessionShown → Telling

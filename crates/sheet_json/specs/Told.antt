@@ -167,6 +167,12 @@ compared_in d =
 abbrev pub no_field_in : Data → Option Telling
 no_field_in d = option_map (λ id. told.no_field id) (member_in count_in (codes "id") d)
 
+-- a worksheet in a format, or that it has no text there
+abbrev pub exported_in : Data → Option Telling
+exported_in d =
+    of (of (option_map (λ line format text. told.exported line format text) (member_in count_in (codes "line") d)) (member_in as_str (codes "format") d))
+    (member_in (option_in bytes_in) (codes "text") d)
+
 -- what a program's bytes are
 
 abbrev pub ItemHasBytes : Item → Type 0

@@ -49,6 +49,12 @@ pub fn checks_read_back()
     ensures { laws.ChecksReadBack }
 {}
 
+/// A worksheet in a format reads back, and that it has no text there.
+#[tactic(auto, using(crate::proofs::Tellings::exports_read_back))]
+pub fn exports_read_back()
+    ensures { laws.ExportsReadBack }
+{}
+
 /// What a program tells has no float, no number of more than 64 bits, and nests 67 deep at most.
 #[tactic(auto, using(crate::proofs::PlainValues::tellings_are_plain))]
 pub fn tellings_are_plain()

@@ -1,9 +1,11 @@
 //! Replies to lines as JSON.
 ghost use Rattle.std.specs.Prelude.{◌≡◌, IfOk};
+ghost use Rattle.std.specs.Option.{option_copied};
 ghost use Rattle.serde_json.specs.View.{view};
-ghost use Rattle.sheet_json.specs.Objects.{telling_data};
+ghost use Rattle.sheet_json.specs.Objects.{export_data, telling_data};
 ghost use Rattle.sheet_json.specs.Tellings as told;
 
+use crate::bytes::bytes_value;
 use crate::members::Members;
 use serde_json::Value;
 use std::alloc::{AllocError, Global};
@@ -79,4 +81,32 @@ pub fn waited_value(alloc: Global, line: u64, timed_out: bool) -> Result<Value, 
         .count("line", line)?
         .text("over", if timed_out { "time" } else { "idle" })?
         .typed("waited")
+}
+
+/// A text, or that there is none.
+fn export_value(alloc: Global, text: Option<&[u8]>) -> Result<Value, AllocError>
+    ensures { IfOk result (λ value. view value ≡ export_data (option_copied text.entry)) }
+{
+    match text {
+        None => Ok(Value::Null),
+        Some(text) => bytes_value(alloc, text),
+    }
+}
+
+/// A worksheet in the format of this name, or that it has no text there.
+pub fn exported_value(
+    alloc: Global,
+    line: u64,
+    format: &str,
+    text: Option<&[u8]>,
+) -> Result<Value, AllocError>
+    ensures { IfOk result (λ value. view value
+        ≡ telling_data (told.exported line format.now (option_copied text.entry))) }
+{
+    let text = export_value(alloc, text)?;
+    Members::new(alloc)
+        .with("text", text)?
+        .text("format", format)?
+        .count("line", line)?
+        .typed("exported")
 }

@@ -3,8 +3,8 @@ use meta_format::read_block;
 use serde_json::Value;
 use sheet_json::{
     answered_value, asked_value, bad_value, banner_value, block_value, bytes_value, default_value,
-    end_value, fault_value, hello_value, line_bytes, made_value, nothing_value, refused_value,
-    waited_value, whole_value,
+    end_value, exported_value, fault_value, hello_value, line_bytes, made_value, nothing_value,
+    refused_value, waited_value, whole_value,
 };
 use std::alloc::{AllocError, Global};
 use worksheet::{Refusal, Sheet};
@@ -91,6 +91,32 @@ fn replies_have_their_lines(rt: HostRuntime) {
             alloc,
             waited_value(alloc, 10, false),
             b"{\"line\":10,\"over\":\"idle\",\"type\":\"waited\"}\n"
+        )
+    );
+}
+
+#[test]
+fn exports_have_their_lines(rt: HostRuntime) {
+    let alloc = rt.alloc();
+    assert!(rt;
+        has_line(
+            alloc,
+            exported_value(alloc, 3, "html", Some(b"<p>\n".as_slice())),
+            b"{\"format\":\"html\",\"line\":3,\"text\":\"<p>\\n\",\"type\":\"exported\"}\n"
+        )
+    );
+    assert!(rt;
+        has_line(
+            alloc,
+            exported_value(alloc, 4, "markdown", Some(b"\xe9".as_slice())),
+            b"{\"format\":\"markdown\",\"line\":4,\"text\":{\"base64\":\"6Q==\"},\"type\":\"exported\"}\n"
+        )
+    );
+    assert!(rt;
+        has_line(
+            alloc,
+            exported_value(alloc, 5, "script", None),
+            b"{\"format\":\"script\",\"line\":5,\"text\":null,\"type\":\"exported\"}\n"
         )
     );
 }

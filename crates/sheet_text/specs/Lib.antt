@@ -2,7 +2,6 @@ pub mod Escape
 pub mod Blocks
 pub mod InputLines
 pub mod Script
-pub mod LiveLines
 pub mod Replies
 pub mod Texts
 pub mod Laws

@@ -47,7 +47,7 @@ fn value_of(bytes: &[u8]) -> u64
 }
 
 /// The number that all of these bytes write.
-pub(crate) fn read_number(bytes: &[u8]) -> Option<u32>
+pub fn read_number(bytes: &[u8]) -> Option<u32>
     ensures { result ≡ said.number_written bytes.now }
 {
     if !is_numeral(bytes) {

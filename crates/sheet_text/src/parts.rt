@@ -16,7 +16,7 @@ fn space_in(bytes: &[u8]) -> Option<usize>
 }
 
 /// The bytes up to the next space, and those after it.
-pub(crate) fn split_space(bytes: &[u8]) -> (&[u8], Option<&[u8]>)
+pub fn split_space(bytes: &[u8]) -> (&[u8], Option<&[u8]>)
     ensures before { result.0.now ≡ said.before_space bytes.now }
     ensures behind { option_copied result.1 ≡ said.behind_space bytes.now }
 {

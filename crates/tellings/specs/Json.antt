@@ -1,5 +1,5 @@
 -- What is printed, as lines of JSON. (docs/JSON.md.)
-use Rattle.std.specs.Prelude.{ℕ, true, List, [], ◌++◌, Option, Some, None, map, option_map, option_and_then, length, codes}
+use Rattle.std.specs.Prelude.{ℕ, true, List, [], ◌++◌, Option, Some, None, map, option_map, option_and_then, length, codes, cond}
 use Rattle.std.specs.List.{flat_map}
 use Rattle.worksheet.specs.Checks.{field_in}
 use Rattle.worksheet.specs.Contents.{Contents}
@@ -20,7 +20,9 @@ use Rattle.sheet_json.specs.Sheets.{telling_line}
 use Rattle.sheet_json.specs.Shown.{field_told, ids_of, session_shown}
 use Rattle.sheet_json.specs.Tellings.{EventTold, SessionShown, Telling}
 use Rattle.sheet_json.specs.Tellings as told
-use Rattle.tellings.specs.Voice.{Voice}
+use Rattle.sheet_export.specs.Formats.{format_name, has_text, text_in}
+use Rattle.sheet_export.specs.declared.formats.Format.{Format}
+use Rattle.tellings.specs.Voice.{Voice, page_title}
 use Rattle.tellings.specs.Faults.{fault_name, fault_number, fault_offset}
 use Rattle.tellings.specs.declared.note.Frame.{Frame}
 use Rattle.tellings.specs.declared.note.Frame.TheVariants as frame
@@ -138,6 +140,13 @@ field_json line w (Some field) = telling_line (told.field line (field_told (in_f
 abbrev pub fault_json : RunFault → List ℕ
 fault_json why = telling_line (told.fault (fault_number why) (fault_name why) (fault_offset why))
 
+-- the text of a worksheet in a format, where it has one
+abbrev pub text_told : Format → Contents → Option (List ℕ)
+text_told format sheet = cond (has_text format sheet) (Some (text_in format page_title sheet)) None
+
+abbrev pub exported_json : ℕ → Format → Contents → List ℕ
+exported_json line format sheet = telling_line (told.exported line (format_name format) (text_told format sheet))
+
 -- Lines of JSON, which programs read.
 abbrev pub in_json : Voice
 in_json = record {
@@ -147,6 +156,7 @@ in_json = record {
   event = event_json;
   sheet = sheet_json;
   field = λ line id w. field_json line w (field_in (sheet_in w).fields id);
+  exported = exported_json;
   fault = fault_json;
   takes_memory = true;
 }

@@ -1,5 +1,5 @@
 -- A format of what is printed of a live worksheet: in words, or as JSON.
-use Rattle.std.specs.Prelude.{◌≡◌, ℕ, ◌+◌, Bool, true, List, [], ◌∷◌, ◌++◌}
+use Rattle.std.specs.Prelude.{◌≡◌, ℕ, ◌+◌, Bool, true, List, [], ◌∷◌, ◌++◌, codes}
 use Rattle.std.specs.List.{flat_map}
 use Rattle.worksheet.specs.Contents.{Contents}
 use Rattle.host_events.specs.declared.outcome.Outcome.{Outcome}
@@ -7,6 +7,7 @@ use Rattle.host_events.specs.declared.reply.Reply.{Reply}
 use Rattle.session_engine.specs.World.{World}
 use Rattle.offline_programs.specs.declared.fault.RunFault.{RunFault}
 use Rattle.offline_programs.specs.declared.fault.RunFault.TheVariants as fault
+use Rattle.sheet_export.specs.declared.formats.Format.{Format}
 use Rattle.tellings.specs.declared.note.Frame.{Frame}
 use Rattle.tellings.specs.declared.note.Note.{Note}
 
@@ -23,10 +24,16 @@ pub record Voice : Type 0 where
   -- a worksheet, and the field with this number
   pub sheet : ℕ → World → List ℕ
   pub field : ℕ → ℕ → World → List ℕ
+  -- a worksheet in a format, or that it isn't written in it
+  pub exported : ℕ → Format → Contents → List ℕ
   -- a fault, which is printed last
   pub fault : RunFault → List ℕ
   -- whether memory is taken for what is written
   pub takes_memory : Bool
+
+-- The title of a worksheet's page: no path of it is known.
+abbrev pub page_title : List ℕ
+page_title = codes "worksheet"
 
 -- what came of lives, in order
 abbrev pub came_text : Voice → Contents → List Reply → List ℕ

@@ -1,7 +1,8 @@
 -- What is printed, in words. (docs/SCRIPT.md, "Live".)
 use Rattle.std.specs.Fmt.{decimal}
-use Rattle.std.specs.Prelude.{ℕ, false, List, [], ◌∷◌, ◌++◌, Option, Some, None, codes}
+use Rattle.std.specs.Prelude.{ℕ, false, List, [], ◌∷◌, ◌++◌, Option, Some, None, codes, cond}
 use Rattle.worksheet.specs.Checks.{field_in}
+use Rattle.worksheet.specs.Contents.{Contents}
 use Rattle.worksheet.specs.declared.field.Field.{Field}
 use Rattle.worksheet.specs.declared.refusal.Refusal.TheVariants as refusal
 use Rattle.session_engine.specs.World.{sheet_in}
@@ -9,7 +10,9 @@ use Rattle.child_edge.specs.declared.interrupting.Interrupted.{Interrupted}
 use Rattle.child_edge.specs.declared.interrupting.Interrupted.TheVariants as interrupted
 use Rattle.sheet_text.specs.Texts.{field_text, refused_line, reply_text, sheet_text}
 use Rattle.offline_programs.specs.Memory.{bad_line}
-use Rattle.tellings.specs.Voice.{Voice}
+use Rattle.sheet_export.specs.Formats.{format_name, has_text, is_made_whole, text_in}
+use Rattle.sheet_export.specs.declared.formats.Format.{Format}
+use Rattle.tellings.specs.Voice.{Voice, page_title}
 use Rattle.tellings.specs.declared.note.Counts.{Counts}
 use Rattle.tellings.specs.declared.note.Note.{Note}
 use Rattle.tellings.specs.declared.note.Note.TheVariants as note
@@ -53,6 +56,15 @@ note_words (note.Over id told) = over_line id
 note_words (note.Warned seat told) = interrupt_text seat.name told
 note_words (note.Counted counts) = evaluation_text counts
 
+-- a format whose text is made whole in memory, which words don't take
+abbrev pub needs_json : Format → List ℕ
+needs_json format = codes "export " ++ format_name format ++ codes " needs --json\n"
+
+-- a worksheet in a format, or that it isn't written in it
+abbrev pub exported_words : Format → Contents → List ℕ
+exported_words format sheet =
+    cond (is_made_whole format) (needs_json format) (cond (has_text format sheet) (text_in format page_title sheet) (codes "no script\n"))
+
 -- Words that people read: the number of a line is printed for a bad line alone, and a fault is printed elsewhere.
 abbrev pub in_words : Voice
 in_words = record {
@@ -62,6 +74,7 @@ in_words = record {
   event = λ sheet r. reply_text r;
   sheet = λ line w. sheet_text (sheet_in w);
   field = λ line id w. field_shown (field_in (sheet_in w).fields id);
+  exported = λ line format sheet. exported_words format sheet;
   fault = λ why. [];
   takes_memory = false;
 }

@@ -5,6 +5,7 @@ ghost use Rattle.tellings.specs.Json as texts;
 ghost use Rattle.tellings.specs.Voice.{IsUntold, came_text, numbered_text, replied_text};
 ghost use Rattle.worksheet.specs.Contents.{Contents};
 
+use crate::exports::write_exported;
 use crate::notes_json::write_note;
 use crate::sheets_json::{write_field, write_sheet};
 use crate::writing::{write_if, write_made};
@@ -14,6 +15,7 @@ use host_events::{ChildReply, Closed, Outcome, Reply};
 use offline_programs::RunFault;
 use serde_json::Value;
 use session_engine::Host;
+use sheet_export::Format;
 use sheet_json::{
     asked_value, closed_value, default_value, done_value, end_value, ended_value, fault_value,
     hello_value, made_value, no_field_value, nothing_value, refused_value, stopped_value,
@@ -318,6 +320,18 @@ impl Tells for InJson {
         writer: &mut W,
     ) -> Result<(), RunFault> {
         write_field(self.alloc, line, id, host, writer)?;
+        writer.flush().map_err(|_| RunFault::Output)?;
+        Ok(())
+    }
+
+    fn export<W: Write>(
+        &self,
+        line: u64,
+        format: Format,
+        sheet: &Sheet,
+        writer: &mut W,
+    ) -> Result<(), RunFault> {
+        write_exported(self.alloc, line, format, sheet, writer)?;
         writer.flush().map_err(|_| RunFault::Output)?;
         Ok(())
     }

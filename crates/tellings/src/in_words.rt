@@ -8,12 +8,14 @@ ghost use Rattle.tellings.specs.Voice.{numbered_text};
 ghost use Rattle.tellings.specs.Words.{answers_text, evaluation_text, field_shown, in_words, interrupt_text, over_line, overs_text};
 ghost use Rattle.worksheet.specs.Contents.{Contents};
 
+use crate::exports::tell_words;
 use crate::{Counts, Frame, Note, Overs, Tells};
 use child_edge::Interrupted;
 use disk_model::Disk;
 use host_events::{Outcome, Reply};
 use offline_programs::{RunFault, tell_bad_line, tell_replies, tell_sheet};
 use session_engine::Host;
+use sheet_export::Format;
 use sheet_text::{field_text, reply_text};
 use std::io::Write;
 use worksheet::{Field, Name, Refusal, Sheet};
@@ -224,6 +226,16 @@ impl Tells for InWords {
         writer: &mut W,
     ) -> Result<(), RunFault> {
         tell_field(host.sheet(), id, writer)
+    }
+
+    fn export<W: Write>(
+        &self,
+        _line: u64,
+        format: Format,
+        sheet: &Sheet,
+        writer: &mut W,
+    ) -> Result<(), RunFault> {
+        tell_words(format, sheet, writer)
     }
 
     fn fault<W: Write>(&self, _why: RunFault, _writer: &mut W) -> bool {

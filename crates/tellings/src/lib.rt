@@ -2,6 +2,7 @@
 //! JSON that programs read.
 #![tactic(auto)]
 
+mod exports;
 mod faults;
 mod in_json;
 mod in_words;

@@ -4,6 +4,7 @@ use disk_model::Disk;
 use host_events::{Outcome, Reply};
 use offline_programs::RunFault;
 use session_engine::Host;
+use sheet_export::Format;
 use std::io::Write;
 use worksheet::Sheet;
 
@@ -90,6 +91,18 @@ pub trait Tells {
     ) -> Result<(), RunFault>
         ensures ok { (w : World) → IsHost host.now w
             → OnOk result (Appends (W.contents writer.old) (W.contents writer.new) (voice.field line id w)) }
+        ensures err { IfErr result (IsUntold voice) };
+
+    /// Tells this worksheet in a format, for which this line asks, or that it isn't written in it.
+    fn export<W: Write>(
+        &self,
+        line: u64,
+        format: Format,
+        sheet: &Sheet,
+        writer: &mut W,
+    ) -> Result<(), RunFault>
+        ensures ok { OnOk result (Appends (W.contents writer.old) (W.contents writer.new)
+            (voice.exported line format sheet.now.contents)) }
         ensures err { IfErr result (IsUntold voice) };
 
     /// Tells a fault, last of all, and whether that went out.

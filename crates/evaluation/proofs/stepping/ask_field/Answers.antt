@@ -3,7 +3,7 @@ use Rattle.std.specs.Prelude.{Some}
 use Rattle.host_events.specs.declared.command.Command.TheVariants as command
 use Rattle.child_edge.specs.Faithful.{at}
 use Rattle.sheet_text.specs.declared.script.ScriptLine.TheVariants as line
-use Rattle.sheet_text.specs.declared.live_line.LiveLine.TheVariants as live
+use Rattle.live.specs.declared.live_line.LiveLine.TheVariants as live
 use Rattle.live.specs.Records.{edge, left}
 use Rattle.live.specs.Taking.{SayingFailed}
 use Rattle.evaluation.specs.Steps.{setting, stands}

@@ -2,9 +2,10 @@ use Rattle.std.proofs.Common.{◌∙◌, [], not, refl, sym, subst}
 use Rattle.std.specs.Prelude.{Some, IfErr, IfOk}
 use Rattle.std.proofs.KnownBytes.{Appends-nil}
 use Rattle.sheet_programs.proofs.Runs.{if_err_then}
-use Rattle.sheet_text.specs.declared.live_line.LiveLine.TheVariants as live
-use Rattle.child_edge.specs.Faithful.{at}
+use Rattle.live.specs.declared.live_line.LiveLine.TheVariants as live
+use Rattle.std.specs.Io.KnownBytes.{Appends}
 use Rattle.session_engine.specs.World.{sheet_in}
+use Rattle.child_edge.specs.Faithful.{at}
 use Rattle.worksheet.specs.Checks.{has_field}
 use Rattle.live.specs.Records.{edge_by, left}
 use Rattle.live.specs.declared.holding.Hold.TheVariants as hold
@@ -57,3 +58,20 @@ returns-in-WaitFor-clause-ok g c = λ w h.
     (sym c.in-WaitFor.is)
     (said_still (edge_by c.args.manner g.T.Tells.voice g.S.Children.after g.S.Sources.clock g.S.Sources.wakes) c.args.number (Some (live.WaitFor c.in-WaitFor.seconds)) w c.args.host.now c.args.sources.now (g.W.Write.contents c.args.writer.now) (g.W.Write.contents c.args.writer.now) c.waits.result []
     (refl, refl, refl) (c.now.result, c.now.ensures, c.waits.ensures.wait ∙ c.wait_for.ensures) c.waits.ensures.right h (Appends-nil (g.W.Write.contents c.args.writer.now)))
+
+pub returns-in-Ok-export-clause-ok : goal.returns-in-Ok-export-clause-ok
+returns-in-Ok-export-clause-ok g c = λ w h.
+    subst
+    (λ l. SaidSo (edge_by c.args.manner g.T.Tells.voice g.S.Children.after g.S.Sources.clock g.S.Sources.wakes) c.args.number (Some l) (at w c.args.sources.now c.args.host.now.store.disk) (left c.args.host.now c.args.sources.now (g.W.Write.contents c.args.writer.now) (g.W.Write.contents c.export.new.writer)) (record { wait = hold.Free; wrong = false }))
+    (sym c.in-Export.is)
+    (said_still (edge_by c.args.manner g.T.Tells.voice g.S.Children.after g.S.Sources.clock g.S.Sources.wakes) c.args.number (Some (live.Export c.in-Export.format)) w c.args.host.now c.args.sources.now (g.W.Write.contents c.args.writer.now) (g.W.Write.contents c.export.new.writer) (record { wait = hold.Free; wrong = false })
+    (g.T.Tells.voice.exported c.args.number c.in-Export.format (sheet_in w)) (refl, refl, refl) refl refl h
+    (subst (λ s. Appends (g.W.Write.contents c.args.writer.now) (g.W.Write.contents c.export.new.writer) (g.T.Tells.voice.exported c.args.number c.in-Export.format s)) (c.sheet.ensures.stands w h) c.in-Ok-export.ensures.ok))
+
+pub returns-in-Err-export-clause-err : goal.returns-in-Err-export-clause-err
+returns-in-Err-export-clause-err g c = λ w h.
+    subst
+    (λ l. SayingFailed (edge_by c.args.manner g.T.Tells.voice g.S.Children.after g.S.Sources.clock g.S.Sources.wakes) c.args.number (Some l) (at w c.args.sources.now c.args.host.now.store.disk) (left c.args.host.now c.args.sources.now (g.W.Write.contents c.args.writer.now) (g.W.Write.contents c.export.new.writer)) c.in-Err-export.fault)
+    (sym c.in-Export.is)
+    (still_unwritten (edge_by c.args.manner g.T.Tells.voice g.S.Children.after g.S.Sources.clock g.S.Sources.wakes) c.args.number (Some (live.Export c.in-Export.format)) w c.args.host.now c.args.sources.now (g.W.Write.contents c.args.writer.now) (g.W.Write.contents c.export.new.writer) hold.Free c.in-Err-export.fault refl
+    (λ line. (g.T.Tells.voice.exported line c.in-Export.format (sheet_in w), (refl, refl, refl))) h c.in-Err-export.ensures.err)

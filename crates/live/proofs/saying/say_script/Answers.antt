@@ -3,7 +3,7 @@ use Rattle.std.specs.Prelude.{Some, IfErr, IfOk}
 use Rattle.std.proofs.KnownBytes.{Appends-nil}
 use Rattle.sheet_programs.proofs.Runs.{if_err_then}
 use Rattle.sheet_text.specs.declared.script.ScriptLine.TheVariants as line
-use Rattle.sheet_text.specs.declared.live_line.LiveLine.TheVariants as live
+use Rattle.live.specs.declared.live_line.LiveLine.TheVariants as live
 use Rattle.child_edge.specs.Faithful.{at}
 use Rattle.tellings.specs.declared.note.Note.TheVariants as note
 use Rattle.live.specs.Records.{edge_by, left}

@@ -1,17 +1,17 @@
 //! Lines that come while interpreters work.
 ghost use Rattle.std.specs.Prelude.{◌≡◌, IfOk, IsErrOf, None, Some, true, option_map};
-ghost use Rattle.sheet_text.specs.LiveLines as live;
 ghost use Rattle.sheet_text.specs.Script as said;
 ghost use Rattle.sheet_text.specs.declared.script.LineFault.TheVariants as fault;
+ghost use Rattle.sheet_export.specs.Formats.{format_named};
+ghost use Rattle.live.specs.LiveLines as live;
 
-use crate::numbers::read_number;
-use crate::parts::split_space;
-use crate::{LineFault, ScriptLine, read_line};
+use sheet_export::{Format, format_in_bytes};
+use sheet_text::{LineFault, ScriptLine, read_line, read_number, split_space};
 use std::alloc::Global;
 use worksheet::Name;
 
 /// The most seconds that a line can have a wait last.
-pub const MOST_SECONDS: u32 = 1_000_000;
+const MOST_SECONDS: u32 = 1_000_000;
 
 /// What a line says that comes while interpreters work.
 #[derive(Debug, Drop)]
@@ -24,6 +24,8 @@ pub enum LiveLine {
     WaitFor(u32),
     /// The interpreter of this session is interrupted.
     Interrupt(Name),
+    /// The worksheet is printed in this format.
+    Export(Format),
 }
 
 /// `wait SECONDS`
@@ -62,6 +64,16 @@ fn read_interrupt(rest: &[u8]) -> Option<LiveLine>
     }
 }
 
+/// `export FORMAT`
+fn read_export(rest: &[u8]) -> Option<LiveLine>
+    ensures { result ≡ option_map (λ format. LiveLine.Export format) (format_named rest.now) }
+{
+    match format_in_bytes(rest) {
+        None => None,
+        Some(format) => Some(LiveLine::Export(format)),
+    }
+}
+
 /// The form of this name, with what comes after the space that ends the name.
 fn read_form(name: &[u8], rest: &[u8]) -> Option<LiveLine>
     ensures { result ≡ live.form_named name.now rest.now }
@@ -72,6 +84,8 @@ fn read_form(name: &[u8], rest: &[u8]) -> Option<LiveLine>
         read_wait(rest)
     } else if name == b"interrupt".as_slice() {
         read_interrupt(rest)
+    } else if name == b"export".as_slice() {
+        read_export(rest)
     } else {
         None
     }
@@ -94,7 +108,7 @@ fn read_other(line: &[u8]) -> Result<LiveLine, LineFault>
 }
 
 /// What a line says that comes while interpreters work: a line of a script as `read_line` has it,
-/// `print ID`, `wait SECONDS`, or `interrupt NAME` (docs/SCRIPT.md, "Live"). The line comes without its end.
+/// `print ID`, `wait SECONDS`, `interrupt NAME` or `export FORMAT` (docs/SCRIPT.md, "Live"). The line comes without its end.
 ///
 /// `BadLine` exactly where no form fits. `OutOfMemory` only where the line is a command with bytes of
 /// its own.

@@ -1,12 +1,13 @@
--- What a line says that comes while interpreters work: a line of a script, or one of three forms more. (docs/SCRIPT.md, "Live".)
+-- What a line says that comes while interpreters work: a line of a script, or one of four forms more. (docs/SCRIPT.md, "Live".)
 use Rattle.std.specs.Prelude.{ℕ, ◌&&◌, Bool, true, false, List, Option, Some, None, nat_le, codes, if◌then◌else◌}
 use Rattle.std.specs.Option.{option_map}
 use Rattle.std.specs.Str.{bytes_eq}
 use Rattle.worksheet.specs.Names.{is_name}
 use Rattle.sheet_text.specs.Script.{before_space, behind_space, line_of, number_written}
-use Rattle.sheet_text.specs.declared.live_line.LiveLine.{LiveLine}
-use Rattle.sheet_text.specs.declared.live_line.LiveLine.TheVariants as live
+use Rattle.live.specs.declared.live_line.LiveLine.{LiveLine}
+use Rattle.live.specs.declared.live_line.LiveLine.TheVariants as live
 use Rattle.sheet_text.specs.declared.script.ScriptLine.{ScriptLine}
+use Rattle.sheet_export.specs.Formats.{format_named}
 
 -- the most seconds of a wait
 abbrev pub most_seconds : ℕ
@@ -21,12 +22,13 @@ wait_of (Some seconds) = if nat_le 1 seconds && nat_le seconds most_seconds then
 abbrev pub interrupt_of : List ℕ → Option LiveLine
 interrupt_of name = if is_name name then Some (live.Interrupt name) else None
 
--- `print ID`, `wait SECONDS` and `interrupt NAME`
+-- `print ID`, `wait SECONDS`, `interrupt NAME` and `export FORMAT`
 abbrev pub form_named : List ℕ → List ℕ → Option LiveLine
 form_named name rest =
     if bytes_eq name (codes "print") then option_map (λ id. live.PrintField id) (number_written rest)
     else if bytes_eq name (codes "wait") then wait_of (number_written rest)
     else if bytes_eq name (codes "interrupt") then interrupt_of rest
+    else if bytes_eq name (codes "export") then option_map (λ format. live.Export format) (format_named rest)
     else None
 
 abbrev pub form_of : List ℕ → Option (List ℕ) → Option LiveLine
