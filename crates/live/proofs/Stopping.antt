@@ -7,8 +7,8 @@ use Rattle.session_engine.specs.World.{World}
 use Rattle.child_edge.specs.Faithful.{At}
 use Rattle.child_edge.specs.Told.{told}
 use Rattle.sheet_text.specs.declared.script.ScriptLine.TheVariants as line
-use Rattle.sheet_text.specs.declared.live_line.LiveLine.{LiveLine}
-use Rattle.sheet_text.specs.declared.live_line.LiveLine.TheVariants as live
+use Rattle.live.specs.declared.live_line.LiveLine.{LiveLine}
+use Rattle.live.specs.declared.live_line.LiveLine.TheVariants as live
 use Rattle.sheet_programs.specs.Strict.{is_wrong}
 use Rattle.live.specs.declared.holding.Hold.{Hold}
 use Rattle.live.specs.declared.holding.Hold.TheVariants as hold
@@ -48,6 +48,7 @@ begun o c (Some (live.Script line.Print)) held begins = ap stops begins
 begun o c (Some (live.PrintField id)) held begins = ap stops begins
 begun o c (Some (live.WaitFor seconds)) held begins = ap stops begins.2
 begun o c (Some (live.Interrupt name)) held begins = ap stops begins
+begun o c (Some (live.Export format)) held begins = ap stops begins
 
 goes-on : (held : Hold) (w : World) (behind : Hold) → stops held ≡ false → WaitGoesOn held w behind → stops behind ≡ false
 goes-on held w behind going (inl none) = ap stops none.1

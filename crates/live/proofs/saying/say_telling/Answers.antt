@@ -4,7 +4,7 @@ use Rattle.std.specs.List.{list_any}
 use Rattle.std.specs.Io.KnownBytes.{Appends}
 use Rattle.child_edge.specs.Faithful.{at}
 use Rattle.sheet_text.specs.declared.script.ScriptLine.TheVariants as line
-use Rattle.sheet_text.specs.declared.live_line.LiveLine.TheVariants as live
+use Rattle.live.specs.declared.live_line.LiveLine.TheVariants as live
 use Rattle.tellings.specs.Voice.{replied_text}
 use Rattle.sheet_programs.specs.Strict.{is_wrong}
 use Rattle.live.specs.Records.{edge, left}
