@@ -360,11 +360,7 @@ pub(crate) fn step<D: Disk, S: Sources, T: Tells, W: Write>(
 {
     match stand.held {
         Hold::Free => take_next(alloc, host, sources, plan, ids, stand, tells, writer),
-        Hold::Wait
-        | Hold::Until(_)
-        | Hold::Limited(_)
-        | Hold::Warned(_)
-        | Hold::Stopped => {
+        Hold::Wait | Hold::Until(_) | Hold::Limited(_) | Hold::Warned(_) | Hold::Stopped => {
             match take_beside(alloc, host, sources, plan, ids, stand, tells, writer) {
                 Ok(next) => Ok(Some(next)),
                 Err(fault) => Err(fault),
