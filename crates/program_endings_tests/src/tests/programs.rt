@@ -1,7 +1,9 @@
 //! How `create`, `show` and `rescue` end, over disks in memory and over files.
 use disk_model::{FuseDisk, FuseMode, MemoryDisk};
-use journal::CreateCause;
-use program_endings::{Ending, read_rescued, run_create, run_rescue, run_show};
+use host_events::HostFault;
+use journal::{CreateCause, OpenCause};
+use offline_programs::RunFault;
+use program_endings::{Ending, end_program, read_rescued, run_create, run_rescue, run_show};
 use sheet_files::{FileDisk, FilesFault, MakeFault};
 use std::alloc::Global;
 use std::io::Write;
@@ -14,6 +16,52 @@ const SHEET: &[u8] =
 
 fn ending(status: u8, told: bool) -> Ending {
     Ending { status, told }
+}
+
+// Each fault that a program can end by, and the line that tells it.
+const TOLD: [(RunFault, &[u8]); 13] = [
+    (RunFault::Host(HostFault::Closed), b"fault 20 Closed\n"),
+    (RunFault::Host(HostFault::Disk), b"fault 21 Disk\n"),
+    (
+        RunFault::Host(HostFault::OutOfMemory),
+        b"fault 22 OutOfMemory\n",
+    ),
+    (
+        RunFault::Host(HostFault::JournalFull),
+        b"fault 23 JournalFull\n",
+    ),
+    (
+        RunFault::Open(OpenCause::Damaged(10)),
+        b"fault 30 Damaged 10\n",
+    ),
+    (
+        RunFault::Open(OpenCause::NotASheet),
+        b"fault 31 NotASheet\n",
+    ),
+    (RunFault::Open(OpenCause::Disk), b"fault 32 Disk\n"),
+    (
+        RunFault::Open(OpenCause::OutOfMemory),
+        b"fault 33 OutOfMemory\n",
+    ),
+    (RunFault::InUse, b"fault 35 InUse\n"),
+    (RunFault::Input, b"fault 40 Input\n"),
+    (RunFault::InputTooLong, b"fault 41 InputTooLong\n"),
+    (RunFault::Output, b"fault 42 Output\n"),
+    (RunFault::OutOfMemory, b"fault 43 OutOfMemory\n"),
+];
+
+// Whether a program that ends by this fault writes this on its errors alone.
+fn tells(alloc: Global, fault: RunFault, said: &[u8]) -> bool {
+    let mut errors: Vec<u8> = Vec::new(alloc);
+    let ended = end_program(Err(fault), &mut errors);
+    ended == ending(1, true) && errors.as_slice() == said
+}
+
+#[test]
+fn each_fault_is_told_on_a_line(rt: HostRuntime) {
+    for (fault, said) in TOLD {
+        assert!(rt; tells(rt.alloc(), fault, said), "{fault}");
+    }
 }
 
 // Whether `create` on an empty disk of 11 bytes of room ends so, and writes this on its errors.
