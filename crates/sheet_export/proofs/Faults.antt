@@ -1,10 +1,11 @@
 -- What a fault of writing a worksheet tells is what one of an export does.
 use Rattle.std.proofs.Common.{◌≡◌, true}
-use Rattle.disk_model.specs.Disk.{DiskView}
+use Rattle.disk_model.specs.Disk.{DiskView, InModel, bytes_on}
 use Rattle.journal.specs.declared.opening.OpenCause.{OpenCause}
 use Rattle.worksheet.specs.Contents.{Contents}
 use Rattle.sheet_export.specs.Formats.{TellsExport, TellsProgramFault, TellsText, TellsWriting, is_made_whole, no_memory, opening, unwritten, writing}
-use Rattle.offline_programs.specs.Faults.{TellsShow}
+use Rattle.offline_programs.specs.Faults.{unopened}
+use Rattle.recovery.specs.Sheets.{TellsOfSheet}
 use Rattle.offline_programs.specs.declared.fault.RunFault.TheVariants as run
 use Rattle.sheet_export.specs.declared.fault.ExportFault.{ExportFault}
 use Rattle.sheet_export.specs.declared.fault.ExportFault.TheVariants as fault
@@ -18,8 +19,9 @@ lacked_memory format nothing none whole = no_memory none whole
 
 pub ruleset writing_faults = (writer_failed, lacked_memory)
 
-pub not_opened : (format : Format) (disk : DiskView) (nothing : Type 0) (why : OpenCause) → TellsShow disk nothing (run.Open why) → TellsProgramFault format disk nothing (run.Open why)
-not_opened format disk nothing why told = opening why told
+pub not_opened : (format : Format) (disk : DiskView) (nothing : Type 0) (why : OpenCause) → nothing → InModel disk (TellsOfSheet (bytes_on disk) why)
+    → TellsProgramFault format disk nothing (run.Open why)
+not_opened format disk nothing why idle tells = opening why (unopened why idle tells)
 
 pub told_so : (format : Format) (sheet : Contents) (disk : DiskView) (nothing : Type 0) (why : ExportFault) → TellsText format sheet nothing why → TellsExport format disk nothing why
 told_so format sheet disk nothing fault.NoScript told = told.0

@@ -19,6 +19,7 @@ fn lived<D: Disk>(alloc: Global, disk: D, script: &[u8], told: &mut Vec<u8>) -> 
     let manner = Manner {
         lines_first: true,
         limit: None,
+        strict: false,
     };
     live_by(alloc, manner, script, &InWords, told, disk, &mut sources)
 }
