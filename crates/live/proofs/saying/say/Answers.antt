@@ -1,4 +1,4 @@
-use Rattle.std.proofs.Common.{◌∙◌, [], not, refl, sym, subst}
+use Rattle.std.proofs.Common.{false, ◌∙◌, [], not, refl, sym, subst}
 use Rattle.std.specs.Prelude.{Some, IfErr, IfOk}
 use Rattle.std.proofs.KnownBytes.{Appends-nil}
 use Rattle.sheet_programs.proofs.Runs.{if_err_then}
