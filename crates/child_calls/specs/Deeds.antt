@@ -1,6 +1,6 @@
 -- Calls on the process of one life.
 use Rattle.std.specs.Prelude.{ℕ, zero, suc, List, take, Result, Ok, Err}
-use Rattle.child_calls.specs.Calls.{Answer, done, fault, piece, end}
+use Rattle.child_calls.specs.Calls.{Answer, fault, piece, end}
 
 pub data Deed : Type 0 where
   -- its input is given these bytes

@@ -29,7 +29,7 @@ pub struct Running<P> {
 
 /// Children that are processes, which a launcher starts.
 ///
-/// `send`, `receive` and `stop` may wait for the process. A receive is one read. A start that is refused for lack
+/// `receive` and `stop` may wait for the process, and `send` where its write does. A receive is one read. A start that is refused for lack
 /// of memory is a fault of that start.
 #[derive(Drop)]
 pub struct Lives<L: Launcher + Drop> {

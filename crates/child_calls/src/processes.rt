@@ -1,12 +1,14 @@
 //! The system's processes.
-ghost use Rattle.std.specs.Prelude.{◌≡◌, ◌≤◌, IfOk, length};
-ghost use Rattle.std.specs.Io.KnownBytes.{ReadConsumes};
+ghost use Rattle.std.specs.Prelude.{◌≡◌, ◌≤◌, IfOk, OnOk, length};
+ghost use Rattle.std.specs.Io.KnownBytes.{Appends, ReadConsumes};
 
 use crate::children::{ChildFault, Outputs};
 use crate::lives::Lives;
 use crate::process::{Launcher, Process};
 use crate::seat::Seat;
 use block_tree::Octets;
+use libc::net::{POLLOUT, poll};
+use libc::types::pollfd;
 use std::alloc::Global;
 use std::io::{ErrorKind, Read, Write};
 use std::os::fd::{AsRawFd, RawFd};
@@ -16,10 +18,18 @@ use std::{io, process, str};
 /// How often a read is tried: once, and again at most 1,000 times where it was interrupted.
 const MOST_READS: u32 = 1_001;
 
+/// The most bytes that a pipe which has room takes at once (Linux's `PIPE_BUF`): as many as a line of an
+/// input and its end have at most.
+const MOST_AT_ONCE: usize = 4_096;
+
+/// How long the later parts of a longer text wait for room, in milliseconds.
+const LONGEST_WAIT: i32 = 1_000;
+
 /// A process of the system, with pipes on its standard input and output; its standard error is discarded.
 ///
-/// One that closed its input makes the next write a fault. An end kills it, closes its pipes and waits for
-/// its exit.
+/// One that closed its input makes the next write a fault, and so does one that doesn't read: a line is
+/// written where the pipe has room for it, and not waited with. An end kills it, closes its pipes and waits
+/// for its exit.
 #[derive(Drop)]
 pub struct Spawned<P: OpenProcess + Drop> {
     child: Child<P>,
@@ -35,7 +45,10 @@ pub struct Spawner<R: process::Processes + Drop> {
 /// Child processes of a runtime.
 pub type Processes<R> = Lives<Spawner<R>>;
 
-impl<R: process::Processes + Drop> Lives<Spawner<R>> {
+impl<R: process::Processes + Drop> Lives<Spawner<R>>
+where
+    <R::Started as OpenProcess>::Stdin: AsRawFd,
+{
     /// No child as yet. They are started by this runtime.
     pub fn new(runtime: R, alloc: Global) -> Processes<R> {
         Lives::over(Spawner { runtime, alloc }, alloc)
@@ -44,6 +57,7 @@ impl<R: process::Processes + Drop> Lives<Spawner<R>> {
 
 impl<R: process::Processes + Drop> Outputs for Lives<Spawner<R>>
 where
+    <R::Started as OpenProcess>::Stdin: AsRawFd,
     <R::Started as OpenProcess>::Stdout: AsRawFd,
 {
     fn is_running(&self, seat: Seat) -> bool {
@@ -85,6 +99,38 @@ fn read_once<T: Read>(pipe: &mut T, into: &mut [u8]) -> Result<usize, ChildFault
     Err(ChildFault)
 }
 
+/// Whether a pipe takes a write within so many milliseconds: it has room, or is closed, which the write
+/// reports. Where the poll fails the write has to find out.
+fn takes_write(pipe: RawFd, millis: i32) -> bool {
+    let mut places = [pollfd {
+        fd: pipe,
+        events: POLLOUT,
+        revents: 0,
+    }];
+    poll(&mut places, millis) != 0
+}
+
+/// Writes these bytes, in parts that a pipe with room takes at once. The first part waits for nothing: a
+/// process that answered the lines before this one without reading them is no reason to wait.
+fn write_parts<T: Write + AsRawFd>(pipe: &mut T, bytes: &[u8]) -> Result<(), ChildFault>
+    ensures { OnOk result (Appends (T.contents pipe.old) (T.contents pipe.new) bytes.now) }
+{
+    let mut rest = bytes;
+    let mut millis = 0;
+    while !rest.is_empty() {
+        let (part, later) = rest.split_at(rest.len().min(MOST_AT_ONCE));
+        if !takes_write(pipe.as_raw_fd(), millis) {
+            return Err(ChildFault);
+        }
+        let Ok(()) = pipe.write_all(part) else {
+            return Err(ChildFault);
+        };
+        rest = later;
+        millis = LONGEST_WAIT;
+    }
+    Ok(())
+}
+
 /// What a call answers that succeeded or not.
 fn answer(called: io::Result<()>) -> Result<(), ChildFault> {
     match called {
@@ -93,7 +139,10 @@ fn answer(called: io::Result<()>) -> Result<(), ChildFault> {
     }
 }
 
-impl<P: OpenProcess + Drop> Process for Spawned<P> {
+impl<P: OpenProcess + Drop> Process for Spawned<P>
+where
+    P::Stdin: AsRawFd,
+{
     ghost use Rattle.child_calls.specs.Pipes.{ByPipes};
 
     ghost did = { λ p call answer q. ByPipes P.Stdin.contents P.Stdout.remaining p.child call answer q.child };
@@ -102,10 +151,7 @@ impl<P: OpenProcess + Drop> Process for Spawned<P> {
         let Some(pipe) = &mut self.child.stdin else {
             return Err(ChildFault);
         };
-        match pipe.write_all(bytes) {
-            Ok(()) => Ok(()),
-            Err(_) => Err(ChildFault),
-        }
+        write_parts(pipe, bytes)
     }
 
     fn read(&mut self, room: &mut [u8]) -> Result<usize, ChildFault> {
@@ -166,7 +212,10 @@ impl<R: process::Processes + Drop> Spawner<R> {
     }
 }
 
-impl<R: process::Processes + Drop> Launcher for Spawner<R> {
+impl<R: process::Processes + Drop> Launcher for Spawner<R>
+where
+    <R::Started as OpenProcess>::Stdin: AsRawFd,
+{
     type Process = Spawned<R::Started>;
 
     ghost launched = { λ _ _ _ _. Unit {0} };

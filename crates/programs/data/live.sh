@@ -274,6 +274,21 @@ say 'wait 1\n'
 hears 'it stalls' 'ended c Stalled lost 1\n'
 hang_up 'a flood' '' '#1 a\n> w\n? SendFault\n#2 b\n> x\n? Ended\n#3 c\n> y\n? Stalled\n#4 d\n> z\nz\n'
 
+# One that answers and never reads: once its pipe is full a line is lost, and those behind it are taken.
+printf 'printf "\\002verbatim:\\005"\nwhile sleep 0.01; do printf "\\002verbatim:A\\005"; done\n' >deaf.sh
+{
+    printf 'session a plain sh deaf.sh\nnew 0 a %4095s\n' x
+    yes 'eval 1
+wait' | head -n 40
+    printf 'stop a\nnew 1 a y\n'
+} >given
+rm -f sheet sheet.alt
+"$tmhost" create sheet
+"$tmhost" live sheet <given >told 2>&1
+compare 'one that never reads' "$(sort -u told)" \
+    "$(printf 'answered 1\nasked\nbanner a\nended a SendFault lost 1\nended a Stopped lost 0\nfield 1\nfield 2\nok')"
+compare 'one that never reads, at the end' "$(tail -n 1 told)" 'field 2'
+
 # Several lines that wait in one session.
 interpreter p "$banner" '' ''
 talk

@@ -2,6 +2,7 @@
 use std::alloc::{Allocator, Global};
 use std::cell::Cell;
 use std::io::{ErrorKind, Read, Write};
+use std::os::fd::{AsRawFd, RawFd};
 use std::process::{Child, Command, ExitStatus, OpenProcess, Stdio};
 use std::{io, process};
 use tests_desk::exhausted;
@@ -144,6 +145,13 @@ impl Write for Input<'_> {
 
     fn flush(&mut self) -> io::Result<()> {
         Ok(())
+    }
+}
+
+impl AsRawFd for Input<'_> {
+    // No descriptor is open by this number, which a poll says without a wait, as it does of a pipe with room.
+    fn as_raw_fd(&self) -> RawFd {
+        i32::MAX
     }
 }
 

@@ -3,7 +3,6 @@ use super::made_up::{Calls, Runtime};
 use block_tree::{Octets, OutOfMemory};
 use child_calls::{Children, Processes, ReceiveFault, Received};
 use std::alloc::Global;
-use std::process;
 use worksheet::Name;
 
 fn name() -> Option<Name> {
@@ -19,9 +18,9 @@ fn octets(alloc: Global, words: &[&str]) -> Result<Vec<Octets>, OutOfMemory> {
 }
 
 // Whether this life of session `a` is started with these words.
-fn starts_as<R: process::Processes + Drop>(
+fn starts_as(
     alloc: Global,
-    children: &mut Processes<R>,
+    children: &mut Processes<Runtime<'_>>,
     words: &[&str],
     life: u32,
 ) -> bool {
@@ -32,16 +31,12 @@ fn starts_as<R: process::Processes + Drop>(
 }
 
 // Whether the first one is.
-fn starts<R: process::Processes + Drop>(
-    alloc: Global,
-    children: &mut Processes<R>,
-    words: &[&str],
-) -> bool {
+fn starts(alloc: Global, children: &mut Processes<Runtime<'_>>, words: &[&str]) -> bool {
     starts_as(alloc, children, words, 1)
 }
 
 // Whether a line of five bytes is sent to this life of session `a`.
-fn sends<R: process::Processes + Drop>(children: &mut Processes<R>, life: u32) -> bool {
+fn sends(children: &mut Processes<Runtime<'_>>, life: u32) -> bool {
     match name() {
         Some(name) => children.send(name, life, b"line\n").is_ok(),
         None => false,
@@ -49,7 +44,7 @@ fn sends<R: process::Processes + Drop>(children: &mut Processes<R>, life: u32) -
 }
 
 // Whether this life of session `a` is stopped.
-fn stops<R: process::Processes + Drop>(children: &mut Processes<R>, life: u32) -> bool {
+fn stops(children: &mut Processes<Runtime<'_>>, life: u32) -> bool {
     match name() {
         Some(name) => children.stop(name, life).is_ok(),
         None => false,
@@ -57,7 +52,7 @@ fn stops<R: process::Processes + Drop>(children: &mut Processes<R>, life: u32) -
 }
 
 // How long a piece of the first life of session `a` is: 0 is the end of its output.
-fn received<R: process::Processes + Drop>(children: &mut Processes<R>) -> Option<usize> {
+fn received(children: &mut Processes<Runtime<'_>>) -> Option<usize> {
     match children.receive(name()?, 1) {
         Ok(Received::Piece(piece)) => Some(piece.as_slice().len()),
         Ok(Received::End) => Some(0),
@@ -135,7 +130,7 @@ fn a_stop_kills_and_waits_and_forgets(rt: HostRuntime) {
 }
 
 // Whether this life of session `a` is interrupted.
-fn interrupts<R: process::Processes + Drop>(children: &mut Processes<R>, life: u32) -> bool {
+fn interrupts(children: &mut Processes<Runtime<'_>>, life: u32) -> bool {
     match name() {
         Some(name) => children.interrupt(name, life).is_ok(),
         None => false,

@@ -1,4 +1,4 @@
-use Rattle.std.proofs.Common.{◌≡◌, ◌∙◌, sym, refl, inr}
+use Rattle.std.proofs.Common.{◌∙◌, sym, refl, inr}
 use Rattle.child_calls.proofs.Handed.{at-place}
 use Rattle.child_calls.proofs.lives.LivesChildren.receive.Goals as goal
 

@@ -1,4 +1,4 @@
-use Rattle.std.proofs.Common.{◌≡◌, ◌∙◌, sym, refl}
+use Rattle.std.proofs.Common.{◌∙◌, sym, refl}
 use Rattle.child_calls.proofs.Handed.{at-place}
 use Rattle.child_calls.proofs.lives.LivesChildren.send.Goals as goal
 

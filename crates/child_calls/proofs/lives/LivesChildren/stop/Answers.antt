@@ -1,4 +1,4 @@
-use Rattle.std.proofs.Common.{◌≡◌, ◌∙◌, sym, refl, ap}
+use Rattle.std.proofs.Common.{◌∙◌, sym, ap}
 use Rattle.child_calls.specs.Handing.{stand}
 use Rattle.child_calls.proofs.Handed.{at-place}
 use Rattle.child_calls.proofs.lives.LivesChildren.stop.Goals as goal
