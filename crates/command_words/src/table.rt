@@ -47,6 +47,8 @@ words are refused; 3 where --strict stops.\n\
 `tmhost help faults` says what each fault means.\n\n\
 Example: tmhost create sheet && tmhost run sheet <script.txt";
 
+const BLOCKS_ABOUT: &str = "Write the blocks of the stream on standard input, a line each";
+
 const BLOCKS_NOTES: &str =
     "A line is the offset of the block's first byte, the offset after its last one,\n\
 and the block with its tags. With --json each line is one object, which programs\n\
@@ -55,6 +57,8 @@ Status: 0 where the stream is whole; 1 where it has a fault or an open block, or
 at a fault of the program; 2 where the words are refused.\n\n\
 Example: printf '\\002verbatim:Hi\\005' | tmhost blocks";
 
+const CREATE_ABOUT: &str = "Make an empty worksheet";
+
 const CREATE_NOTES: &str =
     "Where PATH or PATH.alt exists nothing is made, and the fault is 34 NotEmpty.\n\
 A creation that was cut off may leave files that are no worksheet, which `run`\n\
@@ -62,6 +66,8 @@ reports as the fault 31: remove PATH and PATH.alt, and create it again.\n\n\
 Status: 0 where the worksheet is on the disk; 1 at a fault; 2 where the words are\n\
 refused.\n\n\
 Example: tmhost create sheet";
+
+const RUN_ABOUT: &str = "Run the script on standard input over a worksheet";
 
 const RUN_NOTES: &str =
     "The script is read whole from standard input. What each line of it gives is\n\
@@ -83,6 +89,8 @@ lines and refused commands; 1 at a fault; 2 where the words are refused; 3 where
 --strict stopped it.\n\n\
 Example: tmhost run sheet <script.txt";
 
+const LIVE_ABOUT: &str = "Hold a worksheet open for lines that come on standard input";
+
 const LIVE_NOTES: &str =
     "Each line of standard input is taken when it comes, and what an interpreter\n\
 writes is taken when it comes: what either gives is written and flushed at once,\n\
@@ -95,6 +103,8 @@ With --json each line is one object, which programs read (docs/JSON.md).\n\n\
 Status: 0 where the input came to its end, also where it had bad lines and refused\n\
 commands; 1 at a fault; 2 where the words are refused.\n\n\
 Example: printf 'print\\n' | tmhost live sheet";
+
+const EVAL_ABOUT: &str = "Evaluate the fields of a worksheet";
 
 const EVAL_NOTES: &str =
     "It evaluates the fields in the worksheet's order, each by an `eval` and a `wait`,\n\
@@ -124,12 +134,16 @@ passed over; 1 where that isn't so, or at a fault; 2 where the words are refused
 where --strict stopped it.\n\n\
 Example: tmhost eval --timeout 10 sheet 3 7";
 
+const SHOW_ABOUT: &str = "Write a worksheet";
+
 const SHOW_NOTES: &str =
     "It writes and makes no file. A field without an output shows `?`. Where a program\n\
 runs the worksheet nothing is shown: that is the fault 35 InUse. With --json it\n\
 writes what `export json` does.\n\n\
 Status: 0 where all was written; 1 at a fault; 2 where the words are refused.\n\n\
 Example: tmhost show sheet";
+
+const CHECK_ABOUT: &str = "Evaluate a worksheet again, and write what differs";
 
 const CHECK_NOTES: &str =
     "Each field that shows an answer is evaluated again, in the worksheet's order and\n\
@@ -166,6 +180,8 @@ that shows an answer (with several PATHs: in one of them), or at a fault; 2 wher
 the words are refused.\n\n\
 Example: tmhost check --format junit sheet >report.xml";
 
+const RESCUE_ABOUT: &str = "Write what stands before a damage to a new worksheet";
+
 const RESCUE_NOTES: &str =
     "It reads PATH alone, and makes NEW as `create` does. NEW has the worksheet of the\n\
 changes that stand in PATH before the first damage, whether that is a broken gate\n\
@@ -180,6 +196,8 @@ NEW.alt, and give it again.\n\n\
 Status: 0 where NEW is on the disk and that was printed, be PATH whole or not; 1\n\
 at a fault; 2 where the words are refused.\n\n\
 Example: tmhost rescue sheet new";
+
+const EXPORT_ABOUT: &str = "Write a worksheet as a script, Markdown, a page, a notebook or JSON";
 
 const EXPORT_NOTES: &str = "FORMAT is one of these:\n\
 script    the lines that make the worksheet again, for `run` on an empty one: its\n\
@@ -197,6 +215,8 @@ json      lines of JSON, which programs read (docs/JSON.md): a line for each fie
 It reads PATH as `show` does, and writes and makes no file.\n\n\
 Status: 0 where all was written; 1 at a fault; 2 where the words are refused.\n\n\
 Example: tmhost export html sheet >sheet.html";
+
+const FAULTS_ABOUT: &str = "What each fault means";
 
 const FAULTS_NOTES: &str =
     "A fault is printed on standard error as `fault N NAME`, with status 1.\n\n\
@@ -248,56 +268,16 @@ pub(crate) fn row_at(at: usize) -> Row
     ensures { IsRow at result }
 {
     match at {
-        0 => listed(
-            "blocks",
-            Shape::Stream,
-            "Write the blocks of the stream on standard input, a line each",
-            BLOCKS_NOTES,
-        ),
-        1 => listed(
-            "create",
-            Shape::Path,
-            "Make an empty worksheet",
-            CREATE_NOTES,
-        ),
-        2 => listed(
-            "run",
-            Shape::Run,
-            "Run the script on standard input over a worksheet",
-            RUN_NOTES,
-        ),
-        3 => listed(
-            "live",
-            Shape::Json,
-            "Hold a worksheet open for lines that come on standard input",
-            LIVE_NOTES,
-        ),
-        4 => listed(
-            "eval",
-            Shape::Eval,
-            "Evaluate the fields of a worksheet",
-            EVAL_NOTES,
-        ),
-        5 => listed("show", Shape::Json, "Write a worksheet", SHOW_NOTES),
-        6 => listed(
-            "check",
-            Shape::Check,
-            "Evaluate a worksheet again, and write what differs",
-            CHECK_NOTES,
-        ),
-        7 => listed(
-            "rescue",
-            Shape::Paths,
-            "Write what stands before a damage to a new worksheet",
-            RESCUE_NOTES,
-        ),
-        8 => listed(
-            "export",
-            Shape::Format,
-            "Write a worksheet as a script, Markdown, a page, a notebook or JSON",
-            EXPORT_NOTES,
-        ),
-        9 => listed("faults", Shape::Help, "What each fault means", FAULTS_NOTES),
+        0 => listed("blocks", Shape::Stream, BLOCKS_ABOUT, BLOCKS_NOTES),
+        1 => listed("create", Shape::Path, CREATE_ABOUT, CREATE_NOTES),
+        2 => listed("run", Shape::Run, RUN_ABOUT, RUN_NOTES),
+        3 => listed("live", Shape::Json, LIVE_ABOUT, LIVE_NOTES),
+        4 => listed("eval", Shape::Eval, EVAL_ABOUT, EVAL_NOTES),
+        5 => listed("show", Shape::Json, SHOW_ABOUT, SHOW_NOTES),
+        6 => listed("check", Shape::Check, CHECK_ABOUT, CHECK_NOTES),
+        7 => listed("rescue", Shape::Paths, RESCUE_ABOUT, RESCUE_NOTES),
+        8 => listed("export", Shape::Format, EXPORT_ABOUT, EXPORT_NOTES),
+        9 => listed("faults", Shape::Help, FAULTS_ABOUT, FAULTS_NOTES),
         _ => unreachable!(),
     }
 }
