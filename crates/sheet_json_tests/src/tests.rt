@@ -79,6 +79,11 @@ fn replies_have_their_lines(rt: HostRuntime) {
             b"{\"line\":14,\"type\":\"bad\"}\n"
         )
     );
+}
+
+#[test]
+fn lines_that_do_nothing_and_waits_have_theirs(rt: HostRuntime) {
+    let alloc = rt.alloc();
     assert!(rt;
         has_line(
             alloc,
