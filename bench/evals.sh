@@ -3,7 +3,7 @@
 # 1,000 and 10,000 fields, and how long such a worksheet takes to open: the best of RUNS runs (3 where it isn't set). 500 fields, spread
 # over the worksheet, are evaluated, each with a `wait` after it. Beside it `tmhost live` does the same, and the ratio of their rates is
 # printed. Then it prints how many times as many evaluations `live` does with eight interpreters that take 50 ms a line each as with one, and
-# the processor time that it takes while nothing comes; and how long `check --jobs 8` takes with eight of them beside `check` with one. The files lie in FOLDER, or where none is given in the current one.
+# with 8 and 64 that answer at once, and the processor time that it takes while nothing comes; and how long `check --jobs 8` takes with eight of them beside `check` with one. The files lie in FOLDER, or where none is given in the current one.
 set -euo pipefail
 folder=$(readlink -f "${1:-.}")
 root=$(dirname "$(dirname "$(readlink -f "${BASH_SOURCE[0]}")")")
@@ -40,19 +40,23 @@ for fields in (100, 1000, 10000):
     rates = [evals / (min(took) - min(opening)) for took in whole.values()]
     print(f"{fields:7} {1000 * min(opening):12.1f} {rates[0]:9.0f} {rates[1]:9.0f} {rates[1] / rates[0]:6.2f}", flush=True)
 
-# An interpreter that takes 50 ms for a line.
-slow = work + "/slow.py"
-with open(slow, "w") as file:
-    file.write("""import sys, time
+def interpreter(name, seconds):
+    """A program that takes so long for a line."""
+    path = f"{work}/{name}.py"
+    with open(path, "w") as file:
+        file.write(f"""import sys, time
 print("\\2verbatim:\\5", end="", flush=True)
 for line in sys.stdin:
-    time.sleep(0.05)
+    time.sleep({seconds})
     print("\\2verbatim:" + line.rstrip() + "\\5", end="", flush=True)
 """)
+    return path
 
-def evaluations(count, lines):
+slow, quick = interpreter("slow", 0.05), interpreter("quick", 0)
+
+def evaluations(child, count, lines):
     """How many evaluations a second so many interpreters do, once they have started."""
-    sheet = f"{work}/{count}.slow"
+    sheet = f"{child}.{count}"
     subprocess.run([program, "create", sheet], check=True)
     live = subprocess.Popen([program, "live", sheet], stdin=subprocess.PIPE, stdout=subprocess.PIPE, text=True)
     def say(text):
@@ -63,7 +67,7 @@ def evaluations(count, lines):
         while heard < wanted:
             heard += live.stdout.readline().startswith("answered ")
     for n in range(count):
-        say(f"session s{n} plain python3 {slow}\n")
+        say(f"session s{n} plain python3 {child}\n")
         say("".join(f"new 0 s{n} {i}\n" for i in range(lines)))
     first = [1 + n * lines for n in range(count)]
     say("".join(f"eval {field}\n" for field in first))
@@ -80,9 +84,11 @@ def evaluations(count, lines):
     assert live.wait() == 0
     return count * lines / took, idle
 
-one, _ = evaluations(1, 40)
-eight, idle = evaluations(8, 40)
+one, _ = evaluations(slow, 1, 40)
+eight, idle = evaluations(slow, 8, 40)
 print(f"live, interpreters of 50 ms a line: one {one:.1f} evals/s, eight {eight:.1f}, {eight / one:.2f} times as many")
+quicks = [evaluations(quick, count, 100)[0] for count in (1, 8, 64)]
+print(f"live, interpreters that answer at once: one {quicks[0]:.0f} evals/s, 8 and 64 of them {quicks[1] / quicks[0]:.2f} and {quicks[2] / quicks[0]:.2f} times as many")
 print(f"live, three seconds in which nothing comes: {1000 * idle / os.sysconf('SC_CLK_TCK'):.0f} ms of processor time")
 
 def checked(sessions, *words):
