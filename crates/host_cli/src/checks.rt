@@ -1,8 +1,8 @@
 //! `check`, by what its words ask for: to compare, or to accept what differs too; of one worksheet, or of several.
 ghost use Rattle.std.specs.Prelude.{◌≡◌, [], map};
 ghost use Rattle.command_words.specs.Asked.{check_view};
-ghost use Rattle.host_cli.specs.Plans.{check_bounds, check_plan};
-ghost use Rattle.host_cli.specs.Tasks.{AcceptsAs, ChecksAs, ChecksBy, ChecksJobs, ChecksPaths, ChecksSeveral, ChecksWithin, Compares, ComparesAll, ComparesBy, ComparesEach, ComparesNext, DoesCheck, TogetherAs, outer};
+ghost use Rattle.host_cli.specs.Plans.{check_plan};
+ghost use Rattle.host_cli.specs.Tasks.{ChecksAs, ChecksBy, ChecksPaths, Compares, ComparesEach, ComparesNext, DoesCheck, TogetherAs, outer};
 
 use crate::outside::{Outside, System};
 use crate::plans::{are_several, read_check_jobs, read_limit, several_fault};
@@ -82,52 +82,6 @@ fn compare<Y: System>(
     }
 }
 
-/// `check` of the worksheet at one path.
-fn compare_by<Y: System>(
-    alloc: Global,
-    outside: &mut Outside<Y>,
-    request: &Request,
-    jobs: u32,
-    path: &str,
-) -> Ending
-    ensures does { ComparesBy (outer Y.Places.Places Y.Disk.Disk Y.Disk.closed Y.Sources.after
-        Y.Sources.clock Y.Sources.wakes Y.Input.Read Y.Output.Write Y.Output.brought Y.Errors.Write) outside.old outside.new result path.now (check_plan request.now jobs) }
-    ensures leaves { outside.new.input ≡ outside.old.input }
-{
-    match outside.places.hold() {
-        Ok(()) => compare(alloc, outside, request, jobs, path).ending,
-        Err(why) => end_unheld(why, &mut outside.errors),
-    }
-}
-
-/// `check --accept` of the worksheet at a path.
-fn accept_as<Y: System>(
-    alloc: Global,
-    outside: &mut Outside<Y>,
-    request: &Request,
-    path: &str,
-) -> Ending
-    ensures does { AcceptsAs (outer Y.Places.Places Y.Disk.Disk Y.Disk.closed Y.Sources.after
-        Y.Sources.clock Y.Sources.wakes Y.Input.Read Y.Output.Write Y.Output.brought Y.Errors.Write) outside.old outside.new result path.now request.now }
-    ensures leaves { outside.new.input ≡ outside.old.input }
-{
-    match outside.places.hold() {
-        Ok(()) => {
-            let files = outside.places.open(path);
-            run_accept(
-                alloc,
-                request,
-                files,
-                &mut outside.sources,
-                &mut outside.progress,
-                &mut outside.output,
-                &mut outside.errors,
-            )
-        }
-        Err(why) => end_unheld(why, &mut outside.errors),
-    }
-}
-
 /// `check` of the worksheet at one path, with answers that are accepted or without.
 fn check_by<Y: System>(
     alloc: Global,
@@ -140,11 +94,22 @@ fn check_by<Y: System>(
         Y.Sources.clock Y.Sources.wakes Y.Input.Read Y.Output.Write Y.Output.brought Y.Errors.Write) outside.old outside.new result path.now (check_plan request.now jobs) }
     ensures leaves { outside.new.input ≡ outside.old.input }
 {
+    if let Err(why) = outside.places.hold() {
+        return end_unheld(why, &mut outside.errors);
+    }
     match request.format {
-        Report::Accepting => accept_as(alloc, outside, request, path),
-        Report::Text | Report::Tap | Report::Junit | Report::Json => compare_by(
-            alloc, outside, request, jobs, path,
+        Report::Accepting => run_accept(
+            alloc,
+            request,
+            outside.places.open(path),
+            &mut outside.sources,
+            &mut outside.progress,
+            &mut outside.output,
+            &mut outside.errors,
         ),
+        Report::Text | Report::Tap | Report::Junit | Report::Json => {
+            compare(alloc, outside, request, jobs, path).ending
+        }
     }
 }
 
@@ -190,42 +155,6 @@ fn compare_each<Y: System>(
     end_total(total, &mut outside.output, &mut outside.errors)
 }
 
-/// `check` of several worksheets.
-fn compare_all<Y: System>(
-    alloc: Global,
-    outside: &mut Outside<Y>,
-    request: &Request,
-    jobs: u32,
-    paths: &[&str],
-) -> Ending
-    ensures does { ComparesAll (outer Y.Places.Places Y.Disk.Disk Y.Disk.closed Y.Sources.after
-        Y.Sources.clock Y.Sources.wakes Y.Input.Read Y.Output.Write Y.Output.brought Y.Errors.Write) outside.old outside.new result (map (λ path. path.now) paths.now) (check_plan request.now jobs) }
-    ensures leaves { outside.new.input ≡ outside.old.input }
-{
-    match outside.places.hold() {
-        Ok(()) => compare_each(alloc, outside, request, jobs, paths),
-        Err(why) => end_unheld(why, &mut outside.errors),
-    }
-}
-
-/// `check` of several worksheets, where they are checked as these words ask for it; else they are refused.
-fn check_several<Y: System>(
-    alloc: Global,
-    outside: &mut Outside<Y>,
-    words: &CheckWords<'_>,
-    request: &Request,
-    jobs: u32,
-) -> Ending
-    ensures does { ChecksSeveral (outer Y.Places.Places Y.Disk.Disk Y.Disk.closed Y.Sources.after
-        Y.Sources.clock Y.Sources.wakes Y.Input.Read Y.Output.Write Y.Output.brought Y.Errors.Write) outside.old outside.new result (check_view words.now) (check_plan request.now jobs) }
-    ensures leaves { outside.new.input ≡ outside.old.input }
-{
-    match several_fault(request.format, words.leave_out) {
-        None => compare_all(alloc, outside, request, jobs, words.paths.as_slice()),
-        Some(why) => refuse_several(why, &mut outside.errors),
-    }
-}
-
 /// `check` of the worksheet at a path, or of several that the words name.
 fn check_paths<Y: System>(
     alloc: Global,
@@ -239,56 +168,15 @@ fn check_paths<Y: System>(
         Y.Sources.clock Y.Sources.wakes Y.Input.Read Y.Output.Write Y.Output.brought Y.Errors.Write) outside.old outside.new result path.now (check_view words.now) (check_plan request.now jobs) }
     ensures leaves { outside.new.input ≡ outside.old.input }
 {
-    if are_several(words.paths.as_slice()) {
-        check_several(alloc, outside, words, request, jobs)
-    } else {
-        check_by(alloc, outside, request, jobs, path)
+    if !are_several(words.paths.as_slice()) {
+        return check_by(alloc, outside, request, jobs, path);
     }
-}
-
-/// `check` as these words ask for it, within this limit of time, where there is one, with so many sessions side
-/// by side.
-fn check_within<Y: System>(
-    alloc: Global,
-    outside: &mut Outside<Y>,
-    path: &str,
-    words: &CheckWords<'_>,
-    limit: Option<u32>,
-    jobs: u32,
-) -> Ending
-    ensures does { ChecksWithin (outer Y.Places.Places Y.Disk.Disk Y.Disk.closed Y.Sources.after
-        Y.Sources.clock Y.Sources.wakes Y.Input.Read Y.Output.Write Y.Output.brought Y.Errors.Write) outside.old outside.new result path.now (check_view words.now) (check_bounds limit jobs) }
-    ensures leaves { outside.new.input ≡ outside.old.input }
-{
-    match read_request(
-        alloc,
-        words.json,
-        words.format,
-        words.only,
-        words.leave_out,
-        words.accept,
-        limit,
-    ) {
-        Ok(request) => check_paths(alloc, outside, path, words, &request, jobs),
-        Err(why) => refuse_request(why, &mut outside.errors),
+    if let Some(why) = several_fault(request.format, words.leave_out) {
+        return refuse_several(why, &mut outside.errors);
     }
-}
-
-/// The same where the words name a number of sessions, or none; else they are refused.
-fn check_jobs<Y: System>(
-    alloc: Global,
-    outside: &mut Outside<Y>,
-    path: &str,
-    words: &CheckWords<'_>,
-    limit: Option<u32>,
-) -> Ending
-    ensures does { ChecksJobs (outer Y.Places.Places Y.Disk.Disk Y.Disk.closed Y.Sources.after
-        Y.Sources.clock Y.Sources.wakes Y.Input.Read Y.Output.Write Y.Output.brought Y.Errors.Write) outside.old outside.new result path.now (check_view words.now) limit }
-    ensures leaves { outside.new.input ≡ outside.old.input }
-{
-    match read_check_jobs(words.jobs, words.accept) {
-        Ok(jobs) => check_within(alloc, outside, path, words, limit, jobs),
-        Err(why) => refuse_jobs(why, &mut outside.errors),
+    match outside.places.hold() {
+        Ok(()) => compare_each(alloc, outside, request, jobs, words.paths.as_slice()),
+        Err(why) => end_unheld(why, &mut outside.errors),
     }
 }
 
@@ -303,8 +191,23 @@ pub(crate) fn check_at<Y: System>(
         Y.Sources.clock Y.Sources.wakes Y.Input.Read Y.Output.Write Y.Output.brought Y.Errors.Write) outside.old outside.new result path.now (check_view words.entry) }
     ensures leaves { outside.new.input ≡ outside.old.input }
 {
-    match read_limit(words.timeout) {
-        None => refuse_check_limit(&mut outside.errors),
-        Some(limit) => check_jobs(alloc, outside, path, &words, limit),
+    let Some(limit) = read_limit(words.timeout) else {
+        return refuse_check_limit(&mut outside.errors);
+    };
+    let jobs = match read_check_jobs(words.jobs, words.accept) {
+        Ok(jobs) => jobs,
+        Err(why) => return refuse_jobs(why, &mut outside.errors),
+    };
+    match read_request(
+        alloc,
+        words.json,
+        words.format,
+        words.only,
+        words.leave_out,
+        words.accept,
+        limit,
+    ) {
+        Ok(request) => check_paths(alloc, outside, path, &words, &request, jobs),
+        Err(why) => refuse_request(why, &mut outside.errors),
     }
 }

@@ -3,11 +3,9 @@
 ghost use Rattle.std.specs.Prelude.{◌≡◌, ◌≢◌, [], List, Err, map, option_map, string_bytes};
 ghost use Rattle.command_words.specs.Asked.{eval_view, task_view};
 ghost use Rattle.command_words.specs.Asked as asked;
-ghost use Rattle.host_cli.specs.Tasks.{BringsOut, DoesAsked, DoesCreate, DoesEval, DoesExport, DoesRescue, DoesShow, DoesTask, EndsBy, EvaluatesAs, ExportsAs, LeavesAlone, Performs, RescuesFrom, RescuesTo, outer, voice_by};
+ghost use Rattle.host_cli.specs.Tasks.{DoesCreate, DoesEval, DoesExport, DoesRescue, DoesShow, DoesTask, EvaluatesAs, ExportsAs, LeavesAlone, Performs, outer};
 ghost use Rattle.program_endings.specs.Ending.{TellsFault};
 ghost use Rattle.offline_programs.specs.declared.fault.RunFault.TheVariants as fault;
-ghost use Rattle.recovery.specs.Sheets.{Makes};
-ghost use Rattle.worksheet.specs.declared.op.Op.{Op};
 
 use crate::checks::check_at;
 use crate::outlet::Outlet;
@@ -24,9 +22,8 @@ use program_endings::{
     Ending, end_program, end_unheld, read_rescued, run_create, run_evaluation, run_export,
     run_rescue, run_show,
 };
-use recovery::Rescued;
 use sheet_export::{Format, format_named, last_part};
-use sheet_files::{FilesFault, Places};
+use sheet_files::Places;
 use std::alloc::Global;
 use std::io;
 use std::io::Write;
@@ -88,26 +85,6 @@ fn eval_as<Y: System, T: Tells>(
     }
 }
 
-/// `eval` of the fields of the worksheet at a path, by a plan, in words or in lines of JSON.
-fn eval_told<Y: System>(
-    alloc: Global,
-    outside: &mut Outside<Y>,
-    plan: &Plan,
-    json: bool,
-    path: &str,
-) -> Ending
-    ensures does { EvaluatesAs (outer Y.Places.Places Y.Disk.Disk Y.Disk.closed Y.Sources.after
-        Y.Sources.clock Y.Sources.wakes Y.Input.Read Y.Output.Write Y.Output.brought Y.Errors.Write) (voice_by json) plan.now outside.old outside.new result path.now }
-    ensures leaves { (outside.new.input ≡ outside.old.input)
-        × (outside.new.progress ≡ outside.old.progress) }
-{
-    if json {
-        eval_as(alloc, outside, plan, &InJson { alloc }, path)
-    } else {
-        eval_as(alloc, outside, plan, &InWords, path)
-    }
-}
-
 /// `eval` of the fields of the worksheet at a path, as its words ask for it.
 fn eval_at<Y: System>(
     alloc: Global,
@@ -120,61 +97,30 @@ fn eval_at<Y: System>(
     ensures leaves { LeavesAlone outside.old outside.new (asked.eval path.now (eval_view words.entry)) }
 {
     match read_plan(alloc, &words) {
-        Ok(plan) => eval_told(alloc, outside, &plan, words.json, path),
+        Ok(plan) if words.json => eval_as(alloc, outside, &plan, &InJson { alloc }, path),
+        Ok(plan) => eval_as(alloc, outside, &plan, &InWords, path),
         Err(why) => refuse_plan(why, &mut outside.errors),
     }
 }
 
-/// `rescue` of what was found to a new path.
-fn rescue_to<Y: System>(
-    alloc: Global,
-    outside: &mut Outside<Y>,
-    found: Rescued<Y::Disk>,
-    new: &str,
-) -> Ending
-    requires { (ops : List Op) × Makes ops found.sheet.contents }
-    ensures does { RescuesTo (outer Y.Places.Places Y.Disk.Disk Y.Disk.closed Y.Sources.after
-        Y.Sources.clock Y.Sources.wakes Y.Input.Read Y.Output.Write Y.Output.brought Y.Errors.Write) found outside.old outside.new result new.now }
-    ensures leaves { LeavesAlone outside.old outside.new (asked.rescue [] new.now) }
-{
-    run_rescue(
-        alloc,
-        found,
-        outside.places.create(new),
-        &mut outside.output,
-        &mut outside.errors,
-    )
-}
-
-/// `rescue` of a worksheet's files to a new path, which is made only where there is something to rescue.
-fn rescue_from<Y: System>(
-    alloc: Global,
-    outside: &mut Outside<Y>,
-    files: Result<Y::Disk, FilesFault>,
-    new: &str,
-) -> Ending
-    ensures does { RescuesFrom (outer Y.Places.Places Y.Disk.Disk Y.Disk.closed Y.Sources.after
-        Y.Sources.clock Y.Sources.wakes Y.Input.Read Y.Output.Write Y.Output.brought Y.Errors.Write) files outside.old outside.new result new.now }
-    ensures leaves { LeavesAlone outside.old outside.new (asked.rescue [] new.now) }
-{
-    match read_rescued(alloc, files) {
-        Ok(found) => rescue_to(alloc, outside, found, new),
-        Err(fault) => end_program(Err(fault), &mut outside.errors),
-    }
-}
-
-/// `rescue` from a path to a new one.
+/// `rescue` from a path to a new one, which is made only where there is something to rescue.
 fn rescue_at<Y: System>(alloc: Global, outside: &mut Outside<Y>, path: &str, new: &str) -> Ending
     ensures does { DoesRescue (outer Y.Places.Places Y.Disk.Disk Y.Disk.closed Y.Sources.after
         Y.Sources.clock Y.Sources.wakes Y.Input.Read Y.Output.Write Y.Output.brought Y.Errors.Write) outside.old outside.new result path.now new.now }
     ensures leaves { LeavesAlone outside.old outside.new (asked.rescue path.now new.now) }
 {
-    match outside.places.hold() {
-        Ok(()) => {
-            let files = outside.places.open_to_read(path);
-            rescue_from(alloc, outside, files, new)
-        }
-        Err(why) => end_unheld(why, &mut outside.errors),
+    if let Err(why) = outside.places.hold() {
+        return end_unheld(why, &mut outside.errors);
+    }
+    match read_rescued(alloc, outside.places.open_to_read(path)) {
+        Ok(found) => run_rescue(
+            alloc,
+            found,
+            outside.places.create(new),
+            &mut outside.output,
+            &mut outside.errors,
+        ),
+        Err(fault) => end_program(Err(fault), &mut outside.errors),
     }
 }
 
@@ -239,32 +185,6 @@ pub fn do_task<Y: System>(alloc: Global, task: Task<'_>, outside: &mut Outside<Y
     }
 }
 
-/// Does the task that these words ask for, or tells why there is none.
-fn do_words<Y: System>(alloc: Global, words: Vec<String>, outside: &mut Outside<Y>) -> Ending
-    ensures { DoesAsked (outer Y.Places.Places Y.Disk.Disk Y.Disk.closed Y.Sources.after
-        Y.Sources.clock Y.Sources.wakes Y.Input.Read Y.Output.Write Y.Output.brought Y.Errors.Write) (map string_bytes words.items) outside.old outside.new result }
-{
-    match read_words(alloc, words.as_slice()) {
-        Ok(task) => do_task(alloc, task, outside),
-        Err(error) => refuse_words(&error, &mut outside.output, &mut outside.errors),
-    }
-}
-
-/// The program before its output is flushed.
-fn end_by_words<Y: System>(
-    alloc: Global,
-    words: Result<Vec<String>, io::ErrorKind>,
-    outside: &mut Outside<Y>,
-) -> Ending
-    ensures { EndsBy (outer Y.Places.Places Y.Disk.Disk Y.Disk.closed Y.Sources.after
-        Y.Sources.clock Y.Sources.wakes Y.Input.Read Y.Output.Write Y.Output.brought Y.Errors.Write) (λ all. map string_bytes all.items) words outside.old outside.new result }
-{
-    match words {
-        Ok(words) => do_words(alloc, words, outside),
-        Err(kind) => refuse_unread_words(kind, &mut outside.errors),
-    }
-}
-
 /// The end of a program whose output can't be flushed: the fault `Output`, where it has none of its own.
 fn end_unsent<E: Write>(alone: Ending, errors: &mut E) -> Ending
     ensures same { alone.status ≡ 1 → (result ≡ alone) × (errors.new ≡ errors.old) }
@@ -278,17 +198,6 @@ fn end_unsent<E: Write>(alone: Ending, errors: &mut E) -> Ending
     }
 }
 
-/// Flushes what the output keeps back, at the end of the program.
-fn bring_out<Y: System>(outside: &mut Outside<Y>, alone: Ending) -> Ending
-    ensures { BringsOut (outer Y.Places.Places Y.Disk.Disk Y.Disk.closed Y.Sources.after
-        Y.Sources.clock Y.Sources.wakes Y.Input.Read Y.Output.Write Y.Output.brought Y.Errors.Write) outside.old outside.new alone result }
-{
-    match outside.output.bring_out() {
-        Ok(()) => alone,
-        Err(_) => end_unsent(alone, &mut outside.errors),
-    }
-}
-
 /// The whole program: does the task that its words ask for, or tells why there is none, and brings its
 /// output out. The words may be missing for this kind of error.
 pub fn perform<Y: System>(
@@ -299,6 +208,15 @@ pub fn perform<Y: System>(
     ensures { Performs (outer Y.Places.Places Y.Disk.Disk Y.Disk.closed Y.Sources.after
         Y.Sources.clock Y.Sources.wakes Y.Input.Read Y.Output.Write Y.Output.brought Y.Errors.Write) (λ all. map string_bytes all.items) words outside.old outside.new result }
 {
-    let ending = end_by_words(alloc, words, outside);
-    bring_out(outside, ending)
+    let ending = match words {
+        Ok(words) => match read_words(alloc, words.as_slice()) {
+            Ok(task) => do_task(alloc, task, outside),
+            Err(error) => refuse_words(&error, &mut outside.output, &mut outside.errors),
+        },
+        Err(kind) => refuse_unread_words(kind, &mut outside.errors),
+    };
+    match outside.output.bring_out() {
+        Ok(()) => ending,
+        Err(_) => end_unsent(ending, &mut outside.errors),
+    }
 }

@@ -27,22 +27,6 @@ fn export_disk<D: Close, W: Write>(
     answer
 }
 
-/// Writes the worksheet of a disk in a format, where there is one.
-fn export_files<D: Close, W: Write>(
-    alloc: Global,
-    format: Format,
-    files: Result<D, FilesFault>,
-    title: &[u8],
-    output: &mut W,
-) -> Result<(), ExportFault>
-    ensures { Exports (closable D.view D.closed) files format title.now (writing W.contents output.old output.new) result }
-{
-    match files {
-        Err(why) => Err(ExportFault::Run(no_files(why))),
-        Ok(disk) => export_disk(alloc, format, disk, title, output),
-    }
-}
-
 /// Ends the program by what an export answered.
 fn end_export<E: Write>(answer: Result<(), ExportFault>, errors: &mut E) -> Ending
     ensures { (result.status ≡ export_status answer)
@@ -68,6 +52,9 @@ pub fn run_export<D: Close, W: Write, E: Write>(
     ensures { ExportEnds (closable D.view D.closed) files format title.now
         (streams (writing W.contents output.old output.new) (writing E.contents errors.old errors.new)) result }
 {
-    let answer = export_files(alloc, format, files, title, output);
+    let answer = match files {
+        Ok(disk) => export_disk(alloc, format, disk, title, output),
+        Err(why) => Err(ExportFault::Run(no_files(why))),
+    };
     end_export(answer, errors)
 }

@@ -1,7 +1,7 @@
 //! The programs over a worksheet's files, from their files on: how each ends, and what it says on
 //! which stream.
 ghost use Rattle.std.specs.Prelude.{◌≡◌, ◌≤◌, IfErr, IfOk};
-ghost use Rattle.program_endings.specs.Programs.{CreateEnds, EndsUnopened, RunAnswer, RunEnds, ShowAnswer, ShowEnds, ShownOf, TellsMake};
+ghost use Rattle.program_endings.specs.Programs.{CreateEnds, EndsUnopened, RunAnswer, RunEnds, ShowEnds, ShownOf, TellsMake};
 ghost use Rattle.program_endings.specs.Records.{calling, given_disk, streams, writing};
 ghost use Rattle.sheet_files.specs.Closing.{closable};
 
@@ -67,20 +67,6 @@ fn show_disk<D: Close, W: Write>(alloc: Global, disk: D, output: &mut W) -> Resu
     answered(answer)
 }
 
-/// Writes the worksheet of a disk, where there is one.
-fn show_files<D: Close, W: Write>(
-    alloc: Global,
-    files: Result<D, FilesFault>,
-    output: &mut W,
-) -> Result<bool, RunFault>
-    ensures { ShowAnswer (closable D.view D.closed) files (writing W.contents output.old output.new) result }
-{
-    match files {
-        Err(why) => Err(no_files(why)),
-        Ok(disk) => show_disk(alloc, disk, output),
-    }
-}
-
 /// The whole program `show` on its files, or on why they weren't opened: the worksheet goes to
 /// `output`, and the line of a fault to `errors`.
 pub fn run_show<D: Close, W: Write, E: Write>(
@@ -92,7 +78,10 @@ pub fn run_show<D: Close, W: Write, E: Write>(
     ensures { ShowEnds (closable D.view D.closed) files
         (streams (writing W.contents output.old output.new) (writing E.contents errors.old errors.new)) result }
 {
-    let answer = show_files(alloc, files, output);
+    let answer = match files {
+        Ok(disk) => show_disk(alloc, disk, output),
+        Err(why) => Err(no_files(why)),
+    };
     end_program(answer, errors)
 }
 
