@@ -1,5 +1,5 @@
 -- What a run leaves, by what its lines left.
-use Rattle.std.proofs.Common.{◌≡◌, ◌≤◌, ◌<◌, ℕ, List, ◌++◌, Option, refl, sym, ◌∙◌, subst, length, arith}
+use Rattle.std.proofs.Common.{◌≡◌, ◌≤◌, ◌<◌, ℕ, List, ◌++◌, Option, Some, refl, sym, ◌∙◌, subst, length, arith}
 use Rattle.std.proofs.lemmas.Option.{IfSome_then}
 use Rattle.std.specs.Prelude.{IfSome}
 use Rattle.disk_model.specs.Disk.{DiskView, Rises, SameDisk, greatest_count}
@@ -64,8 +64,26 @@ unread_script m stream first last nothing f input.too_long long idle = ends.too_
 unread_script m stream first last nothing f input.no_memory long idle = ends.not_begun idle
 
 -- what is left of a script, for the stream that gives it
-of-stream : (stream : Option (List ℕ)) (script : List ℕ) (P : List ℕ → Type 0) → IfSome stream (λ bytes. script ≡ bytes) → P script → IfSome stream P
+pub of-stream : (stream : Option (List ℕ)) (script : List ℕ) (P : List ℕ → Type 0) → IfSome stream (λ bytes. script ≡ bytes) → P script → IfSome stream P
 of-stream stream script P is p = IfSome_then stream is (λ bytes e. subst P e p)
+
+-- What a run of a script tells, for the stream that gives it.
+pub tells_of_stream : {C : Type 0} (m : Manner C) (stream : Option (List ℕ)) (script : List ℕ) (first last : Outside C) (nothing : Type 0) (f : RunFault)
+    → IfSome stream (λ bytes. script ≡ bytes) → TellsRun m (Some script) first last nothing f → TellsRun m stream first last nothing f
+tells_of_stream m stream script first last nothing f is (ends.unread idle) = ends.unread idle
+tells_of_stream m stream script first last nothing f is (ends.too_long idle long) = ends.too_long idle (of-stream stream script (λ s. longest_standard_input < length s) is long)
+tells_of_stream m stream script first last nothing f is (ends.unopened why idle tells) = ends.unopened why idle tells
+tells_of_stream m stream script first last nothing f is (ends.stopped why it) =
+    ends.stopped why (of-stream stream script (λ s. (q : RunStopped m.after s first last why) × RightIf m.strict q.lines.before.ran) is it)
+tells_of_stream m stream script first last nothing f is (ends.broke it) =
+    ends.broke (of-stream stream script (λ s. (q : RunBroke m.after s first last) × RightIf m.strict q.before.ran × LastIf m.strict q.broke.untold) is it)
+tells_of_stream m stream script first last nothing f is (ends.not_begun idle) = ends.not_begun idle
+tells_of_stream m stream script first last nothing f is (ends.refused it) =
+    ends.refused (of-stream stream script (λ s. (q : RunSoFar m.after s first last) × RightIf m.strict q.lines.before.ran) is it)
+tells_of_stream m stream script first last nothing f is (ends.unwritten it) =
+    ends.unwritten (of-stream stream script (λ s. (length s ≤ longest_standard_input) × (q : RunLed m.after s first last) × RightIf m.strict q.lines.before.ran) is it)
+tells_of_stream m stream script first last nothing f is (ends.group_unwritten it) =
+    ends.group_unwritten (of-stream stream script (λ s. (length s ≤ longest_standard_input) × (q : RunUnwritten m.after s first last) × RightIf m.strict q.before.ran × GroupBy m.strict q.beats) is it)
 
 module _ {C : Type 0} (m : Manner C) (stream : Option (List ℕ)) (disk now : DiskView) (c d : C) (a b : Option (List ℕ)) (script : List ℕ) (start : World) (h : HostView)
     (is : IfSome stream (λ bytes. script ≡ bytes)) (opened : OpenedOn disk start now) (held : HoldsSheet start now) (back : DiskView) (same : back ≡ h.store.disk) where

@@ -8,6 +8,6 @@ mod taking;
 mod together;
 
 pub use groups::play_edits;
-pub use running::{Ran, run, run_strict};
+pub use running::{Ran, run, run_read};
 pub use taking::{run_command, run_fault, run_line};
 pub use together::add_edit;

@@ -1,5 +1,5 @@
 //! A script over a worksheet on a disk, with interpreters.
-ghost use Rattle.std.specs.Prelude.{◌≡◌, ◌<◌, ◌≤◌, ◌^◌, IfErr, IfOk, IfSome, IsErrOf, OnOk, false, length, true};
+ghost use Rattle.std.specs.Prelude.{◌≡◌, ◌<◌, ◌≤◌, ◌^◌, IfErr, IfOk, IfSome, IsErrOf, OnOk, Some, false, length};
 ghost use Rattle.disk_model.specs.Disk.{Rises, SameDisk};
 ghost use Rattle.session_engine.specs.World.{World};
 ghost use Rattle.session_engine.specs.Host.{IsHost};
@@ -56,41 +56,36 @@ fn run_on_host<D: Disk, C: Children, W: Write>(
     done
 }
 
-/// Runs a script, strictly or not.
-fn run_script<R: Read, W: Write, D: Disk, C: Children>(
+/// Runs a script that was read, strictly or not: as `run` does, or up to the first line that goes wrong, which is
+/// one that isn't known, one that is refused, or one by which lines or requests were lost, since an interpreter
+/// ended. No line after that is taken; what it gives is written, and what was reported is on the disk.
+///
+/// Faults are those of `run`, but that there is none of its reader.
+pub fn run_read<W: Write, D: Disk, C: Children>(
     alloc: Global,
-    reader: &mut R,
+    script: &[u8],
+    strict: bool,
     writer: &mut W,
     disk: D,
     children: &mut C,
-    strict: bool,
 ) -> Ran<D>
-    ensures ran { IfOk result.answer (λ stopped. IfSome (R.remaining reader.old) (λ script.
-        RunDone (manner C.after strict) script stopped
+    requires { length script.now ≤ longest_standard_input }
+    ensures ran { IfOk result.answer (λ stopped. RunDone (manner C.after strict) script.now stopped
         (outside (D.view disk) children.old (W.contents writer.old))
-        (outside (D.view result.disk) children.new (W.contents writer.new)))) }
+        (outside (D.view result.disk) children.new (W.contents writer.new))) }
     ensures same { SameDisk (D.view disk) (D.view result.disk) }
-    ensures short { OnOk result.answer (IfSome (R.remaining reader.old)
-        (λ script. length script ≤ longest_standard_input)) }
-    ensures fault { IfErr result.answer (TellsRun (manner C.after strict) (R.remaining reader.old)
+    ensures fault { IfErr result.answer (TellsRun (manner C.after strict) (Some script.now)
         (outside (D.view disk) children.old (W.contents writer.old))
         (outside (D.view result.disk) children.new (W.contents writer.new))
         (((writer.new ≡ writer.old) × (children.new ≡ children.old))
         × Untouched (D.view disk) (D.view result.disk))) }
+
+    // That the disk failed, at the opening or later, is reported only where it did.
     ensures unopened { IsErrOf result.answer (told.Open opens.Disk)
         → Rises (D.view disk).faults (D.view result.disk).faults }
     ensures failed { IsErrOf result.answer (told.Host hosts.Disk)
         → Rises (D.view disk).faults (D.view result.disk).faults }
 {
-    let script = match read_input(alloc, reader) {
-        Ok(script) => script,
-        Err(fault) => {
-            return Ran {
-                disk,
-                answer: Err(fault),
-            };
-        }
-    };
     let mut host = match Host::open(alloc, disk) {
         Ok(host) => host,
         Err(OpenFault { cause, disk }) => {
@@ -100,14 +95,7 @@ fn run_script<R: Read, W: Write, D: Disk, C: Children>(
             };
         }
     };
-    let answer = run_on_host(
-        alloc,
-        &mut host,
-        children,
-        script.as_slice(),
-        strict,
-        writer,
-    );
+    let answer = run_on_host(alloc, &mut host, children, script, strict, writer);
     Ran {
         disk: host.close(),
         answer,
@@ -159,37 +147,11 @@ pub fn run<R: Read, W: Write, D: Disk, C: Children>(
     ensures failed { IsErrOf result.answer (told.Host hosts.Disk)
         → Rises (D.view disk).faults (D.view result.disk).faults }
 {
-    run_script(alloc, reader, writer, disk, children, false)
-}
-
-/// Runs a script as `run` does, and stops after the first line that goes wrong: one that isn't known, one that
-/// is refused, and one by which lines or requests were lost, since an interpreter ended. No line after it is
-/// taken. What that line gives is written, and what was reported is on the disk.
-///
-/// Faults are those of `run`.
-pub fn run_strict<R: Read, W: Write, D: Disk, C: Children>(
-    alloc: Global,
-    reader: &mut R,
-    writer: &mut W,
-    disk: D,
-    children: &mut C,
-) -> Ran<D>
-    ensures ran { IfOk result.answer (λ stopped. IfSome (R.remaining reader.old) (λ script.
-        RunDone (manner C.after true) script stopped
-        (outside (D.view disk) children.old (W.contents writer.old))
-        (outside (D.view result.disk) children.new (W.contents writer.new)))) }
-    ensures same { SameDisk (D.view disk) (D.view result.disk) }
-    ensures short { OnOk result.answer (IfSome (R.remaining reader.old)
-        (λ script. length script ≤ longest_standard_input)) }
-    ensures fault { IfErr result.answer (TellsRun (manner C.after true) (R.remaining reader.old)
-        (outside (D.view disk) children.old (W.contents writer.old))
-        (outside (D.view result.disk) children.new (W.contents writer.new))
-        (((writer.new ≡ writer.old) × (children.new ≡ children.old))
-        × Untouched (D.view disk) (D.view result.disk))) }
-    ensures unopened { IsErrOf result.answer (told.Open opens.Disk)
-        → Rises (D.view disk).faults (D.view result.disk).faults }
-    ensures failed { IsErrOf result.answer (told.Host hosts.Disk)
-        → Rises (D.view disk).faults (D.view result.disk).faults }
-{
-    run_script(alloc, reader, writer, disk, children, true)
+    match read_input(alloc, reader) {
+        Ok(script) => run_read(alloc, script.as_slice(), false, writer, disk, children),
+        Err(fault) => Ran {
+            disk,
+            answer: Err(fault),
+        },
+    }
 }
