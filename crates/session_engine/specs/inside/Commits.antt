@@ -171,10 +171,16 @@ abbrev pub begun_with_words : ℕ → Option (List (List ℕ)) → ℕ
 begun_with_words begun (Some words) = begun + 1
 begun_with_words begun None = begun
 
--- the line of a field is asked and its Clear is given, or neither for lack of memory
-abbrev pub Evaluated : {D : Type 0} → World → List ℕ → ℕ → Item → Engine D → Engine D → Outcome → Type 0
-Evaluated w name id line old new o =
-    ((o ≡ asks w name line (life_of w name)) × StandsAt new (with_op (op.Clear id) (with_item w name line (life_of w name))))
+-- the line of a field that is to be asked, and its session
+pub record LineOf : Type 0 where
+  pub session : List ℕ
+  pub id : ℕ
+  pub line : Item
+
+-- it is asked and its field's Clear is given, or neither for lack of memory
+abbrev pub Evaluated : {D : Type 0} → World → LineOf → Engine D → Engine D → Outcome → Type 0
+Evaluated w it old new o =
+    ((o ≡ asks w it.session it.line (life_of w it.session)) × StandsAt new (with_op (op.Clear it.id) (with_item w it.session it.line (life_of w it.session))))
     ⊎ ((o ≡ refused refusal.OutOfMemory) × StandsAt new w × (new.store.disk ≡ old.store.disk))
 
 -- What this command asks completions with: the name of the session, and the request. No refusal applies.
