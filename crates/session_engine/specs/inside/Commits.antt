@@ -76,14 +76,11 @@ abbrev pub IsEitherIf : List Op → Option Op → Image → Type 0
 IsEitherIf ops None i = IsSheetImage (sheet_of ops) i
 IsEitherIf ops (Some o) i = IsEither ops o i
 
-abbrev pub NotKept : StoreView → Option Op → StoreView → HostFault → Type 0
-NotKept old None new faults.Disk = ⊥
-NotKept old (Some o) new faults.Disk = (new.sheet.contents ≡ old.sheet.contents) × Rises old.disk.faults new.disk.faults
-NotKept old None new faults.OutOfMemory = ⊥
-NotKept old (Some o) new faults.OutOfMemory = SameStore old new
-NotKept old None new faults.JournalFull = ⊥
-NotKept old (Some o) new faults.JournalFull = SameStore old new × (fits_in old.disk.room old.end o ≡ false)
-NotKept old o new faults.Closed = ⊥
+-- why an op that was to be kept isn't
+pub data NotKept (old new : StoreView) : Option Op → HostFault → Type 0 where
+  unkept_on_disk : (o : Op) → new.sheet.contents ≡ old.sheet.contents → Rises old.disk.faults new.disk.faults → NotKept old new (Some o) faults.Disk
+  unkept_in_memory : (o : Op) → SameStore old new → NotKept old new (Some o) faults.OutOfMemory
+  unkept_in_room : (o : Op) → SameStore old new → fits_in old.disk.room old.end o ≡ false → NotKept old new (Some o) faults.JournalFull
 
 -- Lines that are lost.
 
@@ -101,10 +98,10 @@ abbrev pub LosesField : Contents → Option Ended → Type 0
 LosesField sheet None = Unit {0}
 LosesField sheet (Some e) = HasFieldIf sheet (first_line_of e.lost)
 
-abbrev pub NotLost : StoreView → Option Op → StoreView → LoseFault → Type 0
-NotLost old None new fault = ⊥
-NotLost old (Some o) new loses.OutOfMemory = SameStore old new
-NotLost old (Some o) new loses.Disk = (new.sheet.contents ≡ old.sheet.contents) × Rises old.disk.faults new.disk.faults
+-- why the reason of a line isn't kept that was to be
+pub data NotLost (old new : StoreView) : Option Op → LoseFault → Type 0 where
+  unlost_in_memory : (o : Op) → SameStore old new → NotLost old new (Some o) loses.OutOfMemory
+  unlost_on_disk : (o : Op) → new.sheet.contents ≡ old.sheet.contents → Rises old.disk.faults new.disk.faults → NotLost old new (Some o) loses.Disk
 
 -- the op of the answer to a line
 abbrev pub answer_op : Option Answered → Option Op
