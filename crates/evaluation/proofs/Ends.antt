@@ -4,6 +4,7 @@ use Rattle.std.proofs.KnownBytes.{Appends-trans}
 use Rattle.std.specs.Io.KnownBytes.{Appends}
 use Rattle.std.specs.Prelude.{true}
 use Rattle.disk_model.specs.Disk.{DiskView, Rises, SameDisk, greatest_count}
+use Rattle.journal.specs.declared.opening.OpenCause.{OpenCause}
 use Rattle.host_events.specs.declared.command.Command.TheVariants as command
 use Rattle.host_events.specs.declared.event.Event.{Event}
 use Rattle.host_events.specs.declared.event.Event.TheVariants as event
@@ -22,7 +23,7 @@ use Rattle.offline_programs.specs.declared.fault.RunFault.TheVariants as fault
 use Rattle.tellings.specs.Voice.{IsUntold}
 use Rattle.tellings.specs.declared.note.Counts.{Counts}
 use Rattle.tellings.specs.declared.note.Note.TheVariants as note
-use Rattle.live.specs.Records.{brought, left, outside}
+use Rattle.live.specs.Records.{Left, brought, left, outside}
 use Rattle.live.proofs.Ends.{stalled-goes, turn-stopped-goes}
 use Rattle.evaluation.specs.declared.plan.Stand.{Stand}
 use Rattle.evaluation.specs.Meant.{evaluation_counts, stop_line}
@@ -30,6 +31,7 @@ use Rattle.evaluation.specs.Steps.{Setting, EvalPlace, Step, ask, heard, over, s
 use Rattle.evaluation.specs.Broken.{Cut, StepLed, StepSoFar, StepUpTo, TooMany, Unwatched}
 use Rattle.evaluation.specs.Broken as broken
 use Rattle.evaluation.specs.Evaluation.{EvaluationDone, LedOf, Short, SoFarOf, TellsEvaluation, Uncounted, OpenedFor, not_begun, meaning}
+use Rattle.evaluation.specs.inside.Stepping as inside
 use Rattle.evaluation.specs.inside.Stepping.{BrokeOff, CameSoFar, CameUnwritten, Through, ThroughAnd}
 
 -- The stops.
@@ -48,14 +50,13 @@ module _ {C : Type 0} (o : Setting C) (p : EvalPlace C) (h : HostView) (c d : C)
   unwritten t = (t.0, t.1, t.2, t.3, t.4, subst (λ x. Stops o.after (running t.2.world) x d) (sym t.5) (stops_behind o.after h c d t.2.world t.2.disk stops t.4))
 
   pub broke_and : (f : RunFault) → BrokeOff o p (λ t. t.children ≡ c) (left h c a b) f → BrokeOff o p (StoppedBehind o.after d) (left h d a b) f
-  broke_and (fault.Host f) t = (t.0, t.1, t.2, t.3, t.4, t.5, subst (λ x. Stops o.after (running t.3.world) x d) (sym t.6) (stops.1 t.3.world t.2 t.3.disk f t.5), t.7)
-  broke_and fault.OutOfMemory (inl t) = inl (so-far (Short o p) t)
-  broke_and fault.OutOfMemory (inr t) = inr (t.0, unwritten t.1)
-  broke_and fault.Output t = unwritten t
-  broke_and fault.Input t = so-far (Unwatched o p) t
-  broke_and fault.InputTooLong t = so-far (TooMany o p) t
-  broke_and (fault.Open why) t = absurd t
-  broke_and fault.InUse t = absurd t
+  broke_and f (inside.stopped why beats text e t cut stopped same wrote) =
+      inside.stopped why beats text e t cut stopped (subst (λ x. Stops o.after (running t.world) x d) (sym same) (stops.1 t.world e t.disk why stopped)) wrote
+  broke_and f (inside.refused t) = inside.refused (so-far (Short o p) t)
+  broke_and f (inside.untold why t) = inside.untold why (unwritten t)
+  broke_and f (inside.unwritten t) = inside.unwritten (unwritten t)
+  broke_and f (inside.unwatched t) = inside.unwatched (so-far (Unwatched o p) t)
+  broke_and f (inside.too_many t) = inside.too_many (so-far (TooMany o p) t)
 
 -- The timeline.
 
@@ -141,29 +142,27 @@ module _ {C : Type 0} (o : Setting C) (disk now : DiskView) (c d : C) (a b : Opt
   }
 
   pub evaluation_failed : (back : DiskView) → back ≡ h.store.disk → (nothing : Type 0) (f : RunFault) → BrokeOff (meaning o start) (stands (at start c now) not_begun) (StoppedBehind o.after d) (left h d a b) f → TellsEvaluation o (outside disk c a) (outside back d b) nothing f
-  evaluation_failed back same nothing fault.Input t = so-far-of back same Unwatched (λ beats text x q. unwatched-goes (meaning o start) (stands (at start c now) not_begun) beats text x q) t
-  evaluation_failed back same nothing fault.InputTooLong t = so-far-of back same TooMany (λ beats text x q. too-many-goes (meaning o start) (stands (at start c now) not_begun) beats text x q) t
-  evaluation_failed back same nothing (fault.Open why) t = absurd t
-  evaluation_failed back same nothing fault.InUse t = absurd t
-  evaluation_failed back same nothing (fault.Host f) t = record {
+  evaluation_failed back same nothing f (inside.unwatched t) = so-far-of back same Unwatched (λ beats text x q. unwatched-goes (meaning o start) (stands (at start c now) not_begun) beats text x q) t
+  evaluation_failed back same nothing f (inside.too_many t) = so-far-of back same TooMany (λ beats text x q. too-many-goes (meaning o start) (stands (at start c now) not_begun) beats text x q) t
+  evaluation_failed back same nothing f (inside.stopped why beats text e t cut stopped stops wrote) = record {
     start = start;
     now = now;
     opened = opened;
-    beats = t.0;
-    text = t.1;
-    failed = t.2;
-    leads = t.3;
-    cut = t.4;
+    beats = beats;
+    text = text;
+    failed = e;
+    leads = t;
+    cut = cut;
     host = h;
     back_is = same;
-    stopped = t.5;
-    moments = goes_up_to start now t.0 t.3.world t.3.disk t.2 f h held (cut-goes (meaning o start) (stands (at start c now) not_begun) (StepUpTo (meaning o start) t.2) t.0 t.1 t.3 (λ r s l x. step-up-to-goes (meaning o start) t.2 r s l t.3 x) t.4) t.5;
-    stops = t.6;
-    wrote = t.7;
+    stopped = stopped;
+    moments = goes_up_to start now beats t.world t.disk e why h held (cut-goes (meaning o start) (stands (at start c now) not_begun) (StepUpTo (meaning o start) e) beats text t (λ r s l x. step-up-to-goes (meaning o start) e r s l t x) cut) stopped;
+    stops = stops;
+    wrote = wrote;
   }
-  evaluation_failed back same nothing fault.OutOfMemory (inl t) = inr (inl (so-far-of back same Short (λ beats text x q. short-goes (meaning o start) (stands (at start c now) not_begun) beats text x q) t))
-  evaluation_failed back same nothing fault.OutOfMemory (inr t) = inr (inr (t.0, inl (led-of back same t.1)))
-  evaluation_failed back same nothing fault.Output t = inl (led-of back same t)
+  evaluation_failed back same nothing f (inside.refused t) = inr (inl (so-far-of back same Short (λ beats text x q. short-goes (meaning o start) (stands (at start c now) not_begun) beats text x q) t))
+  evaluation_failed back same nothing f (inside.untold why t) = inr (inr (why, inl (led-of back same t)))
+  evaluation_failed back same nothing f (inside.unwritten t) = inl (led-of back same t)
 
   module _ (stand : Stand) (t : ThroughAnd (meaning o start) (stands (at start c now) not_begun) (StoppedBehind o.after d) (left h d a b) stand) where
     pub evaluation_done : (e : Option (List ℕ)) (back : DiskView) (stopped : Option ℕ) (counts : Counts) → back ≡ h.store.disk → stopped ≡ stop_line o.plan.strict (sheet_in t.3.world).fields stand
@@ -221,6 +220,13 @@ module _ {C : Type 0} (o : Setting C) (disk now : DiskView) (c d : C) (a b : Opt
 pub evaluation_failed_since : {C : Type 0} (o : Setting C) (disk now : DiskView) (start : World) (c d : C) (h : HostView) (a b : Option (List ℕ)) (f : RunFault)
     → SameDisk disk now → BrokeOff o (stands (at start c now) not_begun) (StoppedBehind o.after d) (left h d a b) f → f ≡ fault.Host hosts.Disk → Rises disk.faults h.store.disk.faults
 evaluation_failed_since o disk now start c d h a b f same p e =
-    let q = subst (λ x. BrokeOff o (stands (at start c now) not_begun) (StoppedBehind o.after d) (left h d a b) x) e p in
-    let goes = goes_same start now q.0 q.3.world q.3.disk (cut-goes o (stands (at start c now) not_begun) (StepUpTo o q.2) q.0 q.1 q.3 (λ r s l x. step-up-to-goes o q.2 r s l q.3 x) q.4) in
-    min_since greatest_count disk.faults q.3.disk.faults h.store.disk.faults (omega (arith, same.later, goes.later)) q.5.cause.0
+    go (subst (λ x. BrokeOff o (stands (at start c now) not_begun) (StoppedBehind o.after d) (left h d a b) x) e p)
+  where
+    go : BrokeOff o (stands (at start c now) not_begun) (StoppedBehind o.after d) (left h d a b) (fault.Host hosts.Disk) → Rises disk.faults h.store.disk.faults
+    go (inside.stopped why beats text failed t cut stopped stops wrote) =
+        let goes = goes_same start now beats t.world t.disk (cut-goes o (stands (at start c now) not_begun) (StepUpTo o failed) beats text t (λ r s l x. step-up-to-goes o failed r s l t x) cut) in
+        min_since greatest_count disk.faults t.disk.faults h.store.disk.faults (omega (arith, same.later, goes.later)) stopped.cause.0
+
+-- One that broke off had been opened.
+pub broke_opened : {C : Type 0} (o : Setting C) (p : EvalPlace C) (Behind : At C → Type 0) (leaves : Left C) (why : OpenCause) → BrokeOff o p Behind leaves (fault.Open why) → ⊥
+broke_opened o p Behind leaves why t = elim t [ ]

@@ -1,5 +1,5 @@
 -- Steps, one after the other.
-use Rattle.std.proofs.Common.{◌≡◌, ◌+◌, ◌≤◌, ◌^◌, inl, inr, ℕ, length, arith, List, [], ◌∷◌, ◌++◌, Option, Some, None, refl, ap, sym, ◌∙◌, subst, append_assoc, append-nil}
+use Rattle.std.proofs.Common.{◌≡◌, ◌+◌, ◌≤◌, ◌^◌, ℕ, length, arith, List, [], ◌∷◌, ◌++◌, Option, Some, None, refl, ap, sym, ◌∙◌, subst, append_assoc, append-nil}
 use Rattle.std.proofs.KnownBytes.{Appends-nil, Appends-trans}
 use Rattle.std.specs.Io.KnownBytes.{Appends}
 use Rattle.session_engine.specs.World.{World, sheet_in}
@@ -11,6 +11,7 @@ use Rattle.live.specs.Records.{left}
 use Rattle.evaluation.specs.declared.plan.Stand.{Stand}
 use Rattle.evaluation.specs.Steps.{Setting, EvalPlace, Step, StepComes, TakesStep, StepsTaken, stands, step_text, woken_in}
 use Rattle.evaluation.specs.Broken.{Cut, StepLed, StepSoFar, StepUpTo}
+use Rattle.evaluation.specs.inside.Stepping as inside
 use Rattle.evaluation.specs.inside.Stepping.{BrokeOff, StepFailed, StepGave, TakingFailed, Through, TookUnwritten, CameUnwritten}
 
 pub evaluated-more : {C : Type 0} (o : Setting C) (p : EvalPlace C) (steps : List Step) (beats : List Beat) (text : List ℕ) (mid : EvalPlace C) (s : Step) (c : C) (more : List Beat) (last : List ℕ) (q : EvalPlace C)
@@ -107,46 +108,35 @@ module _ {C : Type 0} (o : Setting C) (p : EvalPlace C) (stand : Stand) (h g : H
       (so.beats ++ q.0, so.text ++ step_text o.voice s (sheet_in q.1) q.0, at q.1 d q.2, cut (StepLed o) s x q.0 (at q.1 d q.2) comes q.3, q.4, refl)
 
   pub broke_off : (f : RunFault) → StepFailed o (stands (at so.leads c h.store.disk) stand) (left g d b e) f → BrokeOff o p (λ t. t.children ≡ d) (left g d a e) f
-  broke_off (fault.Host f) t = let q = t.3 in (
-    so.beats ++ q.0,
-    so.text ++ step_text o.voice t.0 (sheet_in q.2) q.0,
-    q.1,
-    at q.2 d q.3,
-    cut (StepUpTo o q.1) t.0 t.1 q.0 (at q.2 d q.3) t.2 q.4,
-    q.5,
-    refl,
-    Appends-trans a b e so.text (step_text o.voice t.0 (sheet_in q.2) q.0) so.wrote q.6,
-  )
-  broke_off fault.OutOfMemory t = go t.3
+  broke_off f (inside.taking s x comes failed) = go f failed
     where
-      go : TakingFailed o (woken_in (stands (at so.leads c h.store.disk) stand) t.1) t.0 (left g d b e) fault.OutOfMemory → BrokeOff o p (λ t. t.children ≡ d) (left g d a e) fault.OutOfMemory
-      go (inl q) = inl (
-        so.beats ++ q.0,
-        so.text ++ step_text o.voice t.0 (sheet_in q.1) q.0,
-        at q.1 d g.store.disk,
-        cut (StepSoFar o) t.0 t.1 q.0 (at q.1 d g.store.disk) t.2 q.2,
-        q.3,
+      go : (f : RunFault) → TakingFailed o (woken_in (stands (at so.leads c h.store.disk) stand) x) s (left g d b e) f → BrokeOff o p (λ t. t.children ≡ d) (left g d a e) f
+      go f (inside.stopped why beats event w y broke stopped wrote) = inside.stopped why (so.beats ++ beats) (so.text ++ step_text o.voice s (sheet_in w) beats) event (at w d y)
+          (cut (StepUpTo o event) s x beats (at w d y) comes broke) stopped refl (Appends-trans a b e so.text (step_text o.voice s (sheet_in w) beats) so.wrote wrote)
+      go f (inside.refused beats w broke is wrote) = inside.refused (
+        so.beats ++ beats,
+        so.text ++ step_text o.voice s (sheet_in w) beats,
+        at w d g.store.disk,
+        cut (StepSoFar o) s x beats (at w d g.store.disk) comes broke,
+        is,
         refl,
         refl,
-        Appends-trans a b e so.text (step_text o.voice t.0 (sheet_in q.1) q.0) so.wrote q.4,
+        Appends-trans a b e so.text (step_text o.voice s (sheet_in w) beats) so.wrote wrote,
       )
-      go (inr q) = inr (q.0, unwritten t.0 t.1 t.2 q.1)
-  broke_off fault.Output t = unwritten t.0 t.1 t.2 t.3
-  broke_off fault.Input t = (
+      go f (inside.untold why q) = inside.untold why (unwritten s x comes q)
+      go f (inside.unwritten q) = inside.unwritten (unwritten s x comes q)
+  broke_off f (inside.unwatched is rests watched) = subst (BrokeOff o p (λ t. t.children ≡ d) (left g d a e)) (sym is) (inside.unwatched (
     so.beats,
     so.text,
     at so.leads d h.store.disk,
-    (so.steps, stands (at so.leads c h.store.disk) stand, so.evaluated, t.1, refl),
-    t.0.1,
-    sym t.0.0,
+    (so.steps, stands (at so.leads c h.store.disk) stand, so.evaluated, watched, refl),
+    rests.1,
+    sym rests.0,
     refl,
-    subst (Appends a e) (append-nil so.text) (Appends-trans a b e so.text [] so.wrote t.0.2),
-  )
-  broke_off fault.InputTooLong t = absurd t
-  broke_off (fault.Open why) t = absurd t
-  broke_off fault.InUse t = absurd t
+    subst (Appends a e) (append-nil so.text) (Appends-trans a b e so.text [] so.wrote rests.2),
+  ))
 
 -- as many came as are counted
 pub too_many : {C : Type 0} (o : Setting C) (p : EvalPlace C) (stand : Stand) (h : HostView) (c : C) (a b : Option (List ℕ)) (n : ℕ) (so : SoFar o p stand h c a b n) → 2 ^ 64 ≤ n + 1 → BrokeOff o p (λ t. t.children ≡ c) (left h c a b) fault.InputTooLong
-too_many o p stand h c a b n so many =
+too_many o p stand h c a b n so many = inside.too_many
     (so.beats, so.text, at so.leads c h.store.disk, (so.steps, stands (at so.leads c h.store.disk) stand, so.evaluated, omega (arith, so.counted, many), refl), so.stands, refl, refl, so.wrote)

@@ -29,26 +29,9 @@ run_or other (evals.Run why) = why
 pub same_run : (f g : RunFault) → evals.Run f ≡ evals.Run g → f ≡ g
 same_run f g e = ap (run_or f) e
 
-abbrev IsMemory : RunFault → Type 0
-IsMemory fault.OutOfMemory = Unit {0}
-IsMemory fault.Input = ⊥
-IsMemory fault.InputTooLong = ⊥
-IsMemory fault.Output = ⊥
-IsMemory (fault.Host f) = ⊥
-IsMemory (fault.Open f) = ⊥
-IsMemory fault.InUse = ⊥
-
-abbrev IsVain : EvalFault → Type 0
-IsVain (evals.NoField id) = Unit {0}
-IsVain (evals.Run why) = IsMemory why
-
-is-vain : (which : Which) (fields : List Field) (why : EvalFault) → AsksInVain which fields why → IsVain why
-is-vain which fields (evals.NoField id) is = tt
-is-vain which fields (evals.Run why) is = subst IsMemory (sym is) tt
-
 -- so no disk failed
 pub not_opened : {X : Type 0} (which : Which) (fields : List Field) (why : EvalFault) (cause : OpenCause) → AsksInVain which fields why → why ≡ evals.Run (fault.Open cause) → X
-not_opened which fields why cause is e = absurd (subst IsVain e (is-vain which fields why is))
+not_opened which fields why cause is e = let no : fault.Open cause ≡ fault.OutOfMemory = subst (AsksInVain which fields) e is in cc
 
 pub not_host : {X : Type 0} (which : Which) (fields : List Field) (why : EvalFault) (f : HostFault) → AsksInVain which fields why → why ≡ evals.Run (fault.Host f) → X
-not_host which fields why f is e = absurd (subst IsVain e (is-vain which fields why is))
+not_host which fields why f is e = let no : fault.Host f ≡ fault.OutOfMemory = subst (AsksInVain which fields) e is in cc

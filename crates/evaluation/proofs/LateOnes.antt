@@ -21,6 +21,7 @@ use Rattle.evaluation.specs.Silently as silently
 use Rattle.evaluation.specs.Silently.{BrokeSilently, EvaluatedSilently, late_in, late_of, silent_setting}
 use Rattle.evaluation.specs.Within.{silent}
 use Rattle.evaluation.specs.inside.LateFields.{IsLastTaken, NotNoted, NotedThrough, NotingBroke, late_between, late_if, listed}
+use Rattle.evaluation.specs.inside.Stepping as inside
 use Rattle.evaluation.specs.inside.Stepping.{BrokeOff, CameSoFar, CameUnwritten, StepFailed, StepGave, fault_of_wait}
 use Rattle.evaluation.proofs.Goings.{SoFar, all_taken, broke_off, one_taken, too_many}
 
@@ -150,14 +151,12 @@ module _ {C : Type 0} (o : Setting C) (s : At C) (h : HostView) (c : C) (a b : O
   unwritten q = (q.2, q.5, silently.no_memory refl (silently.within q.0 q.1 q.3) q.4)
 
   broke : (f : RunFault) → BrokeOff o (stands s not_begun) (λ t. t.children ≡ c) (left h c a b) f → BrokeSilently o s h c (fault_of_wait f)
-  broke (fault.Host f) q = (q.3, q.6, silently.of_host f q.2 q.0 q.1 refl q.4 q.5)
-  broke fault.OutOfMemory (inl q) = short q
-  broke fault.OutOfMemory (inr q) = unwritten q.1
-  broke fault.Output q = unwritten q
-  broke fault.Input q = (q.2, q.6, silently.unwatched q.0 q.1 refl q.3 q.4 q.5)
-  broke fault.InputTooLong q = (q.2, q.6, silently.too_long q.0 q.1 refl q.3 q.4 q.5)
-  broke (fault.Open why) q = absurd q
-  broke fault.InUse q = absurd q
+  broke f (inside.stopped why beats text e t cut stopped same wrote) = (t, same, silently.of_host why e beats text refl cut stopped)
+  broke f (inside.refused q) = short q
+  broke f (inside.untold why q) = unwritten q
+  broke f (inside.unwritten q) = unwritten q
+  broke f (inside.unwatched q) = (q.2, q.6, silently.unwatched q.0 q.1 refl q.3 q.4 q.5)
+  broke f (inside.too_many q) = (q.2, q.6, silently.too_long q.0 q.1 refl q.3 q.4 q.5)
 
   no-number : NotNoted o (stands s not_begun) h c → BrokeSilently o s h c fault.OutOfMemory
   no-number q = (at q.3 c h.store.disk, refl, silently.no_memory refl (silently.between q.0 q.1 q.2 q.4 q.5) (inl (q.6, refl)))

@@ -1,5 +1,5 @@
 -- What came of a step.
-use Rattle.std.proofs.Common.{◌≡◌, ◌+◌, inl, inr, ℕ, true, false, List, [], Option, Some, None, refl, sym, subst}
+use Rattle.std.proofs.Common.{◌≡◌, ◌+◌, inl, ℕ, true, false, List, [], Option, Some, None, refl, sym, subst}
 use Rattle.host_events.specs.declared.command.Command.TheVariants as command
 use Rattle.host_events.specs.declared.event.Event.{Event}
 use Rattle.host_events.specs.declared.event.Event.TheVariants as event
@@ -27,16 +27,17 @@ use Rattle.live.specs.Taking as lives
 use Rattle.live.proofs.Coming.{comes_by, told_life}
 use Rattle.evaluation.specs.declared.plan.Stand.{Stand}
 use Rattle.evaluation.specs.Meant.{IsAsked, line_behind}
-use Rattle.evaluation.specs.Steps.{Setting, EvalPlace, Step, ask, heard, over, stalled, LimitBegins, StepComes, WatchesAt, asked_at, edge_of, fields_at, held_at, watches_of, woken_in}
-use Rattle.evaluation.specs.Broken.{StepLed, StepSoFar, StepUpTo}
+use Rattle.evaluation.specs.Steps.{Setting, EvalPlace, Step, ask, heard, stalled, LimitBegins, StepComes, WatchesAt, asked_at, edge_of, fields_at, held_at, watches_of, woken_in}
+use Rattle.evaluation.specs.Broken.{StepLed}
 use Rattle.evaluation.specs.Broken as broken
+use Rattle.evaluation.specs.inside.Stepping as steps
 use Rattle.evaluation.specs.inside.Stepping.{IsOf, IsTimeOf, StepFailed, StepTook, TakingFailed, Took, TookUnwritten, TurnFailed, Turned}
 
 module _ {C : Type 0} (o : Setting C) (p : EvalPlace C) (h : HostView) (c : C) (a b : Option (List ℕ)) where
   -- what came of a step and couldn't be written
   pub took_untold : (s : Step) (f : RunFault) → IsUntold o.voice f → TookUnwritten o p s (left h c a b) → TakingFailed o p s (left h c a b) f
-  took_untold s fault.Output why q = q
-  took_untold s fault.OutOfMemory why q = inr (why, q)
+  took_untold s fault.Output why q = steps.unwritten q
+  took_untold s fault.OutOfMemory why q = steps.untold why q
   took_untold s fault.Input why q = absurd why
   took_untold s fault.InputTooLong why q = absurd why
   took_untold s (fault.Open y) why q = absurd why
@@ -58,10 +59,10 @@ module _ {C : Type 0} (o : Setting C) (p : EvalPlace C) (h : HostView) (c : C) (
   life-unwritten seat q = let led = led-life seat (at q.0 c q.1) q.2 in (led.0, q.0, q.1, led.1, q.3)
 
   pub life_failed : (seat : Seat) (f : RunFault) → HearingFailed (edge_of o) seat p.run (left h c a b) f → TakingFailed o p (heard seat) (left h c a b) f
-  life_failed seat f (lives.stopped why beats e t x q stopped wrote) = (beats, e, t, x, q, stopped, wrote)
-  life_failed seat f (lives.refused t q stands wrote) = inl ([], t, (refl, q), stands, wrote)
-  life_failed seat f (lives.untold why q) = inr (why, life-unwritten seat q)
-  life_failed seat f (lives.unwritten q) = life-unwritten seat q
+  life_failed seat f (lives.stopped why beats e t x q stopped wrote) = steps.stopped why beats e t x q stopped wrote
+  life_failed seat f (lives.refused t q stands wrote) = steps.refused [] t (refl, q) stands wrote
+  life_failed seat f (lives.untold why q) = steps.untold why (life-unwritten seat q)
+  life_failed seat f (lives.unwritten q) = steps.unwritten (life-unwritten seat q)
 
   pub life_took : (seat : Seat) (held : Hold) (stand : Stand) (q : Heard (edge_of o) seat p.run (left h c a b)) → WaitGoesOn p.stand.held q.1 held → stand ≡ held_at p.stand held → Took o p (heard seat) (left h c a b) stand
   life_took seat held stand q on is = (q.0, came_text o.voice (sheet_in q.1) (told q.0), q.1, ((q.2, refl), (held, on, is)), q.3, q.4)
@@ -80,10 +81,10 @@ module _ {C : Type 0} (o : Setting C) (p : EvalPlace C) (h : HostView) (c : C) (
   grace-unwritten q = let led = led-grace (at q.0 c q.1) q.2 in (led.0, q.0, q.1, led.1, q.3)
 
   pub grace_failed : (f : RunFault) → StallingFailed (edge_of o) (waits p.run.world) p.run (left h c a b) f → TakingFailed o p stalled (left h c a b) f
-  grace_failed f (lives.stopped why beats e t x q stopped wrote) = (beats, e, t, x, q, stopped, wrote)
-  grace_failed f (lives.refused beats t q stands wrote) = inl (beats, t, q, stands, wrote)
-  grace_failed f (lives.untold why q) = inr (why, grace-unwritten q)
-  grace_failed f (lives.unwritten q) = grace-unwritten q
+  grace_failed f (lives.stopped why beats e t x q stopped wrote) = steps.stopped why beats e t x q stopped wrote
+  grace_failed f (lives.refused beats t q stands wrote) = steps.refused beats t q stands wrote
+  grace_failed f (lives.untold why q) = steps.untold why (grace-unwritten q)
+  grace_failed f (lives.unwritten q) = steps.unwritten (grace-unwritten q)
 
   pub grace_took : (stand : Stand) (q : Stalled (edge_of o) (waits p.run.world) p.run (left h c a b)) → stand ≡ held_at p.stand hold.Free → Took o p stalled (left h c a b) stand
   grace_took stand q is = (q.0, came_text o.voice (sheet_in q.1) (told q.0), q.1, ((q.2, refl), is), q.3, q.4)
@@ -109,10 +110,10 @@ module _ {C : Type 0} (o : Setting C) (p : EvalPlace C) (h : HostView) (c : C) (
     ask-unwritten q = let led = led-ask (at q.0 c q.1) q.2 in (led.0, q.0, q.1, led.1, q.3)
 
     pub ask_failed : (f : RunFault) → SayingFailed (edge_of o) (line_behind (k + 1)) its-line p.run (left h c a b) f → TakingFailed o p (ask k id) (left h c a b) f
-    ask_failed f (lives.stopped why beats e t x q stopped wrote) = (beats, e, t, x, (is, its-command beats e (at t c x) q), stopped, wrote)
-    ask_failed f (lives.refused command t q stands wrote) = inl ([], t, (is, refl, q), stands, wrote)
-    ask_failed f (lives.untold why q) = inr (why, ask-unwritten q)
-    ask_failed f (lives.unwritten q) = ask-unwritten q
+    ask_failed f (lives.stopped why beats e t x q stopped wrote) = steps.stopped why beats e t x (is, its-command beats e (at t c x) q) stopped wrote
+    ask_failed f (lives.refused command t q stands wrote) = steps.refused [] t (is, refl, q) stands wrote
+    ask_failed f (lives.untold why q) = steps.untold why (ask-unwritten q)
+    ask_failed f (lives.unwritten q) = steps.unwritten (ask-unwritten q)
 
     pub ask_took : (free begun held : Hold) (stand : Stand) (q : Said (edge_of o) (line_behind (k + 1)) its-line p.run (left h c a b) free) → LimitBegins o.clock c o.plan.limit begun → WaitGoesOn begun q.1 held
         → stand ≡ asked_at p.stand k id held → Took o p (ask k id) (left h c a b) stand
@@ -125,29 +126,16 @@ module _ {C : Type 0} (o : Setting C) (p : EvalPlace C) (d : C) where
   TurnsTo told_of = TurnComes (watches_of o) p.stand.held p.run.children (turn told_of false) d
 
   time-comes : (s : Step) → WatchesAt o p → TurnsTo woken.TimeOver → IsTimeOf o (woken_in p d) s → StepComes o p s d
-  time-comes (ask k id) due turn is = absurd is
-  time-comes (heard seat) due turn is = absurd is
-  time-comes (over n id) due comes is = inl (is.0, due, is.1, comes.0, comes_by (watches_of o) p.stand.held p.run.children (turn woken.TimeOver false) d time_over comes refl)
-  time-comes stalled due comes is = (is, due, comes.0, comes_by (watches_of o) p.stand.held p.run.children (turn woken.TimeOver false) d time_over comes refl)
+  time-comes s due comes (steps.of_field n id first late) = inl (first, due, late, comes.0, comes_by (watches_of o) p.stand.held p.run.children (turn woken.TimeOver false) d time_over comes refl)
+  time-comes s due comes (steps.of_grace warned) = (warned, due, comes.0, comes_by (watches_of o) p.stand.held p.run.children (turn woken.TimeOver false) d time_over comes refl)
 
   pub comes_of : (told_of : Woken) (s : Step) → WatchesAt o p → TurnsTo told_of → IsOf o (woken_in p d) told_of s → StepComes o p s d
-  comes_of woken.Input s due turn is = absurd is
-  comes_of (woken.Life seat) s due comes is =
-      subst (λ (x : Step). StepComes o p x d) (sym is) (due, told_life (watches_of o) p.stand.held p.run.children false d seat comes.1)
-  comes_of woken.TimeOver s due turn is = time-comes s due turn is
+  comes_of told_of s due comes (steps.of_life seat) = (due, told_life (watches_of o) p.stand.held p.run.children false d seat comes.1)
+  comes_of told_of s due turn (steps.of_time other is) = time-comes s due turn is
 
   module _ (h : HostView) (c : C) (a b : Option (List ℕ)) where
-    pub came_failed : (s : Step) (f : RunFault) → StepComes o p s d → TakingFailed o (woken_in p d) s (left h c a b) f → StepFailed o p (left h c a b) f
-    came_failed s (fault.Host f) comes q = (s, d, comes, q)
-    came_failed s fault.OutOfMemory comes q = (s, d, comes, q)
-    came_failed s fault.Output comes q = (s, d, comes, q)
-    came_failed s fault.Input comes q = absurd q
-    came_failed s fault.InputTooLong comes q = absurd q
-    came_failed s (fault.Open why) comes q = absurd q
-    came_failed s fault.InUse comes q = absurd q
-
     pub turn_took : (told_of : Woken) (stand : Stand) → WatchesAt o p → TurnsTo told_of → Turned o (woken_in p d) told_of (left h c a b) stand → StepTook o p (left h c a b) stand
     turn_took told_of stand due turn t = (t.0, d, comes_of told_of t.0 due turn t.1, t.2)
 
     pub turn_failed : (told_of : Woken) (f : RunFault) → WatchesAt o p → TurnsTo told_of → TurnFailed o (woken_in p d) told_of (left h c a b) f → StepFailed o p (left h c a b) f
-    turn_failed told_of f due turn t = came_failed t.0 f (comes_of told_of t.0 due turn t.1) t.2
+    turn_failed told_of f due turn t = steps.taking t.0 d (comes_of told_of t.0 due turn t.1) t.2

@@ -1,5 +1,5 @@
 -- Where the wait for the answer to one field ends.
-use Rattle.std.proofs.Common.{◌≡◌, inl, inr, ℕ, Bool, List, [], Option, Some, refl, sym, subst}
+use Rattle.std.proofs.Common.{◌≡◌, inl, ℕ, Bool, List, [], Option, Some, refl, sym, subst}
 use Rattle.std.specs.Prelude.{◌==◌}
 use Rattle.host_events.specs.declared.event.Event.{Event}
 use Rattle.session_engine.specs.World.{World}
@@ -14,7 +14,9 @@ use Rattle.evaluation.specs.declared.plan.Plan.{Plan}
 use Rattle.evaluation.specs.declared.plan.Stand.{Stand}
 use Rattle.evaluation.specs.Steps.{Setting, EvalPlace, LimitBegins, setting, stands}
 use Rattle.evaluation.specs.Broken.{Cut, StepLed, StepSoFar, StepUpTo, TooMany, Unwatched, so_far, up_to}
+use Rattle.evaluation.specs.Within as within
 use Rattle.evaluation.specs.Within.{WaitBegins, WaitFailed, WaitInPart, WaitUpTo, WaitedWithin, asked_one, silent, waiting, waiting_plan}
+use Rattle.evaluation.specs.inside.Stepping as inside
 use Rattle.evaluation.specs.inside.Stepping.{BrokeOff, CameSoFar, CameUnwritten, Through, fault_of_wait}
 
 module _ {C : Type 0} (o : Setting C) (id : ℕ) (s : At C) (p : EvalPlace C) (begins : WaitBegins o id s p) (h : HostView) (c : C) (a b : Option (List ℕ)) where
@@ -52,29 +54,22 @@ module _ {C : Type 0} (o : Setting C) (id : ℕ) (s : At C) (p : EvalPlace C) (b
   }
 
   unwritten : CameUnwritten o p (λ t. t.children ≡ c) h → WaitFailed o id s h c fault.OutOfMemory
-  unwritten q = (q.2.world, q.2.disk, (p, begins, (q.0, q.1, subst (λ x. Cut o p (StepLed o) q.0 q.1 (at q.2.world x q.2.disk)) q.5 q.3)), q.4)
+  unwritten q = within.no_memory q.2.world q.2.disk (p, begins, (q.0, q.1, subst (λ x. Cut o p (StepLed o) q.0 q.1 (at q.2.world x q.2.disk)) q.5 q.3)) q.4
 
   short : CameSoFar (Cut o p (StepSoFar o)) (λ t. t.children ≡ c) h a b → WaitFailed o id s h c fault.OutOfMemory
-  short q = (q.2.world, q.2.disk, (p, begins, (q.0, q.1, subst (λ x. Cut o p (StepLed o) q.0 q.1 (at q.2.world x q.2.disk)) q.6 (short-led q.0 q.1 q.2 q.3))), inl (q.4, q.5))
+  short q = within.no_memory q.2.world q.2.disk (p, begins, (q.0, q.1, subst (λ x. Cut o p (StepLed o) q.0 q.1 (at q.2.world x q.2.disk)) q.6 (short-led q.0 q.1 q.2 q.3))) (inl (q.4, q.5))
 
   came-here : (Came : List Beat → List ℕ → At C → Type 0) → (q : CameSoFar Came (λ t. t.children ≡ c) h a b) → Came q.0 q.1 (at q.2.world c h.store.disk)
   came-here Came q = subst (λ x. Came q.0 q.1 (at q.2.world c x)) q.5 (subst (λ x. Came q.0 q.1 (at q.2.world x q.2.disk)) q.6 q.3)
 
   pub wait_failed : (f : RunFault) → BrokeOff o p (λ t. t.children ≡ c) (left h c a b) f → WaitFailed o id s h c (fault_of_wait f)
-  wait_failed (fault.Host f) q = (
-    q.2,
-    q.3.world,
-    q.3.disk,
-    (p, begins, (q.0, q.1, subst (λ x. Cut o p (StepUpTo o q.2) q.0 q.1 (at q.3.world x q.3.disk)) q.6 q.4)),
-    q.5,
-  )
-  wait_failed fault.OutOfMemory (inl q) = short q
-  wait_failed fault.OutOfMemory (inr q) = unwritten q.1
-  wait_failed fault.Output q = unwritten q
-  wait_failed fault.Input q = (q.2.world, (p, begins, (q.0, q.1, came-here (Unwatched o p) q)), q.4)
-  wait_failed fault.InputTooLong q = (q.2.world, (p, begins, (q.0, q.1, came-here (TooMany o p) q)), q.4)
-  wait_failed (fault.Open why) q = absurd q
-  wait_failed fault.InUse q = absurd q
+  wait_failed f (inside.stopped why beats text e t cut stopped same wrote) =
+      within.stopped why e t.world t.disk (p, begins, (beats, text, subst (λ x. Cut o p (StepUpTo o e) beats text (at t.world x t.disk)) same cut)) stopped
+  wait_failed f (inside.refused q) = short q
+  wait_failed f (inside.untold why q) = unwritten q
+  wait_failed f (inside.unwritten q) = unwritten q
+  wait_failed f (inside.unwatched q) = within.unwatched q.2.world (p, begins, (q.0, q.1, came-here (Unwatched o p) q)) q.4
+  wait_failed f (inside.too_many q) = within.too_long q.2.world (p, begins, (q.0, q.1, came-here (TooMany o p) q)) q.4
 
 -- Up to an event at which the host had a fault, the wait came in part.
 pub up_to_led : {C : Type 0} (o : Setting C) (id : ℕ) (s : At C) (e : Event) (t : At C) → WaitUpTo o id s e t → WaitInPart o id s t

@@ -3,6 +3,7 @@
 use Rattle.std.specs.Prelude.{◌≡◌, ◌==◌, ℕ, Bool, false, List, [], Some}
 use Rattle.disk_model.specs.Disk.{DiskView}
 use Rattle.host_events.specs.declared.event.Event.{Event}
+use Rattle.host_events.specs.declared.outcome.HostFault.{HostFault}
 use Rattle.session_engine.specs.World.{World}
 use Rattle.session_engine.specs.Host.{HostView, IsHost}
 use Rattle.child_edge.specs.Faithful.{Relation, At, at, Beat}
@@ -78,11 +79,8 @@ abbrev pub WaitTooLong : {C : Type 0} → Setting C → ℕ → At C → At C �
 WaitTooLong o id s t = WaitCame o id s (TooMany o) t
 
 -- What a fault of the wait leaves.
-abbrev pub WaitFailed : {C : Type 0} → Setting C → ℕ → At C → HostView → C → RunFault → Type 0
-WaitFailed o id s h c (fault.Host f) = (e : Event) × (t : World) × (d : DiskView) × WaitUpTo o id s e (at t c d) × Stopped d h t e f
-WaitFailed o id s h c fault.OutOfMemory = (t : World) × (d : DiskView) × WaitInPart o id s (at t c d) × StandsOrStopped h t d
-WaitFailed o id s h c fault.Input = (t : World) × WaitUnwatched o id s (at t c h.store.disk) × IsHost h t
-WaitFailed o id s h c fault.InputTooLong = (t : World) × WaitTooLong o id s (at t c h.store.disk) × IsHost h t
-WaitFailed o id s h c fault.Output = ⊥
-WaitFailed o id s h c (fault.Open why) = ⊥
-WaitFailed o id s h c fault.InUse = ⊥
+pub data WaitFailed {C : Type 0} (o : Setting C) (id : ℕ) (s : At C) (h : HostView) (c : C) : RunFault → Type 0 where
+  stopped : (f : HostFault) (e : Event) (t : World) (d : DiskView) → WaitUpTo o id s e (at t c d) → Stopped d h t e f → WaitFailed o id s h c (fault.Host f)
+  no_memory : (t : World) (d : DiskView) → WaitInPart o id s (at t c d) → StandsOrStopped h t d → WaitFailed o id s h c fault.OutOfMemory
+  unwatched : (t : World) → WaitUnwatched o id s (at t c h.store.disk) → IsHost h t → WaitFailed o id s h c fault.Input
+  too_long : (t : World) → WaitTooLong o id s (at t c h.store.disk) → IsHost h t → WaitFailed o id s h c fault.InputTooLong

@@ -155,6 +155,13 @@ impl<D: Disk> Opening<D> {
         }
     }
 
+    /// Keeps the memory of a payload for the next one.
+    pub fn reuse(&mut self, payload: Payload)
+        ensures { self.new ≡ self.old }
+    {
+        self.window.keep(payload.bytes.into_vec());
+    }
+
     /// The disk, as it stands.
     pub fn into_disk(self) -> D
         ensures { D.view result ≡ self.disk }

@@ -1,5 +1,5 @@
 //! Reads of an area through a window of at most 65,536 bytes.
-ghost use Rattle.std.specs.Prelude.{◌≡◌, ◌+◌, ◌-◌, ◌≤◌, List, ℕ, length, take, drop, IfErr, IfOk, OnOk, vec_len};
+ghost use Rattle.std.specs.Prelude.{◌≡◌, ◌+◌, ◌-◌, ◌≤◌, List, ℕ, [], length, take, drop, IfErr, IfOk, OnOk, vec_len};
 ghost use Rattle.disk_model.specs.Disk.{InModel, area_of, bytes_on, greatest_room};
 ghost use Rattle.journal.specs.Open.{IsPassing};
 ghost use Rattle.journal.specs.inside.Reads.{Begins, Fails, Reads, longest_read};
@@ -20,6 +20,8 @@ pub(crate) struct Window {
     pub(crate) limit: u64,
     start: u64,
     bytes: Vec<u8>,
+    // Memory for the next copy.
+    spare: Vec<u8>,
     ghost small: { limit ≤ greatest_room },
     ghost inside: { start + vec_len bytes ≤ limit },
 }
@@ -94,6 +96,7 @@ impl Window {
             limit,
             start: 0,
             bytes: Vec::new(alloc),
+            spare: Vec::new(alloc),
         }
     }
 
@@ -128,6 +131,7 @@ impl Window {
             limit,
             start: _,
             bytes: buffer,
+            spare,
         } = mem::replace(self, Window::new(self.alloc, self.area, self.limit));
         match read_part(alloc, disk, area, at, len, buffer) {
             Ok(bytes) => {
@@ -137,6 +141,7 @@ impl Window {
                     limit,
                     start: at,
                     bytes,
+                    spare,
                 };
                 Ok(())
             }
@@ -153,6 +158,32 @@ impl Window {
     {
         let (_, behind) = self.bytes.split_at((at - self.start) as usize);
         behind
+    }
+
+    // A vector without bytes that has memory for so many: the spare one, where that has.
+    fn room(&mut self, len: u64) -> Result<Vec<u8>, AllocError>
+        ensures items { IfOk result (λ room. room.items ≡ []) }
+        ensures area { self.new.area ≡ self.old.area }
+        ensures limit { self.new.limit ≡ self.old.limit }
+        ensures shows { (area : List ℕ) → Shows self.old area → Shows self.new area }
+    {
+        let mut spare = mem::replace(&mut self.spare, Vec::new(self.alloc));
+        if (spare.capacity() as u64) < len {
+            return Vec::with_capacity(self.alloc, len as usize);
+        }
+        spare.clear();
+        Ok(spare)
+    }
+
+    /// Keeps memory for the next copy, where it is no more than a read has.
+    pub(crate) fn keep(&mut self, memory: Vec<u8>)
+        ensures area { self.new.area ≡ self.old.area }
+        ensures limit { self.new.limit ≡ self.old.limit }
+        ensures shows { (area : List ℕ) → Shows self.old area → Shows self.new area }
+    {
+        if memory.capacity() as u64 <= LONGEST_READ {
+            self.spare = memory;
+        }
     }
 
     /// So many bytes of the area from `at` on, read in parts.
@@ -176,7 +207,7 @@ impl Window {
             (IfOk result (λ bytes. Begins bytes.items
             (drop at (area_of self.old.area (bytes_on (D.view disk.old)))))) }
     {
-        let Ok(mut bytes) = Vec::with_capacity(self.alloc, len as usize) else {
+        let Ok(mut bytes) = self.room(len) else {
             return Err(OpenCause::OutOfMemory);
         };
         while (bytes.len() as u64) < len {

@@ -496,14 +496,23 @@ while IFS= read -r line; do
     printf '\005'
 done
 END_OF_CHILD
+long() { head -c 2000000 /dev/zero | tr '\0' a; }
 grown() {
     compare "an output that grew, $1" "$({ "$tmhost" check --format "$1" sheet 2>&1; echo "status $?"; } </dev/null | cksum)" \
-        "$({ printf "$2"; head -c 2000000 /dev/zero | tr '\0' a; printf "$3"; echo 'status 1'; } | cksum)"
+        "$({ printf "$2"; long; printf "$3"; echo 'status 1'; } | cksum)"
 }
 made 'session g plain sh grows.sh\nnew 0 g x\neval 1\nwait\n'
 grown text '#1 g\n> x\n- x\n+ ' '\nsame 0 differ 1 unanswered 0\n'
 grown tap 'TAP version 13\nnot ok 1 - field 1 of g\n# #1 g\n# > x\n# - x\n# + ' '\n1..1\n'
 grown junit "$head"'<testcase classname="g" name="field 1"><failure message="differs">#1 g\n&gt; x\n- x\n+ ' '\n</failure></testcase>\n'"$tail"
+compare 'an output that grew, json' "$({ "$tmhost" check --json sheet 2>&1; echo "status $?"; } </dev/null | cksum)" "$({
+    printf '{"format":1,"program":"tmhost","protocol":2,"type":"hello","version":"0.1.0"}\n{"came":{"output":{"items":["'
+    long
+    printf '"],"kind":"format","tag":"verbatim"},"prompt":"","shown":"'
+    long
+    printf '"},"id":1,"input":"x","session":"g","shows":{"output":{"items":["x"],"kind":"format","tag":"verbatim"},"prompt":"","shown":"x"},"type":"checked","verdict":"differs"}\n'
+    printf '{"differ":1,"left_out":0,"same":0,"type":"compared","unanswered":0}\n{"type":"end"}\nstatus 1\n'
+} | cksum)"
 
 # A thousand fields, of which the last but one differs.
 {

@@ -87,6 +87,8 @@ evaluates 'strictly: it stops behind the first one, and the fields behind keep w
     '#1 a\n> x\nx 1\n#2 a\n> end\n? Ended\n#3 a\n> z\nz 1\n#4 b\n> y\n? StartRefused\n' --strict
 evaluates 'strictly, those that were lost' 3 'asked\nbanner a\nended a Ended lost 1\nanswered 2 unanswered 2\nstopped at line 2\n' \
     '#1 a\n> x\nx 1\n#2 a\n> end\n? Ended\n#3 a\n> z\nz 1\n#4 b\n> y\n? StartRefused\n' --strict --unanswered
+compare 'strictly, with both streams in one' "$("$tmhost" eval --strict --unanswered sheet 2>&1 </dev/null)" \
+    "$(printf 'asked\nbanner a\nended a Ended lost 1\nanswered 2 unanswered 2\nstopped at line 2')"
 evaluates 'strictly, a field that is named' 3 'asked\nbanner a\nended a Ended lost 1\nanswered 2 unanswered 2\nstopped at line 2\n' \
     '#1 a\n> x\nx 1\n#2 a\n> end\n? Ended\n#3 a\n> z\nz 1\n#4 b\n> y\n? StartRefused\n' --strict 3 2
 evaluates 'one that is named is passed over after one that is lost' 1 \

@@ -259,6 +259,8 @@ say 'interrupt a\n'
 hears 'an object of an interrupt' '{"line":8,"outcome":"idle","type":"interrupted"}\n'
 say 'new 1 a y\nset 2 z\n'
 hears 'objects of lines that come together' '{"id":2,"line":9,"type":"made"}\n{"line":10,"type":"done"}\n'
+say 'export script\n'
+hears 'an object of an export' '{"format":"script","line":11,"text":"session a plain sh p.sh\\nnew 0 a x\\nnew 1 a z\\n","type":"exported"}\n'
 hang_up 'a talk in JSON' '{"type":"end"}\n' '#1 a\n> x\nA\n#2 a\n> z\n?\n'
 
 # Faults: before the worksheet is open it is the only object, and then the last one.

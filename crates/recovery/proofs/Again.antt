@@ -1,5 +1,5 @@
 -- An op is read again from its payload.
-use Rattle.std.proofs.Common.{◌≡◌, ℕ, ◌<◌, ◌≤◌, ◌-◌, ◌^◌, ◌==◌, if◌then◌else◌, Bool, true, false, List, [], ◌∷◌, ◌++◌, length, drop, get_or, take, Option, Some, None, Result, Ok, Err, refl, sym, ap, ◌∙◌, subst, append-nil, arith}
+use Rattle.std.proofs.Common.{◌≡◌, ℕ, ◌<◌, ◌≤◌, ◌-◌, ◌^◌, ◌==◌, if◌then◌else◌, Bool, true, false, List, [], ◌∷◌, ◌++◌, length, drop, get_or, take, Option, Some, None, Result, Ok, Err, refl, sym, ap, ◌∙◌, subst, arith}
 use Rattle.std.specs.List.{flat_map}
 use Rattle.block_tree.specs.declared.reason.Reason.{Reason}
 use Rattle.block_tree.specs.declared.reason.Reason.TheVariants as reason
@@ -17,7 +17,7 @@ use Rattle.recovery.specs.declared.reading.DecodeFault.{DecodeFault}
 use Rattle.recovery.specs.declared.reading.DecodeFault.TheVariants as faults
 use Rattle.recovery.specs.Code.{kind_of, parts_of, code_of, number, short, long, flag, HasCode, IsTyped, IsPayloadOf}
 use Rattle.recovery.specs.inside.Reading.{ReadsOrFails, Fails, FindsOp, session_at, new_at, set_at, remove_at, move_at, clear_at, lost_at, reason_with, asked_at, ids_at}
-use Rattle.recovery.proofs.Fields.{number_again, short_again, long_again, words_again}
+use Rattle.recovery.proofs.Fields.{number_again, last_number_again, short_again, long_again, last_long_again, words_again}
 
 -- reading the parts of an op of this kind gives the op
 abbrev pub IsReader : ℕ → (List ℕ → Option Op) → Type 0
@@ -50,17 +50,15 @@ unfolding session_at new_at set_at remove_at move_at clear_at lost_at ids_at
 read_again (op.Session name tab words) typed fits other =
     rw (short_again name (flag tab ∷ length words ∷ flat_map long words), words_again words fits.2, flag_again tab) refl
 read_again (op.New after session input) typed fits other =
-    let alone : long input ++ [] ≡ long input = append-nil (long input) in
-    rw (number_again after (short session ++ long input) typed, short_again session (long input), ← alone, long_again input [] fits.1) refl
+    rw (number_again after (short session ++ long input) typed, short_again session (long input), last_long_again input fits.1) refl
 read_again (op.Set id input) typed fits other =
-    let alone : long input ++ [] ≡ long input = append-nil (long input) in
-    rw (number_again id (long input) typed, ← alone, long_again input [] fits) refl
-read_again (op.Remove id) typed fits other = rw (number_again id [] typed) refl
-read_again (op.Move id after) typed fits other = rw (number_again id (number after) typed.0, number_again after [] typed.1) refl
-read_again (op.Clear id) typed fits other = rw (number_again id [] typed) refl
+    rw (number_again id (long input) typed, last_long_again input fits) refl
+read_again (op.Remove id) typed fits other = rw (last_number_again id typed) refl
+read_again (op.Move id after) typed fits other = rw (number_again id (number after) typed.0, last_number_again after typed.1) refl
+read_again (op.Clear id) typed fits other = rw (last_number_again id typed) refl
 read_again (op.Answer id prompt output) typed fits other = cc
 read_again (op.Lost id reason) typed fits other = rw (number_again id (reason_number reason ∷ []) typed, reason_again reason) refl
-read_again (op.Ids next) typed fits other = rw (number_again next [] typed) refl
+read_again (op.Ids next) typed fits other = rw (last_number_again next typed) refl
 
 reads : (kind : ℕ) → (kind == 7) ≡ false → IsReader kind (parts_at kind)
 reads kind other o k typed fits =
@@ -107,6 +105,10 @@ found_by kind read reads bytes rest front result gives o payload =
     let k : kind_of o ≡ kind = cc in
     let parts : rest ≡ parts_of o = cc in
     found (read rest) result o gives (ap read parts ∙ reads o k payload.typed payload.fits)
+
+-- where an op was found, these aren't unreadable
+pub unread : (result : Result Op DecodeFault) (o : Op) → result ≡ Err faults.Unreadable → FindsOp o result → ⊥
+unread result o wrong finds = subst (λ (r : Result Op DecodeFault). FindsOp o r) wrong finds
 
 -- what begins with a byte
 abbrev pub behind_first : List ℕ → List ℕ

@@ -3,6 +3,7 @@ pub mod PlainRuns
 pub mod Fields
 pub mod Words
 pub mod Again
+pub mod Sound
 pub mod Unique
 pub mod Allowed
 pub mod Taking

@@ -8,15 +8,15 @@ ghost use Rattle.journal.specs.Opening.{HasGiven};
 ghost use Rattle.recovery.specs.Sheets.{Makes};
 ghost use Rattle.recovery.specs.inside.Taken.{disk_taken, TakesAll, TakesOps, Refuses, RefusesFrom};
 
-use crate::reading::{DecodeFault, decode};
+use crate::reading::{DecodeFault, decode, set_in};
+use block_tree::Text;
 use disk_model::Disk;
 use journal::{Journal, Next, OpenCause, OpenFault, Opening, Payload};
 use std::alloc::Global;
-use worksheet::Sheet;
+use worksheet::{SetFault, Sheet};
 
-/// Does what a payload says. A payload that is no op's, or whose op is refused, is reported as
-/// `Damaged` with its gate, and changes nothing.
-pub(crate) fn take(alloc: Global, sheet: &mut Sheet, payload: &Payload) -> Result<(), OpenCause>
+// Does what the op of a payload says.
+fn take_op(alloc: Global, sheet: &mut Sheet, payload: &Payload) -> Result<(), OpenCause>
     requires { IsPayload longest_payload payload.now.bytes }
     ensures taken { (ops : List Op) → Makes ops sheet.old.contents
         → OnOk result (TakesOps ops payload.now.bytes sheet.new.contents) }
@@ -37,6 +37,33 @@ pub(crate) fn take(alloc: Global, sheet: &mut Sheet, payload: &Payload) -> Resul
         return Err(OpenCause::OutOfMemory);
     }
     Ok(())
+}
+
+/// Does what a payload says. A payload that is no op's, or whose op is refused, is reported as
+/// `Damaged` with its gate, and changes nothing. An input takes the memory of `room`, in which that of
+/// the field's earlier one is left: a journal may have many records, and most are of inputs.
+pub(crate) fn take(
+    alloc: Global,
+    sheet: &mut Sheet,
+    room: &mut Text,
+    payload: &Payload,
+) -> Result<(), OpenCause>
+    requires { IsPayload longest_payload payload.now.bytes }
+    ensures taken { (ops : List Op) → Makes ops sheet.old.contents
+        → OnOk result (TakesOps ops payload.now.bytes sheet.new.contents) }
+    ensures refused { (ops : List Op) → Makes ops sheet.old.contents
+        → IfErr result (Refuses ops payload.now) }
+    ensures as_before { OnErr result (sheet.new.contents ≡ sheet.old.contents) }
+    ensures passing { IsErrOf result OpenCause.Disk → ⊥ }
+{
+    let Some((id, input)) = set_in(payload.bytes.as_slice()) else {
+        return take_op(alloc, sheet, payload);
+    };
+    match sheet.set(id, input, room) {
+        Ok(()) => Ok(()),
+        Err(SetFault::Refused) => Err(OpenCause::Damaged(payload.gate)),
+        Err(SetFault::OutOfMemory) => Err(OpenCause::OutOfMemory),
+    }
 }
 
 /// The journal of an opening that has given nothing, and the worksheet of its payloads. One payload
@@ -64,13 +91,15 @@ pub(crate) fn take_all<D: Disk>(
 {
     let mut opening = opening;
     let mut sheet = Sheet::new(alloc);
+    let mut room = Text::from_string(String::new(alloc));
     loop {
         match opening.next() {
-            Ok(Next::Payload(behind, payload)) => {
-                if let Err(cause) = take(alloc, &mut sheet, &payload) {
+            Ok(Next::Payload(mut behind, payload)) => {
+                if let Err(cause) = take(alloc, &mut sheet, &mut room, &payload) {
                     let disk = behind.into_disk();
                     return Err(OpenFault { cause, disk });
                 }
+                behind.reuse(payload);
                 opening = behind;
             }
             Ok(Next::End(journal)) => return Ok((journal, sheet)),

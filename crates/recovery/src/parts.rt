@@ -2,7 +2,7 @@
 ghost use Rattle.std.specs.Prelude.{◌≡◌, length, IfSome, IfOk};
 ghost use Rattle.std.specs.List.{AllByRecursion};
 ghost use Rattle.recovery.specs.Code.{IsShort, IsLong};
-ghost use Rattle.recovery.specs.inside.Reading.{ReadsPart, ReadsOrFails, front_at, number_at, short_at, long_at, reason_at, reason_with, words_at};
+ghost use Rattle.recovery.specs.inside.Reading.{ReadsPart, ReadsOrFails, front_at, number_at, last_number_at, short_at, long_at, last_long_at, reason_at, reason_with, words_at};
 
 use crate::DecodeFault;
 use block_tree::{Octets, Reason, Sequence};
@@ -25,6 +25,18 @@ pub(crate) fn number_of(bytes: &[u8]) -> Option<(u32, &[u8])>
     let (front, rest) = front_of(4, bytes)?;
     let number = u32::from_be_bytes([front[0], front[1], front[2], front[3]]);
     Some((number, rest))
+}
+
+/// A number with nothing after it.
+#[tactic(auto, unfolding(crate::specs::inside::Reading::last_number_at))]
+pub(crate) fn last_number_of(bytes: &[u8]) -> Option<u32>
+    ensures { ReadsPart (λ number. number) result (last_number_at bytes.now) }
+{
+    let (number, rest) = number_of(bytes)?;
+    let [] = rest else {
+        return None;
+    };
+    Some(number)
 }
 
 /// Bytes after a length of one byte, and what follows them.
@@ -50,6 +62,19 @@ pub(crate) fn long_of(bytes: &[u8]) -> Option<(&[u8], &[u8])>
     front_of(usize::from(len), rest)
 }
 
+/// Bytes after a length of two bytes, with nothing after them.
+#[tactic(auto, unfolding(crate::specs::inside::Reading::last_long_at))]
+pub(crate) fn last_long_of(bytes: &[u8]) -> Option<&[u8]>
+    ensures read { ReadsPart (λ x. x.now) result (last_long_at bytes.now) }
+    ensures long { IfSome result (λ x. IsLong x.now) }
+{
+    let (text, rest) = long_of(bytes)?;
+    let [] = rest else {
+        return None;
+    };
+    Some(text)
+}
+
 /// The reason with this number.
 fn reason_with(number: u8) -> Option<Reason>
     ensures { result ≡ reason_with number }
@@ -68,11 +93,11 @@ fn reason_with(number: u8) -> Option<Reason>
     }
 }
 
-/// The reason with the first of these bytes for its number.
+/// The reason whose number is the one byte that there is.
 pub(crate) fn reason_of(bytes: &[u8]) -> Option<Reason>
     ensures { ReadsPart (λ reason. reason) result (reason_at bytes.now) }
 {
-    let [number, ..] = bytes else {
+    let [number] = bytes else {
         return None;
     };
     reason_with(*number)

@@ -1,11 +1,14 @@
 //! Payloads as ops.
-ghost use Rattle.std.specs.Prelude.{◌≡◌, ◌∷◌, IfOk, IsErrOf};
+ghost use Rattle.std.specs.Prelude.{◌≡◌, ◌∷◌, IfOk, IfSome, IsErrOf};
 ghost use Rattle.worksheet.specs.declared.op.Op.{Op};
+ghost use Rattle.worksheet.specs.declared.op.Op.TheVariants as op;
 ghost use Rattle.recovery.specs.declared.reading.DecodeFault.TheVariants.{OutOfMemory};
 ghost use Rattle.recovery.specs.Code.{HasCode, IsLong, IsPayloadOf};
-ghost use Rattle.recovery.specs.inside.Reading.{ReadsOrFails, FindsOp, session_at, new_at, set_at, remove_at, move_at, clear_at, lost_at, asked_at, ids_at};
+ghost use Rattle.recovery.specs.inside.Reading.{ReadsPart, ReadsOrFails, FindsOp, session_at, new_at, set_at, remove_at, move_at, clear_at, lost_at, asked_at, ids_at};
 
-use crate::parts::{long_of, number_of, reason_of, short_of, words_of};
+use crate::parts::{
+    last_long_of, last_number_of, long_of, number_of, reason_of, short_of, words_of,
+};
 use crate::writing::encode;
 use block_tree::Octets;
 use meta_format::{ReadFault, read_block};
@@ -62,7 +65,7 @@ fn new_of(alloc: Global, bytes: &[u8]) -> Result<Op, DecodeFault>
 {
     let (after, rest) = number_of(bytes).ok_or(DecodeFault::Unreadable)?;
     let (session, rest) = short_of(rest).ok_or(DecodeFault::Unreadable)?;
-    let (input, _) = long_of(rest).ok_or(DecodeFault::Unreadable)?;
+    let input = last_long_of(rest).ok_or(DecodeFault::Unreadable)?;
     Ok(Op::New {
         after,
         session: Octets::from_slice(alloc, session)?,
@@ -70,13 +73,32 @@ fn new_of(alloc: Global, bytes: &[u8]) -> Result<Op, DecodeFault>
     })
 }
 
+// The number and the input of a Set.
 #[tactic(auto, unfolding(crate::specs::inside::Reading::set_at))]
+fn set_parts(bytes: &[u8]) -> Option<(u32, &[u8])>
+    ensures read { ReadsPart (λ set. op.Set set.0 set.1.now) result (set_at bytes.now) }
+    ensures long { IfSome result (λ set. IsLong set.1.now) }
+{
+    let (id, rest) = number_of(bytes)?;
+    let input = last_long_of(rest)?;
+    Some((id, input))
+}
+
+/// The number and the input of a Set, where these bytes are its payload.
+pub(crate) fn set_in(bytes: &[u8]) -> Option<(u32, &[u8])>
+    ensures { IfSome result (λ set. IsPayloadOf (op.Set set.0 set.1.now) bytes.now) }
+{
+    let [3, rest @ ..] = bytes else {
+        return None;
+    };
+    set_parts(rest)
+}
+
 fn set_of(alloc: Global, bytes: &[u8]) -> Result<Op, DecodeFault>
     ensures read { ReadsOrFails (λ op. op) result (set_at bytes.now) }
     ensures fits { IfOk result HasCode }
 {
-    let (id, rest) = number_of(bytes).ok_or(DecodeFault::Unreadable)?;
-    let (input, _) = long_of(rest).ok_or(DecodeFault::Unreadable)?;
+    let (id, input) = set_parts(bytes).ok_or(DecodeFault::Unreadable)?;
     let input = Octets::from_slice(alloc, input)?;
     Ok(Op::Set { id, input })
 }
@@ -86,7 +108,7 @@ fn remove_of(bytes: &[u8]) -> Result<Op, DecodeFault>
     ensures read { ReadsOrFails (λ op. op) result (remove_at bytes.now) }
     ensures fits { IfOk result HasCode }
 {
-    let (id, _) = number_of(bytes).ok_or(DecodeFault::Unreadable)?;
+    let id = last_number_of(bytes).ok_or(DecodeFault::Unreadable)?;
     Ok(Op::Remove { id })
 }
 
@@ -96,7 +118,7 @@ fn move_of(bytes: &[u8]) -> Result<Op, DecodeFault>
     ensures fits { IfOk result HasCode }
 {
     let (id, rest) = number_of(bytes).ok_or(DecodeFault::Unreadable)?;
-    let (after, _) = number_of(rest).ok_or(DecodeFault::Unreadable)?;
+    let after = last_number_of(rest).ok_or(DecodeFault::Unreadable)?;
     Ok(Op::Move { id, after })
 }
 
@@ -105,7 +127,7 @@ fn clear_of(bytes: &[u8]) -> Result<Op, DecodeFault>
     ensures read { ReadsOrFails (λ op. op) result (clear_at bytes.now) }
     ensures fits { IfOk result HasCode }
 {
-    let (id, _) = number_of(bytes).ok_or(DecodeFault::Unreadable)?;
+    let id = last_number_of(bytes).ok_or(DecodeFault::Unreadable)?;
     Ok(Op::Clear { id })
 }
 
@@ -124,7 +146,7 @@ fn ids_of(bytes: &[u8]) -> Result<Op, DecodeFault>
     ensures read { ReadsOrFails (λ op. op) result (ids_at bytes.now) }
     ensures fits { IfOk result HasCode }
 {
-    let (next, _) = number_of(bytes).ok_or(DecodeFault::Unreadable)?;
+    let next = last_number_of(bytes).ok_or(DecodeFault::Unreadable)?;
     Ok(Op::Ids { next })
 }
 
@@ -151,26 +173,19 @@ fn answer_of(alloc: Global, bytes: &[u8]) -> Result<Op, DecodeFault>
     }
 }
 
-// The op whose payload begins so, where one does. The bytes need not be its payload.
-fn op_of(alloc: Global, bytes: &[u8]) -> Result<Op, DecodeFault>
-    ensures read { (o : Op) → IsPayloadOf o bytes.now → FindsOp o result }
-    ensures fits { IfOk result HasCode }
+// What was read from these bytes, where they are its payload: only where it is written so.
+fn as_written(alloc: Global, read: Result<Op, DecodeFault>, bytes: &[u8]) -> Result<Op, DecodeFault>
+    requires { IfOk read HasCode }
+    ensures op { IfOk result (λ op. IsPayloadOf op bytes.now) }
+    ensures unreadable { ((o : Op) → IsPayloadOf o bytes.now → FindsOp o read)
+        → IsErrOf result DecodeFault.Unreadable → (op : Op) → IsPayloadOf op bytes.now → ⊥ }
 {
-    let [kind, rest @ ..] = bytes else {
+    let op = read?;
+    let payload = encode(alloc, &op)?;
+    if payload.as_slice() != bytes {
         return Err(DecodeFault::Unreadable);
-    };
-    match *kind {
-        1 => session_of(alloc, rest),
-        2 => new_of(alloc, rest),
-        3 => set_of(alloc, rest),
-        4 => remove_of(rest),
-        5 => move_of(rest),
-        6 => clear_of(rest),
-        7 => answer_of(alloc, rest),
-        8 => lost_of(rest),
-        9 => ids_of(rest),
-        _ => Err(DecodeFault::Unreadable),
     }
+    Ok(op)
 }
 
 /// The op of a payload (docs/FORMAT.md, "Payloads"). An op has one payload: other bytes are
@@ -180,11 +195,20 @@ pub fn decode(alloc: Global, bytes: &[u8]) -> Result<Op, DecodeFault>
     ensures unreadable { IsErrOf result DecodeFault.Unreadable
         → (op : Op) → IsPayloadOf op bytes.now → ⊥ }
 {
-    let op = op_of(alloc, bytes)?;
-    // Bytes from which an op was read are its payload only where it is written so.
-    let payload = encode(alloc, &op)?;
-    if payload.as_slice() != bytes {
+    let [kind, rest @ ..] = bytes else {
         return Err(DecodeFault::Unreadable);
+    };
+    // A session and an answer are also read from bytes in which they aren't written so.
+    match *kind {
+        1 => as_written(alloc, session_of(alloc, rest), bytes),
+        2 => new_of(alloc, rest),
+        3 => set_of(alloc, rest),
+        4 => remove_of(rest),
+        5 => move_of(rest),
+        6 => clear_of(rest),
+        7 => as_written(alloc, answer_of(alloc, rest), bytes),
+        8 => lost_of(rest),
+        9 => ids_of(rest),
+        _ => Err(DecodeFault::Unreadable),
     }
-    Ok(op)
 }

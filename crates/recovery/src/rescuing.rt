@@ -11,6 +11,7 @@ ghost use Rattle.recovery.specs.Sheets.{Makes};
 ghost use Rattle.recovery.specs.inside.Rescuing.{FindsRescued, Stops};
 
 use crate::opening::take;
+use block_tree::Text;
 use disk_model::Disk;
 use journal::{Front, InFront, OpenCause, OpenFault};
 use std::alloc::Global;
@@ -52,11 +53,12 @@ fn take_front<D: Disk>(alloc: Global, front: Front<D>) -> Result<Rescued<D>, Ope
 {
     let mut front = front;
     let mut sheet = Sheet::new(alloc);
+    let mut room = Text::from_string(String::new(alloc));
     let mut kept = 0;
     loop {
         match front.next() {
             Ok(InFront::Payload(behind, payload)) => {
-                if let Err(cause) = take(alloc, &mut sheet, &payload) {
+                if let Err(cause) = take(alloc, &mut sheet, &mut room, &payload) {
                     return stop(behind.into_disk(), sheet, kept, cause);
                 }
                 front = behind;

@@ -97,7 +97,7 @@ all_behind P (y ∷ xs) x all one = (all.0, all_behind P xs x all.1 one)
 
 -- the worlds and outcomes of an item that joins a life, and of one that begins one
 pub joins : (store : StoreView) (rs new : List Running) (begun next : ℕ) (w : World) (name : List ℕ) (i : Item) (number : ℕ) (sent : Option (List ℕ)) (words : Option (List (List ℕ)))
-    → EngineStandsFor store rs begun w → HasField (sheet_in w) i → Joined name i rs new number sent → words ≡ start_words w name (life_of w name)
+    → EngineStandsFor store rs begun w → HasField (sheet_in w) i → Joined name i rs new (record { number = number; sent = sent }) → words ≡ start_words w name (life_of w name)
     → (told_asked name number words sent ≡ asks w name i (life_of w name)) × EngineStandsFor store new (begun_with_words begun words) (with_item w name i (life_of w name))
 joins store rs new begun next w name i number sent words h has j is =
     let f = found name rs w.lives j.before h.lives_are j.found in
@@ -118,7 +118,7 @@ joins store rs new begun next w name i number sent words h has j is =
     )
 
 pub begins : (store : StoreView) (rs new : List Running) (begun : ℕ) (w : World) (name : List ℕ) (i : Item) (number : ℕ) (sent : Option (List ℕ)) (words : Option (List (List ℕ)))
-    → EngineStandsFor store rs begun w → HasField (sheet_in w) i → lives_are_spent w.begun (life_of w name) ≡ false → Begun name (begun + 1) i rs new number sent → words ≡ start_words w name (life_of w name)
+    → EngineStandsFor store rs begun w → HasField (sheet_in w) i → lives_are_spent w.begun (life_of w name) ≡ false → Begun name (begun + 1) i rs new (record { number = number; sent = sent }) → words ≡ start_words w name (life_of w name)
     → (told_asked name number words sent ≡ asks w name i (life_of w name)) × EngineStandsFor store new (begun_with_words begun words) (with_item w name i (life_of w name))
 begins store rs new begun w name i number sent words h has left b is =
     let e : life_of w name ≡ None = not_found name rs w.lives h.lives_are b.none in
@@ -168,7 +168,7 @@ without_behind {A} name_of name (y ∷ xs) x none is = go (bytes_eq (name_of y) 
     go false none rest = ap (λ (l : List A). y ∷ l) (rest none is)
 
 pub goes_back : (store : StoreView) (rs new : List Running) (begun : ℕ) (w : World) (name : List ℕ) (i : Item) (number : ℕ) (sent : Option (List ℕ)) (words : Option (List (List ℕ)))
-    → EngineStandsFor store rs begun w → Asked name (begun + 1) i rs new number sent → words ≡ start_words w name (life_of w name) → CanGoBack name rs begun new (begun_with_words begun words)
+    → EngineStandsFor store rs begun w → Asked name (begun + 1) i rs new (record { number = number; sent = sent }) → words ≡ start_words w name (life_of w name) → CanGoBack name rs begun new (begun_with_words begun words)
 goes_back store rs new begun w name i number sent words h asked is = ⊎_elim
     (λ j.
     let f = found name rs w.lives j.before h.lives_are j.found in

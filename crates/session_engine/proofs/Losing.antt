@@ -1,12 +1,18 @@
 -- The op of a line that is lost.
-use Rattle.std.proofs.Common.{◌≡◌, ℕ, List, [], ◌∷◌, refl, ap, ◌∙◌, subst, Bool, true, false, Option, Some, None}
+use Rattle.std.proofs.Common.{◌≡◌, ⊎_elim, ℕ, List, [], ◌∷◌, refl, ap, sym, ◌∙◌, subst, Bool, true, false, Option, Some, None}
 use Rattle.std.specs.Prelude.{if◌then◌else◌}
 use Rattle.std.specs.List.{AllByRecursion}
+use Rattle.disk_model.specs.Disk.{Rises}
 use Rattle.block_tree.specs.Tree.{Tree}
 use Rattle.block_tree.specs.declared.reason.Reason.{Reason}
 use Rattle.worksheet.specs.declared.op.Op.{Op}
 use Rattle.worksheet.specs.declared.op.Op.TheVariants as op
+use Rattle.worksheet.specs.declared.refusal.Refusal.{Refusal}
+use Rattle.worksheet.specs.declared.refusal.Refusal.TheVariants as refusal
 use Rattle.worksheet.specs.Contents.{Contents}
+use Rattle.recovery.specs.Sheets.{StoreView}
+use Rattle.host_events.specs.declared.outcome.HostFault.TheVariants as faults
+use Rattle.session_engine.specs.declared.commits.LoseFault.TheVariants as loses
 use Rattle.worksheet.specs.Checks.{first_refusal, has_field}
 use Rattle.plugin_core.specs.declared.item.Item.{Item}
 use Rattle.plugin_core.specs.declared.item.Item.TheVariants as item
@@ -17,7 +23,7 @@ use Rattle.plugin_core.specs.Items.{first_line_of}
 use Rattle.session_engine.specs.World.{World, Going, fits_in, kept_at_end, waiting_in, with_op_if}
 use Rattle.session_engine.specs.Does.{op_by}
 use Rattle.session_engine.specs.Host.{HasField}
-use Rattle.session_engine.specs.inside.Commits.{AllowedIf, HasFieldIf, LosesField, answer_op, kept_for}
+use Rattle.session_engine.specs.inside.Commits.{AllowedIf, HasFieldIf, LosesField, NotCommitted, NotKept, NotLost, answer_op, kept_for, unkept_in_memory, unkept_on_disk, unlost_in_memory, unlost_on_disk}
 
 -- what holds of no op, and of the loss of this line, holds of what is kept
 pub if_lost : (P : Option Op → Type 0) (room end : ℕ) (why : Reason) (line : Option ℕ) → P None → ((id : ℕ) → line ≡ Some id → P (Some (op.Lost id why))) → P (kept_for room end why line)
@@ -88,3 +94,30 @@ pieced_allowed sheet room end (Some (answered.Complete id result)) e one has = t
 -- a line whose loss fits is kept
 pub kept_fits : (room end : ℕ) (why : Reason) (line : Option ℕ) (id : ℕ) → line ≡ Some id → fits_in room end (op.Lost id why) ≡ true → kept_for room end why line ≡ Some (op.Lost id why)
 kept_fits room end why line id e fits = ap (λ (x : Option ℕ). kept_for room end why x) e ∙ ap (λ (b : Bool). if b then Some (op.Lost id why) else None) fits
+
+-- Why what is to be kept isn't.
+
+-- where the store refuses for lack of memory the op fits
+pub refused_memory : (old new : StoreView) (o : Op) (r : Refusal) → NotCommitted old o new r → (r ≡ refusal.JournalFull → ⊥) → fits_in old.disk.room old.end o ≡ true
+refused_memory old new o r n other = ⊎_elim (λ full. absurd (other full.0)) (λ memory. memory.1) n.cause
+
+-- where it refuses for lack of room it doesn't
+pub refused_room : (old new : StoreView) (o : Op) → NotCommitted old o new refusal.JournalFull → fits_in old.disk.room old.end o ≡ false
+refused_room old new o n = ⊎_elim (λ full. full.1) (λ memory. let no : refusal.JournalFull ≡ refusal.OutOfMemory = memory.0 in cc) n.cause
+
+pub unlost_for_memory : (old new : StoreView) (why : Reason) (line : Option ℕ) (id : ℕ) (r : Refusal) → line ≡ Some id → NotCommitted old (op.Lost id why) new r → (r ≡ refusal.JournalFull → ⊥)
+    → NotLost old new (kept_for old.disk.room old.end why line) loses.OutOfMemory
+unlost_for_memory old new why line id r is n other =
+    subst (λ (p : Option Op). NotLost old new p loses.OutOfMemory) (sym (kept_fits old.disk.room old.end why line id is (refused_memory old new (op.Lost id why) r n other))) (unlost_in_memory (op.Lost id why) n.same)
+
+pub unlost_for_disk : (old new : StoreView) (why : Reason) (line : Option ℕ) (id : ℕ) → line ≡ Some id → fits_in old.disk.room old.end (op.Lost id why) ≡ true → new.sheet.contents ≡ old.sheet.contents → Rises old.disk.faults new.disk.faults
+    → NotLost old new (kept_for old.disk.room old.end why line) loses.Disk
+unlost_for_disk old new why line id is fits contents rises =
+    subst (λ (p : Option Op). NotLost old new p loses.Disk) (sym (kept_fits old.disk.room old.end why line id is fits)) (unlost_on_disk (op.Lost id why) contents rises)
+
+-- a fault of the end that a piece brings is one of the piece
+pub unkept_for_memory : (old new : StoreView) (o : Option Op) → NotLost old new o loses.OutOfMemory → NotKept old new o faults.OutOfMemory
+unkept_for_memory old new o (unlost_in_memory p same) = unkept_in_memory p same
+
+pub unkept_for_disk : (old new : StoreView) (o : Option Op) → NotLost old new o loses.Disk → NotKept old new o faults.Disk
+unkept_for_disk old new o (unlost_on_disk p contents rises) = unkept_on_disk p contents rises

@@ -17,7 +17,7 @@ use Rattle.session_engine.specs.World.{World, Going, kept_at_end, life_of, sheet
 use Rattle.session_engine.specs.inside.Words.{with_op}
 use Rattle.session_engine.specs.Does.{ends_life}
 use Rattle.session_engine.specs.Host.{EngineStandsFor, HaveFields, Lives, OnDisk, life_in, name_of}
-use Rattle.session_engine.specs.inside.Commits.{CauseOfLoss, CommittedIf, HasFieldIf, IsEitherIf, NotLost, kept_for}
+use Rattle.session_engine.specs.inside.Commits.{CauseOfLoss, CommittedIf, HasFieldIf, IsEitherIf, NotLost, kept_for, unlost_in_memory, unlost_on_disk}
 use Rattle.session_engine.specs.inside.Parts.{without_life}
 use Rattle.session_engine.specs.inside.Tables.{has_number, line_in}
 use Rattle.session_engine.proofs.Fields.{spared_lost}
@@ -82,13 +82,12 @@ module _ (store new : StoreView) (rs : List Running) (begun : ℕ) (w : World) (
     pub cause : CauseOfLoss w.ops lost store.disk new.disk fault
     pub still : fault ≡ loses.OutOfMemory → EngineStandsFor new rs begun w
 
-  pub unlost : (fault : LoseFault) → NotLost store kept new fault → InModel store.disk (LeavesOnly (IsEitherIf w.ops kept) store.disk.history new.disk.history) → Unlost fault
+  pub unlost : (fault : LoseFault) → NotLost store new kept fault → InModel store.disk (LeavesOnly (IsEitherIf w.ops kept) store.disk.history new.disk.history) → Unlost fault
   unlost fault n moments = go kept (kept_is store rs begun w name why line h e) fault n moments
     where
-      go : (p : Option Op) → p ≡ kept_at_end w why (life_of w name) → (fault : LoseFault) → NotLost store p new fault → InModel store.disk (LeavesOnly (IsEitherIf w.ops p) store.disk.history new.disk.history) → Unlost fault
-      go None is fault n moments = absurd n
-      go (Some o) is loses.OutOfMemory n moments = record { lost = o; is = sym is; contents = n.contents ∙ h.contents; cause = n.disk; still = λ t. unchanged store new rs begun w h n }
-      go (Some o) is loses.Disk n moments = record { lost = o; is = sym is; contents = n.0 ∙ h.contents; cause = (n.1, moments); still = λ t. cc }
+      go : (p : Option Op) → p ≡ kept_at_end w why (life_of w name) → (fault : LoseFault) → NotLost store new p fault → InModel store.disk (LeavesOnly (IsEitherIf w.ops p) store.disk.history new.disk.history) → Unlost fault
+      go p is fault (unlost_in_memory o same) moments = record { lost = o; is = sym is; contents = same.contents ∙ h.contents; cause = same.disk; still = λ t. unchanged store new rs begun w h same }
+      go p is fault (unlost_on_disk o contents rises) moments = record { lost = o; is = sym is; contents = contents ∙ h.contents; cause = (rises, moments); still = λ t. cc }
 
 -- a life that has lost its line is gone
 pub end_stands : (new : StoreView) (rs out : List Running) (begun : ℕ) (w : World) (name : List ℕ) (r : Running) (why : Reason) (f : Found rs w.lives name r)

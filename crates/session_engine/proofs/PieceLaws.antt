@@ -23,7 +23,6 @@ use Rattle.plugin_core.specs.Laws.{ShortPrompts}
 use Rattle.session_engine.specs.declared.table.Running.{Running}
 use Rattle.host_events.specs.declared.outcome.Outcome.{Outcome}
 use Rattle.host_events.specs.declared.outcome.HostFault.{HostFault}
-use Rattle.host_events.specs.declared.outcome.HostFault.TheVariants as faults
 use Rattle.host_events.specs.declared.event.Event.TheVariants as event
 use Rattle.session_engine.specs.Does.{Does, MayDo, ChildDoes, behind, lives_behind, steps}
 use Rattle.session_engine.specs.Host.{OnDisk}
@@ -37,7 +36,7 @@ use Rattle.session_engine.specs.inside.Words.{with_op, fits, with_piece}
 use Rattle.session_engine.specs.Does.{op_by, closed_told, told_with}
 use Rattle.session_engine.specs.inside.Parts.{goes_on}
 use Rattle.session_engine.specs.Host.{HasField, HaveFields, EngineStandsFor}
-use Rattle.session_engine.specs.inside.Commits.{AllowedIf, Committed, CommittedIf, IsEitherIf, LosesField, NotKept, SparesLife}
+use Rattle.session_engine.specs.inside.Commits.{AllowedIf, Committed, CommittedIf, IsEitherIf, LosesField, NotKept, SparesLife, unkept_in_memory, unkept_in_room, unkept_on_disk}
 use Rattle.session_engine.proofs.Tables.{Found, without_replaced}
 use Rattle.session_engine.proofs.Fields.{waiting_still, allowed_step, spared, spared_lost}
 use Rattle.session_engine.proofs.Losing.{first_has, if_pieced, pieced_allowed}
@@ -150,32 +149,22 @@ module _ (store : StoreView) (rs : List Running) (begun : ℕ) (w : World) (name
       go None done moments = done.disk
       go (Some o) done moments = moments
 
-  pub contents : (new : StoreView) (fault : HostFault) → NotKept store given new fault → new.sheet.contents ≡ sheet_in w
+  pub contents : (new : StoreView) (fault : HostFault) → NotKept store new given fault → new.sheet.contents ≡ sheet_in w
   contents new fault n = go given fault n ∙ h.contents
     where
-      go : (a : Option Op) (fault : HostFault) → NotKept store a new fault → new.sheet.contents ≡ store.sheet.contents
-      go None faults.Closed n = absurd n
-      go None faults.Disk n = absurd n
-      go None faults.OutOfMemory n = absurd n
-      go None faults.JournalFull n = absurd n
-      go (Some o) faults.Closed n = absurd n
-      go (Some o) faults.Disk n = n.0
-      go (Some o) faults.OutOfMemory n = n.contents
-      go (Some o) faults.JournalFull n = n.0.contents
+      go : (a : Option Op) (fault : HostFault) → NotKept store new a fault → new.sheet.contents ≡ store.sheet.contents
+      go a fault (unkept_on_disk o contents rises) = contents
+      go a fault (unkept_in_memory o same) = same.contents
+      go a fault (unkept_in_room o same full) = same.contents
 
-  pub cause : (new : StoreView) (fault : HostFault) → NotKept store given new fault → InModel store.disk (LeavesOnly (IsEitherIf w.ops given) store.disk.history new.disk.history)
+  pub cause : (new : StoreView) (fault : HostFault) → NotKept store new given fault → InModel store.disk (LeavesOnly (IsEitherIf w.ops given) store.disk.history new.disk.history)
       → CauseOf w (event.Child name number (child.Piece piece)) store.disk new.disk fault
   cause new fault n moments = go given refl fault n moments
     where
-      go : (a : Option Op) → given ≡ a → (fault : HostFault) → NotKept store a new fault → InModel store.disk (LeavesOnly (IsEitherIf w.ops a) store.disk.history new.disk.history)
+      go : (a : Option Op) → given ≡ a → (fault : HostFault) → NotKept store new a fault → InModel store.disk (LeavesOnly (IsEitherIf w.ops a) store.disk.history new.disk.history)
           → CauseOf w (event.Child name number (child.Piece piece)) store.disk new.disk fault
-      go None e faults.Closed n moments = absurd n
-      go None e faults.Disk n moments = absurd n
-      go None e faults.OutOfMemory n moments = absurd n
-      go None e faults.JournalFull n moments = absurd n
-      go (Some o) e faults.Closed n moments = absurd n
-      go (Some o) e faults.Disk n moments = (n.1, (record { does = did; may = may; writes = ap (λ (p : Option Op). is_some p) e }, subst (λ (p : Option Op). OnDisk w.ops false p store.disk new.disk) (sym e) moments))
-      go (Some o) e faults.OutOfMemory n moments = (n.disk, fed)
-      go (Some o) e faults.JournalFull n moments =
-          let no : fits w o ≡ false = fit_in store rs begun w o h ∙ n.1 in
-          (n.0.disk, fed, (o, record { does = did; may = may; gives = e }, no))
+      go a e fault (unkept_on_disk o contents rises) moments = (rises, (record { does = did; may = may; writes = ap (λ (p : Option Op). is_some p) e }, subst (λ (p : Option Op). OnDisk w.ops false p store.disk new.disk) (sym e) moments))
+      go a e fault (unkept_in_memory o same) moments = (same.disk, fed)
+      go a e fault (unkept_in_room o same full) moments =
+          let no : fits w o ≡ false = fit_in store rs begun w o h ∙ full in
+          (same.disk, fed, (o, record { does = did; may = may; gives = e }, no))

@@ -82,8 +82,8 @@ pub(crate) fn lose<D: Disk>(
     ensures ok { (ops : List Op) → store.old.sheet.contents ≡ sheet_of ops
         → OnOk result (CommittedIf store.old ops
         (kept_for store.old.disk.room store.old.end reason line) store.new) }
-    ensures fault { IfErr result (NotLost store.old
-        (kept_for store.old.disk.room store.old.end reason line) store.new) }
+    ensures fault { IfErr result (NotLost store.old store.new
+        (kept_for store.old.disk.room store.old.end reason line)) }
     ensures moments { InModel store.old.disk ((ops : List Op)
         → store.old.sheet.contents ≡ sheet_of ops
         → LeavesOnly
@@ -130,8 +130,8 @@ fn lose_at_end<D: Disk>(store: &mut Store<D>, ended: &Option<Ended>) -> Result<(
     ensures ok { (ops : List Op) → store.old.sheet.contents ≡ sheet_of ops
         → OnOk result (CommittedIf store.old ops
         (op_of_end store.old.disk.room store.old.end ended.now) store.new) }
-    ensures fault { IfErr result (NotLost store.old
-        (op_of_end store.old.disk.room store.old.end ended.now) store.new) }
+    ensures fault { IfErr result (NotLost store.old store.new
+        (op_of_end store.old.disk.room store.old.end ended.now)) }
     ensures moments { InModel store.old.disk ((ops : List Op)
         → store.old.sheet.contents ≡ sheet_of ops
         → LeavesOnly
@@ -163,8 +163,8 @@ pub(crate) fn keep<D: Disk>(
         → IfOk result (λ closed. (closed ≡ closed_told answered)
         × CommittedIf store.old ops
         (op_by store.old.disk.room store.old.end answered ended.now) store.new) }
-    ensures fault { IfErr result (NotKept store.old
-        (op_by store.old.disk.room store.old.end answered ended.now) store.new) }
+    ensures fault { IfErr result (NotKept store.old store.new
+        (op_by store.old.disk.room store.old.end answered ended.now)) }
     ensures moments { InModel store.old.disk ((ops : List Op)
         → store.old.sheet.contents ≡ sheet_of ops
         → LeavesOnly

@@ -60,7 +60,8 @@ fn ask(
     requires going { GoesOnAt lives.old.items name }
     requires askable { IsAskable item }
     ensures ok { IfOk result
-        (λ told. Asked name next item lives.old.items lives.new.items told.0 told.1) }
+        (λ told. Asked name next item lives.old.items lives.new.items
+        (record { number = told.0; sent = told.1 })) }
     ensures err { OnErr result (lives.new.items ≡ lives.old.items) }
 {
     match place_of(lives, name) {
@@ -240,7 +241,7 @@ impl<D: Disk> Engine<D> {
         ensures at_once { IsErrOf result HostFault.Disk → self.old.store.gathers ≡ false }
         ensures ok { (w : World) → StandsAt self.old w
             → lives_are_spent w.begun (life_of w name) ≡ false → HasField (sheet_in w) line
-            → IfOk result (Evaluated w name id line self.old self.new) }
+            → IfOk result (Evaluated w (record { session = name; id = id; line = line }) self.old self.new) }
         ensures contents { OnErr result (self.new.store.sheet.contents
             ≡ self.old.store.sheet.contents) }
         ensures numbers { (other : List ℕ)

@@ -13,10 +13,10 @@ use Rattle.child_edge.specs.Broken.{WaitSoFar, WaitStopped}
 use Rattle.child_edge.specs.Edge.{ByCause}
 use Rattle.child_edge.specs.Moments.{BrokeFrom, RanFrom}
 use Rattle.offline_programs.specs.declared.fault.RunFault.{RunFault}
-use Rattle.offline_programs.specs.declared.fault.RunFault.TheVariants as fault
 use Rattle.sheet_programs.specs.Lines.{command_up_to, wait_up_to, waited_so_far, up_to, so_far}
 use Rattle.sheet_programs.proofs.Commands.{CommandBroke, command_broke_unwritten}
 use Rattle.live.specs.Records.{Clock, Watch}
+use Rattle.evaluation.specs.Within as within
 use Rattle.evaluation.specs.Within.{WaitFailed, waiting}
 use Rattle.evaluation.proofs.Waits.{up_to_led}
 use Rattle.sheet_check.specs.Evaluated.{fault_on_copy, way}
@@ -45,13 +45,10 @@ module _ {C : Type 0} (R : Relation C) (K : Clock C) (W : Watch C) (id : ℕ) (s
 
   -- with one
   pub limit_broke : (seconds : ℕ) (why : RunFault) → WaitFailed (waiting R K W seconds) id s g d why → WaitBroke (way R K W (Some seconds)) id s g d (fault_on_copy why)
-  limit_broke seconds (fault.Host hosts.Disk) q = inside.unremembered q.1 q.2 (inr (up_to_led (waiting R K W seconds) id s q.0 (at q.1 d q.2) q.3)) (inr (q.0, hosts.Disk, q.4))
-  limit_broke seconds (fault.Host hosts.OutOfMemory) q = inside.stopped hosts.OutOfMemory q.0 q.1 q.2 q.3 q.4 (λ e. let no : hosts.OutOfMemory ≡ hosts.Disk = e in cc)
-  limit_broke seconds (fault.Host hosts.JournalFull) q = inside.stopped hosts.JournalFull q.0 q.1 q.2 q.3 q.4 (λ e. let no : hosts.JournalFull ≡ hosts.Disk = e in cc)
-  limit_broke seconds (fault.Host hosts.Closed) q = inside.stopped hosts.Closed q.0 q.1 q.2 q.3 q.4 (λ e. let no : hosts.Closed ≡ hosts.Disk = e in cc)
-  limit_broke seconds fault.OutOfMemory q = inside.unremembered q.0 q.1 (inr q.2) q.3
-  limit_broke seconds fault.Input q = inside.unwatched q.0 (seconds, refl, q.1) q.2
-  limit_broke seconds fault.InputTooLong q = inside.too_long q.0 (seconds, refl, q.1) q.2
-  limit_broke seconds fault.Output q = absurd q
-  limit_broke seconds (fault.Open why) q = absurd q
-  limit_broke seconds fault.InUse q = absurd q
+  limit_broke seconds why (within.stopped hosts.Disk e t x led stopped) = inside.unremembered t x (inr (up_to_led (waiting R K W seconds) id s e (at t d x) led)) (inr (e, hosts.Disk, stopped))
+  limit_broke seconds why (within.stopped hosts.OutOfMemory e t x led stopped) = inside.stopped hosts.OutOfMemory e t x led stopped (λ is. let no : hosts.OutOfMemory ≡ hosts.Disk = is in cc)
+  limit_broke seconds why (within.stopped hosts.JournalFull e t x led stopped) = inside.stopped hosts.JournalFull e t x led stopped (λ is. let no : hosts.JournalFull ≡ hosts.Disk = is in cc)
+  limit_broke seconds why (within.stopped hosts.Closed e t x led stopped) = inside.stopped hosts.Closed e t x led stopped (λ is. let no : hosts.Closed ≡ hosts.Disk = is in cc)
+  limit_broke seconds why (within.no_memory t x led stands) = inside.unremembered t x (inr led) stands
+  limit_broke seconds why (within.unwatched t led is) = inside.unwatched t (seconds, refl, led) is
+  limit_broke seconds why (within.too_long t led is) = inside.too_long t (seconds, refl, led) is

@@ -13,3 +13,14 @@ is_ok-text P Q bytes (Err e) h = go (is_utf8 bytes) (λ text. absurd (h.0 (IsUtf
     go : (b : Bool) → (b ≡ true → false ≡ b) → false ≡ b
     go true k = k refl
     go false k = refl
+
+-- what is read as a text is UTF-8, and what isn't is not
+pub text_is : (bytes : List ℕ) → IsUtf8 bytes → is_utf8 bytes ≡ true
+text_is bytes text = is_utf8-from_IsUtf8 bytes text
+
+pub no_text_is : (bytes : List ℕ) → ¬ (IsUtf8 bytes) → is_utf8 bytes ≡ false
+no_text_is bytes none = go (is_utf8 bytes) (λ text. none (IsUtf8-from_is_utf8 bytes text))
+  where
+    go : (b : Bool) → (b ≡ true → ⊥) → b ≡ false
+    go true k = absurd (k refl)
+    go false k = refl

@@ -6,6 +6,7 @@ pub mod MoveLaws
 pub mod Standing
 pub mod NamedSessions
 pub mod CheckLaws
+pub mod Setting
 pub mod Finds
 pub mod SoundLaws
 pub mod OneMore

@@ -1,5 +1,5 @@
 //! What an allowed op does.
-ghost use Rattle.std.specs.Prelude.{◌≡◌, ◌+◌, ◌∷◌, ◌++◌, [], true, None, Some, is_some};
+ghost use Rattle.std.specs.Prelude.{◌≡◌, ◌+◌, ◌∷◌, ◌++◌, [], true, None, Some, is_some, IfOk};
 ghost use Rattle.std.specs.Str.{is_utf8};
 ghost use Rattle.worksheet.specs.declared.op.Op.TheVariants as op;
 ghost use Rattle.worksheet.specs.Names.{is_name};
@@ -14,8 +14,10 @@ use crate::name::Name;
 use crate::op::Op;
 use crate::session_map::{put_session, session_with};
 use crate::slot::Slot;
-use block_tree::{Octets, Sequence, Text};
+use block_tree::{Octets, OutOfMemory, Sequence, Text};
 use indexmap::IndexMap;
+use std::alloc::Global;
+use std::mem;
 
 /// Does what an allowed op says to a worksheet of these parts. There is room for it.
 pub(crate) fn carry_out(
@@ -49,7 +51,9 @@ pub(crate) fn carry_out(
             put_field(fields, after, field);
             *next += 1;
         }
-        Op::Set { id, input } => set_input(fields, id, text_of(input)),
+        Op::Set { id, input } => {
+            set_input(fields, id, text_of(input));
+        }
         Op::Remove { id } => remove_field(fields, id),
         Op::Move { id, after } => move_field(fields, id, after),
         Op::Clear { id } => set_outcome(fields, id, None, None),
@@ -123,4 +127,20 @@ fn text_of(bytes: Octets) -> Text
         Ok(text) => Text::from_string(text),
         Err(_) => unreachable!(),
     }
+}
+
+/// A text in the memory of another, of which nothing stays there. Where that is more than twice as much
+/// as the text has bytes, it is given up.
+pub(crate) fn text_in(alloc: Global, room: &mut Text, text: &str) -> Result<Text, OutOfMemory>
+    ensures { IfOk result (λ made. made ≡ text.now) }
+{
+    let held = mem::replace(room, Text::from_string(String::new(alloc))).into_string();
+    let mut made = if held.capacity() / 2 > text.len() {
+        String::new(alloc)
+    } else {
+        held
+    };
+    made.clear();
+    made.push_str(text)?;
+    Ok(Text::from_string(made))
 }

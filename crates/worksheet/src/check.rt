@@ -1,8 +1,9 @@
 //! Whether a worksheet allows an op.
-ghost use Rattle.std.specs.Prelude.{◌≡◌, ◌==◌, ◌||◌, [], false, is_some};
+ghost use Rattle.std.specs.Prelude.{◌≡◌, ◌==◌, ◌||◌, ◌&&◌, [], true, false, length, nat_le, is_some, IfSome, IfNone};
 ghost use Rattle.std.specs.List.{list_all};
 ghost use Rattle.std.specs.Result.{result_err};
 ghost use Rattle.worksheet.specs.Checks.{is_input as input_test, is_word as word_test, are_words as words_test, is_new_name as new_name_test, field_in, session_named as session_found, numbers, first_refusal};
+ghost use Rattle.worksheet.specs.Limits.{longest_input};
 ghost use Rattle.worksheet.specs.inside.Words.{is_input_byte as input_byte_test, is_no_low_byte as low_byte_test};
 ghost use Rattle.std.specs.Str.{is_utf8 as utf8_test};
 ghost use Rattle.block_tree.specs.Tree.{Tree};
@@ -29,7 +30,14 @@ use indexmap::IndexMap;
 pub fn is_input(bytes: &[u8]) -> bool
     ensures { result ≡ input_test bytes.now }
 {
-    bytes.len() <= LONGEST_INPUT && are_input_bytes(bytes) && is_utf8(bytes)
+    may_be_input(bytes) && is_utf8(bytes)
+}
+
+// Whether these bytes are an input if they are UTF-8.
+fn may_be_input(bytes: &[u8]) -> bool
+    ensures { result ≡ (nat_le (length bytes.now) longest_input && list_all input_byte_test bytes.now) }
+{
+    bytes.len() <= LONGEST_INPUT && are_input_bytes(bytes)
 }
 
 fn are_input_bytes(bytes: &[u8]) -> bool
@@ -69,13 +77,28 @@ fn has_no_low_byte(bytes: &[u8]) -> bool
     bytes.iter().all(|byte| *byte >= b' ')
 }
 
+/// The text of these bytes, where they are an input.
+pub(crate) fn input_text(bytes: &[u8]) -> Option<&str>
+    ensures some { IfSome result (λ text. (text.now ≡ bytes.now) × (input_test bytes.now ≡ true)) }
+    ensures none { IfNone result (input_test bytes.now ≡ false) }
+{
+    if !may_be_input(bytes) {
+        return None;
+    }
+    match str::from_utf8(bytes) {
+        Ok(text) => Some(text),
+        Err(_) => None,
+    }
+}
+
 fn is_utf8(bytes: &[u8]) -> bool
     ensures { result ≡ utf8_test bytes.now }
 {
     str::from_utf8(bytes).is_ok()
 }
 
-fn has_field(fields: &IndexMap<u32, Slot>, id: u32) -> bool
+/// Whether there is a field with this number.
+pub(crate) fn has_field(fields: &IndexMap<u32, Slot>, id: u32) -> bool
     requires { AreFields fields.now.entries }
     ensures { result ≡ is_some (field_in (shown fields.now.entries) id) }
 {

@@ -90,8 +90,9 @@ pub(crate) fn move_field(fields: &mut IndexMap<u32, Slot>, id: u32, after: u32)
     fields.move_index(from, to);
 }
 
-/// Gives the field with this number another input, and takes its answer or reason away.
-pub(crate) fn set_input(fields: &mut IndexMap<u32, Slot>, id: u32, input: Text)
+/// Gives the field with this number another input, and takes its answer or reason away. The earlier
+/// input is handed back.
+pub(crate) fn set_input(fields: &mut IndexMap<u32, Slot>, id: u32, input: Text) -> Text
     requires fields { AreFields fields.old.entries }
     requires apart { AreApart (numbers (shown fields.old.entries)) }
     requires there { IsSome (field_in (shown fields.old.entries) id) }
@@ -100,7 +101,7 @@ pub(crate) fn set_input(fields: &mut IndexMap<u32, Slot>, id: u32, input: Text)
     ensures fields { AreFields fields.new.entries }
 {
     let at = place_of(fields, id);
-    fields[at].set_input(input);
+    fields[at].set_input(input)
 }
 
 /// Gives the field with this number an answer, or the reason why there is none, or none of both.

@@ -23,5 +23,5 @@ pub use field::{Answer, Field, Session};
 pub use fields::{Fields, Sessions};
 pub use name::Name;
 pub use op::Op;
-pub use refusal::Refusal;
+pub use refusal::{Refusal, SetFault};
 pub use sheet::Sheet;

@@ -1,20 +1,20 @@
 //! A worksheet.
-ghost use Rattle.std.specs.Prelude.{◌≡◌, ◌+◌, ◌∷◌, ◌++◌, [], List, ℕ, true, None, IsErr, IfErr, OnOk, OnErr, IsOk};
+ghost use Rattle.std.specs.Prelude.{◌≡◌, ◌+◌, ◌∷◌, ◌++◌, [], List, ℕ, true, None, IsErr, IsErrOf, IfErr, OnOk, OnErr, IsOk};
 ghost use Rattle.std.specs.Option.{option_copied};
 ghost use Rattle.std.specs.Result.{result_err};
 
-use crate::carry::carry_out;
-use crate::check::{check_op, is_new_name};
-use crate::edits::reserve_number;
+use crate::carry::{carry_out, text_in};
+use crate::check::{check_op, has_field, input_text, is_new_name};
+use crate::edits::{reserve_number, set_input};
 use crate::field::{Field, Session};
 use crate::fields::{Fields, Sessions};
 use crate::name::Name;
 use crate::op::Op;
 use crate::places::{field_with, is_reserved};
-use crate::refusal::Refusal;
+use crate::refusal::{Refusal, SetFault};
 use crate::session_map::{is_ready_name, reserve_name, session_with};
 use crate::slot::Slot;
-use block_tree::OutOfMemory;
+use block_tree::{OutOfMemory, Text};
 use indexmap::IndexMap;
 use std::alloc::Global;
 use std::marker::Model;
@@ -49,6 +49,7 @@ impl Model for Sheet {
 
 impl Sheet {
     ghost use Rattle.worksheet.specs.declared.op.Op.{Op};
+    ghost use Rattle.worksheet.specs.declared.op.Op.TheVariants as op;
     ghost use Rattle.worksheet.specs.Ops.{sheet_of};
     ghost use Rattle.worksheet.specs.Checks.{first_refusal, room_for, field_in, session_named};
 
@@ -132,6 +133,28 @@ impl Sheet {
             return Err((op, refused));
         }
         carry_out(&mut self.fields, &mut self.sessions, &mut self.next, op);
+        Ok(())
+    }
+
+    /// Does what a Set of this input says, without an op. The input takes the memory of `room`, and leaves
+    /// there that of the field's earlier one.
+    pub fn set(&mut self, id: u32, input: &[u8], room: &mut Text) -> Result<(), SetFault>
+        ensures allowed { OnOk result
+            (first_refusal self.old.contents (op.Set id input.now) ≡ None) }
+        ensures ok { (ops : List Op) → self.old.contents ≡ sheet_of ops
+            → OnOk result (self.new.contents ≡ sheet_of (ops ++ op.Set id input.now ∷ [])) }
+        ensures refused { IsErrOf result SetFault.Refused
+            → first_refusal self.old.contents (op.Set id input.now) ≡ None → ⊥ }
+        ensures err { OnErr result (self.new.contents ≡ self.old.contents) }
+    {
+        if !has_field(&self.fields, id) {
+            return Err(SetFault::Refused);
+        }
+        let Some(text) = input_text(input) else {
+            return Err(SetFault::Refused);
+        };
+        let text = text_in(*self.fields.allocator(), room, text)?;
+        *room = set_input(&mut self.fields, id, text);
         Ok(())
     }
 

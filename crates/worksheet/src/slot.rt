@@ -7,6 +7,7 @@ use crate::field::{Answer, Field};
 use block_tree::{OutOfMemory, Reason, Text};
 use std::alloc::Global;
 use std::marker::Model;
+use std::mem;
 
 /// A field, or nothing where its number is held ready for one. It is in a box, so that an entry
 /// of the map is small where entries move.
@@ -54,14 +55,18 @@ impl Slot {
         *self.held = Some(field);
     }
 
-    /// Gives its field another input, and takes its answer or reason away.
-    pub(crate) fn set_input(&mut self, input: Text)
+    /// Gives its field another input, and takes its answer or reason away. The input that isn't in it any
+    /// more is handed back.
+    pub(crate) fn set_input(&mut self, input: Text) -> Text
         ensures { self.new ≡ option_map (with_input input) self.old }
     {
-        if let Some(field) = &mut *self.held {
-            field.input = input;
-            field.answer = None;
-            field.lost = None;
+        match &mut *self.held {
+            Some(field) => {
+                field.answer = None;
+                field.lost = None;
+                mem::replace(&mut field.input, input)
+            }
+            None => input,
         }
     }
 

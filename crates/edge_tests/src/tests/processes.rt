@@ -3,6 +3,9 @@ use super::made_up::{Calls, Runtime};
 use block_tree::{Octets, OutOfMemory};
 use child_calls::{Children, Processes, ReceiveFault, Received};
 use std::alloc::Global;
+use std::os::fd::AsRawFd;
+use std::process;
+use std::process::OpenProcess;
 use worksheet::Name;
 
 fn name() -> Option<Name> {
@@ -18,12 +21,15 @@ fn octets(alloc: Global, words: &[&str]) -> Result<Vec<Octets>, OutOfMemory> {
 }
 
 // Whether this life of session `a` is started with these words.
-fn starts_as(
+fn starts_as<R: process::Processes + Drop>(
     alloc: Global,
-    children: &mut Processes<Runtime<'_>>,
+    children: &mut Processes<R>,
     words: &[&str],
     life: u32,
-) -> bool {
+) -> bool
+where
+    <R::Started as OpenProcess>::Stdin: AsRawFd,
+{
     match (name(), octets(alloc, words)) {
         (Some(name), Ok(words)) => children.start(name, life, words.as_slice()).is_ok(),
         _ => false,
@@ -31,12 +37,22 @@ fn starts_as(
 }
 
 // Whether the first one is.
-fn starts(alloc: Global, children: &mut Processes<Runtime<'_>>, words: &[&str]) -> bool {
+fn starts<R: process::Processes + Drop>(
+    alloc: Global,
+    children: &mut Processes<R>,
+    words: &[&str],
+) -> bool
+where
+    <R::Started as OpenProcess>::Stdin: AsRawFd,
+{
     starts_as(alloc, children, words, 1)
 }
 
 // Whether a line of five bytes is sent to this life of session `a`.
-fn sends(children: &mut Processes<Runtime<'_>>, life: u32) -> bool {
+fn sends<R: process::Processes + Drop>(children: &mut Processes<R>, life: u32) -> bool
+where
+    <R::Started as OpenProcess>::Stdin: AsRawFd,
+{
     match name() {
         Some(name) => children.send(name, life, b"line\n").is_ok(),
         None => false,
@@ -44,7 +60,10 @@ fn sends(children: &mut Processes<Runtime<'_>>, life: u32) -> bool {
 }
 
 // Whether this life of session `a` is stopped.
-fn stops(children: &mut Processes<Runtime<'_>>, life: u32) -> bool {
+fn stops<R: process::Processes + Drop>(children: &mut Processes<R>, life: u32) -> bool
+where
+    <R::Started as OpenProcess>::Stdin: AsRawFd,
+{
     match name() {
         Some(name) => children.stop(name, life).is_ok(),
         None => false,
@@ -52,7 +71,10 @@ fn stops(children: &mut Processes<Runtime<'_>>, life: u32) -> bool {
 }
 
 // How long a piece of the first life of session `a` is: 0 is the end of its output.
-fn received(children: &mut Processes<Runtime<'_>>) -> Option<usize> {
+fn received<R: process::Processes + Drop>(children: &mut Processes<R>) -> Option<usize>
+where
+    <R::Started as OpenProcess>::Stdin: AsRawFd,
+{
     match children.receive(name()?, 1) {
         Ok(Received::Piece(piece)) => Some(piece.as_slice().len()),
         Ok(Received::End) => Some(0),
@@ -130,7 +152,10 @@ fn a_stop_kills_and_waits_and_forgets(rt: HostRuntime) {
 }
 
 // Whether this life of session `a` is interrupted.
-fn interrupts(children: &mut Processes<Runtime<'_>>, life: u32) -> bool {
+fn interrupts<R: process::Processes + Drop>(children: &mut Processes<R>, life: u32) -> bool
+where
+    <R::Started as OpenProcess>::Stdin: AsRawFd,
+{
     match name() {
         Some(name) => children.interrupt(name, life).is_ok(),
         None => false,

@@ -11,6 +11,7 @@ use Rattle.block_tree.specs.declared.reason.Reason.TheVariants as reason
 use Rattle.plugin_core.specs.declared.item.Item.TheVariants as item
 use Rattle.plugin_core.specs.Past.{received, stream_of}
 use Rattle.plugin_core.specs.Steps.{Reads, step_of}
+use Rattle.plugin_core.specs.declared.step.Step.{Step}
 use Rattle.host_events.specs.declared.command.Command.{Command}
 use Rattle.host_events.specs.declared.command.Command.TheVariants as command
 use Rattle.host_events.specs.declared.event.ChildEvent.{ChildEvent}
@@ -61,12 +62,21 @@ abbrev pub Commanded : World → Command → Option Refusal → Outcome → Worl
 Commanded w c (Some r) o v = (o ≡ refused r) × (v ≡ w)
 Commanded w c None o v = ((o ≡ outcome_of w c) × (v ≡ after w c)) ⊎ ((command_takes_memory w c ≡ true) × (o ≡ refused refusal.OutOfMemory) × (v ≡ w))
 
--- a piece of a life, where these are the blocks of the stream with it, and this the fault that it brings
-abbrev pub IsPieced : World → Going → List ℕ → List Outer → Option Kind → Outcome → World → Type 0
-IsPieced w l piece blocks fault o v =
-    Reads (stream_of (l.past ++ received piece ∷ [])) blocks fault
-    × (o ≡ told_of l (step_of l.past l.blocks piece blocks fault))
-    × (v ≡ with_op_if (op_by w.room w.end (step_of l.past l.blocks piece blocks fault).answered (step_of l.past l.blocks piece blocks fault).ended) (goes_on (with_piece l piece blocks) (step_of l.past l.blocks piece blocks fault).ended w))
+-- a piece of a life, the blocks of its stream with it, and the fault that it brings
+pub record PieceRead : Type 0 where
+  pub piece : List ℕ
+  pub blocks : List Outer
+  pub fault : Option Kind
+
+-- what the life gives at it
+abbrev pub step_at : Going → PieceRead → Step
+step_at l r = step_of l.past l.blocks r.piece r.blocks r.fault
+
+abbrev pub IsPieced : World → Going → PieceRead → Outcome → World → Type 0
+IsPieced w l r o v =
+    Reads (stream_of (l.past ++ received r.piece ∷ [])) r.blocks r.fault
+    × (o ≡ told_of l (step_at l r))
+    × (v ≡ with_op_if (op_by w.room w.end (step_at l r).answered (step_at l r).ended) (goes_on (with_piece l r.piece r.blocks) (step_at l r).ended w))
 
 -- nothing comes of it
 abbrev pub Ignored : World → Outcome → World → Type 0
@@ -74,7 +84,7 @@ Ignored w o v = (o ≡ replies reply.Nothing) × (v ≡ w)
 
 abbrev pub Pieced : World → Option Going → List ℕ → Outcome → World → Type 0
 Pieced w None piece o v = Ignored w o v
-Pieced w (Some l) piece o v = (blocks : List Outer) × (fault : Option Kind) × IsPieced w l piece blocks fault o v
+Pieced w (Some l) piece o v = (blocks : List Outer) × (fault : Option Kind) × IsPieced w l (record { piece = piece; blocks = blocks; fault = fault }) o v
 
 abbrev pub Ended_by : World → Option Going → Reason → Bool → Outcome → World → Type 0
 Ended_by w None why killed o v = Ignored w o v

@@ -45,6 +45,21 @@ long_at bytes = do
   n ← front_at 2 bytes
   front_at (from_be_bytes w16 n.0) n.1
 
+-- what was read, where nothing follows it
+abbrev pub alone : {X : Type 0} → X → List ℕ → Option X
+alone x [] = Some x
+alone x (b ∷ rest) = None
+
+unfoldable pub last_number_at : List ℕ → Option ℕ
+last_number_at bytes = do
+  n ← number_at bytes
+  alone n.0 n.1
+
+unfoldable pub last_long_at : List ℕ → Option (List ℕ)
+last_long_at bytes = do
+  text ← long_at bytes
+  alone text.0 text.1
+
 unfoldable pub words_at : ℕ → List ℕ → Option (List (List ℕ))
 words_at zero bytes = Some []
 words_at (suc n) bytes = do
@@ -68,30 +83,30 @@ unfoldable pub new_at : List ℕ → Option Op
 new_at bytes = do
   after ← number_at bytes
   session ← short_at after.1
-  input ← long_at session.1
-  Some (op.New after.0 session.0 input.0)
+  input ← last_long_at session.1
+  Some (op.New after.0 session.0 input)
 
 unfoldable pub set_at : List ℕ → Option Op
 set_at bytes = do
   id ← number_at bytes
-  input ← long_at id.1
-  Some (op.Set id.0 input.0)
+  input ← last_long_at id.1
+  Some (op.Set id.0 input)
 
 unfoldable pub remove_at : List ℕ → Option Op
 remove_at bytes = do
-  id ← number_at bytes
-  Some (op.Remove id.0)
+  id ← last_number_at bytes
+  Some (op.Remove id)
 
 unfoldable pub move_at : List ℕ → Option Op
 move_at bytes = do
   id ← number_at bytes
-  after ← number_at id.1
-  Some (op.Move id.0 after.0)
+  after ← last_number_at id.1
+  Some (op.Move id.0 after)
 
 unfoldable pub clear_at : List ℕ → Option Op
 clear_at bytes = do
-  id ← number_at bytes
-  Some (op.Clear id.0)
+  id ← last_number_at bytes
+  Some (op.Clear id)
 
 -- the reason with this number
 abbrev pub reason_with : ℕ → Option Reason
@@ -101,10 +116,11 @@ reason_with n =
     else if n == 7 then Some reason.TooDeep else if n == 8 then Some reason.TooLong else if n == 9 then Some reason.Stopped
     else None
 
--- that with the first byte
+-- that with the one byte that there is
 abbrev pub reason_at : List ℕ → Option Reason
 reason_at [] = None
-reason_at (n ∷ rest) = reason_with n
+reason_at (n ∷ []) = reason_with n
+reason_at (n ∷ b ∷ rest) = None
 
 unfoldable pub lost_at : List ℕ → Option Op
 lost_at bytes = do
@@ -114,8 +130,8 @@ lost_at bytes = do
 
 unfoldable pub ids_at : List ℕ → Option Op
 ids_at bytes = do
-  next ← number_at bytes
-  Some (op.Ids next.0)
+  next ← last_number_at bytes
+  Some (op.Ids next)
 
 -- of an answer: the number and the prompt, and the bytes of the output
 unfoldable pub asked_at : List ℕ → Option ((ℕ × List ℕ) × List ℕ)

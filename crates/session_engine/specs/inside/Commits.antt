@@ -76,14 +76,11 @@ abbrev pub IsEitherIf : List Op → Option Op → Image → Type 0
 IsEitherIf ops None i = IsSheetImage (sheet_of ops) i
 IsEitherIf ops (Some o) i = IsEither ops o i
 
-abbrev pub NotKept : StoreView → Option Op → StoreView → HostFault → Type 0
-NotKept old None new faults.Disk = ⊥
-NotKept old (Some o) new faults.Disk = (new.sheet.contents ≡ old.sheet.contents) × Rises old.disk.faults new.disk.faults
-NotKept old None new faults.OutOfMemory = ⊥
-NotKept old (Some o) new faults.OutOfMemory = SameStore old new
-NotKept old None new faults.JournalFull = ⊥
-NotKept old (Some o) new faults.JournalFull = SameStore old new × (fits_in old.disk.room old.end o ≡ false)
-NotKept old o new faults.Closed = ⊥
+-- why an op that was to be kept isn't
+pub data NotKept (old new : StoreView) : Option Op → HostFault → Type 0 where
+  unkept_on_disk : (o : Op) → new.sheet.contents ≡ old.sheet.contents → Rises old.disk.faults new.disk.faults → NotKept old new (Some o) faults.Disk
+  unkept_in_memory : (o : Op) → SameStore old new → NotKept old new (Some o) faults.OutOfMemory
+  unkept_in_room : (o : Op) → SameStore old new → fits_in old.disk.room old.end o ≡ false → NotKept old new (Some o) faults.JournalFull
 
 -- Lines that are lost.
 
@@ -101,10 +98,10 @@ abbrev pub LosesField : Contents → Option Ended → Type 0
 LosesField sheet None = Unit {0}
 LosesField sheet (Some e) = HasFieldIf sheet (first_line_of e.lost)
 
-abbrev pub NotLost : StoreView → Option Op → StoreView → LoseFault → Type 0
-NotLost old None new fault = ⊥
-NotLost old (Some o) new loses.OutOfMemory = SameStore old new
-NotLost old (Some o) new loses.Disk = (new.sheet.contents ≡ old.sheet.contents) × Rises old.disk.faults new.disk.faults
+-- why the reason of a line isn't kept that was to be
+pub data NotLost (old new : StoreView) : Option Op → LoseFault → Type 0 where
+  unlost_in_memory : (o : Op) → SameStore old new → NotLost old new (Some o) loses.OutOfMemory
+  unlost_on_disk : (o : Op) → new.sheet.contents ≡ old.sheet.contents → Rises old.disk.faults new.disk.faults → NotLost old new (Some o) loses.Disk
 
 -- the op of the answer to a line
 abbrev pub answer_op : Option Answered → Option Op
@@ -171,10 +168,16 @@ abbrev pub begun_with_words : ℕ → Option (List (List ℕ)) → ℕ
 begun_with_words begun (Some words) = begun + 1
 begun_with_words begun None = begun
 
--- the line of a field is asked and its Clear is given, or neither for lack of memory
-abbrev pub Evaluated : {D : Type 0} → World → List ℕ → ℕ → Item → Engine D → Engine D → Outcome → Type 0
-Evaluated w name id line old new o =
-    ((o ≡ asks w name line (life_of w name)) × StandsAt new (with_op (op.Clear id) (with_item w name line (life_of w name))))
+-- the line of a field that is to be asked, and its session
+pub record LineOf : Type 0 where
+  pub session : List ℕ
+  pub id : ℕ
+  pub line : Item
+
+-- it is asked and its field's Clear is given, or neither for lack of memory
+abbrev pub Evaluated : {D : Type 0} → World → LineOf → Engine D → Engine D → Outcome → Type 0
+Evaluated w it old new o =
+    ((o ≡ asks w it.session it.line (life_of w it.session)) × StandsAt new (with_op (op.Clear it.id) (with_item w it.session it.line (life_of w it.session))))
     ⊎ ((o ≡ refused refusal.OutOfMemory) × StandsAt new w × (new.store.disk ≡ old.store.disk))
 
 -- What this command asks completions with: the name of the session, and the request. No refusal applies.

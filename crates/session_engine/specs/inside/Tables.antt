@@ -48,28 +48,33 @@ FeedsIf name number piece old new (Some result) = Feeds name number piece old ne
 abbrev pub GoesOnAt : List Running → List ℕ → Type 0
 GoesOnAt rs name = (r : Running) → life_in rs name ≡ Some r → r.life.over ≡ false
 
--- an item goes to the life of this session, and these bytes are sent now
-pub record Joined (name : List ℕ) (item : Item) (old new : List Running) (number : ℕ) (sent : Option (List ℕ)) : Type 0 where
+-- who has an item that was asked: the number of the life, and the bytes that are sent to it now
+pub record ItemTaken : Type 0 where
+  pub number : ℕ
+  pub sent : Option (List ℕ)
+
+-- an item goes to the life of this session
+pub record Joined (name : List ℕ) (item : Item) (old new : List Running) (taken : ItemTaken) : Type 0 where
   pub before : Running
   pub found : life_in old name ≡ Some before
   pub life : InterpreterView
   pub same : life.number ≡ before.life.number
   pub put : new ≡ replace_named name_of name (with_life before life) old
-  pub told : number ≡ life.number
-  pub accepts : (past : List Event) (blocks : List Outer) → LifeHasPast before.life past blocks → Accepts past blocks item sent life
+  pub told : taken.number ≡ life.number
+  pub accepts : (past : List Event) (blocks : List Outer) → LifeHasPast before.life past blocks → Accepts past blocks item taken.sent life
 
 -- a life of this session begins with an item
-pub record Begun (name : List ℕ) (next : ℕ) (item : Item) (old new : List Running) (number : ℕ) (sent : Option (List ℕ)) : Type 0 where
+pub record Begun (name : List ℕ) (next : ℕ) (item : Item) (old new : List Running) (taken : ItemTaken) : Type 0 where
   pub none : life_in old name ≡ None
   pub life : InterpreterView
-  pub told : number ≡ next
+  pub told : taken.number ≡ next
   pub is_number : life.number ≡ next
   pub put : new ≡ old ++ record { name = name; life = life } ∷ []
   pub stands : LifeHasPast life (accepted item ∷ []) []
-  pub nothing : sent ≡ None
+  pub nothing : taken.sent ≡ None
 
-abbrev pub Asked : List ℕ → ℕ → Item → List Running → List Running → ℕ → Option (List ℕ) → Type 0
-Asked name next item old new number sent = Joined name item old new number sent ⊎ Begun name next item old new number sent
+abbrev pub Asked : List ℕ → ℕ → Item → List Running → List Running → ItemTaken → Type 0
+Asked name next item old new taken = Joined name item old new taken ⊎ Begun name next item old new taken
 
 -- an item was asked, so that no life has begun and each has its number, or one has begun that can be taken out again
 abbrev pub CanGoBack : List ℕ → List Running → ℕ → List Running → ℕ → Type 0

@@ -16,7 +16,7 @@ use Rattle.evaluation.specs.Evaluation.{not_begun}
 use Rattle.evaluation.specs.inside.Stepping.{BrokeOff, ThroughAnd}
 use Rattle.evaluation.specs.declared.fault.EvalFault.TheVariants as evals
 use Rattle.evaluation.proofs.InVain.{in_vain, not_host, not_opened, same_run}
-use Rattle.evaluation.proofs.Ends.{StoppedBehind, counts_untold, evaluation_done, evaluation_failed, evaluation_failed_since}
+use Rattle.evaluation.proofs.Ends.{StoppedBehind, broke_opened, counts_untold, evaluation_done, evaluation_failed, evaluation_failed_since}
 use Rattle.evaluation.proofs.evaluating.evaluate.Goals as goal
 
 pub returns-in-Ok-note-clause-evaluated : goal.returns-in-Ok-note-clause-evaluated
@@ -84,8 +84,8 @@ returns-clause-unopened g c = λ e.
     let o = c.in-Ok.ensures.opens in
     let disk = g.D.Disk.view c.args.disk in
     let start = world_at_opening o.0 disk.room c.in-Ok.host.store.end in
-    absurd (subst (BrokeOff (setting g.T.Tells.voice g.S.Children.after g.S.Sources.clock g.S.Sources.wakes c.args.plan.now c.as_slice.result.now) (stands (at start c.args.sources.now c.in-Ok.host.store.disk) not_begun) (StoppedBehind g.S.Children.after c.evaluate_and_stop-done.new.sources) (left c.evaluate_and_stop-done.new.host c.evaluate_and_stop-done.new.sources (g.W.Write.contents c.args.writer.now) (g.W.Write.contents c.evaluate_and_stop-done.new.writer)))
-    (same_run c.in-Err-done.fault (told.Open opens.Disk) (err_same _ (evals.Run c.in-Err-done.fault) (evals.Run (told.Open opens.Disk)) refl e)) (if_err_is c.evaluate_and_stop-done.result _ c.in-Err-done.fault c.in-Err-done.is (c.evaluate_and_stop-done.ensures.err start o.1)))
+    absurd (broke_opened _ _ _ _ opens.Disk (subst (BrokeOff (setting g.T.Tells.voice g.S.Children.after g.S.Sources.clock g.S.Sources.wakes c.args.plan.now c.as_slice.result.now) (stands (at start c.args.sources.now c.in-Ok.host.store.disk) not_begun) (StoppedBehind g.S.Children.after c.evaluate_and_stop-done.new.sources) (left c.evaluate_and_stop-done.new.host c.evaluate_and_stop-done.new.sources (g.W.Write.contents c.args.writer.now) (g.W.Write.contents c.evaluate_and_stop-done.new.writer)))
+    (same_run c.in-Err-done.fault (told.Open opens.Disk) (err_same _ (evals.Run c.in-Err-done.fault) (evals.Run (told.Open opens.Disk)) refl e)) (if_err_is c.evaluate_and_stop-done.result _ c.in-Err-done.fault c.in-Err-done.is (c.evaluate_and_stop-done.ensures.err start o.1))))
 
 pub returns-clause-failed : goal.returns-clause-failed
 returns-clause-failed g c = λ e.

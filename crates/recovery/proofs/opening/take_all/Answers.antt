@@ -1,8 +1,9 @@
-use Rattle.std.proofs.Common.{◌++◌, ◌∷◌, [], sym, ◌∙◌, subst, arith, IsTrue}
-use Rattle.disk_model.specs.Disk.{DiskView, Looks}
+use Rattle.std.proofs.Common.{◌≡◌, ◌≤◌, ◌++◌, ◌∷◌, [], sym, ◌∙◌, subst, arith, IsTrue}
+use Rattle.disk_model.specs.Disk.{DiskView, Looks, SameDisk}
 use Rattle.disk_model.specs.inside.Moments.{looks_on}
+use Rattle.journal.specs.Opening.{OpeningView}
 use Rattle.recovery.specs.Sheets.{codes_of}
-use Rattle.recovery.proofs.Taking.{left_on, refused_here}
+use Rattle.recovery.proofs.Taking.{Left, left_on, refused_here}
 use Rattle.recovery.proofs.opening.take_all.Goals as goal
 
 pub returns-in-Err-take-clause-looks : goal.returns-in-Err-take-clause-looks
@@ -43,21 +44,24 @@ loop-behind-preserved g c =
     let looks = rw c.in-Ok-Payload.field-0-is at c.in-Ok-Payload.ensures.looks in
     let steady = rw c.in-Ok-Payload.field-0-is at c.in-Ok-Payload.ensures.steady in
     let takes = c.in_default.ensures.taken before.reached.ops before.reached.makes in
+    let kept = sym c.reuse.ensures in
+    let old = c.args.opening.disk in
     record {
-      before = on.3;
-      same = record {
+      before = subst (λ (o : OpeningView). o.gate ≤ o.end) kept on.3;
+      same = subst (λ (o : OpeningView). SameDisk old o.disk) kept (record {
         room = same.room ∙ before.same.room;
         keeps_model = same.keeps_model ∙ before.same.keeps_model;
         later = omega (arith, same.later, before.same.later);
-      };
-      steady = steady ∙ before.steady;
-      looks = λ model. looks_on _ _ _ (before.looks model) (looks (subst IsTrue (sym before.same.keeps_model) model));
+      });
+      steady = subst (λ (o : OpeningView). o.disk.faults ≡ old.faults) kept (steady ∙ before.steady);
+      looks = λ model. subst (λ (o : OpeningView). Looks old.history o.disk.history) kept (looks_on _ _ _ (before.looks model) (looks (subst IsTrue (sym before.same.keeps_model) model)));
       reached = record {
         ops = before.reached.ops ++ takes.next ∷ [];
         makes = takes.makes;
         so_far = λ model payloads has.
             let far = before.reached.so_far model payloads has in
             let next = rw c.in-Ok-Payload.field-0-is at (c.in-Ok-Payload.ensures.given (subst IsTrue (sym before.same.keeps_model) model) (codes_of before.reached.ops) far.left far.given) in
-            left_on c.loop-behind.opening c.in-Ok-Payload.behind before.reached.ops payloads c.in-Ok-Payload.payload.bytes c.take.new.sheet.contents far next takes;
+            subst (λ (o : OpeningView). Left o (before.reached.ops ++ takes.next ∷ []) payloads) kept
+            (left_on c.loop-behind.opening c.in-Ok-Payload.behind before.reached.ops payloads c.in-Ok-Payload.payload.bytes c.take.new.sheet.contents far next takes);
       };
     }

@@ -1,10 +1,11 @@
-use Rattle.std.proofs.Common.{sym, subst, Option}
+use Rattle.std.proofs.Common.{◌≡◌, rules, sym, subst, Option}
 use Rattle.disk_model.specs.Disk.{LeavesOnly}
 use Rattle.worksheet.specs.declared.op.Op.{Op}
 use Rattle.worksheet.specs.declared.op.Op.TheVariants as op
 use Rattle.worksheet.specs.declared.refusal.Refusal.{Refusal}
-use Rattle.session_engine.specs.inside.Commits.{Commits, Committed, IsEitherIf}
-use Rattle.session_engine.proofs.Losing.{kept_fits}
+use Rattle.worksheet.specs.declared.refusal.Refusal.TheVariants as refusal
+use Rattle.session_engine.specs.inside.Commits.{Commits, Committed, IsEitherIf, NotCommitted}
+use Rattle.session_engine.proofs.Losing.{kept_fits, unlost_for_disk, unlost_for_memory}
 use Rattle.session_engine.proofs.commits.lose.Goals as goal
 
 pub returns-in-Err-clause-moments : goal.returns-in-Err-clause-moments
@@ -18,3 +19,13 @@ returns-in-Ok-None-clause-moments g c = λ model ops is.
     subst (λ (r : Option Refusal). Commits c.args.store.now ops (op.Lost c.in-Some.id c.args.reason) c.commit.new.store r) c.in-Ok-None.field-0-is (c.in-Ok-None.ensures.ok ops is) in
     subst (λ (p : Option Op). LeavesOnly (IsEitherIf ops p) c.args.store.now.disk.history c.commit.new.store.disk.history)
     (sym (kept_fits c.args.store.now.disk.room c.args.store.now.end c.args.reason c.args.line c.in-Some.id c.in-Some.is done.fits)) (c.commit.ensures.moments model ops is)
+
+pub returns-in-Err-clause-fault : goal.returns-in-Err-clause-fault
+returns-in-Err-clause-fault g c =
+    unlost_for_disk c.args.store.now c.commit.new.store c.args.reason c.args.line c.in-Some.id c.in-Some.is c.in-Err.ensures.fits c.in-Err.ensures.err.0 c.in-Err.ensures.err.1
+
+pub returns-in-Ok-Some-clause-fault : goal.returns-in-Ok-Some-clause-fault
+returns-in-Ok-Some-clause-fault g c =
+    let n : NotCommitted c.args.store.now (op.Lost c.in-Some.id c.args.reason) c.commit.new.store c.in-Ok-Some.field-0-0 = search rules in
+    let other : c.in-Ok-Some.field-0-0 ≡ refusal.JournalFull → ⊥ = search rules in
+    unlost_for_memory c.args.store.now c.commit.new.store c.args.reason c.args.line c.in-Some.id c.in-Ok-Some.field-0-0 c.in-Some.is n other

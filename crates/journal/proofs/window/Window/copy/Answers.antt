@@ -1,4 +1,4 @@
-use Rattle.std.proofs.Common.{refl, ◌∙◌, ap, subst, arith, length}
+use Rattle.std.proofs.Common.{◌∙◌, ap, subst, arith, length}
 use Rattle.disk_model.specs.Disk.{Image, InModel, area_of, bytes_on}
 use Rattle.disk_model.specs.declared.disk.Area.{Area}
 use Rattle.journal.specs.inside.Window.{Shows}
@@ -9,10 +9,10 @@ use Rattle.journal.proofs.window.Window.copy.Goals as goal
 pub loop-bytes-init : goal.loop-bytes-init
 loop-bytes-init g c = record {
   short = omega (arith, ap length c.in-Ok.ensures.items);
-  area = refl;
-  limit = refl;
+  area = c.in-Ok.ensures.area;
+  limit = c.in-Ok.ensures.limit;
   reads = none_read (g.D.Disk.view c.args.disk.now);
-  shows = c.requires.shows;
+  shows = λ model. c.in-Ok.ensures.shows (area_of c.args.self.now.area (bytes_on (g.D.Disk.view c.args.disk.now))) (c.requires.shows model);
   begins = λ model. begins_none _ _ c.in-Ok.ensures.items;
 }
 

@@ -42,7 +42,7 @@ returns-in-Ok-line-clause-took g c = λ w h.
     (subst (λ (k : ℕ). EngineStandsFor c.prepare_clear.new.self.store c.args.self.now.lives.items k w) (sym c.prepare_clear.ensures.begun) still) in
     let cleared : OnDisk w.ops false (Some (op.Clear id)) c.args.self.now.store.disk c.evaluate.new.self.store.disk =
     subst (λ (d : DiskView). OnDisk w.ops false (Some (op.Clear id)) d c.evaluate.new.self.store.disk) c.prepare_clear.ensures.store.disk (c.evaluate.ensures.moments w stand) in
-    IfOk-weaker c.evaluate.result (Evaluated w f.session id c.in-Ok-line.line c.prepare_clear.new.self c.evaluate.new.self) (TookAt w (event.Command (command.Eval id)) c.args.self.now c.evaluate.new.self)
+    IfOk-weaker c.evaluate.result (Evaluated w (record { session = f.session; id = id; line = c.in-Ok-line.line }) c.prepare_clear.new.self c.evaluate.new.self) (TookAt w (event.Command (command.Eval id)) c.args.self.now c.evaluate.new.self)
     (λ out. ⊎_elim
     (λ done. record {
       did = does w (command.Eval id);

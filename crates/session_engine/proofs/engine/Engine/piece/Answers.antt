@@ -111,7 +111,7 @@ returns-in-Err-clause-failed g c = λ w h.
     let step = c.in-Ok.step in
     let takes = IfOk-at_ok (λ step. Takes f.life.past f.life.blocks c.args.piece.now step fe.life) c.in-Ok.is (fe.takes f.life.past f.life.blocks f.runs.stands) in
     let same = given_is store rs c.args.self.now.begun w c.args.name c.args.number c.args.piece.now fe.before fe.life step h f fe.numbered fe.same takes in
-    let not_kept = subst (λ (o : Option Op). NotKept store o c.keep.new.store c.in-Err.fault) same c.in-Err.ensures.fault in
+    let not_kept = subst (λ (o : Option Op). NotKept store c.keep.new.store o c.in-Err.fault) same c.in-Err.ensures.fault in
     record {
       contents = contents store rs c.args.self.now.begun w c.args.name c.args.number c.args.piece.now fe.before fe.life step h f fe.numbered fe.same takes c.keep.new.store c.in-Err.fault not_kept;
       numbers = λ n. ap (λ (l : List Running). number_in l n) fe.put ∙ numbers_stay c.args.name n rs fe.before fe.life fe.found fe.same ∙ numbers_are rs w.lives h.lives_are n;
