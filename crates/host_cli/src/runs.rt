@@ -1,5 +1,5 @@
 //! `run` and `live` over the worksheet at a path, with lines of the input.
-ghost use Rattle.std.specs.Prelude.{◌≡◌, ◌||◌, false, is_some, true};
+ghost use Rattle.std.specs.Prelude.{◌≡◌, ◌||◌, is_some};
 ghost use Rattle.command_words.specs.Asked.{run_view};
 ghost use Rattle.host_cli.specs.Tasks.{DoesLive, DoesRun, LivesAs, RunsAs, RunsByLines, RunsWithin, outer};
 ghost use Rattle.tellings.specs.Json.{in_json};
@@ -10,48 +10,10 @@ use crate::plans::read_limit;
 use crate::refusing::refuse_run_limit;
 use command_words::RunWords;
 use live::Manner;
-use program_endings::{Ending, end_unheld, run_live, run_script, run_strictly};
+use program_endings::{Ending, end_unheld, run_live, run_script};
 use sheet_files::Places;
 use std::alloc::Global;
 use tellings::{InJson, InWords, Tells};
-
-/// `run` of the script on the input over the worksheet at a path.
-fn run_as<Y: System>(alloc: Global, outside: &mut Outside<Y>, path: &str) -> Ending
-    ensures does { RunsAs (outer Y.Places.Places Y.Disk.Disk Y.Disk.closed Y.Sources.after
-        Y.Sources.clock Y.Sources.wakes Y.Input.Read Y.Output.Write Y.Output.brought Y.Errors.Write) false outside.old outside.new result path.now }
-    ensures leaves { outside.new.progress ≡ outside.old.progress }
-{
-    match outside.places.hold() {
-        Ok(()) => run_script(
-            alloc,
-            &mut outside.input,
-            &mut outside.output,
-            &mut outside.errors,
-            outside.places.open(path),
-            &mut outside.sources,
-        ),
-        Err(why) => end_unheld(why, &mut outside.errors),
-    }
-}
-
-/// `run --strict` of the same.
-fn run_strictly_as<Y: System>(alloc: Global, outside: &mut Outside<Y>, path: &str) -> Ending
-    ensures does { RunsAs (outer Y.Places.Places Y.Disk.Disk Y.Disk.closed Y.Sources.after
-        Y.Sources.clock Y.Sources.wakes Y.Input.Read Y.Output.Write Y.Output.brought Y.Errors.Write) true outside.old outside.new result path.now }
-    ensures leaves { outside.new.progress ≡ outside.old.progress }
-{
-    match outside.places.hold() {
-        Ok(()) => run_strictly(
-            alloc,
-            &mut outside.input,
-            &mut outside.output,
-            &mut outside.errors,
-            outside.places.open(path),
-            &mut outside.sources,
-        ),
-        Err(why) => end_unheld(why, &mut outside.errors),
-    }
-}
 
 /// The lines of the input over the worksheet at a path, taken in this manner and printed in this voice.
 fn live_told<Y: System, T: Tells>(
@@ -142,7 +104,7 @@ fn run_by_lines<Y: System>(
     }
 }
 
-/// `run` in words without a limit, strict or not.
+/// `run` in words without a limit, of the script on the input over the worksheet at a path, strict or not.
 fn run_script_at<Y: System>(
     alloc: Global,
     outside: &mut Outside<Y>,
@@ -153,14 +115,21 @@ fn run_script_at<Y: System>(
         Y.Sources.clock Y.Sources.wakes Y.Input.Read Y.Output.Write Y.Output.brought Y.Errors.Write) strict outside.old outside.new result path.now }
     ensures leaves { outside.new.progress ≡ outside.old.progress }
 {
-    if strict {
-        run_strictly_as(alloc, outside, path)
-    } else {
-        run_as(alloc, outside, path)
+    match outside.places.hold() {
+        Ok(()) => run_script(
+            alloc,
+            strict,
+            &mut outside.input,
+            &mut outside.output,
+            &mut outside.errors,
+            outside.places.open(path),
+            &mut outside.sources,
+        ),
+        Err(why) => end_unheld(why, &mut outside.errors),
     }
 }
 
-/// Whether lines are taken one by one, and not of a script that is read whole.
+/// Whether lines are taken as they are read, and not of a script that is read whole.
 fn is_by_lines(json: bool, limit: Option<u32>) -> bool
     ensures { result ≡ (json || is_some limit) }
 {

@@ -1,4 +1,4 @@
--- How the program `run --strict` ends: what it runs and writes, what it tells on which stream, and the exit status.
+-- How a script ends that is run strictly: what it runs and writes, what it tells on which stream, and the exit status.
 use Rattle.std.specs.Prelude.{◌≡◌, ◌≤◌, ℕ, Bool, true, List, [], ◌∷◌, ◌++◌, Option, Some, None, Result, Ok, Err, IfOk, IfErr, IfSome, IsErrOf, OnOk, codes, length}
 use Rattle.std.specs.Fmt.{decimal}
 use Rattle.std.specs.Io.KnownBytes.{Appends}

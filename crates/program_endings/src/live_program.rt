@@ -118,7 +118,7 @@ fn end_stopped<W: Write, E: Write, T: Tells>(
 }
 
 /// Holds the worksheet on a disk open, and tells the fault, or where it stopped.
-fn end_live<R: Read, W: Write, E: Write, D: Close, S: Sources, T: Tells>(
+pub(crate) fn end_live<R: Read, W: Write, E: Write, D: Close, S: Sources, T: Tells>(
     alloc: Global,
     manner: Manner,
     input: &mut R,

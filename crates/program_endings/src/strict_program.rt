@@ -1,16 +1,14 @@
-//! The program `run --strict` over a worksheet's files, from its files on.
-ghost use Rattle.std.specs.Prelude.{◌≡◌, IfErr, IfOk};
-ghost use Rattle.program_endings.specs.Programs.{EndsUnopened};
+//! A script that is run strictly over a worksheet's disk.
+ghost use Rattle.std.specs.Prelude.{◌≡◌};
 ghost use Rattle.program_endings.specs.Records.{calling, given_disk, streams, writing};
 ghost use Rattle.program_endings.specs.StrictProgram.{StrictEnded, TellsStop, strict_status};
 ghost use Rattle.sheet_files.specs.Closing.{closable};
 
 use crate::ending::ended;
-use crate::telling::no_files;
 use crate::{Ending, end_program};
 use child_calls::Children;
 use offline_programs::RunFault;
-use sheet_files::{Close, FilesFault};
+use sheet_files::Close;
 use sheet_programs::{Ran, run_strict};
 use std::alloc::Global;
 use std::io::{Read, Write};
@@ -27,8 +25,8 @@ pub(crate) fn end_strict<E: Write>(answer: Result<Option<u64>, RunFault>, errors
     }
 }
 
-/// Runs a script strictly over a disk, and closes the disk at its end.
-fn run_strict_on<R: Read, W: Write, E: Write, D: Close, C: Children>(
+/// Runs a script strictly over a disk, closes the disk at its end, and tells where it stopped, or its fault.
+pub(crate) fn run_strict_on<R: Read, W: Write, E: Write, D: Close, C: Children>(
     alloc: Global,
     input: &mut R,
     output: &mut W,
@@ -42,27 +40,4 @@ fn run_strict_on<R: Read, W: Write, E: Write, D: Close, C: Children>(
     let Ran { disk, answer } = run_strict(alloc, input, output, disk, children);
     disk.close();
     end_strict(answer, errors)
-}
-
-/// The whole program `run --strict` on its files, or on why they weren't opened: as `run_script`, but it
-/// stops after the first line that goes wrong, whose number is printed on a line of `errors`.
-pub fn run_strictly<R: Read, W: Write, E: Write, D: Close, C: Children>(
-    alloc: Global,
-    input: &mut R,
-    output: &mut W,
-    errors: &mut E,
-    files: Result<D, FilesFault>,
-    children: &mut C,
-) -> Ending
-    // Why there are no files is printed; the input isn't read.
-    ensures unopened { IfErr files (λ why. (input.new ≡ input.old) × EndsUnopened (calling children.old children.new)
-        (streams (writing W.contents output.old output.new) (writing E.contents errors.old errors.new)) result why) }
-
-    ensures files { IfOk files (λ disk. StrictEnded C.after (R.remaining input.old) (given_disk (closable D.view D.closed) disk) (calling children.old children.new)
-        (streams (writing W.contents output.old output.new) (writing E.contents errors.old errors.new)) result) }
-{
-    match files {
-        Ok(disk) => run_strict_on(alloc, input, output, errors, disk, children),
-        Err(why) => end_program(Err(no_files(why)), errors),
-    }
 }

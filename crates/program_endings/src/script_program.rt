@@ -1,0 +1,174 @@
+//! The program `run` over a worksheet's files, in words and without a limit of time, from its files on.
+ghost use Rattle.std.specs.Prelude.{◌≡◌, IfErr, IfOk, None, Some};
+ghost use Rattle.live.specs.Records.{edge_by, line_by_line};
+ghost use Rattle.program_endings.specs.LiveProgram.{LiveEnded};
+ghost use Rattle.program_endings.specs.Programs.{EndsUnopened};
+ghost use Rattle.program_endings.specs.Records.{calling, given_disk, streams, writing};
+ghost use Rattle.program_endings.specs.ScriptProgram as meant;
+ghost use Rattle.program_endings.specs.ScriptProgram.{RunsRead, RunsWhole, ScriptEnds};
+ghost use Rattle.sheet_files.specs.Closing.{closable};
+ghost use Rattle.tellings.specs.Words.{in_words};
+
+use crate::live_program::end_live;
+use crate::programs::end_run;
+use crate::strict_program::run_strict_on;
+use crate::telling::no_files;
+use crate::{Ending, end_program};
+use arrivals::Sources;
+use bstr::ByteSlice;
+use live::{LiveLine, Manner, read_live_line};
+use offline_programs::read_input;
+use sheet_files::{Close, FilesFault};
+use sheet_text::LineFault;
+use std::alloc::Global;
+use std::io::{Read, Write};
+use tellings::InWords;
+
+/// Whether a line has a form that `live` has and a script doesn't.
+#[tactic(auto, using(crate::proofs::Forms::form_steps))]
+fn says_form(alloc: Global, line: &[u8]) -> bool
+    ensures { result ≡ meant.says_form line.now }
+{
+    match read_live_line(alloc, line) {
+        Ok(
+            LiveLine::PrintField(_)
+            | LiveLine::WaitFor(_)
+            | LiveLine::Interrupt(_)
+            | LiveLine::Export(_),
+        ) => true,
+        Ok(LiveLine::Script(_)) => false,
+        // A command, for whose bytes there is no memory, is one of a script.
+        Err(LineFault::BadLine | LineFault::OutOfMemory) => false,
+    }
+}
+
+/// Whether one of a script's lines has such a form.
+fn has_form(alloc: Global, script: &[u8]) -> bool
+    ensures { result ≡ meant.has_form script.now }
+{
+    script.lines().any(|line| says_form(alloc, line))
+}
+
+/// Takes the lines of a script, which was read, one by one, as `live` does where lines come first.
+fn run_by_lines<W: Write, E: Write, D: Close, S: Sources>(
+    alloc: Global,
+    strict: bool,
+    script: &[u8],
+    output: &mut W,
+    errors: &mut E,
+    disk: D,
+    sources: &mut S,
+) -> Ending
+    ensures { LiveEnded (edge_by (line_by_line None strict) in_words S.after S.clock S.wakes) (Some script.now) (given_disk (closable D.view D.closed) disk) (calling sources.old sources.new)
+        (streams (writing W.contents output.old output.new) (writing E.contents errors.old errors.new)) result }
+{
+    let manner = Manner {
+        lines_first: true,
+        limit: None,
+        strict,
+    };
+    let mut input = script;
+    end_live(
+        alloc, manner, &mut input, &InWords, output, errors, disk, sources,
+    )
+}
+
+/// Runs a script, which was read, as ever: strictly or not.
+fn run_whole<W: Write, E: Write, D: Close, S: Sources>(
+    alloc: Global,
+    strict: bool,
+    script: &[u8],
+    output: &mut W,
+    errors: &mut E,
+    disk: D,
+    sources: &mut S,
+) -> Ending
+    ensures { RunsWhole (edge_by (line_by_line None strict) in_words S.after S.clock S.wakes) script.now (given_disk (closable D.view D.closed) disk) (calling sources.old sources.new)
+        (streams (writing W.contents output.old output.new) (writing E.contents errors.old errors.new)) result }
+{
+    let mut input = script;
+    if strict {
+        run_strict_on(alloc, &mut input, output, errors, disk, sources)
+    } else {
+        end_run(alloc, &mut input, output, errors, disk, sources)
+    }
+}
+
+/// Runs a script, which was read: line by line where one of its lines has such a form.
+fn run_read<W: Write, E: Write, D: Close, S: Sources>(
+    alloc: Global,
+    strict: bool,
+    script: &[u8],
+    output: &mut W,
+    errors: &mut E,
+    disk: D,
+    sources: &mut S,
+) -> Ending
+    ensures { RunsRead (edge_by (line_by_line None strict) in_words S.after S.clock S.wakes) script.now (given_disk (closable D.view D.closed) disk) (calling sources.old sources.new)
+        (streams (writing W.contents output.old output.new) (writing E.contents errors.old errors.new)) result }
+{
+    if has_form(alloc, script) {
+        run_by_lines(alloc, strict, script, output, errors, disk, sources)
+    } else {
+        run_whole(alloc, strict, script, output, errors, disk, sources)
+    }
+}
+
+/// Reads a script whole, and runs it over a disk.
+fn end_script<R: Read, W: Write, E: Write, D: Close, S: Sources>(
+    alloc: Global,
+    strict: bool,
+    input: &mut R,
+    output: &mut W,
+    errors: &mut E,
+    disk: D,
+    sources: &mut S,
+) -> Ending
+    ensures { ScriptEnds (edge_by (line_by_line None strict) in_words S.after S.clock S.wakes) (R.remaining input.old) (given_disk (closable D.view D.closed) disk) (calling sources.old sources.new)
+        (streams (writing W.contents output.old output.new) (writing E.contents errors.old errors.new)) result }
+{
+    match read_input(alloc, input) {
+        Ok(script) => run_read(
+            alloc,
+            strict,
+            script.as_slice(),
+            output,
+            errors,
+            disk,
+            sources,
+        ),
+        Err(fault) => {
+            disk.close();
+            end_program(Err(fault), errors)
+        }
+    }
+}
+
+/// The whole program `run` on its files, or on why they weren't opened, strict or not: the script comes from
+/// `input`, which is read whole, and only where there are files, and what its lines give goes to `output`, each
+/// line or group of commands flushed. The line of a fault goes to `errors`, and so does that of the line after
+/// which a strict run stopped.
+///
+/// A script of which a line has a form that only `live` has (`print ID`, `wait SECONDS`, `interrupt NAME`, `export
+/// FORMAT`) is taken line by line, as by `run_live` where lines come first.
+pub fn run_script<R: Read, W: Write, E: Write, D: Close, S: Sources>(
+    alloc: Global,
+    strict: bool,
+    input: &mut R,
+    output: &mut W,
+    errors: &mut E,
+    files: Result<D, FilesFault>,
+    sources: &mut S,
+) -> Ending
+    // Why there are no files is printed; the input isn't read.
+    ensures unopened { IfErr files (λ why. (input.new ≡ input.old) × EndsUnopened (calling sources.old sources.new)
+        (streams (writing W.contents output.old output.new) (writing E.contents errors.old errors.new)) result why) }
+
+    ensures files { IfOk files (λ disk. ScriptEnds (edge_by (line_by_line None strict) in_words S.after S.clock S.wakes) (R.remaining input.old) (given_disk (closable D.view D.closed) disk) (calling sources.old sources.new)
+        (streams (writing W.contents output.old output.new) (writing E.contents errors.old errors.new)) result) }
+{
+    match files {
+        Ok(disk) => end_script(alloc, strict, input, output, errors, disk, sources),
+        Err(why) => end_program(Err(no_files(why)), errors),
+    }
+}
