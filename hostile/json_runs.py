@@ -9,15 +9,15 @@ from json_lines import LONGEST_LINE, REFUSED_LINES, garbage_of, input_of, remark
 from json_plays import Play, quick_play_of
 from records import area_of
 
-# What `live` and `run --json` know and a plain `run` doesn't.
+# Lines of `live` that a plain `run` knows too, which then takes the script as `live` does.
 OTHERS = (b"print ", b"interrupt ")
 
 
-def other_line(rng: random.Random) -> bytes:
-    """A line that does nothing, is refused or isn't known, by both forms."""
+def other_line(rng: random.Random, has_others: bool) -> bytes:
+    """A line that does nothing, is refused or isn't known, by both forms; one of `live` only in some scripts."""
     while True:
         line = rng.choice([lambda: remark_of(rng), lambda: garbage_of(rng), lambda: rng.choice(REFUSED_LINES)])()
-        if len(line) <= LONGEST_LINE and not line.startswith(OTHERS):
+        if len(line) <= LONGEST_LINE and (has_others or not line.startswith(OTHERS)):
             return line
 
 
@@ -54,13 +54,13 @@ def run_case(rng: random.Random) -> Case:
         else:
             plays[name] = shells[f"r{place}"] = quick_play_of(rng)
         sessions.append(b" ".join([b"session", name, b"plain", *words]))
-    lines, count = list(sessions), 0
+    lines, count, has_others = list(sessions), 0, rng.random() < 0.3
     for _ in range(rng.choice([2, 6, 20])):
         some = change_of(rng, list(plays), count)
         count += sum(line.startswith(b"new ") for line in some)
         lines += some
         lines += evaluation_of(rng, count) if rng.random() < 0.7 else []
-        lines += [other_line(rng)] if rng.random() < 0.5 else []
+        lines += [other_line(rng, has_others)] if rng.random() < 0.5 else []
         lines += [rng.choice([b"print", b"stop " + rng.choice(list(plays)), b"checkpoint", b"wait"])] if rng.random() < 0.4 else []
     text = b"".join(line + b"\n" for line in [*lines, b"wait", b"print"])
     return Case({"sheet": area_of([])}, Sheet(), {}, plays, shells, text, "nothing", 0)

@@ -81,9 +81,11 @@ was reported is on the disk, and standard error has `stopped at line N`.\n\n\
 With --json each line is one object, which programs read (docs/JSON.md). With\n\
 --timeout SECONDS (1 to 1,000,000) the interpreters that are at something are sent\n\
 SIGINT where a line takes longer in a `wait`, reported as of `interrupt NAME`, and\n\
-are stopped where they haven't answered two seconds later. With either lines are\n\
-those of `live`, each taken when it comes, but while no `wait` holds lines back\n\
-nothing is taken of an interpreter. With --strict a time that is over is wrong.\n\n\
+are stopped where they haven't answered two seconds later. With either, and where\n\
+the script has `print ID`, `wait SECONDS`, `interrupt NAME` or `export FORMAT`,\n\
+lines are those of `live`, each taken in its turn, but while no `wait` holds lines\n\
+back nothing is taken of an interpreter. With --strict a time that is over is\n\
+wrong.\n\n\
 Status: 0 where the script ran to its end, without --strict also where it has bad\n\
 lines and refused commands; 1 at a fault; 2 where the words are refused; 3 where\n\
 --strict stopped it.\n\n\

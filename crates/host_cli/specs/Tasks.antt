@@ -1,5 +1,5 @@
 -- Which program runs for which words, over all that is outside.
-use Rattle.std.specs.Prelude.{◌≡◌, ◌≢◌, ◌⊎◌, ◌||◌, ℕ, true, false, Bool, List, [], Option, is_some, nat_le, Result, Ok, Err, IfOk, IfErr, MatchOption, MatchResult, ◌∷◌, ◌++◌}
+use Rattle.std.specs.Prelude.{◌≡◌, ◌≢◌, ◌⊎◌, ◌||◌, ℕ, true, false, Bool, List, [], Option, None, is_some, nat_le, Result, Ok, Err, IfOk, IfErr, MatchOption, MatchResult, ◌∷◌, ◌++◌}
 use Rattle.std.specs.Bool.{MatchBool}
 use Rattle.std.specs.Io.KnownBytes.{Appends}
 use Rattle.std.specs.declared.io.ErrorKind.{ErrorKind as IoKind}
@@ -39,14 +39,14 @@ use Rattle.program_endings.specs.BlocksProgram.{ObjectsAnswer}
 use Rattle.program_endings.specs.EvalProgram.{EvaluationEnded}
 use Rattle.program_endings.specs.ExportProgram.{ExportEnds}
 use Rattle.program_endings.specs.Faults.{no_place}
-use Rattle.program_endings.specs.Programs.{CreateEnds, EndsUnopened, RunEnds, ShowEnds, TellsMake}
+use Rattle.program_endings.specs.Programs.{CreateEnds, EndsUnopened, ShowEnds, TellsMake}
 use Rattle.program_endings.specs.Records.{Calling, Streams, calling, given_disk, streams, writing}
 use Rattle.program_endings.specs.LiveProgram.{LastTold, LiveEnded, LiveUnopened}
 use Rattle.tellings.specs.Json.{in_json}
 use Rattle.tellings.specs.Voice.{Voice}
 use Rattle.tellings.specs.Words.{in_words}
 use Rattle.program_endings.specs.RescueProgram.{FilesAreRead, RescueEnds}
-use Rattle.program_endings.specs.StrictProgram.{StrictEnded}
+use Rattle.program_endings.specs.ScriptProgram.{ScriptEnds}
 use Rattle.program_endings.specs.declared.check_program.CheckEnding.{CheckEnding}
 use Rattle.program_endings.specs.declared.ending.Ending.{Ending}
 use Rattle.recovery.specs.declared.rescuing.Rescued.{Rescued}
@@ -254,10 +254,10 @@ module _ {Y D P S I W E Q : Type 0} (o : OutsideView D P S I W E) where
   abbrev pub Unopened : Outside Y D P S I W E Q → Outside Y D P S I W E Q → Ending → FilesFault → Type 0
   Unopened old new ending why = (new.input ≡ old.input) × EndsUnopened (calling_of old new) (streams_of old new) ending why
 
-  -- `run` on a disk, strict or not
+  -- `run` of a script on a disk, in words, strict or not
   abbrev pub RunsOn : Bool → Outside Y D P S I W E Q → Outside Y D P S I W E Q → Ending → D → Type 0
-  RunsOn false old new ending disk = RunEnds o.after (o.stream old.input) (given_disk o.disks disk) (calling_of old new) (streams_of old new) ending
-  RunsOn true old new ending disk = StrictEnded o.after (o.stream old.input) (given_disk o.disks disk) (calling_of old new) (streams_of old new) ending
+  RunsOn strict old new ending disk =
+      ScriptEnds (edge_by (line_by_line None strict) in_words o.after o.clock o.wakes) (o.stream old.input) (given_disk o.disks disk) (calling_of old new) (streams_of old new) ending
 
   -- `run` in words over what the places open at a path, strict or not
   abbrev pub RunsAs : Bool → Outside Y D P S I W E Q → Outside Y D P S I W E Q → Ending → Text → Type 0

@@ -1,7 +1,7 @@
 //! `run` and `live` over the worksheet at a path, with lines of the input.
-ghost use Rattle.std.specs.Prelude.{◌≡◌, ◌||◌, false, is_some, true};
+ghost use Rattle.std.specs.Prelude.{◌≡◌};
 ghost use Rattle.command_words.specs.Asked.{run_view};
-ghost use Rattle.host_cli.specs.Tasks.{DoesLive, DoesRun, LivesAs, RunsAs, RunsByLines, RunsWithin, outer};
+ghost use Rattle.host_cli.specs.Tasks.{DoesLive, DoesRun, LivesAs, outer};
 ghost use Rattle.tellings.specs.Json.{in_json};
 ghost use Rattle.tellings.specs.Words.{in_words};
 
@@ -10,48 +10,10 @@ use crate::plans::read_limit;
 use crate::refusing::refuse_run_limit;
 use command_words::RunWords;
 use live::Manner;
-use program_endings::{Ending, end_unheld, run_live, run_script, run_strictly};
+use program_endings::{Ending, end_unheld, run_live, run_script};
 use sheet_files::Places;
 use std::alloc::Global;
 use tellings::{InJson, InWords, Tells};
-
-/// `run` of the script on the input over the worksheet at a path.
-fn run_as<Y: System>(alloc: Global, outside: &mut Outside<Y>, path: &str) -> Ending
-    ensures does { RunsAs (outer Y.Places.Places Y.Disk.Disk Y.Disk.closed Y.Sources.after
-        Y.Sources.clock Y.Sources.wakes Y.Input.Read Y.Output.Write Y.Output.brought Y.Errors.Write) false outside.old outside.new result path.now }
-    ensures leaves { outside.new.progress ≡ outside.old.progress }
-{
-    match outside.places.hold() {
-        Ok(()) => run_script(
-            alloc,
-            &mut outside.input,
-            &mut outside.output,
-            &mut outside.errors,
-            outside.places.open(path),
-            &mut outside.sources,
-        ),
-        Err(why) => end_unheld(why, &mut outside.errors),
-    }
-}
-
-/// `run --strict` of the same.
-fn run_strictly_as<Y: System>(alloc: Global, outside: &mut Outside<Y>, path: &str) -> Ending
-    ensures does { RunsAs (outer Y.Places.Places Y.Disk.Disk Y.Disk.closed Y.Sources.after
-        Y.Sources.clock Y.Sources.wakes Y.Input.Read Y.Output.Write Y.Output.brought Y.Errors.Write) true outside.old outside.new result path.now }
-    ensures leaves { outside.new.progress ≡ outside.old.progress }
-{
-    match outside.places.hold() {
-        Ok(()) => run_strictly(
-            alloc,
-            &mut outside.input,
-            &mut outside.output,
-            &mut outside.errors,
-            outside.places.open(path),
-            &mut outside.sources,
-        ),
-        Err(why) => end_unheld(why, &mut outside.errors),
-    }
-}
 
 /// The lines of the input over the worksheet at a path, taken in this manner and printed in this voice.
 fn live_told<Y: System, T: Tells>(
@@ -118,74 +80,6 @@ pub(crate) fn live_json_at<Y: System>(alloc: Global, outside: &mut Outside<Y>, p
     )
 }
 
-/// `run --json`, or with a limit of time, or both: lines of the input, which come first.
-fn run_by_lines<Y: System>(
-    alloc: Global,
-    outside: &mut Outside<Y>,
-    path: &str,
-    words: RunWords<'_>,
-    limit: Option<u32>,
-) -> Ending
-    ensures does { RunsByLines (outer Y.Places.Places Y.Disk.Disk Y.Disk.closed Y.Sources.after
-        Y.Sources.clock Y.Sources.wakes Y.Input.Read Y.Output.Write Y.Output.brought Y.Errors.Write) outside.old outside.new result path.now (run_view words.entry) limit }
-    ensures leaves { outside.new.progress ≡ outside.old.progress }
-{
-    let manner = Manner {
-        lines_first: true,
-        limit,
-        strict: words.strict,
-    };
-    if words.json {
-        live_told(alloc, outside, manner, &InJson { alloc }, path)
-    } else {
-        live_told(alloc, outside, manner, &InWords, path)
-    }
-}
-
-/// `run` in words without a limit, strict or not.
-fn run_script_at<Y: System>(
-    alloc: Global,
-    outside: &mut Outside<Y>,
-    path: &str,
-    strict: bool,
-) -> Ending
-    ensures does { RunsAs (outer Y.Places.Places Y.Disk.Disk Y.Disk.closed Y.Sources.after
-        Y.Sources.clock Y.Sources.wakes Y.Input.Read Y.Output.Write Y.Output.brought Y.Errors.Write) strict outside.old outside.new result path.now }
-    ensures leaves { outside.new.progress ≡ outside.old.progress }
-{
-    if strict {
-        run_strictly_as(alloc, outside, path)
-    } else {
-        run_as(alloc, outside, path)
-    }
-}
-
-/// Whether lines are taken one by one, and not of a script that is read whole.
-fn is_by_lines(json: bool, limit: Option<u32>) -> bool
-    ensures { result ≡ (json || is_some limit) }
-{
-    json || limit.is_some()
-}
-
-/// `run` within this limit of time, where there is one.
-fn run_within<Y: System>(
-    alloc: Global,
-    outside: &mut Outside<Y>,
-    path: &str,
-    words: RunWords<'_>,
-    limit: Option<u32>,
-) -> Ending
-    ensures does { RunsWithin (outer Y.Places.Places Y.Disk.Disk Y.Disk.closed Y.Sources.after
-        Y.Sources.clock Y.Sources.wakes Y.Input.Read Y.Output.Write Y.Output.brought Y.Errors.Write) outside.old outside.new result path.now (run_view words.entry) limit }
-    ensures leaves { outside.new.progress ≡ outside.old.progress }
-{
-    if is_by_lines(words.json, limit) {
-        run_by_lines(alloc, outside, path, words, limit)
-    } else {
-        run_script_at(alloc, outside, path, words.strict)
-    }
-}
-
 /// `run` as its words ask for it.
 pub(crate) fn run_at<Y: System>(
     alloc: Global,
@@ -197,8 +91,30 @@ pub(crate) fn run_at<Y: System>(
         Y.Sources.clock Y.Sources.wakes Y.Input.Read Y.Output.Write Y.Output.brought Y.Errors.Write) outside.old outside.new result path.now (run_view words.entry) }
     ensures leaves { outside.new.progress ≡ outside.old.progress }
 {
-    match read_limit(words.timeout) {
-        None => refuse_run_limit(&mut outside.errors),
-        Some(limit) => run_within(alloc, outside, path, words, limit),
+    let Some(limit) = read_limit(words.timeout) else {
+        return refuse_run_limit(&mut outside.errors);
+    };
+    let manner = Manner {
+        lines_first: true,
+        limit,
+        strict: words.strict,
+    };
+    if words.json {
+        return live_told(alloc, outside, manner, &InJson { alloc }, path);
+    }
+    if limit.is_some() {
+        return live_told(alloc, outside, manner, &InWords, path);
+    }
+    match outside.places.hold() {
+        Ok(()) => run_script(
+            alloc,
+            words.strict,
+            &mut outside.input,
+            &mut outside.output,
+            &mut outside.errors,
+            outside.places.open(path),
+            &mut outside.sources,
+        ),
+        Err(why) => end_unheld(why, &mut outside.errors),
     }
 }

@@ -19,7 +19,7 @@ use Rattle.sheet_programs.specs.Strict.{RunDone, TellsRun}
 use Rattle.sheet_programs.proofs.Runs.{err_same}
 use Rattle.sheet_text.specs.Texts.{sheet_text}
 use Rattle.program_endings.specs.Ending.{answer_of}
-use Rattle.program_endings.specs.Programs.{RunAnswer, ShownOf}
+use Rattle.program_endings.specs.Programs.{ShownOf}
 use Rattle.program_endings.specs.Records.{Calling, DoesNothing, GivenDisk, Writing, outside_after, outside_before, text_after, text_before, view_given}
 
 no-error : {P : Type 0} (why : RunFault) → IsErrOf {T = Bool} (Ok true) why → P
@@ -54,35 +54,5 @@ module _ {D W : Type 0} (g : GivenDisk D) (later : D) (w : Writing W) (closed : 
     same = same;
     looks = looks;
     failed = λ e. failed (of-call why (fault.Open opens.Disk) e);
-    fault = told;
-  }
-
--- a run that isn't strict came to the end of its script
-plain_done : {C : Type 0} (R : Relation C) (script : List ℕ) (first last : Outside C) (stopped : Option ℕ) → RunDone (manner R false) script stopped first last → RunDone (manner R false) script None first last
-plain_done R script first last None done = done
-plain_done R script first last (Some number) done = absurd (false≢true done.lines.0)
-
-module _ {D C W : Type 0} (R : Relation C) (stream : Option (List ℕ)) (g : GivenDisk D) (later : D) (q : Calling C) (w : Writing W) (closed : g.how.closed later) (same : SameDisk (view_given g) (g.how.view later)) where
-  pub run_answered : (r : Result (Option ℕ) RunFault) → IfOk r (λ stopped. IfSome stream (λ script. RunDone (manner R false) script stopped (outside_before g q w) (outside_after g later q w))) → OnOk r (IfSome stream (λ script. length script ≤ longest_standard_input))
-      → IfErr r (TellsRun (manner R false) stream (outside_before g q w) (outside_after g later q w) (DoesNothing q w × Untouched (view_given g) (g.how.view later))) → (IsErrOf r (fault.Open opens.Disk) → Rises (view_given g).faults (g.how.view later).faults)
-      → (IsErrOf r (fault.Host hosts.Disk) → Rises (view_given g).faults (g.how.view later).faults) → RunAnswer R stream g q w (answer_of r)
-  run_answered (Ok stopped) ran short told unopened failed = record {
-    later = later;
-    closed = closed;
-    same = same;
-    ran = (refl, IfSome_then stream ran (λ script done. plain_done R script (outside_before g q w) (outside_after g later q w) stopped done));
-    short = short;
-    unopened = λ e. no-error (fault.Open opens.Disk) e;
-    failed = λ e. no-error (fault.Host hosts.Disk) e;
-    fault = tt;
-  }
-  run_answered (Err why) ran short told unopened failed = record {
-    later = later;
-    closed = closed;
-    same = same;
-    ran = tt;
-    short = tt;
-    unopened = λ e. unopened (of-call why (fault.Open opens.Disk) e);
-    failed = λ e. failed (of-call why (fault.Host hosts.Disk) e);
     fault = told;
   }

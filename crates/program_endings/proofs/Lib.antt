@@ -1,4 +1,5 @@
 pub mod Answering
+pub mod Forms
 pub mod Lines
 pub mod Streams
 pub mod Totals

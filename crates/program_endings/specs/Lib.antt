@@ -11,6 +11,7 @@ pub mod TogetherProgram
 pub mod ExportProgram
 pub mod StrictProgram
 pub mod LiveProgram
+pub mod ScriptProgram
 pub mod EvalProgram
 pub mod SeveralProgram
 pub mod inside

@@ -93,23 +93,3 @@ ShowEnds k files s ending = (answer : ProgramAnswer) × ShowAnswer k files s.out
 -- How `run` ends where its files weren't opened: nothing is written or called, and why is a line on the stream of errors.
 abbrev pub EndsUnopened : {C W E : Type 0} → Calling C → Streams W E → Ending → FilesFault → Type 0
 EndsUnopened q s ending why = DoesNothing q s.output × EndsAs s.errors ending (Err (no_files why))
-
--- What `run` answers on a disk, and what it has written and done then: its clauses. The script is the
--- stream of its reader, where that is known.
-pub record RunAnswer {D C W : Type 0} (R : Relation C) (stream : Option (List ℕ)) (g : GivenDisk D) (q : Calling C) (w : Writing W) (answer : ProgramAnswer) : Type 0 where
-  -- the disk after the run, as it was closed
-  pub later : D
-  pub closed : g.how.closed later
-  pub same : SameDisk (view_given g) (g.how.view later)
-  pub ran : IfOk answer (λ whole. (whole ≡ true)
-      × IfSome stream (λ script. RunDone (manner R false) script None (outside_before g q w) (outside_after g later q w)))
-  pub short : IfOk answer (λ whole. IfSome stream (λ script. length script ≤ longest_standard_input))
-  -- that the disk failed, at the opening or later, is reported only where it did
-  pub unopened : IsErrOf answer (fault.Open opens.Disk) → Rises (view_given g).faults (g.how.view later).faults
-  pub failed : IsErrOf answer (fault.Host hosts.Disk) → Rises (view_given g).faults (g.how.view later).faults
-  pub fault : IfErr answer (TellsRun (manner R false) stream (outside_before g q w) (outside_after g later q w)
-      (DoesNothing q w × Untouched (view_given g) (g.how.view later)))
-
--- How `run` ends on a disk: what it answers, its fault, and the status.
-abbrev pub RunEnds : {D C W E : Type 0} → Relation C → Option (List ℕ) → GivenDisk D → Calling C → Streams W E → Ending → Type 0
-RunEnds R stream g q s ending = (answer : ProgramAnswer) × RunAnswer R stream g q s.output answer × EndsAs s.errors ending answer

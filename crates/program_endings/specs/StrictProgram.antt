@@ -1,4 +1,4 @@
--- How the program `run --strict` ends: what it runs and writes, what it tells on which stream, and the exit status.
+-- How a run ends that may have stopped after a line that went wrong: what it tells on which stream, and the exit status.
 use Rattle.std.specs.Prelude.{◌≡◌, ◌≤◌, ℕ, Bool, true, List, [], ◌∷◌, ◌++◌, Option, Some, None, Result, Ok, Err, IfOk, IfErr, IfSome, IsErrOf, OnOk, codes, length}
 use Rattle.std.specs.Fmt.{decimal}
 use Rattle.std.specs.Io.KnownBytes.{Appends}
@@ -33,19 +33,3 @@ abbrev pub TellsStop : {E : Type 0} → (E → Option (List ℕ)) → E → E �
 TellsStop said old new told (Ok None) = new ≡ old
 TellsStop said old new told (Ok (Some number)) = told ≡ true → Appends (said old) (said new) (stopped_text number)
 TellsStop said old new told (Err why) = told ≡ true → Appends (said old) (said new) (fault_text why)
-
--- What `run --strict` comes to on a disk, and how it ends. The script is the stream of its reader, where that is known.
-pub record StrictEnded {D C W E : Type 0} (R : Relation C) (stream : Option (List ℕ)) (g : GivenDisk D) (q : Calling C) (s : Streams W E) (ending : Ending) : Type 0 where
-  -- the disk after the run, as it was closed
-  pub later : D
-  pub closed : g.how.closed later
-  pub same : SameDisk (view_given g) (g.how.view later)
-  pub answer : StrictAnswer
-  pub ran : IfOk answer (λ stopped. IfSome stream (λ script. RunDone (manner R true) script stopped (outside_before g q s.output) (outside_after g later q s.output)))
-  pub short : OnOk answer (IfSome stream (λ script. length script ≤ longest_standard_input))
-  -- that the disk failed, at the opening or later, is reported only where it did
-  pub unopened : IsErrOf answer (fault.Open opens.Disk) → Rises (view_given g).faults (g.how.view later).faults
-  pub failed : IsErrOf answer (fault.Host hosts.Disk) → Rises (view_given g).faults (g.how.view later).faults
-  pub fault : IfErr answer (TellsRun (manner R true) stream (outside_before g q s.output) (outside_after g later q s.output) (DoesNothing q s.output × Untouched (view_given g) (g.how.view later)))
-  pub status : ending.status ≡ strict_status answer
-  pub told : TellsStop s.errors.contents s.errors.old s.errors.new ending.told answer

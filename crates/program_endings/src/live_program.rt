@@ -117,6 +117,24 @@ fn end_stopped<W: Write, E: Write, T: Tells>(
     with_last(end_strict(answer, errors), said)
 }
 
+/// Holds the worksheet on a disk open, and tells the fault, or where it stopped.
+pub(crate) fn end_live<R: Read, W: Write, E: Write, D: Close, S: Sources, T: Tells>(
+    alloc: Global,
+    manner: Manner,
+    input: &mut R,
+    tells: &T,
+    output: &mut W,
+    errors: &mut E,
+    disk: D,
+    sources: &mut S,
+) -> Ending
+    ensures { LiveEnded (edge_by manner T.voice S.after S.clock S.wakes) (R.remaining input.old) (given_disk (closable D.view D.closed) disk) (calling sources.old sources.new)
+        (streams (writing W.contents output.old output.new) (writing E.contents errors.old errors.new)) result }
+{
+    let answer = live_framed(alloc, manner, input, tells, output, disk, sources);
+    end_stopped(answer, tells, output, errors)
+}
+
 /// The whole program `live`, or `run` line by line where lines come first, on its files, or on why they weren't
 /// opened: its lines come from `input`, which is read only where there are files, and what comes of them and
 /// of interpreters goes to `output`, flushed at once. The line of a fault goes to `errors`, and so does that of
@@ -139,10 +157,7 @@ pub fn run_live<R: Read, W: Write, E: Write, D: Close, S: Sources, T: Tells>(
         (calling sources.old sources.new) (streams (writing W.contents output.old output.new) (writing E.contents errors.old errors.new)) result) }
 {
     match files {
-        Ok(disk) => {
-            let answer = live_framed(alloc, manner, input, tells, output, disk, sources);
-            end_stopped(answer, tells, output, errors)
-        }
+        Ok(disk) => end_live(alloc, manner, input, tells, output, errors, disk, sources),
         Err(why) => end_told(Err(no_files(why)), tells, output, errors),
     }
 }

@@ -1,7 +1,7 @@
 //! The programs over a worksheet's files, from their files on: how each ends, and what it says on
 //! which stream.
 ghost use Rattle.std.specs.Prelude.{◌≡◌, ◌≤◌, IfErr, IfOk};
-ghost use Rattle.program_endings.specs.Programs.{CreateEnds, EndsUnopened, RunAnswer, RunEnds, ShowEnds, ShownOf, TellsMake};
+ghost use Rattle.program_endings.specs.Programs.{CreateEnds, ShowEnds, ShownOf, TellsMake};
 ghost use Rattle.program_endings.specs.Records.{calling, given_disk, streams, writing};
 ghost use Rattle.sheet_files.specs.Closing.{closable};
 
@@ -83,60 +83,4 @@ pub fn run_show<D: Close, W: Write, E: Write>(
         Err(why) => Err(no_files(why)),
     };
     end_program(answer, errors)
-}
-
-/// Runs a script over a disk, and closes the disk at its end.
-fn run_on<R: Read, W: Write, D: Close, C: Children>(
-    alloc: Global,
-    input: &mut R,
-    output: &mut W,
-    disk: D,
-    children: &mut C,
-) -> Result<bool, RunFault>
-    ensures { RunAnswer C.after (R.remaining input.old) (given_disk (closable D.view D.closed) disk) (calling children.old children.new)
-        (writing W.contents output.old output.new) result }
-{
-    let Ran { disk, answer } = run(alloc, input, output, disk, children);
-    disk.close();
-    answered(answer)
-}
-
-/// Runs a script over a disk, and tells its fault.
-fn end_run<R: Read, W: Write, E: Write, D: Close, C: Children>(
-    alloc: Global,
-    input: &mut R,
-    output: &mut W,
-    errors: &mut E,
-    disk: D,
-    children: &mut C,
-) -> Ending
-    ensures { RunEnds C.after (R.remaining input.old) (given_disk (closable D.view D.closed) disk) (calling children.old children.new)
-        (streams (writing W.contents output.old output.new) (writing E.contents errors.old errors.new)) result }
-{
-    let answer = run_on(alloc, input, output, disk, children);
-    end_program(answer, errors)
-}
-
-/// The whole program `run` on its files, or on why they weren't opened: the script comes from `input`,
-/// which is read only where there are files, and what its lines give goes to `output`, each line or group
-/// of commands flushed. The line of a fault goes to `errors`.
-pub fn run_script<R: Read, W: Write, E: Write, D: Close, C: Children>(
-    alloc: Global,
-    input: &mut R,
-    output: &mut W,
-    errors: &mut E,
-    files: Result<D, FilesFault>,
-    children: &mut C,
-) -> Ending
-    // Why there are no files is printed; the input isn't read.
-    ensures unopened { IfErr files (λ why. (input.new ≡ input.old) × EndsUnopened (calling children.old children.new)
-        (streams (writing W.contents output.old output.new) (writing E.contents errors.old errors.new)) result why) }
-
-    ensures files { IfOk files (λ disk. RunEnds C.after (R.remaining input.old) (given_disk (closable D.view D.closed) disk) (calling children.old children.new)
-        (streams (writing W.contents output.old output.new) (writing E.contents errors.old errors.new)) result) }
-{
-    match files {
-        Ok(disk) => end_run(alloc, input, output, errors, disk, children),
-        Err(why) => end_program(Err(no_files(why)), errors),
-    }
 }

@@ -355,4 +355,74 @@ compare 'the copy' "$(answer show copied)" "$(ending '#1 a\n> sheet\n?\n' 0)"
 printf '[ /proc/self/fd/2 -ef /dev/null ] && printf "\\002verbatim:\\005"\nread -r line\nprintf "\\002verbatim:null\\005"\nread -r line\n' >p.sh
 script 'the errors of a child' "$one" 'ok\nfield 1\nasked\nbanner a\nanswered 1\n' '#1 a\n> x\nnull\n'
 
+# Lines of `live` in a script.
+script 'fields that are printed' 'session a plain p\nnew 0 a x\nnew 1 a y\nprint 2\nprint 3\nprint 0\nprint\nprint 1' \
+    'ok\nfield 1\nfield 2\n#2 a\n> y\n?\nrefused 2 NoField\nrefused 2 NoField\n#1 a\n> x\n?\n#2 a\n> y\n?\n#1 a\n> x\n?\n' '#1 a\n> x\n?\n#2 a\n> y\n?\n'
+script 'bad lines beside a field that is printed' 'session a plain p\r\nnew 0 a x\r\n\r\nfoo\r\nprint 1\r\nprint 01\n# x\nwait 0\nremove 2\n' \
+    'ok\nfield 1\nbad line 4\n#1 a\n> x\n?\nbad line 6\nbad line 8\nrefused 2 NoField\n' '#1 a\n> x\n?\n'
+script 'lines that are nearly of live' 'print 01\nprint 1 \nwait 0\nwait 1000001\nwait x\ninterrupt\ninterrupt \ninterrupt a/b\nexport pdf\nexport\n' "$(printf 'bad line %s\\n' $(seq 10))" ''
+interpreter p '\002verbatim:Hello\002prompt#Input 1] \005\005' '\002verbatim:\002latex:$x^2$\005\002prompt#Input 2] \005\005'
+script 'a field that is printed with its answer' 'session a plain sh p.sh\nnew 0 a x^2\neval 1\nwait\nprint 1\n' \
+    'ok\nfield 1\nasked\nbanner a\nanswered 1\n#1 a\nInput 1] x^2\n{latex:$x^2$}\n' '#1 a\nInput 1] x^2\n{latex:$x^2$}\n'
+interpreter p "$banner" '\002verbatim:A\005' '\002verbatim:B\005'
+script 'a wait of seconds that ends with the answers' 'session a plain sh p.sh\nnew 0 a x\nnew 1 a y\nwait 1\neval 1\neval 2\nwait 1000000\nprint\n' \
+    'ok\nfield 1\nfield 2\nasked\nasked\nbanner a\nanswered 1\nanswered 2\n#1 a\n> x\nA\n#2 a\n> y\nB\n' '#1 a\n> x\nA\n#2 a\n> y\nB\n'
+interpreter p "$banner" '' ''
+script 'a wait of seconds whose time is over' 'session a plain sh p.sh\nsession b plain sh echo.sh\nnew 0 a x\nnew 1 b y\neval 1\nwait 1\neval 2\nwait\nprint 1\nstop a\nstop b\n' \
+    'ok\nok\nfield 1\nfield 2\nasked\nbanner a\nended a Stalled lost 1\nasked\nbanner b\nanswered 2\n#1 a\n> x\n? Stalled\nok\nended b Stopped lost 0\n' '#1 a\n> x\n? Stalled\n#2 b\n> y\ny\n'
+ended 'a wait of seconds whose time is over' 1
+interpreter p "$banner" '\002verbatim:A\005'
+script 'nothing is taken of an interpreter but in a wait' "$one"'eval 1\nprint 1\nexport pdf\n' \
+    'ok\nfield 1\nasked\nbanner a\nanswered 1\nasked\n#1 a\n> x\n?\nbad line 7\n' '#1 a\n> x\n?\n'
+
+# One that an interrupt reaches before a line that loops or at it.
+cat >flags.py <<'END_OF_CHILD'
+import signal, sys, time
+
+over = False
+
+
+def interrupted(number, frame):
+    global over
+    over = True
+
+
+def answer(text):
+    sys.stdout.write("\2verbatim:" + text + "\5")
+    sys.stdout.flush()
+
+
+signal.signal(signal.SIGINT, interrupted)
+answer("")
+for line in sys.stdin:
+    while line == "loop\n" and not over:
+        time.sleep(0.01)
+    answer("interrupted" if over else line[:-1])
+    over = False
+END_OF_CHILD
+script 'interrupts' 'session a plain python3 flags.py\nnew 0 a x\nnew 1 a loop\ninterrupt b\ninterrupt a\neval 1\nwait\ninterrupt a\neval 2\ninterrupt a\nwait\neval 1\nwait 60\n' \
+    'ok\nfield 1\nfield 2\nrefused 1 NoSession\nidle a\nasked\nbanner a\nanswered 1\nidle a\nasked\ninterrupted a\nanswered 2\nasked\nanswered 1\n' \
+    '#1 a\n> x\nx\n#2 a\n> loop\ninterrupted\n'
+script 'exports of a script' 'session a plain sh w\nnew 0 a x\nexport script\nexport json\nset 1 y\nexport markdown\n' \
+    'ok\nfield 1\nsession a plain sh w\nnew 0 a x\nexport json needs --json\nok\n```a\ny\n```\n\n*no answer*\n' '#1 a\n> y\n?\n'
+
+# A line of `live` makes each line as long as those of `live` may be.
+{
+    printf '#'
+    repeated 65536 x
+    printf '\nremove 1\n'
+} >given
+runs 'a long line' 'refused 2 NoField\n' '' <given
+echo 'print 1' >>given
+runs 'a long line, and a line of live' 'bad line 1\nrefused 2 NoField\nrefused 2 NoField\n' '' <given
+
+# Many commands, which are taken in groups as ever.
+{
+    echo 'session a plain p'
+    seq 3000 | awk '{ print "new " $1 - 1 " a x" $1 }'
+    echo 'print 3000'
+} >given
+runs '3,000 fields and a line of live' "$(printf 'ok\\n'; seq 3000 | sed 's/.*/field &\\n/' | tr -d '\n')"'#3000 a\n> x3000\n?\n' \
+    "$(seq 3000 | sed 's/.*/#& a\\n> x&\\n?\\n/' | tr -d '\n')" <given
+
 counted children

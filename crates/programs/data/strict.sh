@@ -38,8 +38,8 @@ strict 'an answer without completions' 'session a tab sh p.sh\nnew 0 a x\ncomple
 strict 'a bad line' 'session a plain p\nfoo\nnew 0 a x\n' 3 'ok\nbad line 2\nstopped at line 2\n' ''
 strict 'a bad line at the beginning' 'set\nsession a plain p\n' 3 'bad line 1\nstopped at line 1\n' ''
 strict 'a bad line at the end' 'session a plain p\nnew 0 a x\nremove 1 ' 3 'ok\nfield 1\nbad line 3\nstopped at line 3\n' '#1 a\n> x\n?\n'
-strict 'a bad line behind remarks' '#\n\n#\nwait 3\nprint\n' 3 'bad line 4\nstopped at line 4\n' ''
-script 'the same, not strict' '#\n\n#\nwait 3\nprint\n' 'bad line 4\n' ''
+strict 'a bad line behind remarks' '#\n\n#\nwait 0\nprint\n' 3 'bad line 4\nstopped at line 4\n' ''
+script 'the same, not strict' '#\n\n#\nwait 0\nprint\n' 'bad line 4\n' ''
 
 {
     yes '#' | head -n 100000
@@ -95,6 +95,17 @@ interpreter p "$banner"
 by_lines 'an interpreter that ends' "$one"'set 1 y\n' 3 'ok\nfield 1\nasked\nbanner a\nended a Ended lost 1\nstopped at line 4\n' '#1 a\n> x\n? Ended\n'
 interpreter p "$banner" '\002verbatim:A\005'
 by_lines 'a stop by which a line is lost' 'session a plain sh p.sh\nnew 0 a x\neval 1\nstop a\nset 1 y\n' 3 'ok\nfield 1\nasked\nended a Stopped lost 1\nstopped at line 4\n' '#1 a\n> x\n? Stopped\n'
+
+# Scripts with lines of `live`, which are taken so without a limit, too.
+strict 'a print of a field, and of none' 'session a plain p\nnew 0 a x\nprint 1\nprint 2\nset 1 y\n' 3 'ok\nfield 1\n#1 a\n> x\n?\nrefused 2 NoField\nstopped at line 4\n' '#1 a\n> x\n?\n'
+strict 'a script that interrupts no session' 'session b plain p\ninterrupt b\ninterrupt a\nprint\n' 3 'ok\nidle b\nrefused 1 NoSession\nstopped at line 3\n' ''
+strict 'a bad line before a line of live' 'session a plain p\nfoo\nprint 1\n' 3 'ok\nbad line 2\nstopped at line 2\n' ''
+strict 'a refusal before a line of live' 'session a plain p\nnew 0 a x\nremove 7\nremove 1\nprint 1\n' 3 'ok\nfield 1\nrefused 2 NoField\nstopped at line 3\n' '#1 a\n> x\n?\n'
+interpreter p "$banner" '\002verbatim:A\005'
+strict 'a wait of seconds that ends with the answer' 'session a plain sh p.sh\nnew 0 a x\neval 1\nwait 1000000\nset 1 y\n' 0 'ok\nfield 1\nasked\nbanner a\nanswered 1\nok\n' '#1 a\n> y\n?\n'
+interpreter p "$banner" '' ''
+strict 'a wait of seconds whose time is over' 'session a plain sh p.sh\nnew 0 a x\neval 1\nwait 1\nset 1 y\n' 3 'ok\nfield 1\nasked\nbanner a\nended a Stalled lost 1\nstopped at line 4\n' '#1 a\n> x\n? Stalled\n'
+ended 'a wait of seconds whose time is over' 1
 
 # A time that is over is wrong. It takes a second, the shortest time.
 cat >q.sh <<'END_OF_CHILD'

@@ -1,6 +1,7 @@
 //! The program's own file code, with its programs above it, over files that crash at each moment: what is there opens to the worksheet
 //! after what was acknowledged, or after the one line more that was being done.
 use super::machine::{Folder, Machine};
+use arrivals::ScriptedSources;
 use child_calls::Scripted;
 use disk_model::{Choice, Fill};
 use program_endings::{read_rescued, run_create, run_rescue, run_script, run_show};
@@ -35,18 +36,20 @@ fn creates(alloc: Global, folder: &Folder) -> bool {
 
 // Whether a run of this script ends well, and tells this. No interpreter can be started.
 fn runs(alloc: Global, folder: &Folder, script: &[u8], told: &[u8]) -> bool {
-    let mut children = Scripted::new(alloc, Vec::new(alloc));
+    let children = Scripted::new(alloc, Vec::new(alloc));
+    let mut sources = ScriptedSources::new(children, Vec::new(alloc));
     let mut input = script;
     let mut text: Vec<u8> = Vec::new(alloc);
     let mut errors: Vec<u8> = Vec::new(alloc);
     let files = FileDisk::open(&Machine { folder }, alloc, "sheet");
     let ended = run_script(
         alloc,
+        false,
         &mut input,
         &mut text,
         &mut errors,
         files,
-        &mut children,
+        &mut sources,
     );
     ended.status == 0 && text.as_slice() == told
 }

@@ -1,0 +1,125 @@
+//! The program `run` over a worksheet's files, in words and without a limit of time, from its files on.
+ghost use Rattle.std.specs.Prelude.{◌≡◌, ◌≤◌, IfErr, IfOk, None, length};
+ghost use Rattle.offline_programs.specs.Input.{longest_standard_input};
+ghost use Rattle.live.specs.Records.{edge_by, line_by_line};
+ghost use Rattle.program_endings.specs.Programs.{EndsUnopened};
+ghost use Rattle.program_endings.specs.Records.{calling, given_disk, streams, writing};
+ghost use Rattle.program_endings.specs.ScriptProgram as meant;
+ghost use Rattle.program_endings.specs.ScriptProgram.{RunsRead, ScriptEnds};
+ghost use Rattle.sheet_files.specs.Closing.{closable};
+ghost use Rattle.tellings.specs.Words.{in_words};
+
+use crate::live_program::end_live;
+use crate::strict_program::end_strict;
+use crate::telling::no_files;
+use crate::{Ending, end_program};
+use arrivals::Sources;
+use bstr::ByteSlice;
+use live::{LiveLine, Manner, read_live_line};
+use offline_programs::read_input;
+use sheet_files::{Close, FilesFault};
+use sheet_programs::{Ran, run_read};
+use sheet_text::LineFault;
+use std::alloc::Global;
+use std::io::{Read, Write};
+use tellings::InWords;
+
+/// Whether a line has a form that `live` has and a script doesn't.
+#[tactic(auto, using(crate::proofs::Forms::form_steps))]
+fn says_form(alloc: Global, line: &[u8]) -> bool
+    ensures { result ≡ meant.says_form line.now }
+{
+    match read_live_line(alloc, line) {
+        Ok(
+            LiveLine::PrintField(_)
+            | LiveLine::WaitFor(_)
+            | LiveLine::Interrupt(_)
+            | LiveLine::Export(_),
+        ) => true,
+        Ok(LiveLine::Script(_)) => false,
+        // A command, for whose bytes there is no memory, is one of a script.
+        Err(LineFault::BadLine | LineFault::OutOfMemory) => false,
+    }
+}
+
+/// Whether one of a script's lines has such a form.
+fn has_form(alloc: Global, script: &[u8]) -> bool
+    ensures { result ≡ meant.has_form script.now }
+{
+    script.lines().any(|line| says_form(alloc, line))
+}
+
+/// Runs a script that was read: line by line, as `live` does where lines come first, where one of its lines has
+/// such a form, and else as ever, strictly or not. The disk is closed at its end.
+fn run_whole<W: Write, E: Write, D: Close, S: Sources>(
+    alloc: Global,
+    strict: bool,
+    script: &[u8],
+    output: &mut W,
+    errors: &mut E,
+    disk: D,
+    sources: &mut S,
+) -> Ending
+    requires { length script.now ≤ longest_standard_input }
+    ensures { RunsRead (edge_by (line_by_line None strict) in_words S.after S.clock S.wakes) script.now (given_disk (closable D.view D.closed) disk) (calling sources.old sources.new)
+        (streams (writing W.contents output.old output.new) (writing E.contents errors.old errors.new)) result }
+{
+    if has_form(alloc, script) {
+        let manner = Manner {
+            lines_first: true,
+            limit: None,
+            strict,
+        };
+        let mut input = script;
+        return end_live(
+            alloc, manner, &mut input, &InWords, output, errors, disk, sources,
+        );
+    }
+    let Ran { disk, answer } = run_read(alloc, script, strict, output, disk, sources);
+    disk.close();
+    end_strict(answer, errors)
+}
+
+/// The whole program `run` on its files, or on why they weren't opened, strict or not: the script comes from
+/// `input`, which is read whole, and only where there are files, and what its lines give goes to `output`, each
+/// line or group of commands flushed. The line of a fault goes to `errors`, and so does that of the line after
+/// which a strict run stopped.
+///
+/// A script of which a line has a form that only `live` has (`print ID`, `wait SECONDS`, `interrupt NAME`, `export
+/// FORMAT`) is taken line by line, as by `run_live` where lines come first.
+pub fn run_script<R: Read, W: Write, E: Write, D: Close, S: Sources>(
+    alloc: Global,
+    strict: bool,
+    input: &mut R,
+    output: &mut W,
+    errors: &mut E,
+    files: Result<D, FilesFault>,
+    sources: &mut S,
+) -> Ending
+    // Why there are no files is printed; the input isn't read.
+    ensures unopened { IfErr files (λ why. (input.new ≡ input.old) × EndsUnopened (calling sources.old sources.new)
+        (streams (writing W.contents output.old output.new) (writing E.contents errors.old errors.new)) result why) }
+
+    ensures files { IfOk files (λ disk. ScriptEnds (edge_by (line_by_line None strict) in_words S.after S.clock S.wakes) (R.remaining input.old) (given_disk (closable D.view D.closed) disk) (calling sources.old sources.new)
+        (streams (writing W.contents output.old output.new) (writing E.contents errors.old errors.new)) result) }
+{
+    let disk = match files {
+        Ok(disk) => disk,
+        Err(why) => return end_program(Err(no_files(why)), errors),
+    };
+    match read_input(alloc, input) {
+        Ok(script) => run_whole(
+            alloc,
+            strict,
+            script.as_slice(),
+            output,
+            errors,
+            disk,
+            sources,
+        ),
+        Err(fault) => {
+            disk.close();
+            end_program(Err(fault), errors)
+        }
+    }
+}
