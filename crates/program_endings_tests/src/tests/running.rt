@@ -2,7 +2,7 @@
 use child_calls::Scripted;
 use disk_model::MemoryDisk;
 use offline_programs::RunFault;
-use sheet_programs::{run, run_strict};
+use sheet_programs::{run, run_read};
 use std::alloc::Global;
 use std::io::{Read, Write};
 use tests_desk::{Full, Parts, Unflushed};
@@ -50,9 +50,11 @@ fn a_flush_that_fails(rt: HostRuntime) {
 fn stopped(alloc: Global, script: &[u8]) -> Option<Option<u64>> {
     let disk = journal::create(MemoryDisk::new(alloc, 1_000)).ok()?;
     let mut children = Scripted::new(alloc, Vec::new(alloc));
-    let mut reader = script;
     let mut text: Vec<u8> = Vec::new(alloc);
-    run_strict(alloc, &mut reader, &mut text, disk, &mut children)
+    if script.len() > 100 {
+        return None;
+    }
+    run_read(alloc, script, true, &mut text, disk, &mut children)
         .answer
         .ok()
 }
