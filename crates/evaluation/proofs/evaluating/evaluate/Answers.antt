@@ -12,12 +12,15 @@ use Rattle.sheet_programs.proofs.Runs.{opened_on, if_err_is, if_ok_is, err_same}
 use Rattle.live.specs.Records.{left}
 use Rattle.evaluation.specs.Meant.{evaluation_counts, stop_line}
 use Rattle.evaluation.specs.Steps.{setting, stands}
-use Rattle.evaluation.specs.Evaluation.{not_begun}
+use Rattle.evaluation.specs.Evaluation.{not_begun, unopened}
 use Rattle.evaluation.specs.inside.Stepping.{BrokeOff, ThroughAnd}
 use Rattle.evaluation.specs.declared.fault.EvalFault.TheVariants as evals
 use Rattle.evaluation.proofs.InVain.{in_vain, not_host, not_opened, same_run}
 use Rattle.evaluation.proofs.Ends.{StoppedBehind, broke_opened, counts_untold, evaluation_done, evaluation_failed, evaluation_failed_since}
 use Rattle.evaluation.proofs.evaluating.evaluate.Goals as goal
+
+pub returns-in-Err-clause-fault : goal.returns-in-Err-clause-fault
+returns-in-Err-clause-fault g c = unopened c.in-Err.field-0.cause ((refl, refl), c.in-Err.ensures.looks) c.in-Err.ensures.fault
 
 pub returns-in-Ok-note-clause-evaluated : goal.returns-in-Ok-note-clause-evaluated
 returns-in-Ok-note-clause-evaluated g c =
