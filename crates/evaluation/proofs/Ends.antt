@@ -30,6 +30,7 @@ use Rattle.evaluation.specs.Meant.{evaluation_counts, stop_line}
 use Rattle.evaluation.specs.Steps.{Setting, EvalPlace, Step, ask, heard, over, stalled, StepDone, StepsTaken, stands, woken_in}
 use Rattle.evaluation.specs.Broken.{Cut, StepLed, StepSoFar, StepUpTo, TooMany, Unwatched}
 use Rattle.evaluation.specs.Broken as broken
+use Rattle.evaluation.specs.Evaluation as ends
 use Rattle.evaluation.specs.Evaluation.{EvaluationDone, LedOf, Short, SoFarOf, TellsEvaluation, Uncounted, OpenedFor, not_begun, meaning}
 use Rattle.evaluation.specs.inside.Stepping as inside
 use Rattle.evaluation.specs.inside.Stepping.{BrokeOff, CameSoFar, CameUnwritten, Through, ThroughAnd}
@@ -142,9 +143,9 @@ module _ {C : Type 0} (o : Setting C) (disk now : DiskView) (c d : C) (a b : Opt
   }
 
   pub evaluation_failed : (back : DiskView) → back ≡ h.store.disk → (nothing : Type 0) (f : RunFault) → BrokeOff (meaning o start) (stands (at start c now) not_begun) (StoppedBehind o.after d) (left h d a b) f → TellsEvaluation o (outside disk c a) (outside back d b) nothing f
-  evaluation_failed back same nothing f (inside.unwatched t) = so-far-of back same Unwatched (λ beats text x q. unwatched-goes (meaning o start) (stands (at start c now) not_begun) beats text x q) t
-  evaluation_failed back same nothing f (inside.too_many t) = so-far-of back same TooMany (λ beats text x q. too-many-goes (meaning o start) (stands (at start c now) not_begun) beats text x q) t
-  evaluation_failed back same nothing f (inside.stopped why beats text e t cut stopped stops wrote) = record {
+  evaluation_failed back same nothing f (inside.unwatched t) = ends.unwatched (so-far-of back same Unwatched (λ beats text x q. unwatched-goes (meaning o start) (stands (at start c now) not_begun) beats text x q) t)
+  evaluation_failed back same nothing f (inside.too_many t) = ends.too_many (so-far-of back same TooMany (λ beats text x q. too-many-goes (meaning o start) (stands (at start c now) not_begun) beats text x q) t)
+  evaluation_failed back same nothing f (inside.stopped why beats text e t cut stopped stops wrote) = ends.stopped why (record {
     start = start;
     now = now;
     opened = opened;
@@ -159,10 +160,10 @@ module _ {C : Type 0} (o : Setting C) (disk now : DiskView) (c d : C) (a b : Opt
     moments = goes_up_to start now beats t.world t.disk e why h held (cut-goes (meaning o start) (stands (at start c now) not_begun) (StepUpTo (meaning o start) e) beats text t (λ r s l x. step-up-to-goes (meaning o start) e r s l t x) cut) stopped;
     stops = stops;
     wrote = wrote;
-  }
-  evaluation_failed back same nothing f (inside.refused t) = inr (inl (so-far-of back same Short (λ beats text x q. short-goes (meaning o start) (stands (at start c now) not_begun) beats text x q) t))
-  evaluation_failed back same nothing f (inside.untold why t) = inr (inr (why, inl (led-of back same t)))
-  evaluation_failed back same nothing f (inside.unwritten t) = inl (led-of back same t)
+  })
+  evaluation_failed back same nothing f (inside.refused t) = ends.refused (so-far-of back same Short (λ beats text x q. short-goes (meaning o start) (stands (at start c now) not_begun) beats text x q) t)
+  evaluation_failed back same nothing f (inside.untold why t) = ends.untold why (inl (led-of back same t))
+  evaluation_failed back same nothing f (inside.unwritten t) = ends.unwritten (inl (led-of back same t))
 
   module _ (stand : Stand) (t : ThroughAnd (meaning o start) (stands (at start c now) not_begun) (StoppedBehind o.after d) (left h d a b) stand) where
     pub evaluation_done : (e : Option (List ℕ)) (back : DiskView) (stopped : Option ℕ) (counts : Counts) → back ≡ h.store.disk → stopped ≡ stop_line o.plan.strict (sheet_in t.3.world).fields stand
@@ -208,8 +209,8 @@ module _ {C : Type 0} (o : Setting C) (disk now : DiskView) (c d : C) (a b : Opt
     }
 
     pub counts_untold : (back : DiskView) → back ≡ h.store.disk → (e : Option (List ℕ)) (nothing : Type 0) (f : RunFault) → IsUntold o.voice f → TellsEvaluation o (outside disk c a) (outside back d e) nothing f
-    counts_untold back same e nothing fault.Output why = inr (uncounted back same)
-    counts_untold back same e nothing fault.OutOfMemory why = inr (inr (why, inr (uncounted back same)))
+    counts_untold back same e nothing fault.Output why = ends.unwritten (inr (uncounted back same))
+    counts_untold back same e nothing fault.OutOfMemory why = ends.untold why (inr (uncounted back same))
     counts_untold back same e nothing fault.Input why = absurd why
     counts_untold back same e nothing fault.InputTooLong why = absurd why
     counts_untold back same e nothing (fault.Open y) why = absurd why

@@ -1,5 +1,5 @@
 -- Where nothing is evaluated, since a field isn't there or there was no memory for the fields' numbers.
-use Rattle.std.proofs.Common.{◌≡◌, ℕ, List, Option, inl, ap, sym, subst}
+use Rattle.std.proofs.Common.{◌≡◌, ℕ, List, Option, ap, sym, subst}
 use Rattle.disk_model.specs.Disk.{DiskView}
 use Rattle.journal.specs.declared.opening.OpenCause.{OpenCause}
 use Rattle.host_events.specs.declared.outcome.HostFault.{HostFault}
@@ -13,13 +13,14 @@ use Rattle.evaluation.specs.declared.fault.EvalFault.{EvalFault}
 use Rattle.evaluation.specs.declared.fault.EvalFault.TheVariants as evals
 use Rattle.evaluation.specs.declared.plan.Which.{Which}
 use Rattle.evaluation.specs.Steps.{Setting}
+use Rattle.evaluation.specs.Evaluation as ends
 use Rattle.evaluation.specs.Evaluation.{TellsEvalFault, TellsEvaluation}
 use Rattle.evaluation.specs.inside.Choosing.{AsksInVain}
 
 pub in_vain : {C : Type 0} (o : Setting C) (disk back now : DiskView) (c d : C) (a b : Option (List ℕ)) (start : World) (nothing : Type 0) (why : EvalFault)
     → nothing → OpenedOn disk start now → AsksInVain o.plan.which (sheet_in start).fields why → TellsEvalFault o (outside disk c a) (outside back d b) nothing why
 in_vain o disk back now c d a b start nothing (evals.NoField id) none opened is = (none, (start, now, opened, is))
-in_vain o disk back now c d a b start nothing (evals.Run why) none opened is = subst (TellsEvaluation o (outside disk c a) (outside back d b) nothing) (sym is) (inl none)
+in_vain o disk back now c d a b start nothing (evals.Run why) none opened is = subst (TellsEvaluation o (outside disk c a) (outside back d b) nothing) (sym is) (ends.none_asked none)
 
 abbrev run_or : RunFault → EvalFault → RunFault
 run_or other (evals.NoField id) = other

@@ -2,6 +2,7 @@
 use Rattle.std.specs.Prelude.{◌≡◌, ◌⊎◌, ℕ, false, true, List, ◌++◌, Option, Some, None, length}
 use Rattle.std.specs.Io.KnownBytes.{Appends}
 use Rattle.disk_model.specs.Disk.{DiskView, InModel, bytes_on}
+use Rattle.journal.specs.declared.opening.OpenCause.{OpenCause}
 use Rattle.recovery.specs.Sheets.{TellsOfSheet}
 use Rattle.host_events.specs.declared.event.Event.{Event}
 use Rattle.host_events.specs.declared.outcome.HostFault.{HostFault}
@@ -132,17 +133,19 @@ Short o p beats text t = Cut o p (StepSoFar o) beats text t
 abbrev pub Untold : {C : Type 0} → Setting C → DiskView → DiskView → C → C → Type 0
 Untold o disk back c d = LedOf o disk back c d ⊎ Uncounted o disk back c d
 
--- What a fault tells, with the disk that is given back: where the disk wasn't opened nothing was done. A voice that takes memory may have none
--- for a line: then it is as where the writer failed.
-abbrev pub TellsEvaluation : {C : Type 0} → Setting C → Outside C → Outside C → Type 0 → RunFault → Type 0
-TellsEvaluation o first last nothing fault.Input = SoFarOf o first last Unwatched
-TellsEvaluation o first last nothing fault.InputTooLong = SoFarOf o first last TooMany
-TellsEvaluation o first last nothing (fault.Open why) = nothing × InModel first.disk (TellsOfSheet (bytes_on first.disk) why)
-TellsEvaluation o first last nothing fault.InUse = ⊥
-TellsEvaluation o first last nothing (fault.Host f) = StoppedOf o first last f
-TellsEvaluation o first last nothing fault.OutOfMemory =
-    nothing ⊎ (SoFarOf o first last Short ⊎ ((o.voice.takes_memory ≡ true) × Untold o first.disk last.disk first.sources last.sources))
-TellsEvaluation o first last nothing fault.Output = Untold o first.disk last.disk first.sources last.sources
+-- What a fault tells, with the disk that is given back.
+pub data TellsEvaluation {C : Type 0} (o : Setting C) (first last : Outside C) (nothing : Type 0) : RunFault → Type 0 where
+  unwatched : SoFarOf o first last Unwatched → TellsEvaluation o first last nothing fault.Input
+  too_many : SoFarOf o first last TooMany → TellsEvaluation o first last nothing fault.InputTooLong
+  -- the disk wasn't opened, and nothing was done
+  unopened : (why : OpenCause) → nothing → InModel first.disk (TellsOfSheet (bytes_on first.disk) why) → TellsEvaluation o first last nothing (fault.Open why)
+  stopped : (f : HostFault) → StoppedOf o first last f → TellsEvaluation o first last nothing (fault.Host f)
+  -- there was no memory to open it, or for the fields' numbers, and nothing was done
+  none_asked : nothing → TellsEvaluation o first last nothing fault.OutOfMemory
+  refused : SoFarOf o first last Short → TellsEvaluation o first last nothing fault.OutOfMemory
+  -- a voice that takes memory had none for a line, so it is as where the writer failed
+  untold : o.voice.takes_memory ≡ true → Untold o first.disk last.disk first.sources last.sources → TellsEvaluation o first last nothing fault.OutOfMemory
+  unwritten : Untold o first.disk last.disk first.sources last.sources → TellsEvaluation o first last nothing fault.Output
 
 -- What a fault of it says where that may be a field that isn't there: then this is the first number that no field of the worksheet found
 -- on the disk has, and nothing was done.

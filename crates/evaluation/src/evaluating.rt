@@ -184,9 +184,9 @@ fn counts_in<D: Disk>(plan: &Plan, all: u64, host: &Host<D>, stand: Stand) -> Co
 /// first field that is lost or refused, and the fields after it keep what they show. At the end each life that
 /// goes on is stopped, and the counts are reported. It gives the disk back.
 ///
-/// With more jobs than one fields of so many sessions wait together, of each session one at a time: then first
-/// the first field of each session is asked, then the second of each, and so on, one after another up to one
-/// for which there is no room; that one is asked when no item waits any more.
+/// With more jobs than one fields of so many sessions wait together, of each session one at a time: first the
+/// first field of each session is asked, then the second of each, and so on, each as soon as its session and a
+/// place are free.
 ///
 /// With a limit, a field whose time is over is reported, and its interpreter is interrupted once; where an
 /// item still waits two seconds later it has stalled. The time of fields that wait together begins when the
@@ -230,10 +230,8 @@ pub fn evaluate<W: Write, D: Disk, S: Sources, T: Tells>(
     let mut host = match Host::open(alloc, disk) {
         Ok(host) => host,
         Err(OpenFault { cause, disk }) => {
-            return Evaluated {
-                disk,
-                answer: Err(EvalFault::Run(RunFault::Open(cause))),
-            };
+            let answer = Err(EvalFault::Run(RunFault::Open(cause)));
+            return Evaluated { disk, answer };
         }
     };
     let ids = match ids_in(alloc, plan, &host) {
@@ -245,15 +243,8 @@ pub fn evaluate<W: Write, D: Disk, S: Sources, T: Tells>(
             };
         }
     };
-    let done = evaluate_and_stop(
-        alloc,
-        &mut host,
-        sources,
-        plan,
-        ids.as_slice(),
-        tells,
-        writer,
-    );
+    let asked = ids.as_slice();
+    let done = evaluate_and_stop(alloc, &mut host, sources, plan, asked, tells, writer);
     match done {
         Ok(stand) => {
             let stopped_at = stop_line(plan, host.sheet(), stand);
