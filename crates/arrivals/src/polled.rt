@@ -186,6 +186,15 @@ impl<C: Outputs + Drop, K: Clock + Drop> Sources for Polled<C, K> {
         }
     }
 
+    fn has_ready(&self) -> bool {
+        for seat in self.ready.as_slice() {
+            if self.children.is_running(*seat) {
+                return true;
+            }
+        }
+        false
+    }
+
     fn watch(&mut self, input: Input, patience: Option<u64>) -> Result<Woken, WatchFault> {
         if let Some(seat) = self.next_ready() {
             return Ok(Woken::Life(seat));

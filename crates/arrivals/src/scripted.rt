@@ -112,6 +112,11 @@ impl Sources for ScriptedSources {
         0
     }
 
+    /// Never: each turn of the list comes by itself.
+    fn has_ready(&self) -> bool {
+        false
+    }
+
     fn watch(&mut self, input: Input, patience: Option<u64>) -> Result<Woken, WatchFault> {
         match place(self.turns.as_slice(), input, patience) {
             Some(at) => Ok(self.turns.remove(at)),

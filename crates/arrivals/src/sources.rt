@@ -47,6 +47,10 @@ pub trait Sources: Children {
     fn now(&self) -> u64
         ensures { clock self.now result };
 
+    /// Whether a life is ready still that was found so when the sources were looked at last: a watch that holds
+    /// the input back returns it at once.
+    fn has_ready(&self) -> bool;
+
     /// Waits until it is someone's turn, for at most `patience` milliseconds where there is a limit, and for
     /// as long as it takes where there is none.
     ///

@@ -4,5 +4,6 @@ pub mod Waits
 pub mod Timeline
 pub mod Stepping
 pub mod Faulting
+pub mod Gates
 pub mod Seating
 pub mod Signals

@@ -9,3 +9,5 @@ pub mod Moments
 pub mod Steps
 pub mod Stops
 pub mod Interrupts
+pub mod Together
+pub mod inside

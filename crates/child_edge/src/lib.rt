@@ -7,6 +7,7 @@ mod interrupting;
 pub mod listening;
 pub mod serving;
 mod stopping;
+pub mod together;
 mod waiting;
 
 pub use busy::{is_idle, waiting as waiting_lives};
@@ -14,4 +15,5 @@ pub use interrupting::{Interrupted, interrupt};
 pub use listening::{listen, stall};
 pub use serving::{EdgeCause, EdgeFault, MOST_TURNS, serve, wait};
 pub use stopping::stop_all;
+pub use together::{GaveTogether, MOST_TOGETHER, TogetherFault, receive_event, serve_together};
 pub use waiting::Waiting;

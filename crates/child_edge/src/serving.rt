@@ -24,7 +24,7 @@ use std::alloc::{AllocError, Global};
 pub const MOST_TURNS: u32 = 100_000;
 
 /// The most events that come of one: it, the fault of its effect, and the fault of that one's effect.
-const MOST_EVENTS: usize = 3;
+pub(crate) const MOST_EVENTS: usize = 3;
 
 /// Why a command or a wait broke off.
 #[derive(Clone, Copy, Debug, PartialEq, Eq)]
@@ -77,16 +77,16 @@ fn fault_event(effect: &Effect) -> Event
 }
 
 /// Carries an effect out, and gives the event of the fault that it met.
-fn carry_out<C: Children>(children: &mut C, effect: Option<Effect>) -> Option<Event>
-    ensures { (a : Option Answer) × Carried C.after children.old effect a children.new
-        × (result ≡ due_of effect a) }
+pub(crate) fn carry_out<C: Children>(children: &mut C, effect: &Option<Effect>) -> Option<Event>
+    ensures { (a : Option Answer) × Carried C.after children.old effect.now a children.new
+        × (result ≡ due_of effect.now a) }
 {
     let Some(effect) = effect else {
         return None;
     };
-    match call(children, &effect) {
+    match call(children, effect) {
         Ok(()) => None,
-        Err(_) => Some(fault_event(&effect)),
+        Err(_) => Some(fault_event(effect)),
     }
 }
 
@@ -119,7 +119,7 @@ fn beat<D: Disk, C: Children>(
     ensures still { host.old.closed ≡ true → host.new ≡ host.old }
 {
     let Outcome { reply, effect } = step(host, event)?;
-    let due = carry_out(children, effect);
+    let due = carry_out(children, &effect);
     Ok((reply, due))
 }
 
@@ -137,7 +137,7 @@ fn tell(replies: &mut Vec<Reply>, reply: Reply)
 }
 
 /// An event and all that comes of it.
-fn follow<D: Disk, C: Children>(
+pub(crate) fn follow<D: Disk, C: Children>(
     host: &mut Host<D>,
     children: &mut C,
     event: Event,
@@ -154,6 +154,8 @@ fn follow<D: Disk, C: Children>(
     ensures closed { host.old.closed ≡ true → IsErrOf result HostFault.Closed }
     ensures still { host.old.closed ≡ true → (host.new ≡ host.old)
         × (children.new ≡ children.old) × (replies.new.items ≡ replies.old.items) }
+    ensures capacity { vec_capacity replies.new ≡ vec_capacity replies.old }
+    ensures len { vec_len replies.new ≤ vec_len replies.old + MOST_EVENTS }
 {
     let mut due = Some(event);
     for _ in 0..MOST_EVENTS {
@@ -220,7 +222,11 @@ pub fn serve<D: Disk, C: Children>(
 
 /// The event of a life in a turn: what its child gives in a turn that listens, and `Stalled` in
 /// another.
-fn hear<C: Children>(children: &mut C, listens: bool, seat: Seat) -> Result<ChildEvent, AllocError>
+pub(crate) fn hear<C: Children>(
+    children: &mut C,
+    listens: bool,
+    seat: Seat,
+) -> Result<ChildEvent, AllocError>
     ensures ok { IfOk result (λ event. Hears C.after listens seat children.old event children.new) }
     ensures err { OnErr result (children.new ≡ children.old) }
 {

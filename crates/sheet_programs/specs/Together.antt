@@ -1,8 +1,7 @@
 -- Commands of a script that are taken together, as one group. (docs/SCRIPT.md.)
 use Rattle.std.specs.Prelude.{◌≡◌, ◌≤◌, ℕ, Bool, true, false, List, [], ◌∷◌, ◌++◌, Option, Some, None, is_some, length, option_map}
 use Rattle.std.specs.List.{AllByRecursion}
-use Rattle.disk_model.specs.Disk.{DiskView, InModel, LeavesOnly, Rises, SameDisk}
-use Rattle.recovery.specs.Sheets.{IsSheetOf}
+use Rattle.disk_model.specs.Disk.{DiskView, Rises, SameDisk}
 use Rattle.host_events.specs.Commands.{op_of}
 use Rattle.host_events.specs.declared.event.Event.{Event}
 use Rattle.host_events.specs.declared.event.Event.TheVariants as event
@@ -13,6 +12,8 @@ use Rattle.session_engine.specs.Host.{HostView, number_in}
 use Rattle.child_edge.specs.Faithful.{At, Beat}
 use Rattle.child_edge.specs.Kept.{HoldsSheet}
 use Rattle.child_edge.specs.Moments.{events_of, outcomes_of}
+-- What a crash leaves of events that are taken together is the same wherever they come from.
+pub use Rattle.child_edge.specs.Together.{LeavesEither}
 use Rattle.sheet_text.specs.Script.{line_of}
 use Rattle.sheet_text.specs.declared.script.ScriptLine.{ScriptLine}
 use Rattle.sheet_text.specs.declared.script.ScriptLine.TheVariants as line
@@ -50,10 +51,6 @@ most_commands = 1024
 -- an event without an effect, so no child was called
 abbrev pub Alone : Beat → Type 0
 Alone b = (b.outcome.effect ≡ None) × (b.answer ≡ None)
-
--- From this disk to that one, at every moment each image is one of the worksheet of the first world, or of the second.
-abbrev pub LeavesEither : World → World → DiskView → DiskView → Type 0
-LeavesEither w v old new = InModel old (LeavesOnly (IsSheetOf (sheet_in w) (sheet_in v)) old.history new.history)
 
 -- Lines with at most 1,024 commands were taken together. Their commands went through one after another, and no child was called. What they
 -- gave became durable at once: a crash left the worksheet from before them, or that after all of them.

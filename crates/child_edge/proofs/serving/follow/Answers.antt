@@ -8,6 +8,8 @@ use Rattle.child_edge.proofs.serving.follow.Goals as goal
 pub loop-init : goal.loop-init
 loop-init g c = record {
   room = omega arith;
+  capacity = refl;
+  len = omega arith;
   same = same-at c.args.host.now.store.disk;
   runs = λ w h. ([], w, (refl, refl), h, sym (append-nil c.args.replies.now.items), omega (arith, rank-most c.args.event));
   still = λ e. (refl, refl, refl, refl, refl);
@@ -39,6 +41,8 @@ tell-requires g c = omega (arith, c.loop.invariant.room)
 pub loop-preserved : goal.loop-preserved
 loop-preserved g c = record {
   room = omega (arith, c.loop.invariant.room, c.tell.ensures.len, c.tell.ensures.capacity);
+  capacity = c.tell.ensures.capacity ∙ c.loop.invariant.capacity;
+  len = omega (arith, c.loop.invariant.len, c.tell.ensures.len);
   same = same-on c.args.host.now.store.disk c.loop.host.store.disk c.beat.new.host.store.disk c.loop.invariant.same c.in-Ok.ensures.same;
   runs = λ w h.
       let r = c.loop.invariant.runs w h in

@@ -10,6 +10,8 @@ use Rattle.child_edge.proofs.serving.follow.Given as goal
 abbrev pub invariant-loop : goal.invariant-loop
 invariant-loop g l = record {
   room : vec_len l.replies + 3 ≤ vec_capacity l.replies + l.counter;
+  capacity : vec_capacity l.replies ≡ vec_capacity l.fn.replies;
+  len : vec_len l.replies ≤ vec_len l.fn.replies + l.counter;
   same : SameDisk l.fn.host.store.disk l.host.store.disk;
   runs : (w : World) → IsHost l.fn.host w → (bs : List Beat) × (v : World) × Follows g.C.Children.after (at w l.fn.children l.fn.host.store.disk) (Some l.fn.event) bs l.due (at v l.children l.host.store.disk)
       × IsHost l.host v × (l.replies.items ≡ l.fn.replies.items ++ told bs) × (rank l.due + l.counter ≤ 3);
