@@ -508,9 +508,9 @@ grown junit "$head"'<testcase classname="g" name="field 1"><failure message="dif
 compare 'an output that grew, json' "$({ "$tmhost" check --json sheet 2>&1; echo "status $?"; } </dev/null | cksum)" "$({
     printf '{"format":1,"program":"tmhost","protocol":2,"type":"hello","version":"0.1.0"}\n{"came":{"output":{"items":["'
     long
-    printf '"],"kind":"format","tag":"verbatim"},"prompt":"","shown":"'
+    printf '"],"kind":"format","tag":"verbatim"},"prompt":"> ","shown":"'
     long
-    printf '"},"id":1,"input":"x","session":"g","shows":{"output":{"items":["x"],"kind":"format","tag":"verbatim"},"prompt":"","shown":"x"},"type":"checked","verdict":"differs"}\n'
+    printf '"},"id":1,"input":"x","session":"g","shows":{"output":{"items":["x"],"kind":"format","tag":"verbatim"},"prompt":"> ","shown":"x"},"type":"checked","verdict":"differs"}\n'
     printf '{"differ":1,"left_out":0,"same":0,"type":"compared","unanswered":0}\n{"type":"end"}\nstatus 1\n'
 } | cksum)"
 

@@ -453,7 +453,7 @@ for task in live run; do
 END_OF_JSON
 done
 echo 'export script' >given
-compare 'an export by run' "$(answer run area <given)" "$(ending 'bad line 1\n' 0)"
+compare 'an export by run' "$(answer run area <given)" "$(ending 'session a plain sh w\nnew 0 a x\n' 0)"
 answered x '> ' 'verbatim:\351'
 json_exports live 'an export that is not UTF-8' 'export markdown\nexport html\n' <<'END_OF_JSON'
 {"format":1,"program":"tmhost","protocol":2,"type":"hello","version":"0.1.0"}
