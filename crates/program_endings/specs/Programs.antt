@@ -1,6 +1,6 @@
 -- How the programs over a worksheet's files end: what becomes of the disk, what is written on which
 -- stream, and the exit status.
-use Rattle.std.specs.Prelude.{◌≡◌, ◌≤◌, ℕ, Bool, true, false, List, [], Option, Some, None, Result, Err, IfOk, IfErr, IfSome, IsErrOf, length}
+use Rattle.std.specs.Prelude.{◌≡◌, ℕ, Bool, true, List, [], Option, Some, None, Result, Err, IfOk, IfErr, IsErrOf}
 use Rattle.std.specs.Io.KnownBytes.{Appends}
 use Rattle.disk_model.specs.Disk.{DiskView, InModel, Leaves, Looks, Rises, SameDisk, bytes_on}
 use Rattle.worksheet.specs.Contents.{Contents}
@@ -10,17 +10,12 @@ use Rattle.journal.specs.declared.opening.CreateCause.{CreateCause}
 use Rattle.journal.specs.declared.opening.CreateCause.TheVariants as creates
 use Rattle.journal.specs.declared.opening.OpenCause.TheVariants as opens
 use Rattle.recovery.specs.Sheets.{IsSheetImage}
-use Rattle.host_events.specs.declared.outcome.HostFault.TheVariants as hosts
 use Rattle.sheet_text.specs.Texts.{sheet_text}
-use Rattle.child_edge.specs.Faithful.{Relation}
 use Rattle.program_endings.specs.Ending.{EndsAs, ProgramAnswer}
-use Rattle.program_endings.specs.Records.{Calling, DoesNothing, GivenDisk, Streams, Writing, given_disk, outside_after, outside_before, text_after, text_before, view_given}
+use Rattle.program_endings.specs.Records.{Calling, DoesNothing, GivenDisk, Streams, Writing, given_disk, text_after, text_before, view_given}
 use Rattle.program_endings.specs.declared.ending.Ending.{Ending}
-use Rattle.offline_programs.specs.Faults.{TellsShow, Untouched}
+use Rattle.offline_programs.specs.Faults.{TellsShow}
 use Rattle.program_endings.specs.Faults.{create_fault_text, no_files}
-use Rattle.offline_programs.specs.Input.{longest_standard_input}
-use Rattle.sheet_programs.specs.Records.{manner}
-use Rattle.sheet_programs.specs.Strict.{RunDone, TellsRun}
 use Rattle.sheet_files.specs.Closing.{Closable}
 use Rattle.sheet_files.specs.declared.files_fault.FilesFault.{FilesFault}
 use Rattle.sheet_files.specs.declared.files_fault.MakeFault.{MakeFault}

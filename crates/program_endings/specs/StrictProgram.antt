@@ -1,19 +1,9 @@
 -- How a run ends that may have stopped after a line that went wrong: what it tells on which stream, and the exit status.
-use Rattle.std.specs.Prelude.{◌≡◌, ◌≤◌, ℕ, Bool, true, List, [], ◌∷◌, ◌++◌, Option, Some, None, Result, Ok, Err, IfOk, IfErr, IfSome, IsErrOf, OnOk, codes, length}
+use Rattle.std.specs.Prelude.{◌≡◌, ℕ, Bool, true, List, [], ◌∷◌, ◌++◌, Option, Some, None, Result, Ok, Err, codes}
 use Rattle.std.specs.Fmt.{decimal}
 use Rattle.std.specs.Io.KnownBytes.{Appends}
-use Rattle.disk_model.specs.Disk.{Rises, SameDisk}
-use Rattle.journal.specs.declared.opening.OpenCause.TheVariants as opens
-use Rattle.host_events.specs.declared.outcome.HostFault.TheVariants as hosts
-use Rattle.child_edge.specs.Faithful.{Relation}
-use Rattle.offline_programs.specs.Faults.{Untouched, fault_text}
-use Rattle.offline_programs.specs.Input.{longest_standard_input}
-use Rattle.sheet_programs.specs.Records.{manner}
-use Rattle.sheet_programs.specs.Strict.{RunDone, TellsRun}
+use Rattle.offline_programs.specs.Faults.{fault_text}
 use Rattle.offline_programs.specs.declared.fault.RunFault.{RunFault}
-use Rattle.offline_programs.specs.declared.fault.RunFault.TheVariants as fault
-use Rattle.program_endings.specs.Records.{Calling, DoesNothing, GivenDisk, Streams, outside_after, outside_before, view_given}
-use Rattle.program_endings.specs.declared.ending.Ending.{Ending}
 
 -- what the program answers: the line after which it stopped, if it did, or its fault
 abbrev pub StrictAnswer : Type 0
