@@ -143,6 +143,23 @@ fn end_evaluation<W: Write, E: Write, T: Tells>(
     }
 }
 
+/// Evaluates the fields of the worksheet on a disk, and reports how that ended.
+fn end_on<W: Write, E: Write, D: Close, S: Sources, T: Tells>(
+    alloc: Global,
+    plan: &Plan,
+    tells: &T,
+    output: &mut W,
+    errors: &mut E,
+    disk: D,
+    sources: &mut S,
+) -> Ending
+    ensures { EvaluationEnded (setting T.voice S.after S.clock S.wakes plan.now []) (given_disk (closable D.view D.closed) disk) (calling sources.old sources.new)
+        (streams (writing W.contents output.old output.new) (writing E.contents errors.old errors.new)) result }
+{
+    let answer = evaluate_framed(alloc, plan, tells, output, disk, sources);
+    end_evaluation(answer, tells, output, errors)
+}
+
 /// The whole program `eval` on its files, or on why they weren't opened: what comes of each field goes to
 /// `output`, flushed at once, and the counts at the end. The line of a fault goes to `errors`, and so does
 /// that of the place where a strict evaluation stopped.
@@ -162,10 +179,7 @@ pub fn run_evaluation<W: Write, E: Write, D: Close, S: Sources, T: Tells>(
         (streams (writing W.contents output.old output.new) (writing E.contents errors.old errors.new)) result) }
 {
     match files {
-        Ok(disk) => {
-            let answer = evaluate_framed(alloc, plan, tells, output, disk, sources);
-            end_evaluation(answer, tells, output, errors)
-        }
+        Ok(disk) => end_on(alloc, plan, tells, output, errors, disk, sources),
         Err(why) => end_told(Err(no_files(why)), tells, output, errors),
     }
 }
