@@ -3,7 +3,7 @@
 ghost use Rattle.std.specs.Prelude.{◌≡◌, ◌≢◌, [], List, Err, map, option_map, string_bytes};
 ghost use Rattle.command_words.specs.Asked.{eval_view, task_view};
 ghost use Rattle.command_words.specs.Asked as asked;
-ghost use Rattle.host_cli.specs.Tasks.{DoesCreate, DoesEval, DoesExport, DoesRescue, DoesShow, DoesTask, EvaluatesAs, ExportsAs, LeavesAlone, Performs, outer};
+ghost use Rattle.host_cli.specs.Tasks.{BringsOut, DoesAsked, DoesCreate, DoesEval, DoesExport, DoesRescue, DoesShow, DoesTask, EndsBy, EvaluatesAs, ExportsAs, LeavesAlone, Performs, outer, voice_by};
 ghost use Rattle.program_endings.specs.Ending.{TellsFault};
 ghost use Rattle.offline_programs.specs.declared.fault.RunFault.TheVariants as fault;
 
@@ -85,6 +85,26 @@ fn eval_as<Y: System, T: Tells>(
     }
 }
 
+/// `eval` of the fields of the worksheet at a path, by a plan, in words or in lines of JSON.
+fn eval_told<Y: System>(
+    alloc: Global,
+    outside: &mut Outside<Y>,
+    plan: &Plan,
+    json: bool,
+    path: &str,
+) -> Ending
+    ensures does { EvaluatesAs (outer Y.Places.Places Y.Disk.Disk Y.Disk.closed Y.Sources.after
+        Y.Sources.clock Y.Sources.wakes Y.Input.Read Y.Output.Write Y.Output.brought Y.Errors.Write) (voice_by json) plan.now outside.old outside.new result path.now }
+    ensures leaves { (outside.new.input ≡ outside.old.input)
+        × (outside.new.progress ≡ outside.old.progress) }
+{
+    if json {
+        eval_as(alloc, outside, plan, &InJson { alloc }, path)
+    } else {
+        eval_as(alloc, outside, plan, &InWords, path)
+    }
+}
+
 /// `eval` of the fields of the worksheet at a path, as its words ask for it.
 fn eval_at<Y: System>(
     alloc: Global,
@@ -97,8 +117,7 @@ fn eval_at<Y: System>(
     ensures leaves { LeavesAlone outside.old outside.new (asked.eval path.now (eval_view words.entry)) }
 {
     match read_plan(alloc, &words) {
-        Ok(plan) if words.json => eval_as(alloc, outside, &plan, &InJson { alloc }, path),
-        Ok(plan) => eval_as(alloc, outside, &plan, &InWords, path),
+        Ok(plan) => eval_told(alloc, outside, &plan, words.json, path),
         Err(why) => refuse_plan(why, &mut outside.errors),
     }
 }
@@ -185,6 +204,32 @@ pub fn do_task<Y: System>(alloc: Global, task: Task<'_>, outside: &mut Outside<Y
     }
 }
 
+/// Does the task that these words ask for, or tells why there is none.
+fn do_words<Y: System>(alloc: Global, words: Vec<String>, outside: &mut Outside<Y>) -> Ending
+    ensures { DoesAsked (outer Y.Places.Places Y.Disk.Disk Y.Disk.closed Y.Sources.after
+        Y.Sources.clock Y.Sources.wakes Y.Input.Read Y.Output.Write Y.Output.brought Y.Errors.Write) (map string_bytes words.items) outside.old outside.new result }
+{
+    match read_words(alloc, words.as_slice()) {
+        Ok(task) => do_task(alloc, task, outside),
+        Err(error) => refuse_words(&error, &mut outside.output, &mut outside.errors),
+    }
+}
+
+/// The program before its output is flushed.
+fn end_by_words<Y: System>(
+    alloc: Global,
+    words: Result<Vec<String>, io::ErrorKind>,
+    outside: &mut Outside<Y>,
+) -> Ending
+    ensures { EndsBy (outer Y.Places.Places Y.Disk.Disk Y.Disk.closed Y.Sources.after
+        Y.Sources.clock Y.Sources.wakes Y.Input.Read Y.Output.Write Y.Output.brought Y.Errors.Write) (λ all. map string_bytes all.items) words outside.old outside.new result }
+{
+    match words {
+        Ok(words) => do_words(alloc, words, outside),
+        Err(kind) => refuse_unread_words(kind, &mut outside.errors),
+    }
+}
+
 /// The end of a program whose output can't be flushed: the fault `Output`, where it has none of its own.
 fn end_unsent<E: Write>(alone: Ending, errors: &mut E) -> Ending
     ensures same { alone.status ≡ 1 → (result ≡ alone) × (errors.new ≡ errors.old) }
@@ -198,6 +243,17 @@ fn end_unsent<E: Write>(alone: Ending, errors: &mut E) -> Ending
     }
 }
 
+/// Flushes what the output keeps back, at the end of the program.
+fn bring_out<Y: System>(outside: &mut Outside<Y>, alone: Ending) -> Ending
+    ensures { BringsOut (outer Y.Places.Places Y.Disk.Disk Y.Disk.closed Y.Sources.after
+        Y.Sources.clock Y.Sources.wakes Y.Input.Read Y.Output.Write Y.Output.brought Y.Errors.Write) outside.old outside.new alone result }
+{
+    match outside.output.bring_out() {
+        Ok(()) => alone,
+        Err(_) => end_unsent(alone, &mut outside.errors),
+    }
+}
+
 /// The whole program: does the task that its words ask for, or tells why there is none, and brings its
 /// output out. The words may be missing for this kind of error.
 pub fn perform<Y: System>(
@@ -208,15 +264,6 @@ pub fn perform<Y: System>(
     ensures { Performs (outer Y.Places.Places Y.Disk.Disk Y.Disk.closed Y.Sources.after
         Y.Sources.clock Y.Sources.wakes Y.Input.Read Y.Output.Write Y.Output.brought Y.Errors.Write) (λ all. map string_bytes all.items) words outside.old outside.new result }
 {
-    let ending = match words {
-        Ok(words) => match read_words(alloc, words.as_slice()) {
-            Ok(task) => do_task(alloc, task, outside),
-            Err(error) => refuse_words(&error, &mut outside.output, &mut outside.errors),
-        },
-        Err(kind) => refuse_unread_words(kind, &mut outside.errors),
-    };
-    match outside.output.bring_out() {
-        Ok(()) => ending,
-        Err(_) => end_unsent(ending, &mut outside.errors),
-    }
+    let ending = end_by_words(alloc, words, outside);
+    bring_out(outside, ending)
 }

@@ -3,7 +3,7 @@ use Rattle.std.specs.Prelude.{Ok, Err, string_bytes}
 use Rattle.clap.specs.Words.{FailsBy, fault_of}
 use Rattle.command_words.specs.Asked.{asked_by, task_view, tmhost}
 use Rattle.command_words.specs.declared.words.Task.{Task}
-use Rattle.host_cli.proofs.tasks.perform.Goals as goal
+use Rattle.host_cli.proofs.tasks.do_words.Goals as goal
 
 pub returns-in-Ok : goal.returns-in-Ok
 returns-in-Ok g c = (
