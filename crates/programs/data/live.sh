@@ -284,10 +284,10 @@ wait' | head -n 40
 } >given
 rm -f sheet sheet.alt
 "$tmhost" create sheet
-"$tmhost" live sheet <given >told 2>&1
-compare 'one that never reads' "$(sort -u told)" \
+"$tmhost" live sheet <given >replies 2>&1
+compare 'one that never reads' "$(sort -u replies)" \
     "$(printf 'answered 1\nasked\nbanner a\nended a SendFault lost 1\nended a Stopped lost 0\nfield 1\nfield 2\nok')"
-compare 'one that never reads, at the end' "$(tail -n 1 told)" 'field 2'
+compare 'one that never reads, at the end' "$(tail -n 1 replies)" 'field 2'
 
 # Several lines that wait in one session.
 interpreter p "$banner" '' ''
