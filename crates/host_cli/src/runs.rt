@@ -99,7 +99,7 @@ pub(crate) fn run_at<Y: System>(
         limit,
         strict: words.strict,
     };
-    if words.json && limit.is_none() {
+    if words.json {
         return live_told(alloc, outside, manner, &InJson { alloc }, path);
     }
     if limit.is_some() {
