@@ -11,7 +11,7 @@ work=$(mktemp -d "$(readlink -f "${FOLDER:-.}")/open.XXXXXX")
 trap 'rm -rf "$work"' EXIT
 [ -n "${TMHOST:-}" ] || "$root/tmhost" blocks </dev/null
 [ $# -gt 0 ] || set -- 100 1000
-cc -O2 -o "$work/plain" "$root/bench/plain_open.c"
+cc -O2 -o "$work/plain_open" "$root/bench/plain_open.c"
 python3 - "${TMHOST:-$root/crates/tmhost/out/tmhost}" "$work" "${RUNS:-5}" "$@" <<'PYTHON'
 import fcntl, os, re, statistics, subprocess, sys, time
 
@@ -48,7 +48,8 @@ def measured(words):
     with open(reads, "rb", buffering=0) as pipe:
         told = pipe.read(1)
         with open(f"/proc/{child.pid}/status") as status:
-            peak = [int(kib) / 1024 for kib in re.findall(r"(?:VmPeak|VmHWM):\s+(\d+) kB", status.read())]
+            # One that wrote little has ended already, and shows none.
+            peak = [int(kib) / 1024 for kib in re.findall(r"(?:VmPeak|VmHWM):\s+(\d+) kB", status.read())] or [0, 0]
         while more := pipe.read(1 << 20):
             if len(told) < 1 << 20:
                 told += more
@@ -109,7 +110,7 @@ for size in sys.argv[4:]:
 
 path = f"{work}/small"
 journal(path, 100_000_000, short)
-ours, theirs, show, plain = both(path, shown(short), [f"{work}/plain"])
+ours, theirs, show, plain = both(path, shown(short), [f"{work}/plain_open"])
 assert theirs[-1][2] == shown(short), "the plain program prints another worksheet"
 print(f"100 MB of short records: show {show:.2f} s, plain {plain:.2f} s, ratio {show / plain:.1f}")
 PYTHON
