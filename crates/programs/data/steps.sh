@@ -368,7 +368,8 @@ step cases
 compare 'a case that must differ' yes no
 counted 'cases that must differ'
 # Matters whose cases share files are in one chain. A chain has a copy of this folder for itself and goes beside the others, since many cases
-# wait for a second or two. What it prints is printed behind what those before it here printed.
+# wait for a second or two. What it prints is printed behind what those before it here printed, and stands in its folder's files `told` and
+# `failed` until then: no case writes files of these names.
 chain() {
     mkdir "chain.$1"
     for file in *; do
