@@ -7,9 +7,10 @@ use Rattle.arrivals.specs.Held.{Held, KeepsLines, Readiness, left_with, to_come}
 use Rattle.arrivals.specs.declared.sources.Woken.{Woken}
 use Rattle.arrivals.specs.declared.sources.Woken.TheVariants as woken
 use Rattle.live.specs.declared.holding.Hold.{Hold}
-use Rattle.live.specs.Records.{Turn, Watches, between}
-use Rattle.live.specs.Arrivals.{Arrival, line, together, part, life, time_over, Comes, IsOver, WatchTells, lines_in}
+use Rattle.live.specs.Records.{Turn, Watches, between, turn}
+use Rattle.live.specs.Arrivals.{Arrival, line, together, part, life, lives, time_over, Comes, IsOver, WatchTells, lines_in}
 use Rattle.live.specs.Taking.{IsBy, TakesLines, TurnComes}
+use Rattle.live.specs.Gathering.{IsTurnOf}
 
 -- a line that is given is the first of those to come
 pub line_given : (h k : Held) (given : InputLine) (r : Option (List ℕ)) → ((more : List ℕ) → left_with h more ≡ given ∷ left_with k more) → TakesLines (line given) (between (to_come h r) (to_come k r))
@@ -27,6 +28,7 @@ lines-snoc (line l ∷ as1) a own p = ap (λ (x : List InputLine). l ∷ x) (lin
 lines-snoc (together ls ∷ as1) a own p = ap (λ (x : List InputLine). map whole ls ++ x) (lines-snoc as1 a own p) ∙ sym (append_assoc (map whole ls) (lines_in as1) own)
 lines-snoc (part ∷ as1) a own p = lines-snoc as1 a own p
 lines-snoc (life seat ∷ as1) a own p = lines-snoc as1 a own p
+lines-snoc (lives seat seats ∷ as1) a own p = lines-snoc as1 a own p
 lines-snoc (time_over ∷ as1) a own p = lines-snoc as1 a own p
 
 -- what an arrival takes of the lines
@@ -47,6 +49,8 @@ lines_on part as1 ls rest old new split is takes =
     (rest, split ∙ ap (λ (x : List InputLine). x ++ rest) (sym (lines-snoc as1 part [] refl ∙ append-nil (lines_in as1))), subst (λ (o : Option (List InputLine)). KeepsLines o new) is takes)
 lines_on (life seat) as1 ls rest old new split is takes =
     (rest, split ∙ ap (λ (x : List InputLine). x ++ rest) (sym (lines-snoc as1 (life seat) [] refl ∙ append-nil (lines_in as1))), subst (λ (o : Option (List InputLine)). KeepsLines o new) is takes)
+lines_on (lives seat seats) as1 ls rest old new split is takes =
+    (rest, split ∙ ap (λ (x : List InputLine). x ++ rest) (sym (lines-snoc as1 (lives seat seats) [] refl ∙ append-nil (lines_in as1))), subst (λ (o : Option (List InputLine)). KeepsLines o new) is takes)
 lines_on time_over as1 ls rest old new split is takes =
     (rest, split ∙ ap (λ (x : List InputLine). x ++ rest) (sym (lines-snoc as1 time_over [] refl ∙ append-nil (lines_in as1))), subst (λ (o : Option (List InputLine)). KeepsLines o new) is takes)
 
@@ -79,6 +83,7 @@ comes_by m held c it d (line l) comes by = input_told m held c true it d comes b
 comes_by m held c it d (together ls) comes by = input_told m held c true it d comes by.0 by.1
 comes_by m held c it d part comes by = input_told m held c false it d comes by.0 by.1
 comes_by m held c it d (life seat) comes by = (it.is_there, told_life m held c it.is_there d seat (subst (ToldBy m held c it.is_there d) by comes.1))
+comes_by m held c it d (lives seat seats) comes by = (it.is_there, told_life m held c it.is_there d seat (subst (ToldBy m held c it.is_there d) by comes.1))
 comes_by m held c it d time_over comes by = time-told m held c it.is_there d (subst (ToldBy m held c it.is_there d) by comes.1)
 
 -- whether there is something to give is one answer
@@ -98,3 +103,13 @@ keeps_all (Some lines) = refl
 pub keeps_more : (h k : Held) (r : Option (List ℕ)) (new : Option (List InputLine)) → ((more : List ℕ) → left_with k more ≡ left_with h more) → KeepsLines (to_come k r) new → KeepsLines (to_come h r) new
 keeps_more h k None new same keeps = tt
 keeps_more h k (Some more) new same keeps = keeps ∙ ap (λ (x : List InputLine). Some x) (same more)
+
+-- a turn of this life is that of an arrival of it
+pub by_turn_of : (seat : Seat) (there : Bool) (a : Arrival) → IsTurnOf seat a → IsBy (turn (woken.Life seat) there) a
+by_turn_of seat there a (inl is) = subst (IsBy (turn (woken.Life seat) there)) (sym is) refl
+by_turn_of seat there a (inr is) = subst (IsBy (turn (woken.Life seat) there)) (sym is.1) refl
+
+-- and takes no line
+pub no_line_of : (seat : Seat) (a : Arrival) (lines : Option (List InputLine)) → IsTurnOf seat a → TakesLines a (between lines lines)
+no_line_of seat a lines (inl is) = subst (λ (x : Arrival). TakesLines x (between lines lines)) (sym is) (keeps_all lines)
+no_line_of seat a lines (inr is) = subst (λ (x : Arrival). TakesLines x (between lines lines)) (sym is.1) (keeps_all lines)

@@ -23,7 +23,8 @@ use Rattle.live.specs.declared.live_line.LiveLine.TheVariants as live
 use Rattle.sheet_programs.specs.Run.{OpenedOn}
 use Rattle.offline_programs.specs.declared.fault.RunFault.{RunFault}
 use Rattle.offline_programs.specs.declared.fault.RunFault.TheVariants as fault
-use Rattle.sheet_programs.proofs.Courses.{Course, course_anyhow, course_on, course_up_to, either_moments, goes_course, group_course, moments_on}
+use Rattle.sheet_programs.proofs.Courses.{Course, course_anyhow, course_on, course_up_to, either_moments, goes_course, moments_on}
+use Rattle.live.proofs.GroupRuns.{group_ran_course, group_so_far_course, group_up_to_course}
 use Rattle.sheet_programs.proofs.Runs.{StopsIn, StopsNumbered, stops_behind, no_beats, min_since}
 use Rattle.journal.specs.declared.opening.OpenCause.{OpenCause}
 use Rattle.live.specs.Records.{Brought, Edge, Left, Outside, brought, left, outside}
@@ -93,31 +94,34 @@ goes-on s beats t goes = goes_course s.world s.disk beats t.world t.disk goes
 
 takes-course : {C : Type 0} (o : Edge C) (p : LivePlace C) (a : Arrival) (it : Brought) (q : LivePlace C) → TakesArrival o p a it q → Course p.run.world p.run.disk it.beats q.run.world q.run.disk
 takes-course o p (came.line l) it q t = goes-on p.run it.beats q.run (said-goes o q.number (said_by l) p.run (brought it.beats t.2.0) q.run t.2.1)
-takes-course o p (came.together ls) it q t = group_course ls p.run it.beats q.run t.4.taken
+takes-course o p (came.together ls) it q t = group_ran_course o p.run (came.together ls) it.beats q.run t.4.0
 takes-course o p came.part it q t = goes-on p.run it.beats q.run (no_beats p.run it.beats q.run t.1 (ap (λ (x : LivePlace _). x.run) t.3))
 takes-course o p (came.life seat) it q t = goes-on p.run it.beats q.run (taken-goes o.after true None seat p.run it.beats q.run t.1)
+takes-course o p (came.lives seat seats) it q t = group_ran_course o p.run (came.lives seat seats) it.beats q.run t.1
 takes-course o p came.time_over it q (inl t) = goes-on p.run it.beats q.run (stalled-goes o.after (waits p.run.world) (length (waits p.run.world)) p.run it.beats q.run t.2)
 takes-course o p came.time_over it q (inr t) =
     goes-on p.run it.beats q.run
     (no_beats (at p.run.world q.run.children p.run.disk) it.beats q.run t.3 (interrupts-stay o (waits p.run.world) (length (waits p.run.world)) p.run it.text q.run t.2))
 
-takes-up-to-goes : {C : Type 0} (R : Relation C) (p : LivePlace C) (beats : List Beat) (e : Event) (t : At C) (a : Arrival) → TakesUpTo R p beats e t a → Goes p.run.world p.run.disk beats t.world t.disk
-takes-up-to-goes R p beats e t a (broken.line_up_to l q) = said-up-to-goes R (said_by l) p.run beats e t q
-takes-up-to-goes R p beats e t a (broken.life_up_to seat q) = taken-goes R true (Some e) seat p.run beats t q
-takes-up-to-goes R p beats e t a (broken.time_up_to timed q) = turn-stopped-goes R (waits p.run.world) p.run beats e t q
+takes-up-to-course : {C : Type 0} (o : Edge C) (p : LivePlace C) (beats : List Beat) (e : Event) (t : At C) (a : Arrival) → TakesUpTo o p beats e t a → Course p.run.world p.run.disk beats t.world t.disk
+takes-up-to-course o p beats e t a (broken.line_up_to l q) = goes-on p.run beats t (said-up-to-goes o.after (said_by l) p.run beats e t q)
+takes-up-to-course o p beats e t a (broken.group_up_to x q) = group_up_to_course o p.run x beats e t q
+takes-up-to-course o p beats e t a (broken.life_up_to seat q) = goes-on p.run beats t (taken-goes o.after true (Some e) seat p.run beats t q)
+takes-up-to-course o p beats e t a (broken.time_up_to timed q) = goes-on p.run beats t (turn-stopped-goes o.after (waits p.run.world) p.run beats e t q)
 
-takes-so-far-goes : {C : Type 0} (R : Relation C) (p : LivePlace C) (beats : List Beat) (t : At C) (a : Arrival) → TakesSoFar R p beats t a → Goes p.run.world p.run.disk beats t.world t.disk
-takes-so-far-goes R p beats t a (broken.line_so_far l is none same) = no_beats p.run beats t none same
-takes-so-far-goes R p beats t a (broken.together_so_far ls group none same) = no_beats p.run beats t none same
-takes-so-far-goes R p beats t a (broken.life_so_far seat none same) = no_beats p.run beats t none same
-takes-so-far-goes R p beats t a (broken.time_so_far timed q) = stalled-goes R (waits p.run.world) q.whole p.run beats t q.are_done
-takes-so-far-goes R p beats t a (broken.limit_so_far limited none same) = no_beats p.run beats t none same
+takes-so-far-course : {C : Type 0} (o : Edge C) (p : LivePlace C) (beats : List Beat) (t : At C) (a : Arrival) → TakesSoFar o p beats t a → Course p.run.world p.run.disk beats t.world t.disk
+takes-so-far-course o p beats t a (broken.line_so_far l is none same) = goes-on p.run beats t (no_beats p.run beats t none same)
+takes-so-far-course o p beats t a (broken.group_so_far x so none) = group_so_far_course o p.run x beats t so none
+takes-so-far-course o p beats t a (broken.life_so_far seat none same) = goes-on p.run beats t (no_beats p.run beats t none same)
+takes-so-far-course o p beats t a (broken.time_so_far timed q) = goes-on p.run beats t (stalled-goes o.after (waits p.run.world) q.whole p.run beats t q.are_done)
+takes-so-far-course o p beats t a (broken.limit_so_far limited none same) = goes-on p.run beats t (no_beats p.run beats t none same)
 
 takes-led-course : {C : Type 0} (o : Edge C) (p : LivePlace C) (a : Arrival) (t : At C) (led : TakesLed o p a t) → Course p.run.world p.run.disk (taken_beats led) t.world t.disk
 takes-led-course o p a t (broken.all it q taken there) = subst (λ (x : At _). Course p.run.world p.run.disk it.beats x.world x.disk) there (takes-course o p a it q taken)
-takes-led-course o p a t (broken.up_to beats e broke) = goes-on p.run beats t (takes-up-to-goes o.after p beats e t a broke)
-takes-led-course o p a t (broken.so_far beats so) = goes-on p.run beats t (takes-so-far-goes o.after p beats t a so)
+takes-led-course o p a t (broken.up_to beats e broke) = takes-up-to-course o p beats e t a broke
+takes-led-course o p a t (broken.so_far beats so) = takes-so-far-course o p beats t a so
 takes-led-course o p a t (broken.heard seat beats is took) = goes-on p.run beats t (taken-goes o.after true None seat p.run beats t took)
+takes-led-course o p a t (broken.ran beats ran) = group_ran_course o p.run a beats t ran
 takes-led-course o p a t (broken.interrupted k text over limited front) =
     goes-on p.run [] t (no_beats (at p.run.world t.children p.run.disk) [] t refl (interrupts-stay o (waits p.run.world) k p.run text t front))
 
@@ -137,13 +141,13 @@ module _ {C : Type 0} (o : Edge C) (p : LivePlace C) (all : List Arrival) where
   up-to-course it e t q =
       subst (λ (l : List Beat). Course p.run.world p.run.disk l t.world t.disk) (sym q.took)
       (course_on p.run.world p.run.disk q.earlier.beats q.mid.run.world q.mid.run.disk q.beats t.world t.disk (to-last q.last q.earlier q.mid q.before)
-      (goes-on q.mid.run q.beats t (takes-up-to-goes o.after q.mid q.beats e t q.last q.broke)))
+      (takes-up-to-course o q.mid q.beats e t q.last q.broke))
 
   so-far-course : (it : Brought) (t : At C) → LivedSoFar o p all it t → Course p.run.world p.run.disk it.beats t.world t.disk
   so-far-course it t q =
       subst (λ (l : List Beat). Course p.run.world p.run.disk l t.world t.disk) (sym q.took)
       (course_on p.run.world p.run.disk q.earlier.beats q.mid.run.world q.mid.run.disk q.beats t.world t.disk (to-last q.last q.earlier q.mid q.before)
-      (goes-on q.mid.run q.beats t (takes-so-far-goes o.after q.mid q.beats t q.last q.broke)))
+      (takes-so-far-course o q.mid q.beats t q.last q.broke))
 
   led-course : (t : At C) (q : LivedLed o p all t) → Course p.run.world p.run.disk (q.earlier.beats ++ taken_beats q.led) t.world t.disk
   led-course t q =
@@ -151,7 +155,7 @@ module _ {C : Type 0} (o : Edge C) (p : LivePlace C) (all : List Arrival) where
 
   -- up to the group in which the disk failed
   to-group : (it : Brought) (h : HostView) (q : LivedBroke o p all it h) → Course p.run.world p.run.disk it.beats q.mid.run.world q.mid.run.disk
-  to-group it h q = to-last (came.together q.group) it q.mid q.before
+  to-group it h q = to-last q.group it q.mid q.before
 
 -- The lines of the stream.
 

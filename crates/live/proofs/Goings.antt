@@ -75,6 +75,7 @@ own (kind.line l) = 1
 own (kind.together ls) = length ls
 own kind.part = 0
 own (kind.life seat) = 0
+own (kind.lives seat seats) = 0
 own kind.time_over = 0
 
 own-lines : (a : Arrival) (all : List Arrival) → length (lines_in (a ∷ all)) ≡ own a + length (lines_in all)
@@ -82,6 +83,7 @@ own-lines (kind.line l) all = omega arith
 own-lines (kind.together ls) all = omega (arith, length-append (map full ls) (lines_in all), length-map ls full)
 own-lines kind.part all = omega arith
 own-lines (kind.life seat) all = omega arith
+own-lines (kind.lives seat seats) all = omega arith
 own-lines kind.time_over all = omega arith
 
 counts-one : {C : Type 0} (o : Edge C) (p : LivePlace C) (a : Arrival) (it : Brought) (q : LivePlace C) → TakesArrival o p a it q → q.number ≡ p.number + own a
@@ -89,6 +91,7 @@ counts-one o p (kind.line l) it q t = t.1
 counts-one o p (kind.together ls) it q t = t.2
 counts-one o p kind.part it q t = let same = ap (λ (x : LivePlace _). x.number) t.3 in omega (arith, same)
 counts-one o p (kind.life seat) it q t = omega (arith, t.0)
+counts-one o p (kind.lives seat seats) it q t = omega (arith, t.0)
 counts-one o p kind.time_over it q (inl t) = omega (arith, t.1)
 counts-one o p kind.time_over it q (inr t) = omega (arith, t.1)
 
@@ -214,9 +217,9 @@ module _ {C : Type 0} (o : Edge C) (p : LivePlace C) (stand : Stand) (h : HostVi
           inside.stopped e (so.came ++ a ∷ []) (joined so.all (brought beats text)) failed t x
           (record { last = a; earlier = so.all; mid = woken_at here mid; beats = beats; before = before a mid comes; broke = broke; took = refl; wrote = refl })
           stopped (Appends-trans out now later so.all.text text so.wrote wrote) (front a takes)
-      go f (inside.broke ls is group broke same wrote) = inside.broke (so.came ++ a ∷ []) so.all
-          (record { group = ls; mid = woken_at here mid; before = subst (λ (x : Arrival). LivedBefore o p (so.came ++ a ∷ []) x so.all (woken_at here mid)) is (before a mid comes); may_group = group; broke = broke })
-          same (no-more wrote) (front a takes)
+      go f (inside.broke events asks broke wrote) = inside.broke (so.came ++ a ∷ []) so.all
+          (record { group = a; mid = woken_at here mid; before = before a mid comes; events = events; sources = d; asks = asks; broke = broke })
+          refl (no-more wrote) (front a takes)
       go f (inside.refused beats t broke stands wrote) = let text = front_text o.voice stand.number a (sheet_in t) beats in
           inside.refused (so.came ++ a ∷ []) (joined so.all (brought beats text)) t
           (record { last = a; earlier = so.all; mid = woken_at here mid; beats = beats; before = before a mid comes; broke = broke; took = refl; wrote = refl })

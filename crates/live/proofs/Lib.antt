@@ -6,5 +6,7 @@ pub mod Goings
 pub mod Ends
 pub mod InManner
 pub mod Gatherings
+pub mod GroupRuns
+pub mod Hearings
 pub mod Groups
 pub mod Examples

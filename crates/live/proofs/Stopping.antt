@@ -82,5 +82,7 @@ stops_strictly o p (came.together ls) it q t going stopped = absurd (true≢fals
 stops_strictly o p came.part it q t going stopped = absurd (going (ap (λ (x : LivePlace _). x.held) (sym t.3) ∙ stopped))
 stops_strictly o p (came.life seat) it q t going stopped = let by = t.2 in
     by-both o.strict (list_any is_wrong (told it.beats)) by.0 q.held by.3 (turned o p.held (told it.beats) q.run by.0 (goes p.held going) by.2) stopped
+stops_strictly o p (came.lives seat seats) it q t going stopped = let by = t.3 in
+    by-both o.strict (list_any is_wrong (told it.beats)) by.0 q.held by.3 (turned o p.held (told it.beats) q.run by.0 (goes p.held going) by.2) stopped
 stops_strictly o p came.time_over it q (inl t) going stopped = by-both o.strict (list_any is_wrong (told it.beats)) hold.Free q.held t.4 refl stopped
 stops_strictly o p came.time_over it q (inr t) going stopped = by-wrong o.strict (hold.Warned (seconds_behind t.4.0 respite)) q.held t.4.2 refl stopped

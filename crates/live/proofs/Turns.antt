@@ -32,7 +32,7 @@ use Rattle.live.specs.declared.holding.Hold.TheVariants as hold
 use Rattle.live.specs.Records.{Brought, Edge, brought, left}
 use Rattle.live.specs.Saying.{Begins, BeginsAgain, SaidDone, StallsAtEnd, TurnGoesOn, UntimedBegins, WaitGoesOn, IsLimited, has_closed, has_limit, is_held, line_goes_wrong, over_text, seconds_behind, stop_if}
 use Rattle.arrivals.specs.Lines.{InputLine}
-use Rattle.live.specs.Arrivals.{Arrival, line, life, time_over, InterruptsLife, LivePlace, place, respite, said_by}
+use Rattle.live.specs.Arrivals.{Arrival, line, life, time_over, InterruptsLife, LivePlace, TellsLives, place, respite, said_by}
 use Rattle.live.specs.Broken.{TakesLed}
 use Rattle.live.specs.Broken as broken
 use Rattle.live.specs.Taking.{Warned, WarnedUnwritten, Heard, HeardClosing, HeardLed, HeardUnwritten, Said, SaidLed, SaidSo, StalledSo, SaidUnwritten, SayingFailed, HearingFailed, Stalled, StalledUnwritten, StallingFailed, StallingLed, TakingFailed, TookArrival, TookUnwritten}
@@ -160,6 +160,17 @@ module _ {C : Type 0} (o : Edge C) (p : LivePlace C) (h : HostView) (c : C) (a b
   -- a life was taken, and that a wait is over couldn't be printed
   pub life_untold : (seat : Seat) (f : RunFault) (mid : Option (List ℕ)) → Heard o seat p.run (left h c a mid) → IsUntold o.voice f → TakingFailed o p (life seat) (left h c a b) f
   life_untold seat f mid q is = took_untold (life seat) f is (q.1, h.store.disk, broken.heard seat q.0 refl q.2, inl (q.3, refl))
+
+  -- what lives brought is told, and the wait goes on
+  pub lives_told : (beats : List Beat) (t : World) (heeded : Heeded) (on held : Hold) → heeded.closed ≡ list_any has_closed (told beats) → heeded.wrong ≡ list_any is_wrong (told beats)
+      → WaitGoesOn p.held t on → BeginsAgain o c (has_limit on && heeded.closed) on held
+      → (text : List ℕ) × (TellsLives o p (brought beats text) (place (at t c h.store.disk) p.number (stop_if (o.strict && heeded.wrong) held)))
+      × ((x y z : Option (List ℕ)) → Appends x y (came_text o.voice (sheet_in t) (told beats)) → Appends y z (over_text o.voice p.number p.held on) → Appends x z text)
+  lives_told beats t heeded on held closed wrong goes again = (
+    came_text o.voice (sheet_in t) (told beats) ++ over_text o.voice p.number p.held held,
+    (held, refl, turn-goes-on o p.held on held (told beats) (at t c h.store.disk) goes (subst (λ (x : Bool). BeginsAgain o c (has_limit on && x) on held) closed again), ap (λ (x : Bool). stop_if (o.strict && x) held) wrong),
+    λ x y z wrote more. Appends-trans x y z (came_text o.voice (sheet_in t) (told beats)) (over_text o.voice p.number p.held held) wrote (subst (Appends y z) (sym (over-again o c p.number p.held on held heeded.closed again)) more),
+  )
 
   pub life_took : (seat : Seat) (mid : Option (List ℕ)) (heeded : Heeded) (on held : Hold) (q : HeardClosing o seat p.run (left h c a mid) heeded) → WaitGoesOn p.held q.0.1 on
       → BeginsAgain o c (has_limit on && heeded.closed) on held → Appends mid b (over_text o.voice p.number p.held on)

@@ -1,10 +1,12 @@
 -- What came to a live worksheet, one after the other, and what came of it. (docs/EDGE.md, "Live".)
 use Rattle.std.specs.Prelude.{◌≡◌, ◌≢◌, ◌⊎◌, ℕ, ◌+◌, ◌-◌, ◌≤◌, ◌&&◌, Bool, false, true, List, [], ◌∷◌, ◌++◌, Option, Some, None, IsSomeAnd, length, map}
 use Rattle.std.specs.List.{list_any}
+use Rattle.host_events.specs.declared.event.Event.{Event}
+use Rattle.host_events.specs.declared.outcome.Outcome.{Outcome}
 use Rattle.child_calls.specs.declared.seat.Seat.{Seat}
 use Rattle.child_edge.specs.Faithful.{At, at, Beat, EachOf, Taken, OneTurn, hearing}
 use Rattle.child_edge.specs.Interrupts.{Interrupts}
-use Rattle.child_edge.specs.Moments.{outcomes_of}
+use Rattle.child_edge.specs.Together.{Followed, Together, beats_behind, trace_of}
 use Rattle.child_edge.specs.declared.interrupting.Interrupted.{Interrupted}
 use Rattle.child_edge.specs.Seats.{waits}
 use Rattle.arrivals.specs.Lines.{InputLine, whole, too_long}
@@ -18,12 +20,13 @@ use Rattle.live.specs.declared.live_line.LiveLine.{LiveLine}
 use Rattle.session_engine.specs.World.{sheet_in}
 use Rattle.child_edge.specs.Told.{told}
 use Rattle.sheet_programs.specs.Strict.{is_wrong}
-use Rattle.sheet_programs.specs.Together.{GroupDone}
+use Rattle.sheet_programs.specs.Together.{lines_events}
 use Rattle.tellings.specs.Voice.{Voice, came_text, numbered_text, replied_text}
 use Rattle.tellings.specs.declared.note.Note.TheVariants as note
 use Rattle.worksheet.specs.Contents.{Contents}
 use Rattle.live.specs.declared.holding.Hold.{Hold}
 use Rattle.live.specs.declared.holding.Hold.TheVariants as hold
+use Rattle.live.specs.Groups.{HeardTogether}
 use Rattle.live.specs.Records.{Brought, Edge, Watches, brought}
 use Rattle.live.specs.Saying.{MayGroup, SaidDone, IsLimited, StallsAtEnd, Begins, TurnGoesOn, WaitGoesOn, line_goes_wrong, over_text, seconds_behind, stop_if, time_of}
 
@@ -37,6 +40,8 @@ pub data Arrival : Type 0 where
   part : Arrival
   -- something of the child of this life: a piece, its end or a fault
   life : Seat → Arrival
+  -- the same of this life and of those, which had something at the same time
+  lives : Seat → List Seat → Arrival
   -- the time of a wait is over
   time_over : Arrival
 
@@ -47,6 +52,7 @@ lines_in (line l ∷ came) = l ∷ lines_in came
 lines_in (together ls ∷ came) = map whole ls ++ lines_in came
 lines_in (part ∷ came) = lines_in came
 lines_in (life seat ∷ came) = lines_in came
+lines_in (lives seat seats ∷ came) = lines_in came
 lines_in (time_over ∷ came) = lines_in came
 
 -- what a line says; one that is too long says nothing that is known
@@ -97,23 +103,46 @@ WatchTells m held c is_there told d =
     (now : ℕ) × m.clock c now × (IsOver held now → ⊥) × m.wakes c (asked (input_at held is_there) (patience_at held now)) told d
 
 -- This came while this wait held the lines back, and these are the sources after the watch that returned it: a line where one was there,
--- or several by the same watch, and a part of one where none was. That a time is over is known from a watch, or from the clock, which is read
--- before each of them.
+-- or several by the same watch, and a part of one where none was; of several lives that of the first. That a time is over is known from a
+-- watch, or from the clock, which is read before each of them.
 abbrev pub Comes : {C : Type 0} → Watches C → Hold → C → Arrival → C → Type 0
 Comes m held c (line l) d = WatchTells m held c true (Some woken.Input) d
 Comes m held c (together ls) d = WatchTells m held c true (Some woken.Input) d
 Comes m held c part d = WatchTells m held c false (Some woken.Input) d
 Comes m held c (life seat) d = (is_there : Bool) × WatchTells m held c is_there (Some (woken.Life seat)) d
+Comes m held c (lives seat seats) d = (is_there : Bool) × WatchTells m held c is_there (Some (woken.Life seat)) d
 Comes m held c time_over d =
     ((is_there : Bool) × WatchTells m held c is_there (Some woken.TimeOver) d) ⊎ ((now : ℕ) × m.clock c now × IsOver held now × (d ≡ c))
 
--- Lines that were there together were taken as one group: their commands went through one after another, no child was called, and what they
--- gave became durable at once. The reply to each is printed with the number of its line. No wait begins. A strict input takes its lines one
--- by one.
-abbrev pub TakesGroup : {C : Type 0} → Edge C → LivePlace C → List (List ℕ) → Brought → LivePlace C → Type 0
-TakesGroup o p ls it q =
-    (p.held ≡ hold.Free) × (q.held ≡ hold.Free) × (q.number ≡ p.number + length ls) × MayGroup ls × GroupDone ls p.run it.beats q.run
-    × (it.text ≡ numbered_text o.voice (p.number + 1) (sheet_in q.run.world) (outcomes_of it.beats)) × (o.strict ≡ false)
+-- What a group asks of the host, and how the sources stand then: the commands of its lines, for which nothing is received, or what its lives
+-- have.
+pub data GroupAsks {C : Type 0} (o : Edge C) (c : C) (events : List Event) (d : C) : Arrival → Type 0 where
+  asks_lines : (ls : List (List ℕ)) → MayGroup ls → events ≡ lines_events ls → d ≡ c → GroupAsks o c events d (together ls)
+  asks_lives : (seat : Seat) (seats : List Seat) → HeardTogether o seat seats c events d → GroupAsks o c events d (lives seat seats)
+
+-- A group was taken: all that it asks became durable at once, and only then its effects were carried out, with what followed of each.
+pub record GroupRan {C : Type 0} (o : Edge C) (s : At C) (a : Arrival) (beats : List Beat) (t : At C) : Type 0 where
+  pub events : List Event
+  pub sources : C
+  pub asks : GroupAsks o s.children events sources a
+  pub outcomes : List Outcome
+  pub followed : List Followed
+  pub run : Together o.after (at s.world sources s.disk) events outcomes followed t
+  pub are : beats ≡ trace_of events outcomes followed
+
+-- Lines that were there together were taken as one group. The reply to each is printed with the number of its line, and after all of them
+-- what followed. No wait begins. A strict input takes its lines one by one.
+abbrev pub TakesTogether : {C : Type 0} → Edge C → LivePlace C → List (List ℕ) → Brought → LivePlace C → Type 0
+TakesTogether o p ls it q =
+    (p.held ≡ hold.Free) × (q.held ≡ hold.Free) × (q.number ≡ p.number + length ls) × (o.strict ≡ false)
+    × ((ran : GroupRan o p.run (together ls) it.beats q.run)
+    × (it.text ≡ numbered_text o.voice (p.number + 1) (sheet_in q.run.world) ran.outcomes ++ came_text o.voice (sheet_in q.run.world) (told (beats_behind ran.followed))))
+
+-- What came of lives is printed, and the wait goes on or is over. Where items were lost by that, a strict input stops.
+abbrev pub TellsLives : {C : Type 0} → Edge C → LivePlace C → Brought → LivePlace C → Type 0
+TellsLives o p it q =
+    (on : Hold) × (it.text ≡ came_text o.voice (sheet_in q.run.world) (told it.beats) ++ over_text o.voice q.number p.held on)
+    × TurnGoesOn o p.held (told it.beats) q.run on × (q.held ≡ stop_if (o.strict && list_any is_wrong (told it.beats)) on)
 
 -- The time of a wait is over, and so is the wait: each life in which an item still waits counts as stalled. Where items were lost by that, a
 -- strict input stops.
@@ -141,26 +170,27 @@ Warns o p it q =
     × ((now : ℕ) × o.watches.clock q.run.children now × (q.held ≡ stop_if o.strict (hold.Warned (seconds_behind now respite))))
 
 -- What came of an arrival, by what it is: what it brought, and the place after it. Where a line went wrong by it, a strict input stops there.
+-- Lives are taken as one group where the input isn't strict.
 abbrev pub TakesArrival : {C : Type 0} → Edge C → LivePlace C → Arrival → Brought → LivePlace C → Type 0
 TakesArrival o p (line l) it q =
     (p.held ≡ hold.Free) × (q.number ≡ p.number + 1) × ((said : List ℕ) × SaidDone o q.number (said_by l) p.run (brought it.beats said) q.run
     × ((begun : Hold) × (on : Hold) × Begins o p.run.children (said_by l) begun × WaitGoesOn begun q.run.world on
     × (it.text ≡ said ++ over_text o.voice q.number begun on) × (q.held ≡ stop_if (o.strict && line_goes_wrong p.run.world (said_by l) (told it.beats)) on)))
-TakesArrival o p (together ls) it q = TakesGroup o p ls it q
+TakesArrival o p (together ls) it q = TakesTogether o p ls it q
 TakesArrival o p part it q = (p.held ≡ hold.Free) × (it.beats ≡ []) × (it.text ≡ []) × (q ≡ p)
-TakesArrival o p (life seat) it q =
-    (q.number ≡ p.number) × Taken (hearing o.after true) None seat p.run it.beats q.run
-    × ((on : Hold) × (it.text ≡ came_text o.voice (sheet_in q.run.world) (told it.beats) ++ over_text o.voice q.number p.held on)
-    × TurnGoesOn o p.held (told it.beats) q.run on × (q.held ≡ stop_if (o.strict && list_any is_wrong (told it.beats)) on))
+TakesArrival o p (life seat) it q = (q.number ≡ p.number) × Taken (hearing o.after true) None seat p.run it.beats q.run × TellsLives o p it q
+TakesArrival o p (lives seat seats) it q =
+    (q.number ≡ p.number) × GroupRan o p.run (lives seat seats) it.beats q.run × (o.strict ≡ false) × TellsLives o p it q
 TakesArrival o p time_over it q = EndsWait o p it q ⊎ Warns o p it q
 
 -- What is printed of those entries of an arrival that came before a fault, where so many lines were taken before it and this is the
--- worksheet after them.
+-- worksheet after them: of a group nothing.
 abbrev pub front_text : Voice → ℕ → Arrival → Contents → List Beat → List ℕ
 front_text V number (line l) sheet beats = replied_text V (number + 1) sheet (told beats)
 front_text V number (together ls) sheet beats = []
 front_text V number part sheet beats = []
 front_text V number (life seat) sheet beats = came_text V sheet (told beats)
+front_text V number (lives seat seats) sheet beats = []
 front_text V number time_over sheet beats = came_text V sheet (told beats)
 
 -- This came at this place, at which something may come: after a strict input stopped nothing does.

@@ -1,6 +1,7 @@
 pub mod LiveLines
 pub mod Records
 pub mod Saying
+pub mod Groups
 pub mod Arrivals
 pub mod Broken
 pub mod Live

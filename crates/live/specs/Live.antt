@@ -91,7 +91,7 @@ pub record LiveStopped {C : Type 0} (o : Edge C) (stream : Option (List ℕ)) (f
 
 -- The disk failed in a group, which came last. Nothing of the group is written: the text is that of the arrivals before it. At every moment
 -- each image was one of the worksheet after some of the first events, those of the group that were taken among them. Each life that goes on
--- was stopped.
+-- was stopped, and before that no child was called for the group.
 pub record LiveBroke {C : Type 0} (o : Edge C) (stream : Option (List ℕ)) (first last : Outside C) : Type 0 where
   pub start : World
   pub now : DiskView
@@ -103,7 +103,7 @@ pub record LiveBroke {C : Type 0} (o : Edge C) (stream : Option (List ℕ)) (fir
   pub lines : AreFirst stream arrivals
   pub back_is : last.disk ≡ host.store.disk
   pub moments : Moments start (events_of all.beats ++ lived.broke.taken) (outcomes_of all.beats ++ lived.broke.untold) now last.disk
-  pub stops : Stops o.after (running lived.broke.leads) lived.mid.run.children last.sources
+  pub stops : Stops o.after (running lived.broke.leads) lived.sources last.sources
   pub wrote : Appends first.written last.written all.text
 
 -- Memory was refused. What was returned before is written, and each life that goes on was stopped.

@@ -1,5 +1,5 @@
 -- What a line says that comes while interpreters work: a line of a script, or one of four forms more. (docs/SCRIPT.md, "Live".)
-use Rattle.std.specs.Prelude.{ℕ, ◌&&◌, Bool, true, false, List, Option, Some, None, nat_le, codes, if◌then◌else◌}
+use Rattle.std.specs.Prelude.{ℕ, ◌&&◌, List, Option, Some, None, nat_le, codes, if◌then◌else◌}
 use Rattle.std.specs.Option.{option_map}
 use Rattle.std.specs.Str.{bytes_eq}
 use Rattle.worksheet.specs.Names.{is_name}

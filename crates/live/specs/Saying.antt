@@ -1,12 +1,12 @@
 -- What comes of one line of a live input. (docs/SCRIPT.md, "Live".)
 use Rattle.std.specs.Prelude.{◌≡◌, ◌≢◌, ◌⊎◌, ℕ, ◌+◌, ◌-◌, ◌*◌, ◌^◌, ◌≤◌, ◌&&◌, ◌||◌, not, min, Bool, true, false, List, [], Option, Some, None, IsSome, is_some, length, if◌then◌else◌}
 use Rattle.std.specs.List.{AllByRecursion, list_any}
-use Rattle.host_events.specs.Commands.{op_of}
 use Rattle.host_events.specs.declared.command.Command.{Command}
 use Rattle.host_events.specs.declared.event.Event.{Event}
 use Rattle.host_events.specs.declared.event.Event.TheVariants as event
 use Rattle.host_events.specs.declared.reply.Reply.{Reply}
 use Rattle.host_events.specs.declared.reply.Reply.TheVariants as reply
+use Rattle.session_engine.specs.Gathers.{is_checkpoint}
 use Rattle.session_engine.specs.World.{World, sheet_in}
 use Rattle.child_edge.specs.Faithful.{Relation, At, at, Beat, Served, ServedUpTo}
 use Rattle.child_edge.specs.Interrupts.{Interrupts}
@@ -66,13 +66,13 @@ line_goes_wrong w (Some said) replies = asks_in_vain w said || list_any is_wrong
 abbrev pub IsCommand : Option LiveLine → Type 0
 IsCommand l = (c : Command) × (l ≡ Some (live.Script (line.Command c)))
 
--- the line says a command that only changes the worksheet
-abbrev pub SaysEdit : List ℕ → Type 0
-SaysEdit l = (c : Command) × (line_of l ≡ Some (line.Command c)) × (is_some (op_of c) ≡ true)
+-- the line says a command, and not that the journal is rewritten
+abbrev pub SaysGrouped : List ℕ → Type 0
+SaysGrouped l = (c : Command) × (line_of l ≡ Some (line.Command c)) × (is_checkpoint (event.Command c) ≡ false)
 
--- Lines that may be taken as one group: two or more, and at most 1,024, of which each says a command that only changes the worksheet.
+-- Lines that may be taken as one group: two or more, and at most 1,024, of which each says a command other than `checkpoint`.
 abbrev pub MayGroup : List (List ℕ) → Type 0
-MayGroup lines = AllByRecursion SaysEdit lines × (2 ≤ length lines) × (length lines ≤ most_commands)
+MayGroup lines = AllByRecursion SaysGrouped lines × (2 ≤ length lines) × (length lines ≤ most_commands)
 
 -- the moment at which a wait ends by its time, where it has one
 abbrev pub time_of : Hold → Option ℕ

@@ -22,7 +22,7 @@ use Rattle.live.specs.declared.live_line.LiveLine.{LiveLine}
 use Rattle.child_edge.specs.Told.{told}
 use Rattle.tellings.specs.Voice.{came_text, replied_text}
 use Rattle.sheet_programs.specs.Strict.{is_wrong}
-use Rattle.sheet_programs.specs.Together.{GroupBroke}
+use Rattle.child_edge.specs.Together.{LostTogether}
 use Rattle.sheet_programs.specs.Told.{StandsOrStopped}
 use Rattle.offline_programs.specs.declared.fault.RunFault.{RunFault}
 use Rattle.offline_programs.specs.declared.fault.RunFault.TheVariants as fault
@@ -32,8 +32,8 @@ use Rattle.live.specs.declared.saying.Beginning.{Beginning}
 use Rattle.live.specs.declared.stepping.Stand.{Stand}
 use Rattle.live.specs.declared.taking.Heeded.{Heeded}
 use Rattle.live.specs.Records.{Brought, Edge, Left, Lines, Turn, Watches}
-use Rattle.live.specs.Saying.{MayGroup, IsCommand, SaidDone, SaidUpTo, Begins, IsTimed, has_closed, line_goes_wrong}
-use Rattle.live.specs.Arrivals.{Arrival, line, together, part, life, time_over, LivePlace, Comes, InterruptsLife, IsOver, TakesArrival, front_text, Lived, lines_in, WatchTells, place, woken_at}
+use Rattle.live.specs.Saying.{IsCommand, SaidDone, SaidUpTo, Begins, IsTimed, has_closed, line_goes_wrong}
+use Rattle.live.specs.Arrivals.{Arrival, line, together, part, life, lives, time_over, LivePlace, Comes, GroupAsks, InterruptsLife, IsOver, TakesArrival, front_text, Lived, lines_in, WatchTells, place, woken_at}
 use Rattle.live.specs.Broken.{TakesUpTo, TakesSoFar, TakesLed, LivedBroke, LivedUpTo, LivedSoFar, LivedLed}
 use Rattle.live.specs.Live.{AreTooMany, EndComes, NoMoreComes}
 
@@ -145,11 +145,11 @@ TookUnwritten o p a left = (t : World) × (d : DiskView) × TakesLed o p a (at t
 
 -- what a fault of that leaves
 pub data TakingFailed {C : Type 0} (o : Edge C) (p : LivePlace C) (a : Arrival) (left : Left C) : RunFault → Type 0 where
-  stopped : (f : HostFault) (beats : List Beat) (e : Event) (t : World) (d : DiskView) → TakesUpTo o.after p beats e (at t left.sources d) a → Stopped d left.host t e f
+  stopped : (f : HostFault) (beats : List Beat) (e : Event) (t : World) (d : DiskView) → TakesUpTo o p beats e (at t left.sources d) a → Stopped d left.host t e f
       → Appends left.out left.now (front_text o.voice p.number a (sheet_in t) beats) → TakingFailed o p a left (fault.Host f)
-  broke : (ls : List (List ℕ)) → a ≡ together ls → MayGroup ls → GroupBroke ls p.run.world p.run.disk left.host → left.sources ≡ p.run.children
+  broke : (events : List Event) → GroupAsks o p.run.children events left.sources a → LostTogether p.run.world events p.run.disk left.host
       → Appends left.out left.now [] → TakingFailed o p a left (fault.Host hosts.Disk)
-  refused : (beats : List Beat) (t : World) → TakesSoFar o.after p beats (at t left.sources left.host.store.disk) a → IsHost left.host t
+  refused : (beats : List Beat) (t : World) → TakesSoFar o p beats (at t left.sources left.host.store.disk) a → IsHost left.host t
       → Appends left.out left.now (front_text o.voice p.number a (sheet_in t) beats) → TakingFailed o p a left fault.OutOfMemory
   untold : o.voice.takes_memory ≡ true → TookUnwritten o p a left → TakingFailed o p a left fault.OutOfMemory
   unwritten : TookUnwritten o p a left → TakingFailed o p a left fault.Output
@@ -160,6 +160,7 @@ TakesLines (line l) lines = IfSome lines.old (λ those. (rest : List InputLine) 
 TakesLines (together ls) lines = IfSome lines.old (λ those. (rest : List InputLine) × (those ≡ map whole ls ++ rest) × (lines.new ≡ Some rest))
 TakesLines part lines = KeepsLines lines.old lines.new
 TakesLines (life seat) lines = KeepsLines lines.old lines.new
+TakesLines (lives seat seats) lines = KeepsLines lines.old lines.new
 TakesLines time_over lines = KeepsLines lines.old lines.new
 
 -- this arrival comes of this turn
@@ -168,6 +169,7 @@ IsBy turn (line l) = (turn.woken ≡ woken.Input) × (turn.is_there ≡ true)
 IsBy turn (together ls) = (turn.woken ≡ woken.Input) × (turn.is_there ≡ true)
 IsBy turn part = (turn.woken ≡ woken.Input) × (turn.is_there ≡ false)
 IsBy turn (life seat) = turn.woken ≡ woken.Life seat
+IsBy turn (lives seat seats) = turn.woken ≡ woken.Life seat
 IsBy turn time_over = turn.woken ≡ woken.TimeOver
 
 -- whose turn it may be where this wait holds back the lines
@@ -247,7 +249,7 @@ pub data LivingFailed {C : Type 0} (o : Edge C) (p : LivePlace C) (left : Left C
       → IsFront old came → AreTooMany came → LivingFailed o p left old fault.InputTooLong
   stopped : (f : HostFault) (came : List Arrival) (it : Brought) (e : Event) (t : World) (d : DiskView) → LivedUpTo o p came it e (at t left.sources d)
       → Stopped d left.host t e f → Appends left.out left.now it.text → IsFront old came → LivingFailed o p left old (fault.Host f)
-  broke : (came : List Arrival) (it : Brought) (q : LivedBroke o p came it left.host) → left.sources ≡ q.mid.run.children → Appends left.out left.now it.text
+  broke : (came : List Arrival) (it : Brought) (q : LivedBroke o p came it left.host) → left.sources ≡ q.sources → Appends left.out left.now it.text
       → IsFront old came → LivingFailed o p left old (fault.Host hosts.Disk)
   refused : (came : List Arrival) (it : Brought) (t : World) → LivedSoFar o p came it (at t left.sources left.host.store.disk)
       → IsHost left.host t → Appends left.out left.now it.text → IsFront old came → LivingFailed o p left old fault.OutOfMemory
@@ -279,7 +281,7 @@ pub data EndedBy {C : Type 0} (o : Edge C) (p : LivePlace C) (left : Left C) (ol
       → Stopped t.disk left.host t.world e f → Appends left.out left.now it.text → IsFront old came
       → Stops o.after (running t.world) t.children left.sources → EndedBy o p left old (fault.Host f)
   broke : (came : List Arrival) (it : Brought) (q : LivedBroke o p came it left.host) → Appends left.out left.now it.text → IsFront old came
-      → Stops o.after (running q.broke.leads) q.mid.run.children left.sources → EndedBy o p left old (fault.Host hosts.Disk)
+      → Stops o.after (running q.broke.leads) q.sources left.sources → EndedBy o p left old (fault.Host hosts.Disk)
   refused : (came : List Arrival) (it : Brought) (t : At C) → LivedSoFar o p came it t → IsHost left.host t.world → t.disk ≡ left.host.store.disk
       → Appends left.out left.now it.text → IsFront old came → Stops o.after (running t.world) t.children left.sources → EndedBy o p left old fault.OutOfMemory
   untold : o.voice.takes_memory ≡ true → EndedUnwritten o p left old → EndedBy o p left old fault.OutOfMemory

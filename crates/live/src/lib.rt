@@ -3,6 +3,8 @@
 #![tactic(auto)]
 
 mod gathering;
+mod grouping;
+mod hearing;
 pub mod holding;
 mod live_line;
 mod living;

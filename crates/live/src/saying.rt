@@ -16,14 +16,14 @@ ghost use Rattle.live.specs.Taking.{Said, SaidSo, SayingFailed, TakingFailed, To
 use crate::holding::{Hold, go_on, tell_over, untimed_wait, wait_for};
 use crate::live_line::{LiveLine, read_live_line};
 use crate::manner::Manner;
-use crate::wrongs::{any_wrong, lacks_field, lacks_session, stop_if};
+use crate::wrongs::{lacks_field, lacks_session, stop_if};
 use arrivals::Sources;
 use child_edge::{EdgeFault, interrupt, serve};
 use disk_model::Disk;
 use host_events::Command;
 use offline_programs::RunFault;
 use session_engine::Host;
-use sheet_programs::run_fault;
+use sheet_programs::{any_wrong, run_fault};
 use sheet_text::{LineFault, ScriptLine};
 use std::alloc::Global;
 use std::io::Write;

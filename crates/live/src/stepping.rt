@@ -13,10 +13,10 @@ ghost use Rattle.live.specs.Arrivals.{WatchTells, place};
 ghost use Rattle.live.specs.Taking.{ComingFailed, MayTurn, Steps, TurnFailed, TurnTook, TurnComes};
 
 use crate::gathering::{gather, take_gathered};
+use crate::hearing::take_ready;
 use crate::holding::{Hold, input, is_over, patience};
 use crate::manner::Manner;
 use crate::saying::{take_line, take_too_long};
-use crate::taking::take_life;
 use crate::timing::end_time;
 use crate::wrongs::stop_if;
 use arrivals::{Input, InputLines, NextLine, Sources, WatchFault, Woken};
@@ -97,8 +97,8 @@ fn take_next<R: Read, D: Disk, S: Sources, T: Tells, W: Write>(
     }
 }
 
-/// Takes the lines that are there already and only change the worksheet, or else the next line, or reads more
-/// of the input. `None` at its end. A strict input takes its lines one by one.
+/// Takes the lines that are there already and may be in a group, or else the next line, or reads more of the input.
+/// `None` at its end. A strict input takes its lines one by one.
 fn take_input<R: Read, D: Disk, S: Sources, T: Tells, W: Write>(
     alloc: Global,
     manner: Manner,
@@ -173,7 +173,7 @@ fn take_turn<R: Read, D: Disk, S: Sources, T: Tells, W: Write>(
     match woken {
         Woken::Input => take_input(alloc, manner, host, sources, lines, number, tells, writer),
         Woken::Life(seat) => {
-            match take_life(alloc, manner, host, sources, seat, stand, tells, writer) {
+            match take_ready(alloc, manner, host, sources, seat, stand, tells, writer) {
                 Ok(held) => Ok(Some(Stand { number, held })),
                 Err(fault) => Err(fault),
             }

@@ -16,7 +16,7 @@ ghost use Rattle.live.specs.Taking.{Heard, HeardClosing, HearingFailed, Stalled,
 use crate::holding::{Hold, begin_again, tell_over};
 use crate::manner::Manner;
 use crate::stepping::Stand;
-use crate::wrongs::{any_wrong, stop_if};
+use crate::wrongs::stop_if;
 use arrivals::Sources;
 use child_calls::Seat;
 use child_edge::{EdgeCause, listen, stall};
@@ -24,13 +24,13 @@ use disk_model::Disk;
 use host_events::Reply;
 use offline_programs::RunFault;
 use session_engine::Host;
-use sheet_programs::run_fault;
+use sheet_programs::{any_wrong, run_fault};
 use std::alloc::Global;
 use std::io::Write;
 use tellings::Tells;
 
 /// Whether something closed: a banner, an answer, or completions.
-fn has_closed(reply: &Reply) -> bool
+pub(crate) fn has_closed(reply: &Reply) -> bool
     ensures { result ≡ saying.has_closed reply.now }
 {
     match reply {
@@ -57,7 +57,7 @@ pub(crate) struct Heeded {
 }
 
 /// What is heeded of these replies.
-fn heed(replies: &[Reply]) -> Heeded
+pub(crate) fn heed(replies: &[Reply]) -> Heeded
     ensures closed { result.closed ≡ list_any saying.has_closed replies.now }
     ensures wrong { result.wrong ≡ list_any is_wrong replies.now }
 {

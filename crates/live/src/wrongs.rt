@@ -1,38 +1,14 @@
 //! What goes wrong, and the stop of a strict input there.
 ghost use Rattle.std.specs.Prelude.{◌≡◌, ◌&&◌, false, not, true};
-ghost use Rattle.std.specs.List.{list_any};
 ghost use Rattle.session_engine.specs.World.{World, sheet_in};
 ghost use Rattle.session_engine.specs.Host.{IsHost};
 ghost use Rattle.worksheet.specs.Checks.{has_field, has_session};
-ghost use Rattle.sheet_programs.specs.Strict as strictly;
 ghost use Rattle.live.specs.Saying as saying;
 
 use crate::holding::Hold;
 use disk_model::Disk;
-use host_events::Reply;
 use session_engine::Host;
 use worksheet::Name;
-
-/// Whether a reply is a refusal, or of a life by whose end items were lost.
-fn is_wrong(reply: &Reply) -> bool
-    ensures { result ≡ strictly.is_wrong reply.now }
-{
-    match reply {
-        Reply::Refused(_) => true,
-        Reply::Child(told) => match &told.ended {
-            None => false,
-            Some(ended) => ended.lost.len() != 0,
-        },
-        Reply::Done | Reply::Field(_) | Reply::Asked(_) | Reply::Nothing => false,
-    }
-}
-
-/// Whether one of these replies is.
-pub(crate) fn any_wrong(replies: &[Reply]) -> bool
-    ensures { result ≡ list_any strictly.is_wrong replies.now }
-{
-    replies.iter().any(|reply| is_wrong(reply))
-}
 
 /// Whether the worksheet has no field with this number.
 pub(crate) fn lacks_field<D: Disk>(host: &Host<D>, id: u32) -> bool

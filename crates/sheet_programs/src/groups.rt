@@ -106,7 +106,7 @@ fn stopped_at(strict: bool, outcomes: &[Outcome], read: u64, count: u64) -> Opti
 /// one that is refused. What they give is durable then.
 ///
 /// `Host` where the disk failed: nothing that they gave may be reported. `OutOfMemory`: none was taken.
-pub fn play_edits<D: Disk>(
+fn play_edits<D: Disk>(
     host: &mut Host<D>,
     events: Vec<Event>,
     strict: bool,

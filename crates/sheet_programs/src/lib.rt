@@ -7,7 +7,5 @@ mod running;
 mod taking;
 mod together;
 
-pub use groups::play_edits;
 pub use running::{Ran, run, run_read};
-pub use taking::{run_command, run_fault, run_line};
-pub use together::add_edit;
+pub use taking::{any_wrong, is_wrong, run_command, run_fault, run_line};

@@ -45,7 +45,7 @@ fn has_lost(ended: &Option<Ended>) -> bool
 }
 
 /// Whether a reply is one by which a line goes wrong.
-pub(crate) fn is_wrong(reply: &Reply) -> bool
+pub fn is_wrong(reply: &Reply) -> bool
     ensures { result ≡ strictly.is_wrong reply.now }
 {
     match reply {
@@ -56,7 +56,7 @@ pub(crate) fn is_wrong(reply: &Reply) -> bool
 }
 
 /// Whether one of these replies is.
-fn any_wrong(replies: &[Reply]) -> bool
+pub fn any_wrong(replies: &[Reply]) -> bool
     ensures { result ≡ list_any strictly.is_wrong replies.now }
 {
     replies.iter().any(|reply| is_wrong(reply))

@@ -67,7 +67,7 @@ fn is_edit(command: &Command) -> bool
 }
 
 /// Adds a command that only changes the worksheet, where there is memory for it. Whether it did.
-pub fn add_edit(events: &mut Vec<Event>, command: Command) -> bool
+fn add_edit(events: &mut Vec<Event>, command: Command) -> bool
     ensures added { result ≡ true → (is_some (op_of command) ≡ true)
         × (events.new.items ≡ events.old.items ++ asks.Command command ∷ []) }
     ensures kept { result ≡ false → events.new.items ≡ events.old.items }

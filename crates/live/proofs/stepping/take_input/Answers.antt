@@ -52,7 +52,7 @@ returns-in-Ok-clause-ok g c = λ is_there w there h.
       by_input it.given is_there (same_ready old.held is_there true there some.1),
       subst (λ r. TakesLines (arrival_of it.given) (between (to_come old.held (g.R.Read.remaining old.reader)) (to_come new.held (g.R.Read.remaining r)))) (sym c.gather-events.ensures.reader)
           (takes_given it.given old.held new.held (g.R.Read.remaining old.reader) it.gives),
-      subst (λ n. TookArrival o p (arrival_of it.given) now n hold.Free) count (c.in-Ok.ensures.ok c.args.manner it.given w c.if-manner.false it.edits it.are some.0 h),
+      subst (λ n. TookArrival o p (arrival_of it.given) now n hold.Free) count (c.in-Ok.ensures.ok c.args.manner it.given w c.if-manner.false it.each it.are some.0 h),
     )
 
 pub returns-in-Err-clause-err : goal.returns-in-Err-clause-err
@@ -64,4 +64,4 @@ returns-in-Err-clause-err g c = λ is_there w there h.
     taking (arrival_of it.given) (by_input it.given is_there (same_ready old.held is_there true there some.1))
     (subst (λ r. TakesLines (arrival_of it.given) (between (to_come old.held (g.R.Read.remaining old.reader)) (to_come new.held (g.R.Read.remaining r)))) (sym c.gather-events.ensures.reader)
     (takes_given it.given old.held new.held (g.R.Read.remaining old.reader) it.gives))
-    (c.in-Err.ensures.err c.args.manner it.given w c.if-manner.false it.edits it.are some.0 h)
+    (c.in-Err.ensures.err c.args.manner it.given w c.if-manner.false it.each it.are some.0 h)
