@@ -115,9 +115,9 @@ json 'lines that are lost' 0 'session a plain sh silent.sh\nsession b plain /non
 {"id":3,"line":6,"type":"made"}
 {"id":4,"line":7,"type":"made"}
 {"life":1,"line":8,"type":"asked"}
-{"life":1,"lost":[{"id":3,"text":"z"}],"reason":"StartRefused","session":"b","type":"ended"}
 {"life":2,"line":9,"type":"asked"}
 {"life":2,"line":10,"type":"asked"}
+{"life":1,"lost":[{"id":3,"text":"z"}],"reason":"StartRefused","session":"b","type":"ended"}
 {"life":2,"lost":[{"id":1,"text":"x"},{"id":2,"text":"y"}],"reason":"Stalled","session":"a","type":"ended"}
 {"line":11,"over":"time","type":"waited"}
 {"life":3,"line":12,"type":"asked"}

@@ -125,7 +125,7 @@ interpreter p "$banner" '\002verbatim:A\005' '\002verbatim:B\005' '\002verbatim:
 live 'waits that end with the answer' 'session a plain sh p.sh\nnew 0 a x\neval 1\nwait\nprint 1\neval 1\nwait 1000000\nprint 1\neval 1\nwait\n' \
     'ok\nfield 1\nasked\nbanner a\nanswered 1\n#1 a\n> x\nA\nasked\nanswered 1\n#1 a\n> x\nB\nasked\nanswered 1\n' '#1 a\n> x\nC\n'
 live 'a wait of two sessions of which one is not started' 'session a plain sh p.sh\nsession b plain /nonexistent/p\nnew 0 a x\nnew 1 b y\neval 2\neval 1\nwait\n' \
-    'ok\nok\nfield 1\nfield 2\nasked\nended b StartRefused lost 1\nasked\nbanner a\nanswered 1\n' '#1 a\n> x\nA\n#2 b\n> y\n? StartRefused\n'
+    'ok\nok\nfield 1\nfield 2\nasked\nasked\nended b StartRefused lost 1\nbanner a\nanswered 1\n' '#1 a\n> x\nA\n#2 b\n> y\n? StartRefused\n'
 interpreter p "$banner" '' ''
 live 'a wait whose time is over' 'session a plain sh p.sh\nnew 0 a x\neval 1\nwait 1\nprint 1\nstop a\n' \
     'ok\nfield 1\nasked\nbanner a\nended a Stalled lost 1\n#1 a\n> x\n? Stalled\nok\n' '#1 a\n> x\n? Stalled\n'
@@ -300,6 +300,46 @@ say 'wait 1\n'
 hears 'two lines that stall' 'ended a Stalled lost 2\n'
 hang_up 'two lines that stall' '' '#1 a\n> x\n? Stalled\n#2 a\n> y\n?\n'
 sent 'two lines that stall' 'start \nsend x'
+
+# What two interpreters wrote while the host stood still is one group: on a disk that has room for one answer, neither is told or kept.
+cat >waits_and_answers.sh <<'END_OF_CHILD'
+printf '\002verbatim:\005'
+IFS= read -r l
+echo "$l" >>got
+until [ -e go ]; do sleep 0.05; done
+printf '\002verbatim:%250s\005' "$l"
+echo "$l" >>answered
+IFS= read -r l
+END_OF_CHILD
+answers_together() {
+    rm -f sheet sheet.alt go got answered talk.in
+    mkfifo talk.in
+    "$tmhost" create sheet
+    printf 'session a plain sh waits_and_answers.sh\nsession b plain sh waits_and_answers.sh\nnew 0 a x\nnew 1 b y\n' >given
+    "$tmhost" run sheet <given >text
+    (
+        trap '' XFSZ
+        ulimit -f "$1"
+        exec "$tmhost" live sheet <talk.in >text 2>&1
+    ) &
+    host=$!
+    exec 3>talk.in
+    say 'eval 1\neval 2\n'
+    until [ "$(cat got 2>/dev/null | wc -l)" = 2 ]; do sleep 0.05; done
+    sleep 0.1
+    kill -STOP "$host"
+    : >go
+    until [ "$(cat answered 2>/dev/null | wc -l)" = 2 ]; do sleep 0.05; done
+    kill -CONT "$host"
+    sleep 0.3
+    exec 3>&-
+    wait "$host"
+}
+answers_together 2
+compare 'answers that came together' "$(sort text)" "$(printf 'answered 1\nanswered 2\nasked\nasked\nbanner a\nbanner b')"
+answers_together 1
+compare 'answers that came together, on a full disk' "$(sort text)" "$(printf 'asked\nasked\nbanner a\nbanner b\nfault 21 Disk')"
+compare 'answers that came together, on a full disk, shown' "$(answer show sheet </dev/null)" "$(ending '#1 a\n> x\n?\n#2 b\n> y\n?\n' 0)"
 
 # 64 sessions that stall at the end of one wait.
 {
