@@ -1,4 +1,3 @@
-pub mod Numerals
 pub mod Parts
 pub mod Points
 pub mod Marking

@@ -16,10 +16,11 @@ mod writing;
 mod xml;
 
 pub use chosen::{Chosen, Ids};
-pub use ids::{read_ids, read_number};
+pub use ids::read_ids;
 pub use report::{
     Format, ReportFault, bring_out, close_report, is_written, open_report, report_case,
 };
 pub use request::{Request, RequestFault, read_request};
+pub use sheet_text::read_number;
 pub use verdict::{Counts, Verdict};
 pub use words::acceptance_in_memory;

@@ -1,7 +1,6 @@
 -- An accepted evaluation, and what hosts after it show.
 use Rattle.std.proofs.Common.{◌≡◌, ◌⊎◌, inl, inr, ⊎_elim, ℕ, List, [], ◌∷◌, ◌++◌, ap, sym, ◌∙◌, subst, Some, None}
 use Rattle.std.specs.List.{AllByRecursion}
-use Rattle.disk_model.specs.Disk.{Image}
 use Rattle.worksheet.specs.declared.op.Op.{Op}
 use Rattle.worksheet.specs.declared.op.Op.TheVariants as op
 use Rattle.worksheet.specs.declared.field.Field.{Field}
@@ -10,7 +9,7 @@ use Rattle.worksheet.specs.Checks.{Allowed, field_in}
 use Rattle.host_events.specs.declared.event.Event.{Event}
 use Rattle.host_events.specs.declared.outcome.Outcome.{Outcome}
 use Rattle.session_engine.specs.World.{World, sheet_in}
-use Rattle.host_laws.specs.Turns.{AnsweredIn, EvaluatedAnewInTurn, Has, HostStep, HostTurn, KeepField, StepsOf, WentOn, host_first, no_host, no_step, step_first}
+use Rattle.host_laws.specs.Turns.{AnsweredIn, EvaluatedAnewInTurn, HandedOn, Has, HostStep, HostTurn, KeepField, StepsOf, WentOn, host_first, no_host, no_step, step_first}
 use Rattle.host_laws.proofs.FieldLaws.{cleared}
 use Rattle.host_laws.proofs.Going.{sound}
 use Rattle.host_laws.proofs.Living.{Sound}
@@ -31,10 +30,10 @@ steps_allowed (step_first {w = w} {mid = mid} {e = e} {o = o} gives steps) h =
     let s = (stepped w e o mid h gives).sound in
     (s.allowed, steps_allowed steps s)
 
-went_allowed : (room : ℕ) {i j : Image} {ops kept : List Op} {turns : List HostTurn} {steps : List HostStep} → WentOn room i ops turns steps j kept → AllByRecursion IsAllowed steps
+went_allowed : (room : ℕ) {first last : HandedOn} {turns : List HostTurn} {steps : List HostStep} → WentOn room first turns steps last → AllByRecursion IsAllowed steps
 went_allowed room no_host = tt
-went_allowed room (host_first {found = found} {steps = steps} {more = more} t of_turn went) =
-    both_allowed steps more (steps_allowed of_turn (sound found room t.end t.allowed)) (went_allowed room went)
+went_allowed room (host_first {before = before} {steps = steps} {more = more} t of_turn went) =
+    both_allowed steps more (steps_allowed of_turn (sound before.ops room t.end t.allowed)) (went_allowed room went)
 
 allowed_at : (earlier : List HostStep) (s : HostStep) (later : List HostStep) → AllByRecursion IsAllowed (earlier ++ s ∷ later) → IsAllowed s
 allowed_at [] s later h = h.0

@@ -164,15 +164,24 @@ abbrev pub EachTurned : ℕ → Image → List HostTurn → Image → Type 0
 EachTurned room before [] after = after ≡ before
 EachTurned room before (turn ∷ turns) after = (mid : Image) × ((found : List Op) × (kept : List Op) × Turned room before found turn mid kept) × EachTurned room mid turns after
 
+-- What one host leaves to the next: an image of the disk, and the ops of the worksheet that it stands for.
+pub record HandedOn : Type 0 where
+  pub image : Image
+  pub ops : List Op
+
+-- these two as one value
+abbrev pub handed_on : Image → List Op → HandedOn
+handed_on image ops = record { image = image; ops = ops }
+
 -- Each of these hosts went on with the ops of the one before it, from these first ones to those last; and these are the steps of all
 -- of them, in turn.
-pub data WentOn (room : ℕ) : Image → List Op → List HostTurn → List HostStep → Image → List Op → Type 0 where
-  no_host : {i : Image} {ops : List Op} → WentOn room i ops [] [] i ops
-  host_first : {before mid after : Image} {found ops kept : List Op} {turn : HostTurn} {turns : List HostTurn} {steps more : List HostStep}
-      → (t : Turned room before found turn mid ops)
-      → StepsOf (world_at_opening found room t.end) t.taken (turn.told ++ t.untold) steps t.leads
-      → WentOn room mid ops turns more after kept
-      → WentOn room before found (turn ∷ turns) (steps ++ more) after kept
+pub data WentOn (room : ℕ) : HandedOn → List HostTurn → List HostStep → HandedOn → Type 0 where
+  no_host : {at : HandedOn} → WentOn room at [] [] at
+  host_first : {before mid after : HandedOn} {turn : HostTurn} {turns : List HostTurn} {steps more : List HostStep}
+      → (t : Turned room before.image before.ops turn mid.image mid.ops)
+      → StepsOf (world_at_opening before.ops room t.end) t.taken (turn.told ++ t.untold) steps t.leads
+      → WentOn room mid turns more after
+      → WentOn room before (turn ∷ turns) (steps ++ more) after
 
 -- What these hosts have left in the end: the worksheet of the first ops and of those of a prefix of each host's events in turn. Each prefix
 -- has all events whose outcomes were returned. A field of it that shows an answer was there in the worksheet that was found first, and has
@@ -180,7 +189,7 @@ pub data WentOn (room : ℕ) : Image → List Op → List HostTurn → List Host
 pub record LeftInTurn (room : ℕ) (first : List Op) (before after : Image) (turns : List HostTurn) : Type 0 where
   pub kept : List Op
   pub steps : List HostStep
-  pub went : WentOn room before first turns steps after kept
+  pub went : WentOn room (handed_on before first) turns steps (handed_on after kept)
   pub image : IsSheetImage (sheet_of kept) after
   pub shows : (f : Field) (answer : Answer) → Has (sheet_of kept) f → f.answer ≡ Some answer
       → (Has (sheet_of first) f × KeepField f steps) ⊎ AnsweredIn steps f
