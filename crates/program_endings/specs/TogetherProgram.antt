@@ -1,5 +1,5 @@
--- How the program `check --jobs` ends: what it evaluates and writes, what it tells on which stream, and the exit status, which is that of
--- `check`.
+-- How the program `check` ends whose fields go side by side: what it evaluates and writes, what it tells on which stream, and the exit status,
+-- which is that of `check`.
 use Rattle.std.specs.Prelude.{◌≡◌, Result, Err, IfErr, IfOk}
 use Rattle.disk_model.specs.Disk.{Rises}
 use Rattle.journal.specs.declared.opening.OpenCause.TheVariants as opens
@@ -26,6 +26,6 @@ pub record TogetherDone {D C W E : Type 0} (o : SideBySide C) (g : GivenDisk D) 
   pub failed : end.answer ≡ Err (fault.Open opens.Disk) → Rises (view_given g).faults (g.how.view later).faults
   pub ends : EndsAs s.errors end.ending (answer_of_check o.chosen end.answer)
 
--- how `check --jobs` ends on its files, or on why they weren't opened
+-- how it ends on its files, or on why they weren't opened
 abbrev pub TogetherEnds : {D C W E : Type 0} → Closable D → SideBySide C → Result D FilesFault → Calling C → Streams W E → CheckEnding → Type 0
 TogetherEnds k o files q s end = IfErr files (CheckUnopened o.format q s end) × IfOk files (λ disk. TogetherDone o (given_disk k disk) q s end)

@@ -1,4 +1,4 @@
-//! The program `check --jobs` over a worksheet's files, from its files on.
+//! The program `check` over a worksheet's files, from its files on, whose fields go side by side.
 ghost use Rattle.std.specs.Prelude.{Result};
 ghost use Rattle.sheet_check.specs.Evaluated.{way};
 ghost use Rattle.sheet_check.specs.Together.{side_by_side};
@@ -38,10 +38,10 @@ fn check_together_on<D: Close, C: Sources, P: Progress, W: Write, E: Write>(
     CheckEnding { answer, ending }
 }
 
-/// The whole program `check --jobs` on its files, or on why they weren't opened: the report goes to `output`
-/// once the last answer came, and the line of a fault to `errors`; one in JSON has the fault last. `progress`
-/// shows how far the report is, and nothing at its end. What the check answered is given beside how the
-/// program ends.
+/// The whole program `check` of fields side by side on its files, or on why they weren't opened: the report goes to
+/// `output` once the last answer came, but of fields of one session as by [`run_check`](crate::run_check), and the
+/// line of a fault to `errors`; one in JSON has the fault last. `progress` shows how far the report is, and nothing
+/// at its end. What the check answered is given beside how the program ends.
 pub fn run_check_together<D: Close, C: Sources, P: Progress, W: Write, E: Write>(
     alloc: Global,
     request: &Request,

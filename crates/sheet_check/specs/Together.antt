@@ -1,7 +1,9 @@
 -- What a check leaves whose fields are evaluated side by side: an evaluation in silence of those fields on a copy, and then their report in
--- the worksheet's order. (docs/CHECK.md, "Side by side".)
-use Rattle.std.specs.Prelude.{◌≡◌, ◌==◌, ℕ, Bool, false, true, not, List, [], ◌∷◌, ◌++◌, Option, Some, None, Result, Ok, Err}
+-- the worksheet's order. One whose fields are all of one session goes one after another. (docs/CHECK.md, "Side by side".)
+use Rattle.std.specs.Prelude.{◌≡◌, ◌==◌, ◌&&◌, ℕ, Bool, false, true, not, List, [], ◌∷◌, ◌++◌, Option, Some, None, find, is_some, Result, Ok, Err}
+use Rattle.std.specs.Bool.{MatchBool}
 use Rattle.std.specs.List.{list_any}
+use Rattle.std.specs.Str.{bytes_eq}
 use Rattle.std.specs.Io.KnownBytes.{Appends}
 use Rattle.disk_model.specs.Disk.{DiskView, InModel, bytes_on}
 use Rattle.worksheet.specs.declared.field.Answer.{Answer}
@@ -31,8 +33,8 @@ use Rattle.evaluation.specs.declared.plan.Plan.{Plan}
 use Rattle.evaluation.specs.declared.plan.Which.TheVariants as which
 use Rattle.evaluation.specs.Steps.{Setting}
 use Rattle.evaluation.specs.Silently.{EvaluatedSilently, SilentlyBroke, silent_setting}
-use Rattle.sheet_check.specs.Check.{IsCopy, Passage}
-use Rattle.sheet_check.specs.Evaluated.{Way, came_if, fault_on_copy, reason_shown_in, shown_in}
+use Rattle.sheet_check.specs.Check.{IsCopy, Passage, SheetAnswer}
+use Rattle.sheet_check.specs.Evaluated.{Way, came_if, fault_on_copy, one_by_one, reason_shown_in, shown_in}
 
 -- How fields are checked side by side: how they are evaluated, in how many sessions they wait at a time, which they are, and how they are
 -- reported.
@@ -153,12 +155,35 @@ pub data TellsTogether {C : Type 0} (o : SideBySide C) (sheet : Contents) (q : P
   no_memory : (cases : List Case) → why ≡ fault.OutOfMemory → TogetherReported o sheet q.sources q.left cases → Appends q.text q.written (report_front o.format cases) → TellsTogether o sheet q nothing why
   unwritten : (cases : List Case) → why ≡ fault.Output → TogetherReported o sheet q.sources q.left cases → TellsTogether o sheet q nothing why
 
--- what becomes of a check of this worksheet
+-- what becomes of a check of this worksheet side by side
 abbrev pub TogetherTells : {C : Type 0} → SideBySide C → Contents → Passage C → Type 0 → Result Counts RunFault → Type 0
 TogetherTells o sheet q nothing (Ok counts) = TogetherChecked o sheet q counts
 TogetherTells o sheet q nothing (Err why) = TellsTogether o sheet q nothing why
 
+-- whether a field is checked
+abbrev pub is_checked : Chosen → Field → Bool
+is_checked chosen field = is_some (shown_by chosen field)
+
+-- whether it is, and isn't of this session
+abbrev pub is_checked_beside : Chosen → List ℕ → Field → Bool
+is_checked_beside chosen session field = is_checked chosen field && not (bytes_eq field.session session)
+
+-- whether one of these fields is checked that isn't of the session of this one
+abbrev pub any_beside : Chosen → List Field → Option Field → Bool
+any_beside chosen fields None = false
+any_beside chosen fields (Some first) = list_any (is_checked_beside chosen first.session) fields
+
+-- Whether those of these fields that are checked are of several sessions: one of them isn't of the session of the first.
+abbrev pub have_several : Chosen → List Field → Bool
+have_several chosen fields = any_beside chosen fields (find (is_checked chosen) fields)
+
+-- What becomes of a check of this worksheet: they go side by side where they are of several sessions, and else one after another, each
+-- reported when it is known.
+abbrev pub TellsBySessions : {C : Type 0} → SideBySide C → Contents → Passage C → Type 0 → Result Counts RunFault → Type 0
+TellsBySessions o sheet q nothing answer =
+    MatchBool (have_several o.chosen sheet.fields) (TogetherTells o sheet q nothing answer) (SheetAnswer (one_by_one o.way o.chosen o.format) sheet q nothing answer)
+
 -- What the check answers: that the disk wasn't opened, where nothing was done, or what becomes of a check of the worksheet on it.
 pub data TogetherAnswer {C : Type 0} (o : SideBySide C) (disk : DiskView) (q : Passage C) (nothing : Type 0) (answer : Result Counts RunFault) : Type 0 where
   unopened : (why : OpenCause) → answer ≡ Err (fault.Open why) → nothing → InModel disk (TellsOfSheet (bytes_on disk) why) → TogetherAnswer o disk q nothing answer
-  opened : (sheet : Contents) → InModel disk (IsSheetImage sheet (bytes_on disk)) → TogetherTells o sheet q nothing answer → TogetherAnswer o disk q nothing answer
+  opened : (sheet : Contents) → InModel disk (IsSheetImage sheet (bytes_on disk)) → TellsBySessions o sheet q nothing answer → TogetherAnswer o disk q nothing answer

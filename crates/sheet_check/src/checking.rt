@@ -255,7 +255,7 @@ fn checked_on_copy<C: Sources, W: Write, P: Progress>(
 }
 
 /// Checks a worksheet on a copy of it, and tells the counts.
-fn check_sheet<C: Sources, W: Write, P: Progress>(
+pub(crate) fn check_sheet<C: Sources, W: Write, P: Progress>(
     alloc: Global,
     request: &Request,
     sheet: &Sheet,

@@ -12,14 +12,15 @@ ghost use Rattle.live.specs.Records.{left};
 ghost use Rattle.sheet_check.specs.Evaluated.{way};
 ghost use Rattle.sheet_check.specs.Check.{IsCopy, OnlyRead, passage};
 ghost use Rattle.sheet_check.specs.Progress.{CheckShows, FieldsLeft, FieldsShow, SheetShows, answered, display};
-ghost use Rattle.sheet_check.specs.Together.{TellsTogether, TogetherAnswer, TogetherTells, checking_plan as plan_of_check, cleared, side_by_side};
+ghost use Rattle.sheet_check.specs.Together.{TellsBySessions, TellsTogether, TogetherAnswer, TogetherTells, checking_plan as plan_of_check, cleared, side_by_side};
 ghost use Rattle.sheet_check.specs.inside.Comparing.{BrokeTogether, CameTogether, EndedTogether, FailedTogether, OnCleared, ReportedTogether};
 
-use crate::checking::{Checked, count_answered, tell_closing};
+use crate::checking::{Checked, check_sheet, count_answered, tell_closing};
 use crate::clearing::{checked_ids, open_cleared};
 use crate::comparing::compare_fields;
 use crate::evaluating::wait_fault;
 use crate::progress::{Progress, Sight};
+use crate::sessions::has_several;
 use arrivals::Sources;
 use block_tree::Sequence;
 use check_report::{Counts, Request};
@@ -217,10 +218,38 @@ fn check_sheet_together<C: Sources, W: Write, P: Progress>(
     }
 }
 
+/// Checks a worksheet on a copy of it, and tells the counts: side by side where the fields that are checked are of
+/// several sessions, and else one after another.
+fn check_by_sessions<C: Sources, W: Write, P: Progress>(
+    alloc: Global,
+    request: &Request,
+    jobs: u32,
+    sheet: &Sheet,
+    sources: &mut C,
+    progress: &mut P,
+    writer: &mut W,
+) -> Result<Counts, RunFault>
+    requires { (ops : List Op) × Makes ops sheet.now.contents }
+    ensures checked { TellsBySessions
+        (side_by_side (way C.after C.clock C.wakes request.now.limit) jobs request.now.chosen request.now.format)
+        sheet.now.contents (passage sources.old sources.new (W.contents writer.old) (W.contents writer.new))
+        ((writer.new ≡ writer.old) × (sources.new ≡ sources.old)) result }
+    ensures shown { SheetShows (display request.now.format P.shows)
+        (answered request.now.chosen sheet.now.contents.fields)
+        progress.old progress.new result }
+{
+    if has_several(&request.chosen, sheet) {
+        check_sheet_together(alloc, request, jobs, sheet, sources, progress, writer)
+    } else {
+        check_sheet(alloc, request, sheet, sources, progress, writer)
+    }
+}
+
 /// Checks the worksheet on a disk as [`check`](crate::check) does, but evaluates fields of up to `jobs` sessions
 /// side by side, of each session one at a time. The copy has nothing to show for the fields that are checked
 /// until their answers come. What came waits there until the last answer has: then each field is compared and
-/// reported, in the worksheet's order, as by `check`.
+/// reported, in the worksheet's order, as by `check`. Where the fields that are checked are of one session it is
+/// `check`, which reports each when it is known.
 ///
 /// With a limit, the time of fields that wait together begins when the last of them was asked. A field whose
 /// time was over is unanswered, whatever came after its interpreter was interrupted, and the fields after it are
@@ -257,7 +286,7 @@ pub fn check_together<D: Disk, C: Sources, W: Write, P: Progress>(
 {
     match Store::open(alloc, disk) {
         Ok(store) => {
-            let answer = check_sheet_together(
+            let answer = check_by_sessions(
                 alloc,
                 request,
                 jobs,

@@ -10,7 +10,7 @@ pub returns-in-Ok-clause-checked : goal.returns-in-Ok-clause-checked
 returns-in-Ok-clause-checked g c =
     opened c.sheet.result.now.contents
     (λ m. subst (λ (s : SheetView). IsSheetImage s.contents (bytes_on (g.D.Disk.view c.args.disk))) (sym c.sheet.ensures.sheet) (c.in-Ok.ensures.sheet m))
-    c.check_sheet_together-answer.ensures.checked
+    c.check_by_sessions-answer.ensures.checked
 
 pub returns-in-Err-clause-checked : goal.returns-in-Err-clause-checked
 returns-in-Err-clause-checked g c = unopened c.in-Err.field-0.cause refl (refl, refl) c.in-Err.ensures.fault
@@ -19,7 +19,7 @@ pub returns-in-Ok-clause-shown : goal.returns-in-Ok-clause-shown
 returns-in-Ok-clause-shown g c =
     progress.opened c.sheet.result.now.contents
     (λ m. subst (λ (s : SheetView). IsSheetImage s.contents (bytes_on (g.D.Disk.view c.args.disk))) (sym c.sheet.ensures.sheet) (c.in-Ok.ensures.sheet m))
-    c.check_sheet_together-answer.ensures.shown
+    c.check_by_sessions-answer.ensures.shown
 
 pub returns-in-Err-clause-shown : goal.returns-in-Err-clause-shown
 returns-in-Err-clause-shown g c = progress.unopened c.in-Err.field-0.cause refl refl
