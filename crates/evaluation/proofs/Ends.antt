@@ -71,16 +71,14 @@ step-goes o p (over n id) beats text t q = no_beats (at p.run.world t.children p
 step-goes o p stalled beats text t q = stalled-goes o.after (waits p.run.world) (length (waits p.run.world)) p.run beats t q.0
 
 step-up-to-goes : {C : Type 0} (o : Setting C) (e : Event) (p : EvalPlace C) (s : Step) (beats : List Beat) (t : At C) → StepUpTo o e p s beats t → GoesTo p.run beats t
-step-up-to-goes o e p (ask k id) beats t q = follows-goes o.after p.run (Some (event.Command (command.Eval id))) beats (Some e) t q.1
-step-up-to-goes o e p (heard seat) beats t q = taken-goes o.after true (Some e) seat p.run beats t q
-step-up-to-goes o e p (over n id) beats t q = absurd q
-step-up-to-goes o e p stalled beats t q = turn-stopped-goes o.after (waits p.run.world) p.run beats e t q
+step-up-to-goes o e p s beats t (broken.ask_up_to k id bs u asked q) = follows-goes o.after p.run (Some (event.Command (command.Eval id))) bs (Some e) u q
+step-up-to-goes o e p s beats t (broken.heard_up_to seat bs u q) = taken-goes o.after true (Some e) seat p.run bs u q
+step-up-to-goes o e p s beats t (broken.stalled_up_to bs u q) = turn-stopped-goes o.after (waits p.run.world) p.run bs e u q
 
 step-so-far-goes : {C : Type 0} (o : Setting C) (p : EvalPlace C) (s : Step) (beats : List Beat) (t : At C) → StepSoFar o p s beats t → GoesTo p.run beats t
-step-so-far-goes o p (ask k id) beats t q = no_beats p.run beats t q.1 q.2
-step-so-far-goes o p (heard seat) beats t q = no_beats p.run beats t q.0 q.1
-step-so-far-goes o p (over n id) beats t q = absurd q
-step-so-far-goes o p stalled beats t q = stalled-goes o.after (waits p.run.world) q.whole p.run beats t q.are_done
+step-so-far-goes o p s beats t (broken.ask_so_far k id bs u asked none same) = no_beats p.run bs u none same
+step-so-far-goes o p s beats t (broken.heard_so_far seat bs u none same) = no_beats p.run bs u none same
+step-so-far-goes o p s beats t (broken.stalled_so_far bs u q) = stalled-goes o.after (waits p.run.world) q.whole p.run bs u q.are_done
 
 step-led-goes : {C : Type 0} (o : Setting C) (p : EvalPlace C) (s : Step) (beats : List Beat) (t : At C) → StepLed o p s beats t → GoesTo p.run beats t
 step-led-goes o p s beats t (broken.whole text q) = step-goes o p s beats text t q
@@ -209,13 +207,8 @@ module _ {C : Type 0} (o : Setting C) (disk now : DiskView) (c d : C) (a b : Opt
     }
 
     pub counts_untold : (back : DiskView) → back ≡ h.store.disk → (e : Option (List ℕ)) (nothing : Type 0) (f : RunFault) → IsUntold o.voice f → TellsEvaluation o (outside disk c a) (outside back d e) nothing f
-    counts_untold back same e nothing fault.Output why = ends.unwritten (inr (uncounted back same))
-    counts_untold back same e nothing fault.OutOfMemory why = ends.untold why (inr (uncounted back same))
-    counts_untold back same e nothing fault.Input why = absurd why
-    counts_untold back same e nothing fault.InputTooLong why = absurd why
-    counts_untold back same e nothing (fault.Open y) why = absurd why
-    counts_untold back same e nothing fault.InUse why = absurd why
-    counts_untold back same e nothing (fault.Host y) why = absurd why
+    counts_untold back same e nothing f (inl is) = subst (TellsEvaluation o (outside disk c a) (outside back d e) nothing) (sym is) (ends.unwritten (inr (uncounted back same)))
+    counts_untold back same e nothing f (inr both) = subst (TellsEvaluation o (outside disk c a) (outside back d e) nothing) (sym both.0) (ends.untold both.1 (inr (uncounted back same)))
 
 -- A disk that failed at the end has failed since the beginning.
 pub evaluation_failed_since : {C : Type 0} (o : Setting C) (disk now : DiskView) (start : World) (c d : C) (h : HostView) (a b : Option (List ℕ)) (f : RunFault)

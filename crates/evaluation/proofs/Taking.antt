@@ -1,5 +1,5 @@
 -- What came of a step.
-use Rattle.std.proofs.Common.{◌≡◌, ◌+◌, inl, ℕ, true, false, List, [], Option, Some, None, refl, sym, subst}
+use Rattle.std.proofs.Common.{◌≡◌, ◌+◌, inl, inr, ℕ, true, false, List, [], Option, Some, None, refl, sym, subst}
 use Rattle.host_events.specs.declared.command.Command.TheVariants as command
 use Rattle.host_events.specs.declared.event.Event.{Event}
 use Rattle.host_events.specs.declared.event.Event.TheVariants as event
@@ -15,7 +15,6 @@ use Rattle.sheet_text.specs.declared.script.ScriptLine.TheVariants as line
 use Rattle.live.specs.declared.live_line.LiveLine.{LiveLine}
 use Rattle.live.specs.declared.live_line.LiveLine.TheVariants as live
 use Rattle.offline_programs.specs.declared.fault.RunFault.{RunFault}
-use Rattle.offline_programs.specs.declared.fault.RunFault.TheVariants as fault
 use Rattle.tellings.specs.Voice.{IsUntold, came_text}
 use Rattle.live.specs.declared.holding.Hold.{Hold}
 use Rattle.live.specs.declared.holding.Hold.TheVariants as hold
@@ -36,13 +35,8 @@ use Rattle.evaluation.specs.inside.Stepping.{IsOf, IsTimeOf, StepFailed, StepToo
 module _ {C : Type 0} (o : Setting C) (p : EvalPlace C) (h : HostView) (c : C) (a b : Option (List ℕ)) where
   -- what came of a step and couldn't be written
   pub took_untold : (s : Step) (f : RunFault) → IsUntold o.voice f → TookUnwritten o p s (left h c a b) → TakingFailed o p s (left h c a b) f
-  took_untold s fault.Output why q = steps.unwritten q
-  took_untold s fault.OutOfMemory why q = steps.untold why q
-  took_untold s fault.Input why q = absurd why
-  took_untold s fault.InputTooLong why q = absurd why
-  took_untold s (fault.Open y) why q = absurd why
-  took_untold s fault.InUse why q = absurd why
-  took_untold s (fault.Host y) why q = absurd why
+  took_untold s f (inl is) q = subst (TakingFailed o p s (left h c a b)) (sym is) (steps.unwritten q)
+  took_untold s f (inr both) q = subst (TakingFailed o p s (left h c a b)) (sym both.0) (steps.untold both.1 q)
 
   -- A life.
 
@@ -52,15 +46,15 @@ module _ {C : Type 0} (o : Setting C) (p : EvalPlace C) (h : HostView) (c : C) (
 
   led-life : (seat : Seat) (t : At C) → HeardLed o.after seat p.run t → (beats : List Beat) × StepLed o p (heard seat) beats t
   led-life seat t (lives.all beats q) = (beats, life-whole seat beats t q)
-  led-life seat t (lives.up_to beats e q) = (beats, broken.up_to e q)
-  led-life seat t (lives.none q) = ([], broken.so_far (refl, q))
+  led-life seat t (lives.up_to beats e q) = (beats, broken.up_to e (broken.heard_up_to seat beats t q))
+  led-life seat t (lives.none q) = ([], broken.so_far (broken.heard_so_far seat [] t refl q))
 
   life-unwritten : (seat : Seat) → HeardUnwritten (edge_of o) seat p.run (left h c a b) → TookUnwritten o p (heard seat) (left h c a b)
   life-unwritten seat q = let led = led-life seat (at q.0 c q.1) q.2 in (led.0, q.0, q.1, led.1, q.3)
 
   pub life_failed : (seat : Seat) (f : RunFault) → HearingFailed (edge_of o) seat p.run (left h c a b) f → TakingFailed o p (heard seat) (left h c a b) f
-  life_failed seat f (lives.stopped why beats e t x q stopped wrote) = steps.stopped why beats e t x q stopped wrote
-  life_failed seat f (lives.refused t q stands wrote) = steps.refused [] t (refl, q) stands wrote
+  life_failed seat f (lives.stopped why beats e t x q stopped wrote) = steps.stopped why beats e t x (broken.heard_up_to seat beats (at t c x) q) stopped wrote
+  life_failed seat f (lives.refused t q stands wrote) = steps.refused [] t (broken.heard_so_far seat [] (at t c h.store.disk) refl q) stands wrote
   life_failed seat f (lives.untold why q) = steps.untold why (life-unwritten seat q)
   life_failed seat f (lives.unwritten q) = steps.unwritten (life-unwritten seat q)
 
@@ -74,15 +68,15 @@ module _ {C : Type 0} (o : Setting C) (p : EvalPlace C) (h : HostView) (c : C) (
 
   led-grace : (t : At C) → StallingLed o.after (waits p.run.world) p.run t → (beats : List Beat) × StepLed o p stalled beats t
   led-grace t (lives.each beats q) = (beats, grace-whole beats t q)
-  led-grace t (lives.first beats q) = (beats, broken.so_far q)
-  led-grace t (lives.up_to beats e q) = (beats, broken.up_to e q)
+  led-grace t (lives.first beats q) = (beats, broken.so_far (broken.stalled_so_far beats t q))
+  led-grace t (lives.up_to beats e q) = (beats, broken.up_to e (broken.stalled_up_to beats t q))
 
   grace-unwritten : StalledUnwritten (edge_of o) (waits p.run.world) p.run (left h c a b) → TookUnwritten o p stalled (left h c a b)
   grace-unwritten q = let led = led-grace (at q.0 c q.1) q.2 in (led.0, q.0, q.1, led.1, q.3)
 
   pub grace_failed : (f : RunFault) → StallingFailed (edge_of o) (waits p.run.world) p.run (left h c a b) f → TakingFailed o p stalled (left h c a b) f
-  grace_failed f (lives.stopped why beats e t x q stopped wrote) = steps.stopped why beats e t x q stopped wrote
-  grace_failed f (lives.refused beats t q stands wrote) = steps.refused beats t q stands wrote
+  grace_failed f (lives.stopped why beats e t x q stopped wrote) = steps.stopped why beats e t x (broken.stalled_up_to beats (at t c x) q) stopped wrote
+  grace_failed f (lives.refused beats t q stands wrote) = steps.refused beats t (broken.stalled_so_far beats (at t c h.store.disk) q) stands wrote
   grace_failed f (lives.untold why q) = steps.untold why (grace-unwritten q)
   grace_failed f (lives.unwritten q) = steps.unwritten (grace-unwritten q)
 
@@ -103,15 +97,15 @@ module _ {C : Type 0} (o : Setting C) (p : EvalPlace C) (h : HostView) (c : C) (
 
     led-ask : (t : At C) → SaidLed (edge_of o) its-line p.run t → (beats : List Beat) × StepLed o p (ask k id) beats t
     led-ask t (lives.all begun begins done) = let said = done (line_behind (k + 1)) in (said.0.beats, broken.whole said.0.text (is, said.1.0, said.1.1))
-    led-ask t (lives.up_to beats e q) = (beats, broken.up_to e (is, its-command beats e t q))
-    led-ask t (lives.none command q) = ([], broken.so_far (is, refl, q))
+    led-ask t (lives.up_to beats e q) = (beats, broken.up_to e (broken.ask_up_to k id beats t is (its-command beats e t q)))
+    led-ask t (lives.none command q) = ([], broken.so_far (broken.ask_so_far k id [] t is refl q))
 
     ask-unwritten : SaidUnwritten (edge_of o) its-line p.run (left h c a b) → TookUnwritten o p (ask k id) (left h c a b)
     ask-unwritten q = let led = led-ask (at q.0 c q.1) q.2 in (led.0, q.0, q.1, led.1, q.3)
 
     pub ask_failed : (f : RunFault) → SayingFailed (edge_of o) (line_behind (k + 1)) its-line p.run (left h c a b) f → TakingFailed o p (ask k id) (left h c a b) f
-    ask_failed f (lives.stopped why beats e t x q stopped wrote) = steps.stopped why beats e t x (is, its-command beats e (at t c x) q) stopped wrote
-    ask_failed f (lives.refused command t q stands wrote) = steps.refused [] t (is, refl, q) stands wrote
+    ask_failed f (lives.stopped why beats e t x q stopped wrote) = steps.stopped why beats e t x (broken.ask_up_to k id beats (at t c x) is (its-command beats e (at t c x) q)) stopped wrote
+    ask_failed f (lives.refused command t q stands wrote) = steps.refused [] t (broken.ask_so_far k id [] (at t c h.store.disk) is refl q) stands wrote
     ask_failed f (lives.untold why q) = steps.untold why (ask-unwritten q)
     ask_failed f (lives.unwritten q) = steps.unwritten (ask-unwritten q)
 

@@ -57,13 +57,8 @@ module _ {C : Type 0} (o : Edge C) where
   -- what couldn't be printed
   pub said_untold : (number : ℕ) (l : Option LiveLine) (s : At C) (h : HostView) (c : C) (a b : Option (List ℕ)) (f : RunFault)
       → IsUntold o.voice f → SaidUnwritten o l s (left h c a b) → SayingFailed o number l s (left h c a b) f
-  said_untold number l s h c a b fault.Output why p = unwritten p
-  said_untold number l s h c a b fault.OutOfMemory why p = untold why p
-  said_untold number l s h c a b fault.Input why p = absurd why
-  said_untold number l s h c a b fault.InputTooLong why p = absurd why
-  said_untold number l s h c a b (fault.Open x) why p = absurd why
-  said_untold number l s h c a b fault.InUse why p = absurd why
-  said_untold number l s h c a b (fault.Host x) why p = absurd why
+  said_untold number l s h c a b f (inl is) p = subst (SayingFailed o number l s (left h c a b)) (sym is) (unwritten p)
+  said_untold number l s h c a b f (inr both) p = subst (SayingFailed o number l s (left h c a b)) (sym both.0) (untold both.1 p)
 
   -- a line that no event comes of
   pub said_still : (number : ℕ) (l : Option LiveLine) (w : World) (h : HostView) (c : C) (a b : Option (List ℕ)) (begun : Beginning) (text : List ℕ)

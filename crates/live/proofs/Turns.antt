@@ -71,13 +71,8 @@ module _ {C : Type 0} (o : Edge C) (seat : Seat) (w : World) (h g : HostView) (c
       inside.refused w (as-before p.0 p.1) (subst (λ (x : HostView). IsHost x w) (sym p.0) stands) (subst (λ (l : List Reply). Appends a b (came_text o.voice g.store.sheet.contents l)) p.2 wrote)
 
   heard-untold : (f : RunFault) → IsUntold o.voice f → HeardUnwritten o seat (at w c h.store.disk) (left g d a b) → HearingFailed o seat (at w c h.store.disk) (left g d a b) f
-  heard-untold fault.Output why p = inside.unwritten p
-  heard-untold fault.OutOfMemory why p = inside.untold why p
-  heard-untold fault.Input why p = absurd why
-  heard-untold fault.InputTooLong why p = absurd why
-  heard-untold (fault.Open x) why p = absurd why
-  heard-untold fault.InUse why p = absurd why
-  heard-untold (fault.Host x) why p = absurd why
+  heard-untold f (inl is) p = subst (HearingFailed o seat (at w c h.store.disk) (left g d a b)) (sym is) (inside.unwritten p)
+  heard-untold f (inr both) p = subst (HearingFailed o seat (at w c h.store.disk) (left g d a b)) (sym both.0) (inside.untold both.1 p)
 
   pub heard_unwritten : (r : Result (Unit {0}) EdgeCause) (f : RunFault) → TurnGave o.after seat w h g c d [] replies r → IsUntold o.voice f → HearingFailed o seat (at w c h.store.disk) (left g d a b) f
   heard_unwritten r f gave is = heard-untold f is (go r gave)
@@ -135,13 +130,8 @@ turn-goes-on o held on behind replies t (inr some) again =
 module _ {C : Type 0} (o : Edge C) (p : LivePlace C) (h : HostView) (c : C) (a b : Option (List ℕ)) where
   -- what came of an arrival and couldn't be printed
   pub took_untold : (x : Arrival) (f : RunFault) → IsUntold o.voice f → TookUnwritten o p x (left h c a b) → TakingFailed o p x (left h c a b) f
-  took_untold x fault.Output why q = inside.unwritten q
-  took_untold x fault.OutOfMemory why q = inside.untold why q
-  took_untold x fault.Input why q = absurd why
-  took_untold x fault.InputTooLong why q = absurd why
-  took_untold x (fault.Open y) why q = absurd why
-  took_untold x fault.InUse why q = absurd why
-  took_untold x (fault.Host y) why q = absurd why
+  took_untold x f (inl is) q = subst (TakingFailed o p x (left h c a b)) (sym is) (inside.unwritten q)
+  took_untold x f (inr both) q = subst (TakingFailed o p x (left h c a b)) (sym both.0) (inside.untold both.1 q)
 
   led-life : (seat : Seat) (t : At C) → HeardLed o.after seat p.run t → TakesLed o p (life seat) t
   led-life seat t (inside.all beats q) = broken.heard seat beats refl q
@@ -320,13 +310,8 @@ module _ {C : Type 0} (o : Edge C) (seats : List Seat) (s : At C) (g : HostView)
   stalling_failed cause.OutOfMemory p wrote = inside.refused p.beats p.leads p.form p.stands (told-at p.leads p.beats p.stands.stands.contents p.replied wrote)
 
   stalled-untold : (f : RunFault) → IsUntold o.voice f → StalledUnwritten o seats s (left g d a b) → StallingFailed o seats s (left g d a b) f
-  stalled-untold fault.Output why p = inside.unwritten p
-  stalled-untold fault.OutOfMemory why p = inside.untold why p
-  stalled-untold fault.Input why p = absurd why
-  stalled-untold fault.InputTooLong why p = absurd why
-  stalled-untold (fault.Open x) why p = absurd why
-  stalled-untold fault.InUse why p = absurd why
-  stalled-untold (fault.Host x) why p = absurd why
+  stalled-untold f (inl is) p = subst (StallingFailed o seats s (left g d a b)) (sym is) (inside.unwritten p)
+  stalled-untold f (inr both) p = subst (StallingFailed o seats s (left g d a b)) (sym both.0) (inside.untold both.1 p)
 
   pub stalling_unwritten : (r : Result (Unit {0}) EdgeCause) (f : RunFault) → StallingGave o.after seats s g d replies r → IsUntold o.voice f → StallingFailed o seats s (left g d a b) f
   stalling_unwritten r f gave is = stalled-untold f is (go r gave)

@@ -1,5 +1,5 @@
 -- A format of what is printed of a live worksheet: in words, or as JSON.
-use Rattle.std.specs.Prelude.{◌≡◌, ℕ, ◌+◌, Bool, true, List, [], ◌∷◌, ◌++◌, codes}
+use Rattle.std.specs.Prelude.{◌≡◌, ◌⊎◌, ℕ, ◌+◌, Bool, true, List, [], ◌∷◌, ◌++◌, codes}
 use Rattle.std.specs.List.{flat_map}
 use Rattle.worksheet.specs.Contents.{Contents}
 use Rattle.host_events.specs.declared.outcome.Outcome.{Outcome}
@@ -51,10 +51,4 @@ numbered_text V line sheet (o ∷ outcomes) = V.reply line sheet o.reply ++ numb
 
 -- Why something isn't printed: the writer failed, or there was no memory for it.
 abbrev pub IsUntold : Voice → RunFault → Type 0
-IsUntold V fault.Output = Unit {0}
-IsUntold V fault.OutOfMemory = V.takes_memory ≡ true
-IsUntold V fault.Input = ⊥
-IsUntold V fault.InputTooLong = ⊥
-IsUntold V (fault.Open why) = ⊥
-IsUntold V fault.InUse = ⊥
-IsUntold V (fault.Host why) = ⊥
+IsUntold V why = (why ≡ fault.Output) ⊎ ((why ≡ fault.OutOfMemory) × (V.takes_memory ≡ true))

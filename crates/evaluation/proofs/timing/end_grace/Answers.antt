@@ -4,13 +4,14 @@ use Rattle.child_edge.specs.Faithful.{at}
 use Rattle.live.specs.Records.{edge, left}
 use Rattle.live.specs.Taking.{StallingFailed}
 use Rattle.evaluation.specs.Steps.{setting, stands}
+use Rattle.evaluation.specs.Broken.{stalled_so_far}
 use Rattle.evaluation.specs.inside.Stepping.{refused}
 use Rattle.evaluation.proofs.Taking.{grace_failed}
 use Rattle.evaluation.proofs.timing.end_grace.Goals as goal
 
 pub returns-in_default-clause-err : goal.returns-in_default-clause-err
 returns-in_default-clause-err g c = λ plan meant w h.
-    refused [] w (record { whole = 0; fits = omega arith; are_done = (refl, refl) }) h (Appends-nil (g.W.Write.contents c.args.writer.now))
+    refused [] w (stalled_so_far [] (at w c.args.sources.now c.args.host.now.store.disk) (record { whole = 0; fits = omega arith; are_done = (refl, refl) })) h (Appends-nil (g.W.Write.contents c.args.writer.now))
 
 pub returns-clause-err : goal.returns-clause-err
 returns-clause-err g c = λ plan meant w h.
