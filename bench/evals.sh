@@ -3,7 +3,8 @@
 # 1,000 and 10,000 fields, and how long such a worksheet takes to open: the best of RUNS runs (3 where it isn't set). 500 fields, spread
 # over the worksheet, are evaluated, each with a `wait` after it. Beside it `tmhost live` does the same, and the ratio of their rates is
 # printed. Then it prints how many times as many evaluations `live` does with eight interpreters that take 50 ms a line each as with one, and
-# with 8 and 64 that answer at once, and the processor time that it takes while nothing comes; and how long `check --jobs 8` takes with eight of them beside `check` with one. The files lie in FOLDER, or where none is given in the current one.
+# with 8 and 64 that answer at once, and the processor time that it takes while nothing comes; and how long `check` and `eval` take with eight of them beside one. The files lie in
+# FOLDER, or where none is given in the current one.
 set -euo pipefail
 folder=$(readlink -f "${1:-.}")
 root=$(dirname "$(dirname "$(readlink -f "${BASH_SOURCE[0]}")")")
@@ -91,19 +92,24 @@ quicks = [evaluations(quick, count, 100)[0] for count in (1, 8, 64)]
 print(f"live, interpreters that answer at once: one {quicks[0]:.0f} evals/s, 8 and 64 of them {quicks[1] / quicks[0]:.2f} and {quicks[2] / quicks[0]:.2f} times as many")
 print(f"live, three seconds in which nothing comes: {1000 * idle / os.sysconf('SC_CLK_TCK'):.0f} ms of processor time")
 
-def checked(sessions, *words):
-    """The seconds that a check takes of a worksheet with so many sessions of these interpreters, each of 20 fields."""
+def suite(sessions):
+    """A worksheet with so many sessions of these interpreters, each of 20 fields."""
     sheet = f"{work}/{sessions}.suite"
-    if not os.path.exists(sheet):
-        subprocess.run([program, "create", sheet], check=True)
-        made = "".join(f"session s{n} plain python3 {slow}\n" for n in range(sessions)) + "".join(f"new 0 s{n} {i}\n" for n in range(sessions) for i in range(20))
-        run(sheet, made)
-        subprocess.run([program, "eval", "--jobs", "64", sheet], stdout=subprocess.DEVNULL, check=True)
-    begun = time.perf_counter()
-    told = subprocess.run([program, "check", *words, sheet], stdout=subprocess.PIPE, check=True).stdout
-    assert told == f"same {20 * sessions} differ 0 unanswered 0\n".encode(), told
-    return time.perf_counter() - begun
+    subprocess.run([program, "create", sheet], check=True)
+    run(sheet, "".join(f"session s{n} plain python3 {slow}\n" for n in range(sessions)) + "".join(f"new 0 s{n} {i}\n" for n in range(sessions) for i in range(20)))
+    return sheet
 
-one, eight, jobs = checked(1), checked(8), checked(8, "--jobs", "8")
-print(f"check, sessions of 20 fields of 50 ms: one {one:.2f} s, eight {eight:.2f} s, eight with --jobs 8 {jobs:.2f} s, {jobs / one:.2f} times as long as one")
+def took(last, *words):
+    """The seconds that a program takes whose output has this last line."""
+    begun = time.perf_counter()
+    told = subprocess.run([program, *words], stdout=subprocess.PIPE, check=True).stdout
+    lasted = time.perf_counter() - begun
+    assert told.splitlines()[-1] == last.encode(), told
+    return lasted
+
+suites = [(suite(sessions), 20 * sessions) for sessions in (1, 8)]
+for verb, last in (("eval", "answered {} unanswered 0"), ("check", "same {} differ 0 unanswered 0")):
+    one, eight = [min(took(last.format(fields), verb, sheet) for _ in range(runs)) for sheet, fields in suites]
+    in_turn = took(last.format(suites[1][1]), verb, "--jobs", "1", suites[1][0])
+    print(f"{verb}, sessions of 20 fields of 50 ms: one {one:.2f} s, eight {eight:.2f} s, {eight / one:.2f} times as long; eight with --jobs 1 {in_turn:.2f} s")
 PYTHON

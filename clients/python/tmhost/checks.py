@@ -75,9 +75,7 @@ def words_of_check(program: Program, path: str, only: Optional[str], leave_out: 
         words.append("--leave-out=" + ",".join(str(id) for id in leave_out))
     if timeout is not None:
         words.append(f"--timeout={timeout}")
-    if jobs != 1:
-        words.append(f"--jobs={jobs}")
-    return [*words, path]
+    return [*words, f"--jobs={jobs}", path]
 
 
 def check(

@@ -109,10 +109,10 @@ Example: printf 'print\\n' | tmhost live sheet";
 const EVAL_ABOUT: &str = "Evaluate the fields of a worksheet";
 
 const EVAL_NOTES: &str =
-    "It evaluates the fields in the worksheet's order, each by an `eval` and a `wait`,\n\
-and writes what `live` writes of these. Each answer that it reports is on the disk.\n\
-Interpreters start empty; at the end each is stopped. A line at the end has the\n\
-counts of the whole worksheet, as `answered 12 unanswered 1`.\n\n\
+    "It evaluates the fields of each session in the worksheet's order, each by an `eval`\n\
+and a `wait`, and writes what `live` writes of these. Each answer that it reports is\n\
+on the disk. Interpreters start empty; at the end each is stopped. A line at the end\n\
+has the counts of the whole worksheet, as `answered 12 unanswered 1`.\n\n\
 With IDs only the fields with these numbers are evaluated, each once; with --from\n\
 the field with this number and those after it. Both at once are refused. Variables\n\
 of fields that aren't evaluated are missing. Where no field has one of the numbers\n\
@@ -127,10 +127,11 @@ hasn't answered two seconds later. Fields after one of their session that shows 
 answer are passed over then, and keep what they show, but with --keep-going. A\n\
 line `over 1 passed 12` has these counts. With --json each line is one object\n\
 (docs/JSON.md).\n\n\
-With --jobs N (1 to 64) fields of up to N sessions wait at a time, of each session\n\
-one: first the first field of each session is asked, then the second of each, and\n\
-so on. With --timeout the time of fields that wait together begins when the last of\n\
-them was asked. It goes with no --strict.\n\n\
+Fields of up to 64 sessions wait at a time, of each session one: first the first\n\
+field of each session is asked, then the second of each, and so on. With --strict,\n\
+and with --timeout, one field goes after another, in the worksheet's order. With\n\
+--jobs N (1 to 64) fields of up to N sessions wait at a time, and with --timeout the\n\
+time of those begins when the last of them was asked. It goes with no --strict.\n\n\
 Status: 0 where each field of the worksheet shows an answer, and none was over or\n\
 passed over; 1 where that isn't so, or at a fault; 2 where the words are refused; 3\n\
 where --strict stopped it.\n\n\
@@ -148,11 +149,11 @@ Example: tmhost show sheet";
 const CHECK_ABOUT: &str = "Evaluate a worksheet again, and write what differs";
 
 const CHECK_NOTES: &str =
-    "Each field that shows an answer is evaluated again, in the worksheet's order and\n\
-with interpreters of its own, on a copy in memory; the worksheet stays as it is.\n\
-Where another output comes the field's line, its prompt and input, the lines that\n\
-it shows, with `- `, and those that came, with `+ `, are written at once, or `+ ?`\n\
-where no answer came. Prompts aren't compared. The last line has the counts, as\n\
+    "Each field that shows an answer is evaluated again, with interpreters of its own, on\n\
+a copy in memory; the worksheet stays as it is. In the worksheet's order, where\n\
+another output comes, the field's line, its prompt and input, the lines that it\n\
+shows, with `- `, and those that came, with `+ `, are written, or `+ ?` where no\n\
+answer came. Prompts aren't compared. The last line has the counts, as\n\
 `same 4 differ 1 unanswered 0`.\n\n\
 With --format it reports each field as a test: as a point of TAP 13, or as a case\n\
 in JUnit's XML. With --json, which is --format json, each is one object, which\n\
@@ -167,10 +168,12 @@ With --accept each answer that differs is put into its field of the worksheet,\n
 which is opened to write. Then its difference is written, with `accepted ID` below,\n\
 and the last line is as `same 4 accepted 1 unanswered 0`. It goes with no format\n\
 but text.\n\n\
-With --jobs N (1 to 64) fields of up to N sessions wait at a time, of each session\n\
-one, as with `eval --jobs`. The report is the same, and nothing of it is written\n\
-until the last answer came. With --timeout the time of fields that wait together\n\
-begins when the last of them was asked. It goes with no --accept.\n\n\
+Fields of up to 64 sessions wait at a time, of each session one, as with `eval`, and\n\
+nothing is written until the last answer came. With --accept, with --timeout, and\n\
+where all are of one session, one goes after another in the worksheet's order, and\n\
+what differs is written at once. With --jobs N (1 to 64) fields of up to N sessions\n\
+wait at a time, and with --timeout the time of those begins when the last of them\n\
+was asked. The report is the same. It goes with no --accept.\n\n\
 With several PATHs each is checked as it would be alone, one after another, under\n\
 a line `worksheet PATH`; at a fault of one the next is checked all the same. The\n\
 last line is their total, as `total of 3 worksheets: same 9 differ 1 unanswered 0`,\n\

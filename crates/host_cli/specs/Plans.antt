@@ -30,7 +30,14 @@ abbrev pub limit_asked : Option Text → Option (Option ℕ)
 limit_asked None = Some None
 limit_asked (Some text) = limit_if (number_written text)
 
--- In how many sessions fields may wait at a time: 1 to 64 where the words write that, which goes with no strict evaluation, and else 1.
+-- In how many sessions fields may wait at a time where no words write that, neither of `eval` nor of `check`: 64. But 1, so that fields go one
+-- after another, where an evaluation is strict or a check accepts, and where a field's time has a limit, which is exact only so.
+abbrev pub jobs_unwritten : Bool → Option Text → ℕ
+jobs_unwritten true timeout = 1
+jobs_unwritten false None = 64
+jobs_unwritten false (Some text) = 1
+
+-- In how many they may: 1 to 64 where the words write that, which goes with no strict evaluation.
 abbrev pub jobs_by : Bool → Bool → ℕ → Result ℕ PlanFault
 jobs_by true true jobs = Err plans.Strict
 jobs_by true false jobs = Ok jobs
@@ -40,9 +47,9 @@ abbrev pub jobs_if : Option ℕ → Bool → Result ℕ PlanFault
 jobs_if None strict = Err plans.Jobs
 jobs_if (Some jobs) strict = jobs_by (nat_le 1 jobs && nat_le jobs 64) strict jobs
 
-abbrev pub jobs_asked : Option Text → Bool → Result ℕ PlanFault
-jobs_asked None strict = Ok 1
-jobs_asked (Some text) strict = jobs_if (number_written text) strict
+abbrev pub jobs_asked : Option Text → Bool → Option Text → Result ℕ PlanFault
+jobs_asked None strict timeout = Ok (jobs_unwritten strict timeout)
+jobs_asked (Some text) strict timeout = jobs_if (number_written text) strict
 
 -- The same of a check, where it goes with no acceptance.
 abbrev pub check_jobs_by : Bool → Bool → ℕ → Result ℕ JobsFault
@@ -54,9 +61,9 @@ abbrev pub check_jobs_if : Option ℕ → Bool → Result ℕ JobsFault
 check_jobs_if None accept = Err jobs_fault.Number
 check_jobs_if (Some jobs) accept = check_jobs_by (nat_le 1 jobs && nat_le jobs 64) accept jobs
 
-abbrev pub check_jobs_asked : Option Text → Bool → Result ℕ JobsFault
-check_jobs_asked None accept = Ok 1
-check_jobs_asked (Some text) accept = check_jobs_if (number_written text) accept
+abbrev pub check_jobs_asked : Option Text → Bool → Option Text → Result ℕ JobsFault
+check_jobs_asked None accept timeout = Ok (jobs_unwritten accept timeout)
+check_jobs_asked (Some text) accept timeout = check_jobs_if (number_written text) accept
 
 -- whether the words of `check` name several worksheets
 abbrev pub are_several : List Text → Bool
@@ -132,7 +139,7 @@ pub record AsksPlan (words : EvalView) (plan : Plan) : Type 0 where
   pub strict : plan.strict ≡ words.strict
   pub limit : limit_asked words.timeout ≡ Some plan.limit
   pub keep_going : plan.keep_going ≡ words.keep_going
-  pub jobs : jobs_asked words.jobs words.strict ≡ Ok plan.jobs
+  pub jobs : jobs_asked words.jobs words.strict words.timeout ≡ Ok plan.jobs
 
 -- they name a time that a field may take, or none
 abbrev pub NamesTime : EvalView → Type 0
@@ -140,13 +147,13 @@ NamesTime words = (limit : Option ℕ) × (limit_asked words.timeout ≡ Some li
 
 -- and a number of sessions with it, or none
 abbrev pub NamesJobs : EvalView → Type 0
-NamesJobs words = NamesTime words × ((jobs : ℕ) × (jobs_asked words.jobs words.strict ≡ Ok jobs))
+NamesJobs words = NamesTime words × ((jobs : ℕ) × (jobs_asked words.jobs words.strict words.timeout ≡ Ok jobs))
 
 -- They ask for nothing that there is, for this reason, of which the time is the first, and how many sessions the next; or there was no memory.
 abbrev pub AsksNoPlan : EvalView → PlanFault → Type 0
 AsksNoPlan words plans.Seconds = limit_asked words.timeout ≡ None
-AsksNoPlan words plans.Jobs = NamesTime words × (jobs_asked words.jobs words.strict ≡ Err plans.Jobs)
-AsksNoPlan words plans.Strict = NamesTime words × (jobs_asked words.jobs words.strict ≡ Err plans.Strict)
+AsksNoPlan words plans.Jobs = NamesTime words × (jobs_asked words.jobs words.strict words.timeout ≡ Err plans.Jobs)
+AsksNoPlan words plans.Strict = NamesTime words × (jobs_asked words.jobs words.strict words.timeout ≡ Err plans.Strict)
 AsksNoPlan words plans.Id = NamesJobs words × (which_asked words.from words.ids ≡ Err plans.Id)
 AsksNoPlan words plans.Both = NamesJobs words × (which_asked words.from words.ids ≡ Err plans.Both)
 AsksNoPlan words plans.OutOfMemory = Unit {0}

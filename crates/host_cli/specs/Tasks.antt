@@ -157,7 +157,7 @@ module _ {Y D P S I W E Q : Type 0} (o : OutsideView D P S I W E) where
   ChecksAs old new end path c = (files : Result D FilesFault) × o.places.reads old.places path files new.places
       × CheckEnds o.disks (one_by_one (way o.after o.clock o.wakes c.request.limit) c.request.chosen c.request.format) files (calling_of old new) (streams_of old new) end
 
-  -- `check --jobs`, of fields of so many sessions side by side
+  -- the same, of fields of so many sessions side by side
   abbrev pub TogetherAs : Outside Y D P S I W E Q → Outside Y D P S I W E Q → CheckEnding → Text → CheckPlan → Type 0
   TogetherAs old new end path c = (files : Result D FilesFault) × o.places.reads old.places path files new.places
       × TogetherEnds o.disks (side_by_side (way o.after o.clock o.wakes c.request.limit) c.jobs c.request.chosen c.request.format) files (calling_of old new) (streams_of old new) end
@@ -244,7 +244,7 @@ module _ {Y D P S I W E Q : Type 0} (o : OutsideView D P S I W E) where
       × MatchResult read (λ request. ChecksPaths old new ending path words (check_plan request b.jobs)) (ChecksNone old new ending)
 
   abbrev pub ChecksJobs : Outside Y D P S I W E Q → Outside Y D P S I W E Q → Ending → Text → CheckView → Option ℕ → Type 0
-  ChecksJobs old new ending path words limit = MatchResult (check_jobs_asked words.jobs words.accept) (λ jobs. ChecksWithin old new ending path words (check_bounds limit jobs)) (ChecksNoJobs old new ending)
+  ChecksJobs old new ending path words limit = MatchResult (check_jobs_asked words.jobs words.accept words.timeout) (λ jobs. ChecksWithin old new ending path words (check_bounds limit jobs)) (ChecksNoJobs old new ending)
 
   -- `check` as its words ask for it
   abbrev pub DoesCheck : Outside Y D P S I W E Q → Outside Y D P S I W E Q → Ending → Text → CheckView → Type 0

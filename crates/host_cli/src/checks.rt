@@ -39,7 +39,7 @@ fn check_as<Y: System>(
     )
 }
 
-/// `check --jobs` of the worksheet at a path, of fields side by side.
+/// `check` of the worksheet at a path, of fields side by side.
 fn check_together_as<Y: System>(
     alloc: Global,
     outside: &mut Outside<Y>,
@@ -194,7 +194,7 @@ pub(crate) fn check_at<Y: System>(
     let Some(limit) = read_limit(words.timeout) else {
         return refuse_check_limit(&mut outside.errors);
     };
-    let jobs = match read_check_jobs(words.jobs, words.accept) {
+    let jobs = match read_check_jobs(words.jobs, words.accept, words.timeout) {
         Ok(jobs) => jobs,
         Err(why) => return refuse_jobs(why, &mut outside.errors),
     };

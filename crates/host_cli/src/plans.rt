@@ -1,7 +1,7 @@
 //! What the words of `eval` ask for, and what those of `check` do beside its request.
 ghost use Rattle.std.specs.Prelude.{◌≡◌, Err, IfErr, IfOk, Ok, map, option_map, true};
 ghost use Rattle.command_words.specs.Asked.{eval_view};
-ghost use Rattle.host_cli.specs.Plans.{AsksNoPlan, AsksPlan, check_jobs_asked, check_jobs_by, from_asked, jobs_asked, jobs_by, left_out_of_several, limit_asked, named_asked, numbers_in, several_refused, which_asked};
+ghost use Rattle.host_cli.specs.Plans.{AsksNoPlan, AsksPlan, check_jobs_asked, check_jobs_by, from_asked, jobs_asked, jobs_by, jobs_unwritten, left_out_of_several, limit_asked, named_asked, numbers_in, several_refused, which_asked};
 ghost use Rattle.host_cli.specs.Plans as plan;
 ghost use Rattle.host_cli.specs.inside.Reading.{IsWhy};
 
@@ -73,12 +73,27 @@ pub(crate) fn read_limit(text: Option<&str>) -> Option<Option<u32>>
     }
 }
 
-/// In how many sessions fields may wait at a time, where these words write that. One at a time without them.
-fn read_jobs(text: Option<&str>, strict: bool) -> Result<u32, PlanFault>
-    ensures { result ≡ jobs_asked (option_map (λ text. text.now) text.entry) strict }
+/// In how many sessions fields may wait at a time where no words write that: one where an evaluation is strict or a
+/// check accepts, and where there is a limit of time.
+fn unwritten_jobs(in_turn: bool, timeout: Option<&str>) -> u32
+    ensures { result ≡ jobs_unwritten in_turn (option_map (λ text. text.now) timeout.entry) }
+{
+    if in_turn {
+        return 1;
+    }
+    match timeout {
+        None => MOST_JOBS,
+        Some(_) => 1,
+    }
+}
+
+/// In how many sessions fields may wait at a time, by the words that write it, and those of the limit of time.
+fn read_jobs(text: Option<&str>, strict: bool, timeout: Option<&str>) -> Result<u32, PlanFault>
+    ensures { result ≡ jobs_asked (option_map (λ text. text.now) text.entry) strict
+        (option_map (λ text. text.now) timeout.entry) }
 {
     let Some(text) = text else {
-        return Ok(1);
+        return Ok(unwritten_jobs(strict, timeout));
     };
     match read_number(text.as_bytes()) {
         None => Err(PlanFault::Jobs),
@@ -114,13 +129,17 @@ fn allow_check_jobs(jobs: u32, accept: bool) -> Result<u32, JobsFault>
     }
 }
 
-/// In how many sessions fields of a check may wait at a time, where these words write that. One at a time without
-/// them.
-pub(crate) fn read_check_jobs(text: Option<&str>, accept: bool) -> Result<u32, JobsFault>
-    ensures { result ≡ check_jobs_asked (option_map (λ text. text.now) text.entry) accept }
+/// The same of fields of a check.
+pub(crate) fn read_check_jobs(
+    text: Option<&str>,
+    accept: bool,
+    timeout: Option<&str>,
+) -> Result<u32, JobsFault>
+    ensures { result ≡ check_jobs_asked (option_map (λ text. text.now) text.entry) accept
+        (option_map (λ text. text.now) timeout.entry) }
 {
     let Some(text) = text else {
-        return Ok(1);
+        return Ok(unwritten_jobs(accept, timeout));
     };
     match read_number(text.as_bytes()) {
         None => Err(JobsFault::Number),
@@ -226,7 +245,7 @@ pub(crate) fn read_plan(alloc: Global, words: &EvalWords<'_>) -> Result<Plan, Pl
     let Some(limit) = read_limit(words.timeout) else {
         return Err(PlanFault::Seconds);
     };
-    let jobs = match read_jobs(words.jobs, words.strict) {
+    let jobs = match read_jobs(words.jobs, words.strict, words.timeout) {
         Ok(jobs) => jobs,
         Err(why) => return Err(why),
     };

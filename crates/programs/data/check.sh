@@ -52,17 +52,20 @@ made() {
     rm -f sent lives
 }
 
-# A case of `check` over that worksheet: NAME STATUS TEXT. It stays as it was.
+# A case of `check` over that worksheet: NAME STATUS TEXT WORDS. It stays as it was.
 checks() {
-    before="$(bytes sheet) $(bytes sheet.alt 2>/dev/null)"
-    compare "$1" "$(answer check sheet </dev/null)" "$(ending "$3" "$2")"
-    compare "$1, kept" "$(bytes sheet) $(bytes sheet.alt 2>/dev/null)" "$before"
+    name=$1 want=$(ending "$3" "$2") before="$(bytes sheet) $(bytes sheet.alt 2>/dev/null)"
+    shift 3
+    compare "$name" "$(answer check "$@" sheet </dev/null)" "$want"
+    compare "$name, kept" "$(bytes sheet) $(bytes sheet.alt 2>/dev/null)" "$before"
 }
 
-# The same of a worksheet that is made first: NAME SCRIPT STATUS TEXT.
+# The same of a worksheet that is made first: NAME SCRIPT STATUS TEXT WORDS.
 checked() {
+    title=$1
     made "$2"
-    checks "$1" "$3" "$4"
+    shift 2
+    checks "$title" "$@"
 }
 
 a='session a plain sh suite.sh a\n'
@@ -75,7 +78,7 @@ checked 'one field' "$a"'new 0 a x\neval 1\nwait\n' 0 'same 1 differ 0 unanswere
 sent 'one field' 'start a\nsend a x'
 ended 'one field' 1
 checked 'fields of two sessions' "$a"'session b plain sh suite.sh b\nnew 0 a x\nnew 1 b y\nnew 2 a z\nnew 3 b \neval 3\neval 2\neval 1\nwait\n' 0 \
-    'same 3 differ 0 unanswered 0\n'
+    'same 3 differ 0 unanswered 0\n' --jobs 1
 sent 'fields of two sessions' 'start a\nsend a x\nstart b\nsend b y\nsend a z'
 ended 'fields of two sessions' 2
 checked 'an input that was set behind its answer' "$a"'new 0 a x\nnew 1 a y\neval 1\neval 2\nwait\nset 1 z\n' 0 'same 1 differ 0 unanswered 0\n'
@@ -116,10 +119,18 @@ checked 'an output that differs in what is not shown' "$a"'new 0 a nested\neval 
 checked 'bytes that are not plain' "$a"'new 0 a bytes\neval 1\nwait\n' 1 '#1 a\na] bytes\n- bytes\n+ \\x01\\x0d\303\251\\x7f\nsame 0 differ 1 unanswered 0\n'
 checked 'the output of a question mark' "$a"'new 0 a ?\neval 1\nwait\n' 0 'same 1 differ 0 unanswered 0\n'
 
-# Each difference is written when it is known: the second field is answered once the first one's text is there.
-made "$a"'new 0 a differs\nnew 1 a looks\neval 1\neval 2\nwait\n'
-timeout 10 "$tmhost" check sheet >text 2>errors
-compare 'a difference that is read at once' "$? $(cat text errors)" "$(printf '1 #1 a\na] differs\n- differs\n+ another\nsame 1 differ 1 unanswered 0')"
+# Each difference is written when it is known, where fields of one session are checked, or one after another: the next field of session a
+# is answered once the first one's text is there.
+read_at_once() {
+    : >text
+    timeout 10 "$tmhost" check $2 sheet >text 2>errors
+    compare "a difference that is read at once, $1, $2" "$? $(cat text errors)" "$(printf '1 #1 a\na] differs\n- differs\n+ another\nsame %s differ 1 unanswered 0' "$3")"
+}
+made "$a"'session b plain sh suite.sh b\nnew 0 a differs\nnew 1 b not evaluated\nnew 2 a looks\neval 1\neval 3\nwait\n'
+for words in '' '--jobs 8' '--timeout 60'; do read_at_once 'one session' "$words" 1; done
+made "$a"'session b plain sh suite.sh b\nnew 0 a differs\nnew 1 b x\nnew 2 a looks\neval 1\neval 2\neval 3\nwait\n'
+read_at_once 'one of two sessions' '--only a' 1
+for words in '--jobs 1' '--timeout 60'; do read_at_once 'two sessions' "$words" 2; done
 
 # A check that is killed.
 made "$a"'new 0 a differs\nnew 1 a kills\neval 1\neval 2\nwait\n'
@@ -206,7 +217,7 @@ reports 'points that are passed' 0 'TAP version 13\nok 1 - field 1 of a\nok 2 - 
 reports 'in words, by the name of the format' 0 'same 2 differ 0 unanswered 0\n' --format text
 made "$a"'session b plain sh suite.sh b\nnew 0 a # SKIP\nnew 1 a taps\nnew 2 b hangs\nnew 3 b five\neval 1\neval 2\neval 3\neval 4\nwait\n'
 tap='TAP version 13\nok 1 - field 1 of a\nnot ok 2 - field 2 of a\n# #2 a\n# a] taps\n# - taps\n# + not ok 7\n# + 1..0 # SKIP all\n# + \n# + Bail out!\nnot ok 3 - field 3 of b\n# #3 b\n# b] hangs\n# - hangs\n# + ?\nok 4 - field 4 of b\n1..4\n'
-reports 'points that are not' 1 "$tap" --format tap
+reports 'points that are not' 1 "$tap" --format tap --jobs 1
 sent 'points that are not' 'start a\nsend a # SKIP\nsend a taps\nstart b\nsend b hangs\nstart b\nsend b five'
 ended 'points that are not' 3
 
@@ -375,7 +386,8 @@ reports 'one session within its time' 1 '#3 a\na] differs\n- differs\n+ another\
 # Sessions side by side: the same report, in each format, of the same fields.
 made "$a"'session b plain sh suite.sh b\nnew 0 a x\nnew 1 b differs\nnew 2 a hangs\nnew 3 a tags\nnew 4 b tagged\nnew 5 b not evaluated\neval 1\neval 2\neval 3\neval 4\neval 5\nwait\n'
 for flags in '' '--format tap' '--format junit' '--json' '--only b' '--leave-out 2,4' '--timeout 60' '--only nothing'; do
-    compare "side by side as one after another, $flags" "$(answer check --jobs 4 $flags sheet </dev/null)" "$(answer check $flags sheet </dev/null)"
+    want=$(answer check --jobs 1 $flags sheet </dev/null)
+    for jobs in '' '--jobs 4'; do compare "side by side as one after another, $jobs $flags" "$(answer check $jobs $flags sheet </dev/null)" "$want"; done
 done
 rm -f sent lives
 reports 'side by side' 1 '#2 b\nb] differs\n- differs\n+ another\n#3 a\na] hangs\n- hangs\n+ ?\n#4 a\na] tags\n- tags\n+ </failure><b a="&">\n#5 b\nb] tagged\n- tagged\n+ {latex:$x$}\nsame 1 differ 3 unanswered 1\n' --jobs 2
@@ -395,10 +407,16 @@ done
 END_OF_CHILD
 rm -f met.*
 made 'session a plain env --default-signal=INT sh meets.sh a b\nsession b plain env --default-signal=INT sh meets.sh b a\nnew 0 b x\nnew 1 a x\nnew 2 a y\nnew 3 b y\neval 1\neval 2\neval 3\neval 4\nwait\n'
-rm -f met.*
-reports 'two that wait for each other' 0 'same 4 differ 0 unanswered 0\n' --jobs 2
-rm -f met.*
-reports 'two that wait for each other, one after another' 1 '#1 b\n> x\n- x\n+ ?\n#3 a\n> y\n- y\n+ ?\nsame 2 differ 0 unanswered 2\n' --jobs 1 --timeout 1
+for jobs in '' '--jobs 2'; do
+    rm -f met.*
+    reports "two that wait for each other, $jobs" 0 'same 4 differ 0 unanswered 0\n' $jobs
+    rm -f met.*
+    words "two that wait for each other, twice, $jobs" 0 'worksheet sheet\nsame 4 differ 0 unanswered 0\nworksheet sheet\nsame 4 differ 0 unanswered 0\ntotal of 2 worksheets: same 8 differ 0 unanswered 0\n' check $jobs sheet sheet
+done
+for jobs in '' '--jobs 1'; do
+    rm -f met.*
+    reports "two that wait for each other, one after another, $jobs" 1 '#1 b\n> x\n- x\n+ ?\n#3 a\n> y\n- y\n+ ?\nsame 2 differ 0 unanswered 2\n' $jobs --timeout 1
+done
 
 # What came after its time is none, and the fields after it are checked.
 made "$l"'session k plain env --default-signal=INT sh loops.sh\nnew 0 l x\nnew 1 l loop\nnew 2 k late\nnew 3 l y\nnew 4 k differs\neval 1\neval 2\neval 3\neval 4\neval 5\nwait\n'
@@ -406,7 +424,7 @@ reports 'side by side, an answer after its time is none' 1 '#2 l\n> loop\n- loop
 
 # Nothing is written before the last answer came.
 made "$a"'session b plain sh suite.sh b\nnew 0 a differs\nnew 1 b kills\neval 1\neval 2\nwait\n'
-(exec "$tmhost" check --jobs 2 --format tap sheet >text 2>errors) 2>/dev/null
+(exec "$tmhost" check --format tap sheet >text 2>errors) 2>/dev/null
 compare 'side by side, a check that is killed' "$? $(cat text errors)" '137 '
 
 # A report that is cut off has no plan, and isn't well-formed.

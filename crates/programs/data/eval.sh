@@ -31,26 +31,25 @@ END
 made ''
 evaluates 'a worksheet without fields' 0 'answered 0 unanswered 0\n' ''
 made 'session a plain sh count.sh\nsession b plain sh count.sh\nnew 0 a x\nnew 1 b y\nnew 2 a z\nmove 3 0\n'
-evaluates 'all fields in their order, each session with one interpreter' 0 \
-    'asked\nbanner a\nanswered 3\nasked\nanswered 1\nasked\nbanner b\nanswered 2\nanswered 3 unanswered 0\n' \
-    '#3 a\n> z\nz 1\n#1 a\n> x\nx 2\n#2 b\n> y\ny 1\n'
-evaluates 'again: no variable is kept' 0 \
-    'asked\nbanner a\nanswered 3\nasked\nanswered 1\nasked\nbanner b\nanswered 2\nanswered 3 unanswered 0\n' \
-    '#3 a\n> z\nz 1\n#1 a\n> x\nx 2\n#2 b\n> y\ny 1\n'
+for name in 'all fields in their order, each session with one interpreter' 'again: no variable is kept'; do
+    evaluates "$name" 0 \
+        'asked\nbanner a\nanswered 3\nasked\nanswered 1\nasked\nbanner b\nanswered 2\nanswered 3 unanswered 0\n' \
+        '#3 a\n> z\nz 1\n#1 a\n> x\nx 2\n#2 b\n> y\ny 1\n' --jobs 1
+done
 evaluates 'none is unanswered' 0 'answered 3 unanswered 0\n' '#3 a\n> z\nz 1\n#1 a\n> x\nx 2\n#2 b\n> y\ny 1\n' --unanswered
 printf 'set 1 w\nnew 2 b v\n' >given
 "$tmhost" run sheet <given >text
 evaluates 'those without an answer' 0 'asked\nbanner a\nanswered 1\nasked\nbanner b\nanswered 4\nanswered 4 unanswered 0\n' \
-    '#3 a\n> z\nz 1\n#1 a\n> w\nw 1\n#2 b\n> y\ny 1\n#4 b\n> v\nv 1\n' --unanswered
+    '#3 a\n> z\nz 1\n#1 a\n> w\nw 1\n#2 b\n> y\ny 1\n#4 b\n> v\nv 1\n' --unanswered --jobs 1
 
 # Some of the fields: those that are named, and one with those after it. The worksheet has them in the order 3, 1, 2, 4.
 made 'session a plain sh count.sh\nsession b plain sh count.sh\nnew 0 a x\nnew 1 b y\nnew 0 a z\nnew 2 b w\neval 1\nwait\n'
 evaluates 'the fields that are named, in the order of the worksheet and each once' 1 \
     'asked\nbanner a\nanswered 3\nasked\nbanner b\nanswered 4\nanswered 3 unanswered 1\n' \
-    '#3 a\n> z\nz 1\n#1 a\n> x\nx 1\n#2 b\n> y\n?\n#4 b\n> w\nw 1\n' 4 3 4
+    '#3 a\n> z\nz 1\n#1 a\n> x\nx 1\n#2 b\n> y\n?\n#4 b\n> w\nw 1\n' --jobs 1 4 3 4
 evaluates 'a field and those after it' 0 \
     'asked\nbanner a\nanswered 1\nasked\nbanner b\nanswered 2\nasked\nanswered 4\nanswered 4 unanswered 0\n' \
-    '#3 a\n> z\nz 1\n#1 a\n> x\nx 1\n#2 b\n> y\ny 1\n#4 b\n> w\nw 2\n' --from 1
+    '#3 a\n> z\nz 1\n#1 a\n> x\nx 1\n#2 b\n> y\ny 1\n#4 b\n> w\nw 2\n' --jobs 1 --from 1
 evaluates 'the last field' 0 'asked\nbanner b\nanswered 4\nanswered 4 unanswered 0\n' \
     '#3 a\n> z\nz 1\n#1 a\n> x\nx 1\n#2 b\n> y\ny 1\n#4 b\n> w\nw 1\n' --from 4
 printf 'set 1 v\nset 4 u\n' >given
@@ -81,7 +80,7 @@ words 'fields and one to begin with' 2 "error: --from goes with no ID after PATH
 made 'session a plain sh count.sh\nsession b plain ./nothing\nnew 0 a x\nnew 1 a end\nnew 2 a z\nnew 3 b y\n'
 evaluates 'an end goes on with another interpreter' 1 \
     'asked\nbanner a\nanswered 1\nasked\nended a Ended lost 1\nasked\nbanner a\nanswered 3\nasked\nended b StartRefused lost 1\nanswered 2 unanswered 2\n' \
-    '#1 a\n> x\nx 1\n#2 a\n> end\n? Ended\n#3 a\n> z\nz 1\n#4 b\n> y\n? StartRefused\n'
+    '#1 a\n> x\nx 1\n#2 a\n> end\n? Ended\n#3 a\n> z\nz 1\n#4 b\n> y\n? StartRefused\n' --jobs 1
 evaluates 'strictly: it stops behind the first one, and the fields behind keep what they show' 3 \
     'asked\nbanner a\nanswered 1\nasked\nended a Ended lost 1\nanswered 2 unanswered 2\nstopped at line 4\n' \
     '#1 a\n> x\nx 1\n#2 a\n> end\n? Ended\n#3 a\n> z\nz 1\n#4 b\n> y\n? StartRefused\n' --strict
@@ -208,13 +207,16 @@ sorted() {
     cat errors
 }
 made 'session a plain env --default-signal=INT sh meets.sh a b\nsession b plain env --default-signal=INT sh meets.sh b a\nnew 0 a x\nnew 1 a y\nnew 2 b x\nnew 3 b y\n'
-compare 'two sessions side by side' "$(sorted 2 --jobs 2)" \
-    "$(printf 'status 0\nasked\nasked\n--\nanswered 1\nanswered 2\nanswered 3\nanswered 4\nanswered 4 unanswered 0\nasked\nasked\nasked\nasked\nbanner a\nbanner b')"
-compare 'two sessions side by side, shown' "$(answer show sheet </dev/null)" \
-    "$(ending '#1 a\n> x\nx\n#2 a\n> y\ny\n#3 b\n> x\nx\n#4 b\n> y\ny\n' 0)"
-compare 'more jobs than sessions' "$(sorted 2 --jobs 64 | head -n 3)" "$(printf 'status 0\nasked\nasked')"
-compare 'one after another they wait for each other' "$(sorted 1 --jobs 1 --timeout 1)" \
-    "$(printf 'status 1\nasked\n--\nanswered 2 unanswered 2\nanswered 3\nasked\nasked\nasked\nbanner a\nbanner b\nended a Ended lost 1\nended b Ended lost 1\nover 1\nover 2 passed 1\nover 4')"
+for jobs in '' '--jobs 2' '--jobs 64'; do
+    compare "two sessions side by side, $jobs" "$(sorted 2 $jobs)" \
+        "$(printf 'status 0\nasked\nasked\n--\nanswered 1\nanswered 2\nanswered 3\nanswered 4\nanswered 4 unanswered 0\nasked\nasked\nasked\nasked\nbanner a\nbanner b')"
+    compare "two sessions side by side, $jobs, shown" "$(answer show sheet </dev/null)" \
+        "$(ending '#1 a\n> x\nx\n#2 a\n> y\ny\n#3 b\n> x\nx\n#4 b\n> y\ny\n' 0)"
+done
+for jobs in '' '--jobs 1'; do
+    compare "one after another they wait for each other, $jobs" "$(sorted 1 $jobs --timeout 1)" \
+        "$(printf 'status 1\nasked\n--\nanswered 2 unanswered 2\nanswered 3\nasked\nasked\nasked\nbanner a\nbanner b\nended a Ended lost 1\nended b Ended lost 1\nover 1\nover 2 passed 1\nover 4')"
+done
 made 'session a plain sh count.sh\nsession b plain env --default-signal=INT sh meets.sh b c\nsession c plain env --default-signal=INT sh meets.sh c b\nnew 0 a x\nnew 1 b z\nnew 2 c z\n'
 compare 'a slow one holds no other session back' "$(sorted 2 --jobs 2 --timeout 60)" \
     "$(printf 'status 0\nasked\nasked\n--\nanswered 1\nanswered 2\nanswered 3\nanswered 3 unanswered 0\nasked\nasked\nasked\nbanner a\nbanner b\nbanner c\nover 0 passed 0')"
@@ -223,8 +225,12 @@ made 'session a plain sh count.sh\nsession b plain sh count.sh\nnew 0 a x\nnew 1
 "$tmhost" eval --jobs 4 sheet >text 2>errors </dev/null
 compare 'a field waits for the one before it in its session' "$(sed -n 1,2p text; grep -A 1 '^answered 1$' text; LC_ALL=C sort text; cat errors)" \
     "$(printf 'asked\nasked\nanswered 1\nasked\nanswered 1\nanswered 2\nanswered 3\nanswered 3 unanswered 0\nasked\nasked\nasked\nbanner a\nbanner b')"
-evaluates 'one at a time in the order of the worksheet' 0 'asked\nbanner a\nanswered 1\nasked\nanswered 2\nasked\nbanner b\nanswered 3\nanswered 3 unanswered 0\n' \
-    '#1 a\n> x\nx 1\n#2 a\n> y\ny 2\n#3 b\n> z\nz 1\n' --jobs 1
+for words in '--jobs 1' --strict; do
+    printf 'clear 1\nclear 2\nclear 3\n' >given
+    "$tmhost" run sheet <given >text
+    evaluates "one at a time in the order of the worksheet, $words" 0 'asked\nbanner a\nanswered 1\nasked\nanswered 2\nasked\nbanner b\nanswered 3\nanswered 3 unanswered 0\n' \
+        '#1 a\n> x\nx 1\n#2 a\n> y\ny 2\n#3 b\n> z\nz 1\n' $words
+done
 printf 'set 3 w\n' >given
 "$tmhost" run sheet <given >text
 evaluates 'one session alone' 1 'asked\nbanner a\nanswered 1\nasked\nanswered 2\nanswered 2 unanswered 1\n' \

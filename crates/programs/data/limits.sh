@@ -70,7 +70,7 @@ compare 'it is left so' "$(wc -c <empty)" 0
 # What can't be opened, and why, by each program: damage, what is no worksheet, and a disk that fails, since a file is longer than it may be.
 printf 'TMWSHEET\001AR\000\000\000\011abc' >damaged
 truncate -s 2147483649 too_long
-for program in run 'run --strict' live eval show check 'check --accept' 'check --jobs 2' 'export html'; do
+for program in run 'run --strict' live eval show check 'check --accept' 'check --jobs 1' 'export html'; do
     words "$program, damage" 1 'fault 30 Damaged 10\n' $program damaged
     words "$program, no worksheet" 1 'fault 31 NotASheet\n' $program hello.txt
     words "$program, a disk that fails" 1 'fault 32 Disk\n' $program too_long
