@@ -39,8 +39,8 @@ says_form bytes = is_form (live_line_of bytes)
 abbrev pub has_form : List ℕ → Bool
 has_form script = list_any says_form (script_lines script)
 
--- What a script comes to on a disk that was read and is run as ever, strictly or not, and how it ends. One that isn't run strictly comes to
--- its end (`RunDone`), so its status is 0.
+-- What a script that was read comes to on a disk where it is run as ever, strictly or not, and how it ends. One that isn't run strictly stops
+-- at no line (`RunDone`): its status is 0, or 1 at a fault.
 pub record RunsWhole {D C W E : Type 0} (m : Manner C) (script : List ℕ) (g : GivenDisk D) (q : Calling C) (s : Streams W E) (ending : Ending) : Type 0 where
   -- the disk after the run, as it was closed
   pub later : D

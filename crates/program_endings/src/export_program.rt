@@ -1,6 +1,6 @@
 //! The program `export` over a worksheet's files, from its files on.
 ghost use Rattle.std.specs.Prelude.{◌≡◌};
-ghost use Rattle.program_endings.specs.ExportProgram.{ExportEnds, ExportedFrom, Exports, TellsExported, export_status};
+ghost use Rattle.program_endings.specs.ExportProgram.{ExportEnds, ExportedFrom, TellsExported, export_status};
 ghost use Rattle.program_endings.specs.Records.{given_disk, streams, writing};
 ghost use Rattle.sheet_files.specs.Closing.{closable};
 

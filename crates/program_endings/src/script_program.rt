@@ -5,7 +5,7 @@ ghost use Rattle.live.specs.Records.{edge_by, line_by_line};
 ghost use Rattle.program_endings.specs.Programs.{EndsUnopened};
 ghost use Rattle.program_endings.specs.Records.{calling, given_disk, streams, writing};
 ghost use Rattle.program_endings.specs.ScriptProgram as meant;
-ghost use Rattle.program_endings.specs.ScriptProgram.{RunsRead, ScriptEnds};
+ghost use Rattle.program_endings.specs.ScriptProgram.{ScriptEnds};
 ghost use Rattle.sheet_files.specs.Closing.{closable};
 ghost use Rattle.tellings.specs.Words.{in_words};
 
@@ -49,37 +49,6 @@ fn has_form(alloc: Global, script: &[u8]) -> bool
     script.lines().any(|line| says_form(alloc, line))
 }
 
-/// Runs a script that was read: line by line, as `live` does where lines come first, where one of its lines has
-/// such a form, and else as ever, strictly or not. The disk is closed at its end.
-fn run_whole<W: Write, E: Write, D: Close, S: Sources>(
-    alloc: Global,
-    strict: bool,
-    script: &[u8],
-    output: &mut W,
-    errors: &mut E,
-    disk: D,
-    sources: &mut S,
-) -> Ending
-    requires { length script.now ≤ longest_standard_input }
-    ensures { RunsRead (edge_by (line_by_line None strict) in_words S.after S.clock S.wakes) script.now (given_disk (closable D.view D.closed) disk) (calling sources.old sources.new)
-        (streams (writing W.contents output.old output.new) (writing E.contents errors.old errors.new)) result }
-{
-    if has_form(alloc, script) {
-        let manner = Manner {
-            lines_first: true,
-            limit: None,
-            strict,
-        };
-        let mut input = script;
-        return end_live(
-            alloc, manner, &mut input, &InWords, output, errors, disk, sources,
-        );
-    }
-    let Ran { disk, answer } = run_read(alloc, script, strict, output, disk, sources);
-    disk.close();
-    end_strict(answer, errors)
-}
-
 /// The whole program `run` on its files, or on why they weren't opened, strict or not: the script comes from
 /// `input`, which is read whole, and only where there are files, and what its lines give goes to `output`, each
 /// line or group of commands flushed. The line of a fault goes to `errors`, and so does that of the line after
@@ -107,19 +76,26 @@ pub fn run_script<R: Read, W: Write, E: Write, D: Close, S: Sources>(
         Ok(disk) => disk,
         Err(why) => return end_program(Err(no_files(why)), errors),
     };
-    match read_input(alloc, input) {
-        Ok(script) => run_whole(
-            alloc,
-            strict,
-            script.as_slice(),
-            output,
-            errors,
-            disk,
-            sources,
-        ),
+    let whole = match read_input(alloc, input) {
+        Ok(whole) => whole,
         Err(fault) => {
             disk.close();
-            end_program(Err(fault), errors)
+            return end_program(Err(fault), errors);
         }
+    };
+    let script = whole.as_slice();
+    if has_form(alloc, script) {
+        let manner = Manner {
+            lines_first: true,
+            limit: None,
+            strict,
+        };
+        let mut lines = script;
+        return end_live(
+            alloc, manner, &mut lines, &InWords, output, errors, disk, sources,
+        );
     }
+    let Ran { disk, answer } = run_read(alloc, script, strict, output, disk, sources);
+    disk.close();
+    end_strict(answer, errors)
 }

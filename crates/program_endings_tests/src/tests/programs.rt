@@ -1,13 +1,16 @@
 //! How `create`, `show` and `rescue` end, over disks in memory and over files.
+ghost use Rattle.std.specs.Prelude.{◌≤◌, IfOk};
+ghost use Rattle.disk_model.specs.Disk.{greatest_room};
+
 use disk_model::{FuseDisk, FuseMode, MemoryDisk};
 use host_events::HostFault;
 use journal::{CreateCause, OpenCause};
 use offline_programs::RunFault;
 use program_endings::{Ending, end_program, read_rescued, run_create, run_rescue, run_show};
-use sheet_files::{FileDisk, FilesFault, MakeFault};
+use sheet_files::{Close, FileDisk, FilesFault, MakeFault};
 use std::alloc::Global;
 use std::io::Write;
-use tests_desk::{Full, Unflushed};
+use tests_desk::{Full, Unflushed, exhausted};
 
 // Area First of a worksheet: session `a` with the word `sh`, field 1 with the input `x`, its output
 // cleared, and its answer `A`.
@@ -163,40 +166,71 @@ fn show_tells_an_output_that_fails(rt: HostRuntime) {
     assert!(rt; shows_on_a_bad(rt.alloc(), &mut Unflushed) == Some(true));
 }
 
-// Whether a rescue to an empty disk without room for what was kept ends so, and writes this on its errors alone.
-fn rescues_without_room(alloc: Global, status: u8, said: &[u8]) -> Option<bool> {
+// Whether a rescue to these files ends with status 1, and writes this on its errors alone. All memory is taken before it, or none.
+fn rescues_to<N: Close>(
+    alloc: Global,
+    files: Result<N, MakeFault>,
+    takes_memory: bool,
+    said: &[u8],
+) -> Option<bool>
+    requires { IfOk files (λ disk. 11 ≤ (N.view disk).room) }
+{
     let mut output: Vec<u8> = Vec::new(alloc);
-    let mut errors: Vec<u8> = Vec::new(alloc);
-    let files: Result<MemoryDisk, FilesFault> = Ok(holding(alloc, SHEET)?);
-    let Ok(found) = read_rescued(alloc, files) else {
+    let mut errors: Vec<u8> = Vec::with_capacity(alloc, 100).ok()?;
+    let sheet: Result<MemoryDisk, FilesFault> = Ok(holding(alloc, SHEET)?);
+    let Ok(found) = read_rescued(alloc, sheet) else {
         return None;
     };
-    let new: Result<MemoryDisk, MakeFault> = Ok(MemoryDisk::new(alloc, 40));
-    let ended = run_rescue(alloc, found, new, &mut output, &mut errors);
-    Some(ended == ending(status, true) && output.is_empty() && errors.as_slice() == said)
+    let held = if takes_memory {
+        exhausted(alloc).ok()?
+    } else {
+        Vec::new(alloc)
+    };
+    let ended = run_rescue(alloc, found, files, &mut output, &mut errors);
+    let is_told = ended == ending(1, true) && errors.as_slice() == said;
+    Some(is_told && output.is_empty() && held.is_empty() != takes_memory)
+}
+
+// The same to an empty disk with this much room.
+fn rescues_to_room(alloc: Global, room: u64, takes_memory: bool, said: &[u8]) -> Option<bool>
+    requires { (11 ≤ room) × (room ≤ greatest_room) }
+{
+    rescues_to(alloc, Ok(MemoryDisk::new(alloc, room)), takes_memory, said)
 }
 
 #[test]
 fn a_rescue_that_does_not_fit(rt: HostRuntime) {
-    assert!(rt; rescues_without_room(rt.alloc(), 1, b"fault 23 JournalFull\n") == Some(true));
+    let told = rescues_to_room(rt.alloc(), 40, false, b"fault 23 JournalFull\n");
+    assert!(rt; told == Some(true));
+}
+
+#[test]
+fn a_rescue_without_memory(rt: HostRuntime) {
+    let told = rescues_to_room(rt.alloc(), 1_000, true, b"fault 33 OutOfMemory\n");
+    assert!(rt; told == Some(true));
+}
+
+// The same to a disk with one byte.
+fn rescues_to_a_byte(alloc: Global, said: &[u8]) -> Option<bool> {
+    let bytes = Vec::from_slice(alloc, &[0]).ok()?;
+    let disk = MemoryDisk::holding(alloc, 100, bytes).ok()?;
+    rescues_to(alloc, Ok(disk), false, said)
+}
+
+#[test]
+fn a_rescue_to_a_disk_that_is_not_empty(rt: HostRuntime) {
+    assert!(rt; rescues_to_a_byte(rt.alloc(), b"fault 34 NotEmpty\n") == Some(true));
 }
 
 // The same to a disk that fails.
-fn rescues_to_a_broken_disk(alloc: Global, status: u8, said: &[u8]) -> Option<bool> {
-    let mut output: Vec<u8> = Vec::new(alloc);
-    let mut errors: Vec<u8> = Vec::new(alloc);
-    let files: Result<MemoryDisk, FilesFault> = Ok(holding(alloc, SHEET)?);
-    let Ok(found) = read_rescued(alloc, files) else {
-        return None;
-    };
+fn rescues_to_a_broken_disk(alloc: Global, said: &[u8]) -> Option<bool> {
     let broken = FuseDisk::new(MemoryDisk::new(alloc, 1_000), 1, FuseMode::From);
-    let ended = run_rescue(alloc, found, Ok(broken), &mut output, &mut errors);
-    Some(ended == ending(status, true) && output.is_empty() && errors.as_slice() == said)
+    rescues_to(alloc, Ok(broken), false, said)
 }
 
 #[test]
 fn a_rescue_to_a_disk_that_fails(rt: HostRuntime) {
-    assert!(rt; rescues_to_a_broken_disk(rt.alloc(), 1, b"fault 32 Disk\n") == Some(true));
+    assert!(rt; rescues_to_a_broken_disk(rt.alloc(), b"fault 32 Disk\n") == Some(true));
 }
 
 /// Whether `show` of the worksheet in these files ends so, and writes this on its output and its errors.
