@@ -1,2 +1,3 @@
+pub mod ByWords
 pub mod EachChecked
 pub mod NumbersRead

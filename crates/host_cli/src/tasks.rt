@@ -3,7 +3,7 @@
 ghost use Rattle.std.specs.Prelude.{◌≡◌, ◌≢◌, [], List, Err, map, option_map, string_bytes};
 ghost use Rattle.command_words.specs.Asked.{eval_view, task_view};
 ghost use Rattle.command_words.specs.Asked as asked;
-ghost use Rattle.host_cli.specs.Tasks.{BringsOut, DoesAsked, DoesCreate, DoesEval, DoesExport, DoesRescue, DoesShow, DoesTask, EndsBy, EvaluatesAs, ExportsAs, LeavesAlone, Performs, outer, voice_by};
+ghost use Rattle.host_cli.specs.Tasks.{BringsOut, DoesCreate, DoesEval, DoesExport, DoesRescue, DoesShow, DoesTask, EvaluatesAs, ExportsAs, LeavesAlone, Performs, outer, voice_by};
 ghost use Rattle.program_endings.specs.Ending.{TellsFault};
 ghost use Rattle.offline_programs.specs.declared.fault.RunFault.TheVariants as fault;
 
@@ -204,32 +204,6 @@ pub fn do_task<Y: System>(alloc: Global, task: Task<'_>, outside: &mut Outside<Y
     }
 }
 
-/// Does the task that these words ask for, or tells why there is none.
-fn do_words<Y: System>(alloc: Global, words: Vec<String>, outside: &mut Outside<Y>) -> Ending
-    ensures { DoesAsked (outer Y.Places.Places Y.Disk.Disk Y.Disk.closed Y.Sources.after
-        Y.Sources.clock Y.Sources.wakes Y.Input.Read Y.Output.Write Y.Output.brought Y.Errors.Write) (map string_bytes words.items) outside.old outside.new result }
-{
-    match read_words(alloc, words.as_slice()) {
-        Ok(task) => do_task(alloc, task, outside),
-        Err(error) => refuse_words(&error, &mut outside.output, &mut outside.errors),
-    }
-}
-
-/// The program before its output is flushed.
-fn end_by_words<Y: System>(
-    alloc: Global,
-    words: Result<Vec<String>, io::ErrorKind>,
-    outside: &mut Outside<Y>,
-) -> Ending
-    ensures { EndsBy (outer Y.Places.Places Y.Disk.Disk Y.Disk.closed Y.Sources.after
-        Y.Sources.clock Y.Sources.wakes Y.Input.Read Y.Output.Write Y.Output.brought Y.Errors.Write) (λ all. map string_bytes all.items) words outside.old outside.new result }
-{
-    match words {
-        Ok(words) => do_words(alloc, words, outside),
-        Err(kind) => refuse_unread_words(kind, &mut outside.errors),
-    }
-}
-
 /// The end of a program whose output can't be flushed: the fault `Output`, where it has none of its own.
 fn end_unsent<E: Write>(alone: Ending, errors: &mut E) -> Ending
     ensures same { alone.status ≡ 1 → (result ≡ alone) × (errors.new ≡ errors.old) }
@@ -264,6 +238,12 @@ pub fn perform<Y: System>(
     ensures { Performs (outer Y.Places.Places Y.Disk.Disk Y.Disk.closed Y.Sources.after
         Y.Sources.clock Y.Sources.wakes Y.Input.Read Y.Output.Write Y.Output.brought Y.Errors.Write) (λ all. map string_bytes all.items) words outside.old outside.new result }
 {
-    let ending = end_by_words(alloc, words, outside);
+    let ending = match words {
+        Ok(words) => match read_words(alloc, words.as_slice()) {
+            Ok(task) => do_task(alloc, task, outside),
+            Err(error) => refuse_words(&error, &mut outside.output, &mut outside.errors),
+        },
+        Err(kind) => refuse_unread_words(kind, &mut outside.errors),
+    };
     bring_out(outside, ending)
 }
