@@ -1,15 +1,10 @@
 //! A script over a worksheet on a disk, with interpreters.
-ghost use Rattle.std.specs.Prelude.{◌≡◌, ◌<◌, ◌≤◌, ◌^◌, IfErr, IfOk, IfSome, IsErrOf, OnOk, Some, false, length};
+ghost use Rattle.std.specs.Prelude.{◌≡◌, ◌≤◌, IfErr, IfOk, IfSome, IsErrOf, OnOk, Some, false, length};
 ghost use Rattle.disk_model.specs.Disk.{Rises, SameDisk};
-ghost use Rattle.session_engine.specs.World.{World};
-ghost use Rattle.session_engine.specs.Host.{IsHost};
-ghost use Rattle.child_edge.specs.Faithful.{at};
 ghost use Rattle.offline_programs.specs.Faults.{Untouched};
 ghost use Rattle.offline_programs.specs.Input.{longest_standard_input};
-ghost use Rattle.offline_programs.specs.Memory.{script_lines};
-ghost use Rattle.sheet_programs.specs.Records.{left, manner, outside};
+ghost use Rattle.sheet_programs.specs.Records.{manner, outside};
 ghost use Rattle.sheet_programs.specs.Strict.{RunDone, TellsRun};
-ghost use Rattle.sheet_programs.specs.inside.Taking.{LinesEnded, LinesStopped};
 ghost use Rattle.offline_programs.specs.declared.fault.RunFault.TheVariants as told;
 ghost use Rattle.journal.specs.declared.opening.OpenCause.TheVariants as opens;
 ghost use Rattle.host_events.specs.declared.outcome.HostFault.TheVariants as hosts;
@@ -31,29 +26,6 @@ pub struct Ran<D: Disk> {
     pub disk: D,
     /// The number of the line after which it stopped, where it is strict and did; or why it ended early.
     pub answer: Result<Option<u64>, RunFault>,
-}
-
-/// Does the lines of a script, and stops each life that goes on then.
-fn run_on_host<D: Disk, C: Children, W: Write>(
-    alloc: Global,
-    host: &mut Host<D>,
-    children: &mut C,
-    script: &[u8],
-    strict: bool,
-    writer: &mut W,
-) -> Result<Option<u64>, RunFault>
-    requires { length (script_lines script.now) < 2 ^ 32 }
-    ensures same { SameDisk host.old.store.disk host.new.store.disk }
-    ensures ok { (w : World) → IsHost host.old w → IfOk result (LinesEnded (manner C.after strict)
-        (script_lines script.now) (at w children.old host.old.store.disk)
-        (left host.new children.new (W.contents writer.old) (W.contents writer.new))) }
-    ensures err { (w : World) → IsHost host.old w → IfErr result (LinesStopped (manner C.after strict)
-        (script_lines script.now) (at w children.old host.old.store.disk)
-        (left host.new children.new (W.contents writer.old) (W.contents writer.new))) }
-{
-    let done = run_lines(alloc, host, children, script, strict, writer);
-    stop_all(host, children);
-    done
 }
 
 /// Runs a script that was read, strictly or not: as `run` does, or up to the first line that goes wrong, which is
@@ -95,7 +67,8 @@ pub fn run_read<W: Write, D: Disk, C: Children>(
             };
         }
     };
-    let answer = run_on_host(alloc, &mut host, children, script, strict, writer);
+    let answer = run_lines(alloc, &mut host, children, script, strict, writer);
+    stop_all(&host, children);
     Ran {
         disk: host.close(),
         answer,
