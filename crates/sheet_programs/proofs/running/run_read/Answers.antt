@@ -63,7 +63,7 @@ returns-clause-unopened g c = λ e.
     absurd (stopped_open (manner g.C.Children.after c.args.strict) (script_lines c.args.script.now) (at start c.args.children.now c.in-Ok.host.store.disk)
     (left c.run_lines-answer.new.host c.stop_all.new.children (g.W.Write.contents c.args.writer.now) (g.W.Write.contents c.run_lines-answer.new.writer)) opens.Disk
     (lines_stopped (manner g.C.Children.after c.args.strict) (script_lines c.args.script.now) (at start c.args.children.now c.in-Ok.host.store.disk) c.run_lines-answer.new.host c.run_lines-answer.new.children c.stop_all.new.children
-    (g.W.Write.contents c.args.writer.now) (g.W.Write.contents c.run_lines-answer.new.writer) (c.stop_all.ensures.working, c.stop_all.ensures.stopped) (told.Open opens.Disk) c.stop_all.ensures.numbered 
+    (g.W.Write.contents c.args.writer.now) (g.W.Write.contents c.run_lines-answer.new.writer) (c.stop_all.ensures.working, c.stop_all.ensures.stopped) (told.Open opens.Disk) c.stop_all.ensures.numbered
     (if_err_is c.run_lines-answer.result _ (told.Open opens.Disk) e (c.run_lines-answer.ensures.err start o.1))))
 
 pub returns-clause-failed : goal.returns-clause-failed
@@ -76,5 +76,5 @@ returns-clause-failed g c = λ e.
     (failed_since (manner g.C.Children.after c.args.strict) (script_lines c.args.script.now) disk c.in-Ok.host.store.disk start c.args.children.now
     (left host c.stop_all.new.children (g.W.Write.contents c.args.writer.now) (g.W.Write.contents c.run_lines-answer.new.writer)) c.in-Ok.ensures.same
     (lines_stopped (manner g.C.Children.after c.args.strict) (script_lines c.args.script.now) (at start c.args.children.now c.in-Ok.host.store.disk) c.run_lines-answer.new.host c.run_lines-answer.new.children c.stop_all.new.children
-    (g.W.Write.contents c.args.writer.now) (g.W.Write.contents c.run_lines-answer.new.writer) (c.stop_all.ensures.working, c.stop_all.ensures.stopped) (told.Host hosts.Disk) c.stop_all.ensures.numbered 
+    (g.W.Write.contents c.args.writer.now) (g.W.Write.contents c.run_lines-answer.new.writer) (c.stop_all.ensures.working, c.stop_all.ensures.stopped) (told.Host hosts.Disk) c.stop_all.ensures.numbered
     (if_err_is c.run_lines-answer.result _ (told.Host hosts.Disk) e (c.run_lines-answer.ensures.err start o.1))))
