@@ -2,7 +2,7 @@
 ghost use Rattle.std.specs.Prelude.{◌≡◌, [], map};
 ghost use Rattle.command_words.specs.Asked.{check_view};
 ghost use Rattle.host_cli.specs.Plans.{check_plan};
-ghost use Rattle.host_cli.specs.Tasks.{ChecksAs, ChecksBy, ChecksPaths, Compares, ComparesEach, ComparesNext, DoesCheck, TogetherAs, outer};
+ghost use Rattle.host_cli.specs.Tasks.{ChecksAs, ChecksBy, ChecksPaths, Compares, ComparesEach, ComparesNext, DoesCheck, TogetherAs, disks_seen, outer, sources_seen, streams_seen};
 
 use crate::outside::{Outside, System};
 use crate::plans::{are_several, read_check_jobs, read_limit, several_fault};
@@ -24,8 +24,8 @@ fn check_as<Y: System>(
     jobs: u32,
     path: &str,
 ) -> CheckEnding
-    ensures does { ChecksAs (outer Y.Places.Places Y.Disk.Disk Y.Disk.closed Y.Sources.after
-        Y.Sources.clock Y.Sources.wakes Y.Input.Read Y.Output.Write Y.Output.brought Y.Errors.Write) outside.old outside.new result path.now (check_plan request.now jobs) }
+    ensures does { ChecksAs (outer Y.Places.Places (disks_seen Y.Disk.Disk Y.Disk.closed) (sources_seen Y.Sources.after Y.Sources.clock Y.Sources.wakes)
+        (streams_seen Y.Input.Read Y.Output.Write Y.Output.brought Y.Errors.Write)) outside.old outside.new result path.now (check_plan request.now jobs) }
     ensures leaves { outside.new.input ≡ outside.old.input }
 {
     run_check(
@@ -47,8 +47,8 @@ fn check_together_as<Y: System>(
     jobs: u32,
     path: &str,
 ) -> CheckEnding
-    ensures does { TogetherAs (outer Y.Places.Places Y.Disk.Disk Y.Disk.closed Y.Sources.after
-        Y.Sources.clock Y.Sources.wakes Y.Input.Read Y.Output.Write Y.Output.brought Y.Errors.Write) outside.old outside.new result path.now (check_plan request.now jobs) }
+    ensures does { TogetherAs (outer Y.Places.Places (disks_seen Y.Disk.Disk Y.Disk.closed) (sources_seen Y.Sources.after Y.Sources.clock Y.Sources.wakes)
+        (streams_seen Y.Input.Read Y.Output.Write Y.Output.brought Y.Errors.Write)) outside.old outside.new result path.now (check_plan request.now jobs) }
     ensures leaves { outside.new.input ≡ outside.old.input }
 {
     run_check_together(
@@ -71,8 +71,8 @@ fn compare<Y: System>(
     jobs: u32,
     path: &str,
 ) -> CheckEnding
-    ensures does { Compares (outer Y.Places.Places Y.Disk.Disk Y.Disk.closed Y.Sources.after
-        Y.Sources.clock Y.Sources.wakes Y.Input.Read Y.Output.Write Y.Output.brought Y.Errors.Write) outside.old outside.new result path.now (check_plan request.now jobs) }
+    ensures does { Compares (outer Y.Places.Places (disks_seen Y.Disk.Disk Y.Disk.closed) (sources_seen Y.Sources.after Y.Sources.clock Y.Sources.wakes)
+        (streams_seen Y.Input.Read Y.Output.Write Y.Output.brought Y.Errors.Write)) outside.old outside.new result path.now (check_plan request.now jobs) }
     ensures leaves { outside.new.input ≡ outside.old.input }
 {
     if jobs <= 1 {
@@ -90,8 +90,8 @@ fn check_by<Y: System>(
     jobs: u32,
     path: &str,
 ) -> Ending
-    ensures does { ChecksBy (outer Y.Places.Places Y.Disk.Disk Y.Disk.closed Y.Sources.after
-        Y.Sources.clock Y.Sources.wakes Y.Input.Read Y.Output.Write Y.Output.brought Y.Errors.Write) outside.old outside.new result path.now (check_plan request.now jobs) }
+    ensures does { ChecksBy (outer Y.Places.Places (disks_seen Y.Disk.Disk Y.Disk.closed) (sources_seen Y.Sources.after Y.Sources.clock Y.Sources.wakes)
+        (streams_seen Y.Input.Read Y.Output.Write Y.Output.brought Y.Errors.Write)) outside.old outside.new result path.now (check_plan request.now jobs) }
     ensures leaves { outside.new.input ≡ outside.old.input }
 {
     if let Err(why) = outside.places.hold() {
@@ -121,8 +121,8 @@ fn compare_next<Y: System>(
     jobs: u32,
     path: &str,
 ) -> CheckEnding
-    ensures does { ComparesNext (outer Y.Places.Places Y.Disk.Disk Y.Disk.closed Y.Sources.after
-        Y.Sources.clock Y.Sources.wakes Y.Input.Read Y.Output.Write Y.Output.brought Y.Errors.Write) outside.old outside.new result path.now (check_plan request.now jobs) }
+    ensures does { ComparesNext (outer Y.Places.Places (disks_seen Y.Disk.Disk Y.Disk.closed) (sources_seen Y.Sources.after Y.Sources.clock Y.Sources.wakes)
+        (streams_seen Y.Input.Read Y.Output.Write Y.Output.brought Y.Errors.Write)) outside.old outside.new result path.now (check_plan request.now jobs) }
     ensures leaves { outside.new.input ≡ outside.old.input }
 {
     match tell_worksheet(path, &mut outside.output) {
@@ -140,8 +140,8 @@ fn compare_each<Y: System>(
     jobs: u32,
     paths: &[&str],
 ) -> Ending
-    ensures does { ComparesEach (outer Y.Places.Places Y.Disk.Disk Y.Disk.closed Y.Sources.after
-        Y.Sources.clock Y.Sources.wakes Y.Input.Read Y.Output.Write Y.Output.brought Y.Errors.Write) (check_plan request.now jobs) [] (map (λ path. path.now) paths.now) outside.old outside.new result }
+    ensures does { ComparesEach (outer Y.Places.Places (disks_seen Y.Disk.Disk Y.Disk.closed) (sources_seen Y.Sources.after Y.Sources.clock Y.Sources.wakes)
+        (streams_seen Y.Input.Read Y.Output.Write Y.Output.brought Y.Errors.Write)) (check_plan request.now jobs) [] (map (λ path. path.now) paths.now) outside.old outside.new result }
     ensures leaves { outside.new.input ≡ outside.old.input }
 {
     let mut total = Total::none();
@@ -164,8 +164,8 @@ fn check_paths<Y: System>(
     request: &Request,
     jobs: u32,
 ) -> Ending
-    ensures does { ChecksPaths (outer Y.Places.Places Y.Disk.Disk Y.Disk.closed Y.Sources.after
-        Y.Sources.clock Y.Sources.wakes Y.Input.Read Y.Output.Write Y.Output.brought Y.Errors.Write) outside.old outside.new result path.now (check_view words.now) (check_plan request.now jobs) }
+    ensures does { ChecksPaths (outer Y.Places.Places (disks_seen Y.Disk.Disk Y.Disk.closed) (sources_seen Y.Sources.after Y.Sources.clock Y.Sources.wakes)
+        (streams_seen Y.Input.Read Y.Output.Write Y.Output.brought Y.Errors.Write)) outside.old outside.new result path.now (check_view words.now) (check_plan request.now jobs) }
     ensures leaves { outside.new.input ≡ outside.old.input }
 {
     if !are_several(words.paths.as_slice()) {
@@ -187,8 +187,8 @@ pub(crate) fn check_at<Y: System>(
     path: &str,
     words: CheckWords<'_>,
 ) -> Ending
-    ensures does { DoesCheck (outer Y.Places.Places Y.Disk.Disk Y.Disk.closed Y.Sources.after
-        Y.Sources.clock Y.Sources.wakes Y.Input.Read Y.Output.Write Y.Output.brought Y.Errors.Write) outside.old outside.new result path.now (check_view words.entry) }
+    ensures does { DoesCheck (outer Y.Places.Places (disks_seen Y.Disk.Disk Y.Disk.closed) (sources_seen Y.Sources.after Y.Sources.clock Y.Sources.wakes)
+        (streams_seen Y.Input.Read Y.Output.Write Y.Output.brought Y.Errors.Write)) outside.old outside.new result path.now (check_view words.entry) }
     ensures leaves { outside.new.input ≡ outside.old.input }
 {
     let Some(limit) = read_limit(words.timeout) else {

@@ -1,7 +1,7 @@
 //! `run` and `live` over the worksheet at a path, with lines of the input.
 ghost use Rattle.std.specs.Prelude.{◌≡◌};
 ghost use Rattle.command_words.specs.Asked.{run_view};
-ghost use Rattle.host_cli.specs.Tasks.{DoesLive, DoesRun, LivesAs, outer};
+ghost use Rattle.host_cli.specs.Tasks.{DoesLive, DoesRun, LivesAs, disks_seen, outer, sources_seen, streams_seen};
 ghost use Rattle.tellings.specs.Json.{in_json};
 ghost use Rattle.tellings.specs.Words.{in_words};
 
@@ -23,8 +23,8 @@ fn live_told<Y: System, T: Tells>(
     tells: &T,
     path: &str,
 ) -> Ending
-    ensures does { LivesAs (outer Y.Places.Places Y.Disk.Disk Y.Disk.closed Y.Sources.after
-        Y.Sources.clock Y.Sources.wakes Y.Input.Read Y.Output.Write Y.Output.brought Y.Errors.Write) manner T.voice outside.old outside.new result path.now }
+    ensures does { LivesAs (outer Y.Places.Places (disks_seen Y.Disk.Disk Y.Disk.closed) (sources_seen Y.Sources.after Y.Sources.clock Y.Sources.wakes)
+        (streams_seen Y.Input.Read Y.Output.Write Y.Output.brought Y.Errors.Write)) manner T.voice outside.old outside.new result path.now }
     ensures leaves { outside.new.progress ≡ outside.old.progress }
 {
     match outside.places.hold() {
@@ -44,8 +44,8 @@ fn live_told<Y: System, T: Tells>(
 
 /// `live` in words.
 pub(crate) fn live_at<Y: System>(alloc: Global, outside: &mut Outside<Y>, path: &str) -> Ending
-    ensures does { DoesLive (outer Y.Places.Places Y.Disk.Disk Y.Disk.closed Y.Sources.after
-        Y.Sources.clock Y.Sources.wakes Y.Input.Read Y.Output.Write Y.Output.brought Y.Errors.Write) in_words outside.old outside.new result path.now }
+    ensures does { DoesLive (outer Y.Places.Places (disks_seen Y.Disk.Disk Y.Disk.closed) (sources_seen Y.Sources.after Y.Sources.clock Y.Sources.wakes)
+        (streams_seen Y.Input.Read Y.Output.Write Y.Output.brought Y.Errors.Write)) in_words outside.old outside.new result path.now }
     ensures leaves { outside.new.progress ≡ outside.old.progress }
 {
     live_told(
@@ -63,8 +63,8 @@ pub(crate) fn live_at<Y: System>(alloc: Global, outside: &mut Outside<Y>, path: 
 
 /// `live` in lines of JSON.
 pub(crate) fn live_json_at<Y: System>(alloc: Global, outside: &mut Outside<Y>, path: &str) -> Ending
-    ensures does { DoesLive (outer Y.Places.Places Y.Disk.Disk Y.Disk.closed Y.Sources.after
-        Y.Sources.clock Y.Sources.wakes Y.Input.Read Y.Output.Write Y.Output.brought Y.Errors.Write) in_json outside.old outside.new result path.now }
+    ensures does { DoesLive (outer Y.Places.Places (disks_seen Y.Disk.Disk Y.Disk.closed) (sources_seen Y.Sources.after Y.Sources.clock Y.Sources.wakes)
+        (streams_seen Y.Input.Read Y.Output.Write Y.Output.brought Y.Errors.Write)) in_json outside.old outside.new result path.now }
     ensures leaves { outside.new.progress ≡ outside.old.progress }
 {
     live_told(
@@ -87,8 +87,8 @@ pub(crate) fn run_at<Y: System>(
     path: &str,
     words: RunWords<'_>,
 ) -> Ending
-    ensures does { DoesRun (outer Y.Places.Places Y.Disk.Disk Y.Disk.closed Y.Sources.after
-        Y.Sources.clock Y.Sources.wakes Y.Input.Read Y.Output.Write Y.Output.brought Y.Errors.Write) outside.old outside.new result path.now (run_view words.entry) }
+    ensures does { DoesRun (outer Y.Places.Places (disks_seen Y.Disk.Disk Y.Disk.closed) (sources_seen Y.Sources.after Y.Sources.clock Y.Sources.wakes)
+        (streams_seen Y.Input.Read Y.Output.Write Y.Output.brought Y.Errors.Write)) outside.old outside.new result path.now (run_view words.entry) }
     ensures leaves { outside.new.progress ≡ outside.old.progress }
 {
     let Some(limit) = read_limit(words.timeout) else {
