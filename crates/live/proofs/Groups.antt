@@ -100,7 +100,7 @@ module _ {C : Type 0} (o : Edge C) (p : LivePlace C) (a : Arrival) (mid : C) (ev
     group-ran : GroupRan o p.run a trace (at r.leads d g.store.disk)
     group-ran = record { events = events; sources = mid; asks = asks; outcomes = gave.outcomes.items; followed = r.followed; run = r.run; are = refl }
 
-    -- it couldn't be told
+    -- it couldn't be written
     pub group_untold : (x y : Option (List ℕ)) (f : RunFault) → IsUntold o.voice f → TakingFailed o p a (left g d x y) f
     group_untold x y f why = took_untold o p g d x y a f why (r.leads, g.store.disk, broken.ran trace group-ran, inl (r.stands, refl))
 
@@ -137,7 +137,7 @@ module _ {C : Type 0} (o : Edge C) (s : At C) (before : ℕ) (given : List (List
         own,
       )
 
-  -- their replies couldn't be told
+  -- their replies couldn't be written
   pub lines_unsaid : (gave : GaveTogether) → RanTogether o.after s events g d gave → (x y : Option (List ℕ)) (f : RunFault) → IsUntold o.voice f ⊎ (most_commands < length gave.outcomes.items)
       → TakingFailed o here (together given) (left g d x y) f
   lines_unsaid gave r x y f (inl why) = group_untold o here (together given) s.children events asks_group g d gave r x y f why

@@ -151,7 +151,7 @@ module _ {C : Type 0} (o : Edge C) (p : LivePlace C) (h : HostView) (c : C) (a b
   pub life_untold : (seat : Seat) (f : RunFault) (mid : Option (List ℕ)) → Heard o seat p.run (left h c a mid) → IsUntold o.voice f → TakingFailed o p (life seat) (left h c a b) f
   life_untold seat f mid q is = took_untold (life seat) f is (q.1, h.store.disk, broken.heard seat q.0 refl q.2, inl (q.3, refl))
 
-  -- what lives brought is told, and the wait goes on
+  -- what lives brought is written, and the wait goes on
   pub lives_told : (beats : List Beat) (t : World) (heeded : Heeded) (on held : Hold) → heeded.closed ≡ list_any has_closed (told beats) → heeded.wrong ≡ list_any is_wrong (told beats)
       → WaitGoesOn p.held t on → BeginsAgain o c (has_limit on && heeded.closed) on held
       → (text : List ℕ) × (TellsLives o p (brought beats text) (place (at t c h.store.disk) p.number (stop_if (o.strict && heeded.wrong) held)))
