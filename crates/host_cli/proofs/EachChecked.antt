@@ -4,7 +4,8 @@ use Rattle.std.specs.Bool.{MatchBool}
 use Rattle.std.specs.Borrow.{Bor}
 use Rattle.clap.specs.Words.{Text}
 use Rattle.host_cli.specs.Plans.{CheckPlan}
-use Rattle.host_cli.specs.Tasks.{ComparesEach, ComparesNext, OnlyWritten, OutsideView, streams_of}
+use Rattle.host_cli.specs.Outside.{OutsideView}
+use Rattle.host_cli.specs.Tasks.{ComparesEach, ComparesNext, OnlyWritten, streams_of}
 use Rattle.program_endings.specs.SeveralProgram.{TotalEnds, ending_of, is_unwritten, total_of}
 use Rattle.program_endings.specs.declared.check_program.CheckEnding.{CheckEnding}
 use Rattle.program_endings.specs.declared.ending.Ending.{Ending}

@@ -1,4 +1,5 @@
 pub mod Plans
 pub mod Refused
+pub mod Outside
 pub mod Tasks
 pub mod inside

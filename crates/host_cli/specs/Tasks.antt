@@ -4,14 +4,10 @@ use Rattle.std.specs.Bool.{MatchBool}
 use Rattle.std.specs.Io.KnownBytes.{Appends}
 use Rattle.std.specs.declared.io.ErrorKind.{ErrorKind as IoKind}
 use Rattle.std.specs.declared.io.ErrorKind.TheVariants as io_kind
-use Rattle.std.specs.declared.io.Read as read
-use Rattle.std.specs.declared.io.Write as write
 use Rattle.clap.specs.Words.{FailsBy, Text, fault_of, kind_of}
 use Rattle.clap.specs.declared.error.Error.{Error}
 use Rattle.clap.specs.declared.error.kind.ErrorKind.{ErrorKind}
 use Rattle.clap.specs.declared.error.kind.ErrorKind.TheVariants as kind
-use Rattle.disk_model.specs.declared.disk.Disk as disks
-use Rattle.child_edge.specs.Faithful.{Relation}
 use Rattle.check_report.specs.Requests.{Asks, AsksFor}
 use Rattle.check_report.specs.declared.report.Format.{Format as Report}
 use Rattle.check_report.specs.declared.report.Format.TheVariants as report
@@ -23,9 +19,10 @@ use Rattle.command_words.specs.Asked as asked
 use Rattle.host_cli.specs.Plans.{AsksNoPlan, AsksPlan, check_jobs_asked, limit_asked, CheckBounds, CheckPlan, are_several, check_bounds, check_plan, several_refused}
 use Rattle.host_cli.specs.Refused.{RefusesJobs, RefusesPlan, RefusesRequest, RefusesWith, ShowsText, no_check_seconds_text, no_format_text, no_run_seconds_text, RefusesSeveral}
 use Rattle.host_cli.specs.declared.outside.Outside.{Outside}
+use Rattle.host_cli.specs.Outside.{OutsideView}
 use Rattle.host_cli.specs.declared.plans.JobsFault.{JobsFault}
 use Rattle.host_cli.specs.declared.plans.PlanFault.{PlanFault}
-use Rattle.live.specs.Records.{Clock, Watch, as_it_comes, edge_by, line_by_line}
+use Rattle.live.specs.Records.{as_it_comes, edge_by, line_by_line}
 use Rattle.live.specs.declared.manner.Manner.{Manner}
 use Rattle.host_cli.specs.declared.plans.SeveralFault.{SeveralFault}
 use Rattle.offline_programs.specs.declared.fault.RunFault.{RunFault}
@@ -53,54 +50,14 @@ use Rattle.recovery.specs.declared.rescuing.Rescued.{Rescued}
 use Rattle.sheet_export.specs.Formats.{format_named, last_part}
 use Rattle.sheet_export.specs.declared.formats.Format.{Format}
 use Rattle.sheet_export.specs.declared.formats.Format.TheVariants as formats
-use Rattle.sheet_files.specs.Closing.{Closable, closable}
 use Rattle.sheet_files.specs.declared.files_fault.FilesFault.{FilesFault}
 use Rattle.sheet_files.specs.declared.files_fault.HoldFault.{HoldFault}
 use Rattle.sheet_files.specs.declared.files_fault.MakeFault.{MakeFault}
-use Rattle.sheet_files.specs.declared.places.Places as places
 use Rattle.sheet_check.specs.Accept.{to_accept}
 use Rattle.sheet_check.specs.Evaluated.{one_by_one, way}
 use Rattle.sheet_check.specs.Together.{side_by_side}
 use Rattle.evaluation.specs.Steps.{setting}
 use Rattle.evaluation.specs.declared.plan.Plan.{Plan}
-
--- How what is outside is seen, and what calls on it may lead to.
-pub record OutsideView (D P S I W E : Type 0) : Type 1 where
-  pub places : places.Ghosts P D
-  pub disks : Closable D
-  pub after : Relation S
-  pub clock : Clock S
-  pub wakes : Watch S
-  pub stream : I → Option (List ℕ)
-  pub written : W → Option (List ℕ)
-  pub brought : W → Bool → W → Type 0
-  pub said : E → Option (List ℕ)
-
--- What the sources may do: the children at a call, the clock, and a watch.
-pub record SourcesSeen (S : Type 0) : Type 1 where
-  pub after : Relation S
-  pub clock : Clock S
-  pub wakes : Watch S
-
-abbrev pub sources_seen : {S : Type 0} → Relation S → Clock S → Watch S → SourcesSeen S
-sources_seen after clock wakes = record { after = after; clock = clock; wakes = wakes }
-
--- What the streams give and hold, and that what was written goes out.
-pub record StreamsSeen (I W E : Type 0) : Type 1 where
-  pub stream : I → Option (List ℕ)
-  pub written : W → Option (List ℕ)
-  pub brought : W → Bool → W → Type 0
-  pub said : E → Option (List ℕ)
-
-abbrev pub streams_seen : {I W E : Type 0} → read.Ghosts I → write.Ghosts W → (W → Bool → W → Type 0) → write.Ghosts E → StreamsSeen I W E
-streams_seen i w b e = record { stream = i.remaining; written = w.contents; brought = b; said = e.contents }
-
-abbrev pub disks_seen : {D : Type 0} → disks.Ghosts D → (D → Type 0) → Closable D
-disks_seen d closed = closable d.view closed
-
-abbrev pub outer : {D P S I W E : Type 0} → places.Ghosts P D → Closable D → SourcesSeen S → StreamsSeen I W E → OutsideView D P S I W E
-outer p d s t =
-    record { places = p; disks = d; after = s.after; clock = s.clock; wakes = s.wakes; stream = t.stream; written = t.written; brought = t.brought; said = t.said }
 
 abbrev pub voice_by : Bool → Voice
 voice_by true = in_json

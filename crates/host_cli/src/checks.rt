@@ -2,7 +2,8 @@
 ghost use Rattle.std.specs.Prelude.{◌≡◌, [], map};
 ghost use Rattle.command_words.specs.Asked.{check_view};
 ghost use Rattle.host_cli.specs.Plans.{check_plan};
-ghost use Rattle.host_cli.specs.Tasks.{ChecksAs, ChecksBy, ChecksPaths, Compares, ComparesEach, ComparesNext, DoesCheck, TogetherAs, disks_seen, outer, sources_seen, streams_seen};
+ghost use Rattle.host_cli.specs.Outside.{disks_seen, outer, sources_seen, streams_seen};
+ghost use Rattle.host_cli.specs.Tasks.{ChecksAs, ChecksBy, ChecksPaths, Compares, ComparesEach, ComparesNext, DoesCheck, TogetherAs};
 
 use crate::outside::{Outside, System};
 use crate::plans::{are_several, read_check_jobs, read_limit, several_fault};

@@ -1,7 +1,8 @@
 //! `run` and `live` over the worksheet at a path, with lines of the input.
 ghost use Rattle.std.specs.Prelude.{◌≡◌};
 ghost use Rattle.command_words.specs.Asked.{run_view};
-ghost use Rattle.host_cli.specs.Tasks.{DoesLive, DoesRun, LivesAs, disks_seen, outer, sources_seen, streams_seen};
+ghost use Rattle.host_cli.specs.Outside.{disks_seen, outer, sources_seen, streams_seen};
+ghost use Rattle.host_cli.specs.Tasks.{DoesLive, DoesRun, LivesAs};
 ghost use Rattle.tellings.specs.Json.{in_json};
 ghost use Rattle.tellings.specs.Words.{in_words};
 

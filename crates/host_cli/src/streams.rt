@@ -1,6 +1,7 @@
 //! `blocks`, in words or in lines of JSON.
 ghost use Rattle.command_words.specs.Asked as asked;
-ghost use Rattle.host_cli.specs.Tasks.{DoesBlocks, DoesBlocksInJson, LeavesAlone, disks_seen, outer, sources_seen, streams_seen};
+ghost use Rattle.host_cli.specs.Outside.{disks_seen, outer, sources_seen, streams_seen};
+ghost use Rattle.host_cli.specs.Tasks.{DoesBlocks, DoesBlocksInJson, LeavesAlone};
 
 use crate::outside::{Outside, System};
 use program_endings::{Ending, run_block_objects, run_blocks};

@@ -3,7 +3,8 @@
 ghost use Rattle.std.specs.Prelude.{◌≡◌, ◌≢◌, [], List, Err, map, option_map, string_bytes};
 ghost use Rattle.command_words.specs.Asked.{eval_view, task_view};
 ghost use Rattle.command_words.specs.Asked as asked;
-ghost use Rattle.host_cli.specs.Tasks.{BringsOut, DoesCreate, DoesEval, DoesExport, DoesRescue, DoesShow, DoesTask, EvaluatesAs, ExportsAs, LeavesAlone, Performs, disks_seen, outer, sources_seen, streams_seen, voice_by};
+ghost use Rattle.host_cli.specs.Outside.{disks_seen, outer, sources_seen, streams_seen};
+ghost use Rattle.host_cli.specs.Tasks.{BringsOut, DoesCreate, DoesEval, DoesExport, DoesRescue, DoesShow, DoesTask, EvaluatesAs, ExportsAs, LeavesAlone, Performs, voice_by};
 ghost use Rattle.program_endings.specs.Ending.{TellsFault};
 ghost use Rattle.offline_programs.specs.declared.fault.RunFault.TheVariants as fault;
 

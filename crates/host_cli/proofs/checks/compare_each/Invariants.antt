@@ -1,7 +1,7 @@
 use Rattle.std.proofs.Common.{◌≡◌, drop}
 use Rattle.program_endings.specs.SeveralProgram.{IsBounded}
 use Rattle.host_cli.specs.Plans.{check_plan}
-use Rattle.host_cli.specs.Tasks.{disks_seen, outer, sources_seen, streams_seen}
+use Rattle.host_cli.specs.Outside.{disks_seen, outer, sources_seen, streams_seen}
 use Rattle.host_cli.proofs.EachChecked.{EachSoFar}
 use Rattle.host_cli.proofs.checks.compare_each.Given as goal
 

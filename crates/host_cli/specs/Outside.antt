@@ -1,0 +1,47 @@
+-- How what is outside is seen by the clauses of a task.
+use Rattle.std.specs.Prelude.{ℕ, Bool, List, Option}
+use Rattle.std.specs.declared.io.Read as read
+use Rattle.std.specs.declared.io.Write as write
+use Rattle.disk_model.specs.declared.disk.Disk as disks
+use Rattle.child_edge.specs.Faithful.{Relation}
+use Rattle.live.specs.Records.{Clock, Watch}
+use Rattle.sheet_files.specs.Closing.{Closable, closable}
+use Rattle.sheet_files.specs.declared.places.Places as places
+
+-- How what is outside is seen, and what calls on it may lead to.
+pub record OutsideView (D P S I W E : Type 0) : Type 1 where
+  pub places : places.Ghosts P D
+  pub disks : Closable D
+  pub after : Relation S
+  pub clock : Clock S
+  pub wakes : Watch S
+  pub stream : I → Option (List ℕ)
+  pub written : W → Option (List ℕ)
+  pub brought : W → Bool → W → Type 0
+  pub said : E → Option (List ℕ)
+
+-- What the sources may do: the children at a call, the clock, and a watch.
+pub record SourcesSeen (S : Type 0) : Type 1 where
+  pub after : Relation S
+  pub clock : Clock S
+  pub wakes : Watch S
+
+abbrev pub sources_seen : {S : Type 0} → Relation S → Clock S → Watch S → SourcesSeen S
+sources_seen after clock wakes = record { after = after; clock = clock; wakes = wakes }
+
+-- What the streams give and hold, and that what was written goes out.
+pub record StreamsSeen (I W E : Type 0) : Type 1 where
+  pub stream : I → Option (List ℕ)
+  pub written : W → Option (List ℕ)
+  pub brought : W → Bool → W → Type 0
+  pub said : E → Option (List ℕ)
+
+abbrev pub streams_seen : {I W E : Type 0} → read.Ghosts I → write.Ghosts W → (W → Bool → W → Type 0) → write.Ghosts E → StreamsSeen I W E
+streams_seen i w b e = record { stream = i.remaining; written = w.contents; brought = b; said = e.contents }
+
+abbrev pub disks_seen : {D : Type 0} → disks.Ghosts D → (D → Type 0) → Closable D
+disks_seen d closed = closable d.view closed
+
+abbrev pub outer : {D P S I W E : Type 0} → places.Ghosts P D → Closable D → SourcesSeen S → StreamsSeen I W E → OutsideView D P S I W E
+outer p d s t =
+    record { places = p; disks = d; after = s.after; clock = s.clock; wakes = s.wakes; stream = t.stream; written = t.written; brought = t.brought; said = t.said }
