@@ -1,9 +1,10 @@
 """What a live worksheet may tell and leave, by docs/SCRIPT.md: the model of scripts, taken event by event in the order of what was told."""
 
 import copy
+import itertools
 import re
 
-from model import EDITS, VERBS, Difference, Followed, Model, refused, words_of
+from model import VERBS, Difference, Followed, Model, refused, words_of
 
 # A line that tells what came of an interpreter. That one was stopped is reported by a `stop` alone.
 EVENT = re.compile(r"banner |answered |completed |ended \S+ (?!Stopped )")
@@ -76,9 +77,9 @@ class Live:
         names = (name for name in self.model.sessions if copy.deepcopy(self).take_item(name) == [told])
         return next(names, None)
 
-    def is_edit(self, at):
-        """Whether the line at this place only changes the worksheet."""
-        return at < len(self.lines) and words_of(self.lines[at])[0] in EDITS
+    def may_group(self, at):
+        """Whether the line at this place may be in a group: it says a command other than `checkpoint`."""
+        return at < len(self.lines) and words_of(self.lines[at])[0] in VERBS - {"checkpoint"}
 
     def sheets_of_lines(self):
         """The worksheets behind the next line, and behind those after it as long as they may be one group with it: which lines were there
@@ -86,16 +87,19 @@ class Live:
         live = copy.deepcopy(self)
         while live.take_line():
             yield live.model.printed()
-            if not (live.is_edit(live.at - 1) and live.is_edit(live.at)):
+            if not (live.may_group(live.at - 1) and live.may_group(live.at)):
                 return
 
     def next_sheets(self):
-        """The worksheets to which one event more may lead, or one group of lines."""
+        """The worksheets to which one event more may lead, or one group of lines, or of what several interpreters said."""
         sheets = {self.model.printed(), *self.sheets_of_lines()}
-        for name in self.model.sessions:
-            behind = copy.deepcopy(self)
-            behind.take_item(name)
-            sheets.add(behind.model.printed())
+        names = list(self.model.sessions)
+        for count in range(1, len(names) + 1):
+            for some in itertools.combinations(names, count):
+                behind = copy.deepcopy(self)
+                for name in some:
+                    behind.take_item(name)
+                sheets.add(behind.model.printed())
         return sheets
 
 
