@@ -1,5 +1,5 @@
 //! Children that are processes: each call on a child is handed on to the process of its life.
-ghost use Rattle.std.specs.Prelude.{◌≡◌, ◌⊎◌, ◌<◌, Err, IfOk, IfSome, is_some, length, position};
+ghost use Rattle.std.specs.Prelude.{◌≡◌, ◌⊎◌, ◌<◌, ◌≤◌, Err, IfOk, IfSome, OnErr, OnOk, is_some, length, position};
 ghost use Rattle.child_calls.specs.Answers.{HasSize, longest_piece, received};
 ghost use Rattle.child_calls.specs.Calls.{Answer, fault};
 ghost use Rattle.child_calls.specs.Deeds as deed;
@@ -15,6 +15,9 @@ use worksheet::Name;
 
 /// The most bytes of one piece.
 pub const LONGEST_PIECE: usize = 65_536;
+
+/// The fewest bytes that are left of a room in which a piece is read: else a new one is taken.
+const LEAST_ROOM: usize = 32_768;
 
 /// The largest block of memory that is kept for the next answer, in bytes: glibc's own limit is 33,554,432.
 const LARGEST_KEPT: usize = 33_500_000;
@@ -36,6 +39,8 @@ pub struct Lives<L: Launcher + Drop> {
     alloc: Global,
     launcher: L,
     pub(crate) running: Vec<Running<L::Process>>,
+    /// What is left of the room in which pieces are read. Small ones, of any life, share it.
+    room: BytesMut,
 }
 
 impl<L: Launcher + Drop> Lives<L> {
@@ -45,6 +50,7 @@ impl<L: Launcher + Drop> Lives<L> {
             alloc,
             launcher,
             running: Vec::new(alloc),
+            room: BytesMut::new(alloc),
         }
     }
 
@@ -73,19 +79,25 @@ fn keep_memory(alloc: Global) {
     drop(Vec::<u8>::with_capacity(alloc, LARGEST_KEPT));
 }
 
-/// Room for a piece, all that it will ever take: a byte in front of it is shared at once, and a block that
-/// has been shared is shared again without memory.
-fn room(alloc: Global) -> Result<BytesMut, AllocError>
-    ensures { IfOk result (λ room. length room.items ≡ longest_piece) }
+/// Makes room for a piece, where little is left, and takes all memory for it: a byte in front of it is shared at
+/// once, and a block that has been shared is shared again without memory. It is cleared once, not for each piece.
+fn make_room(alloc: Global, room: &mut BytesMut) -> Result<(), AllocError>
+    ensures ok { OnOk result ((0 < length room.new.items) × (length room.new.items ≤ longest_piece)) }
+    ensures err { OnErr result (room.new ≡ room.old) }
 {
-    let mut room = BytesMut::zeroed(alloc, LONGEST_PIECE + 1)?;
-    let _front = room.freeze_to(1)?;
-    Ok(room)
+    if (LEAST_ROOM..=LONGEST_PIECE).contains(&room.len()) {
+        return Ok(());
+    }
+    let mut fresh = BytesMut::zeroed(alloc, LONGEST_PIECE + 1)?;
+    let _front = fresh.freeze_to(1)?;
+    *room = fresh;
+    Ok(())
 }
 
-/// One read of a process into this room.
-fn read_piece<P: Process>(process: &mut P, mut room: BytesMut) -> Result<Received, ReceiveFault>
-    requires { length room.items ≡ longest_piece }
+/// One read of a process into this room, whose front becomes the piece.
+fn read_piece<P: Process>(process: &mut P, room: &mut BytesMut) -> Result<Received, ReceiveFault>
+    requires some { 0 < length room.old.items }
+    requires few { length room.old.items ≤ longest_piece }
     ensures gave { (came : Answer) × P.did process.old deed.read came process.new
         × ((received result ≡ came) ⊎ (received result ≡ fault)) }
     ensures remembers { result ≡ Err ReceiveFault.OutOfMemory → ⊥ }
@@ -97,8 +109,7 @@ fn read_piece<P: Process>(process: &mut P, mut room: BytesMut) -> Result<Receive
     if len == 0 {
         return Ok(Received::End);
     }
-    room.truncate(len);
-    match room.freeze() {
+    match room.freeze_to(len) {
         Ok(piece) => Ok(Received::Piece(piece)),
         Err(_) => Err(ReceiveFault::Child),
     }
@@ -139,13 +150,13 @@ impl<L: Launcher + Drop> Children for Lives<L> {
     }
 
     fn receive(&mut self, name: Name, life: u32) -> Result<Received, ReceiveFault> {
-        let Ok(room) = room(self.alloc) else {
+        let Ok(()) = make_room(self.alloc, &mut self.room) else {
             return Err(ReceiveFault::OutOfMemory);
         };
         let Some(i) = place(self.running.as_slice(), name, life) else {
             return Err(ReceiveFault::Child);
         };
-        read_piece(&mut self.running[i].process, room)
+        read_piece(&mut self.running[i].process, &mut self.room)
     }
 
     fn interrupt(&mut self, name: Name, life: u32) -> Result<(), ChildFault> {

@@ -27,7 +27,7 @@ use Rattle.tellings.specs.Voice.{Voice, came_text}
 use Rattle.live.specs.Records.{Edge}
 use Rattle.live.specs.Arrivals.{Arrival, GroupRan}
 use Rattle.live.specs.Broken.{GroupSoFar, GroupUpTo}
-use Rattle.live.specs.Gathering.{lives_text, outcomes_text}
+use Rattle.live.specs.Gathering.{each_life_text, lives_text}
 
 -- The entries.
 
@@ -61,7 +61,7 @@ trace-told w es os v fs runs = told-append (group_beats es os fs) (beats_behind 
 
 -- What is printed of them, and what is heeded.
 
-outcomes-came : (V : Voice) (sheet : Contents) (os : List Outcome) → outcomes_text V sheet os ≡ came_text V sheet (flat_map said-by os)
+outcomes-came : (V : Voice) (sheet : Contents) (os : List Outcome) → each_life_text V sheet os ≡ came_text V sheet (flat_map said-by os)
 outcomes-came V sheet [] = refl
 outcomes-came V sheet (o ∷ os) = ap (λ (x : List ℕ). came_text V sheet (spoken o.reply) ++ x) (outcomes-came V sheet os) ∙ sym (flat_map-append (V.event sheet) (spoken o.reply) (flat_map said-by os))
 

@@ -146,26 +146,26 @@ module _ {C : Type 0} (o : Edge C) (s : At C) (before : ℕ) (given : List (List
 -- Lives together.
 
 pub lives_took : {C : Type 0} (o : Edge C) (p : LivePlace C) (seat : Seat) (seats : List Seat) (mid : C) (events : List Event) (asks : GroupAsks o p.run.children events mid (lives seat seats)) (g : HostView) (d : C)
-    (gave : GaveTogether) (r : RanTogether o.after (at p.run.world mid p.run.disk) events g d gave) (lax : o.strict ≡ false) (x y z : Option (List ℕ)) (heeded : Heeded) (on held : Hold)
-    → heeded.closed ≡ (list_any (λ u. has_closed u.reply) gave.outcomes.items || list_any has_closed gave.replies.items)
-    → heeded.wrong ≡ (list_any (λ u. is_wrong u.reply) gave.outcomes.items || list_any is_wrong gave.replies.items)
+    (gave : GaveTogether) (r : RanTogether o.after (at p.run.world mid p.run.disk) events g d gave) (lax : o.strict ≡ false) (x y z : Option (List ℕ)) (closed : Bool) (on held : Hold)
+    → closed ≡ (list_any (λ u. has_closed u.reply) gave.outcomes.items || list_any has_closed gave.replies.items)
     → Appends x y (lives_text o.voice g.store.sheet.contents gave.outcomes.items gave.replies.items)
-    → WaitGoesOn p.held r.leads on → BeginsAgain o d (has_limit on && heeded.closed) on held → Appends y z (over_text o.voice p.number p.held on)
-    → TookArrival o p (lives seat seats) (left g d x z) p.number (stop_if (o.strict && heeded.wrong) held)
-lives_took o p seat seats mid events asks g d gave r lax x y z heeded on held closed wrong wrote goes again more =
+    → WaitGoesOn p.held r.leads on → BeginsAgain o d (has_limit on && closed) on held → Appends y z (over_text o.voice p.number p.held on)
+    → TookArrival o p (lives seat seats) (left g d x z) p.number held
+lives_took o p seat seats mid events asks g d gave r lax x y z closed on held is wrote goes again more =
     let V = o.voice in
     let trace = trace_of events gave.outcomes.items r.followed in
     let replied : gave.replies.items ≡ told (beats_behind r.followed) = r.replied in
     let runs = r.run.kept.runs in
-    let is_closed : heeded.closed ≡ list_any has_closed (told trace) =
-    closed ∙ ap (λ (l : List Reply). list_any (λ u. has_closed u.reply) gave.outcomes.items || list_any has_closed l) replied ∙ any_of_group has_closed refl p.run.world events gave.outcomes.items r.run.middle r.followed runs in
-    let is_lost : heeded.wrong ≡ list_any is_wrong (told trace) =
-    wrong ∙ ap (λ (l : List Reply). list_any (λ u. is_wrong u.reply) gave.outcomes.items || list_any is_wrong l) replied ∙ any_of_group is_wrong refl p.run.world events gave.outcomes.items r.run.middle r.followed runs in
+    let wrong : Bool = list_any is_wrong (told trace) in
+    let heeded : Heeded = record { closed = closed; wrong = wrong } in
+    let is_closed : closed ≡ list_any has_closed (told trace) =
+    is ∙ ap (λ (l : List Reply). list_any (λ u. has_closed u.reply) gave.outcomes.items || list_any has_closed l) replied ∙ any_of_group has_closed refl p.run.world events gave.outcomes.items r.run.middle r.followed runs in
     let own : Appends x y (came_text V (sheet_in r.leads) (told trace)) =
     subst (Appends x y) (lives_came V (sheet_in r.leads) p.run.world events gave.outcomes.items r.run.middle r.followed runs)
     (subst (λ (c : Contents). Appends x y (lives_text V c gave.outcomes.items (told (beats_behind r.followed)))) r.stands.stands.contents
     (subst (λ (l : List Reply). Appends x y (lives_text V g.store.sheet.contents gave.outcomes.items l)) replied wrote)) in
-    let told_so = lives_told o p g d x z trace r.leads heeded on held is_closed is_lost goes again in (
+    let told_so = lives_told o p g d x z trace r.leads heeded on held is_closed refl goes again in
+    subst (TookArrival o p (lives seat seats) (left g d x z) p.number) (ap (λ (x : Bool). stop_if (x && wrong) held) lax) (
       brought trace told_so.0,
       r.leads,
       (refl, group-ran o p (lives seat seats) mid events asks g d gave r, lax, told_so.1),

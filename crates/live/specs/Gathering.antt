@@ -82,13 +82,13 @@ group_fault_of (halt.Host f) = fault.Host f
 abbrev pub GroupFailed : {C : Type 0} → Relation C → At C → List Event → HostView → C → RunFault → Type 0
 GroupFailed R s events h c f = (why : TogetherFault) × (f ≡ group_fault_of why) × FailsTogether R s events h c why
 
--- what is printed of the outcome of a life's event
-abbrev pub outcome_text : Voice → Contents → Outcome → List ℕ
-outcome_text V sheet o = came_text V sheet (spoken o.reply)
+-- what is printed of what one life had
+abbrev pub life_text : Voice → Contents → Outcome → List ℕ
+life_text V sheet o = came_text V sheet (spoken o.reply)
 
-abbrev pub outcomes_text : Voice → Contents → List Outcome → List ℕ
-outcomes_text V sheet outcomes = flat_map (outcome_text V sheet) outcomes
+abbrev pub each_life_text : Voice → Contents → List Outcome → List ℕ
+each_life_text V sheet outcomes = flat_map (life_text V sheet) outcomes
 
 -- what is printed of lives that were taken together: of what they had, and of what followed
 abbrev pub lives_text : Voice → Contents → List Outcome → List Reply → List ℕ
-lives_text V sheet outcomes replies = outcomes_text V sheet outcomes ++ came_text V sheet replies
+lives_text V sheet outcomes replies = each_life_text V sheet outcomes ++ came_text V sheet replies

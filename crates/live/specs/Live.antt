@@ -91,7 +91,7 @@ pub record LiveStopped {C : Type 0} (o : Edge C) (stream : Option (List ℕ)) (f
 
 -- The disk failed in a group, which came last. Nothing of the group is written: the text is that of the arrivals before it. At every moment
 -- each image was one of the worksheet after some of the first events, those of the group that were taken among them. Each life that goes on
--- was stopped, and before that no child was called for the group.
+-- was stopped, and before that no effect of the group was carried out.
 pub record LiveBroke {C : Type 0} (o : Edge C) (stream : Option (List ℕ)) (first last : Outside C) : Type 0 where
   pub start : World
   pub now : DiskView

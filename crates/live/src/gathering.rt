@@ -1,4 +1,4 @@
-//! Lines that are there together: those that say commands are taken as one group.
+//! Lines that are there together: those that say commands, but for `checkpoint`, are taken as one group.
 ghost use Rattle.std.specs.Prelude.{◌≡◌, ◌+◌, ◌<◌, ◌≤◌, ◌^◌, ◌++◌, ◌∷◌, [], ℕ, List, Option, Some, IfErr, OnOk, false, length, true};
 ghost use Rattle.std.specs.List.{AllByRecursion};
 ghost use Rattle.disk_model.specs.Disk.{SameDisk};
@@ -19,10 +19,11 @@ ghost use Rattle.live.specs.Arrivals.{line as the_line, place, together};
 ghost use Rattle.live.specs.Taking.{TakingFailed, TookArrival};
 ghost use Rattle.live.specs.Gathering.{Gathered, GathersOne, GroupOf, arrival_of};
 
-use crate::grouping::{MOST_LINES, run_group, tell_lines};
+use crate::grouping::{run_group, tell_lines};
 use crate::holding::Hold;
 use crate::saying::say_command;
 use arrivals::{InputLines, Sources};
+use child_edge::MOST_TOGETHER;
 use disk_model::Disk;
 use host_events::{Command, Event};
 use offline_programs::RunFault;
@@ -86,7 +87,7 @@ pub(crate) fn gather<R: Read>(alloc: Global, lines: &mut InputLines<R>) -> Vec<E
     ensures reader { lines.new.reader ≡ lines.old.reader }
 {
     let mut events = Vec::new(alloc);
-    for _ in 0..MOST_LINES {
+    for _ in 0..MOST_TOGETHER {
         if !gather_one(alloc, lines, &mut events) {
             return events;
         }

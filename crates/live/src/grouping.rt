@@ -7,28 +7,23 @@ ghost use Rattle.session_engine.specs.World.{World};
 ghost use Rattle.session_engine.specs.Host.{IsHost};
 ghost use Rattle.child_edge.specs.Faithful.{at};
 ghost use Rattle.child_edge.specs.Together.{RanTogether};
-ghost use Rattle.sheet_programs.specs.Strict.{is_wrong as goes_wrong};
 ghost use Rattle.sheet_programs.specs.Together.{most_commands};
 ghost use Rattle.tellings.specs.Voice.{IsUntold, came_text, numbered_text};
 ghost use Rattle.live.specs.Saying as saying;
-ghost use Rattle.live.specs.Gathering.{GroupFailed, group_fault_of, lives_text, outcome_text, outcomes_text};
+ghost use Rattle.live.specs.Gathering.{GroupFailed, group_fault_of, each_life_text, life_text, lives_text};
 
-use crate::taking::{Heeded, has_closed, heed};
+use crate::taking::{any_closed, has_closed};
 use arrivals::Sources;
-use child_edge::{GaveTogether, TogetherFault, serve_together};
+use child_edge::{GaveTogether, MOST_TOGETHER, TogetherFault, serve_together};
 use disk_model::Disk;
 use host_events::{Event, HostFault, Outcome, Reply};
 use offline_programs::RunFault;
 use session_engine::Host;
-use sheet_programs::is_wrong;
 use std::alloc::Global;
 use std::io::Write;
 use std::slice;
 use tellings::Tells;
 use worksheet::Sheet;
-
-/// The most lines that are taken together.
-pub(crate) const MOST_LINES: usize = 1_024;
 
 /// The fault of a run, where events weren't taken together.
 fn group_fault(fault: TogetherFault) -> RunFault
@@ -76,7 +71,7 @@ pub(crate) fn tell_lines<T: Tells, W: Write>(
     ensures err { IfErr result (λ fault. IsUntold T.voice fault ⊎ (most_commands < length gave.now.outcomes.items)) }
 {
     // There is one for each line.
-    if gave.outcomes.len() > MOST_LINES {
+    if gave.outcomes.len() > MOST_TOGETHER {
         return Err(RunFault::InputTooLong);
     }
     match tells.outcomes(before + 1, sheet, gave.outcomes.as_slice(), writer) {
@@ -93,7 +88,7 @@ fn tell_outcome<T: Tells, W: Write>(
     writer: &mut W,
 ) -> Result<(), RunFault>
     ensures ok { OnOk result (Appends (W.contents writer.old) (W.contents writer.new)
-        (outcome_text T.voice sheet.now.contents outcome.now)) }
+        (life_text T.voice sheet.now.contents outcome.now)) }
     ensures err { IfErr result (IsUntold T.voice) }
 {
     match &outcome.reply {
@@ -110,7 +105,7 @@ fn tell_outcomes<T: Tells, W: Write>(
     writer: &mut W,
 ) -> Result<(), RunFault>
     ensures ok { OnOk result (Appends (W.contents writer.old) (W.contents writer.new)
-        (outcomes_text T.voice sheet.now.contents outcomes.now)) }
+        (each_life_text T.voice sheet.now.contents outcomes.now)) }
     ensures err { IfErr result (IsUntold T.voice) }
 {
     for outcome in outcomes {
@@ -122,31 +117,18 @@ fn tell_outcomes<T: Tells, W: Write>(
 }
 
 /// Whether something closed in one of these outcomes.
-fn any_closed(outcomes: &[Outcome]) -> bool
+fn any_outcome_closed(outcomes: &[Outcome]) -> bool
     ensures { result ≡ list_any (λ o. saying.has_closed o.reply) outcomes.now }
 {
     outcomes.iter().any(|outcome| has_closed(&outcome.reply))
 }
 
-/// Whether something went wrong in one of them.
-fn any_wrong(outcomes: &[Outcome]) -> bool
-    ensures { result ≡ list_any (λ o. goes_wrong o.reply) outcomes.now }
-{
-    outcomes.iter().any(|outcome| is_wrong(&outcome.reply))
-}
-
-/// What is heeded of lives that were taken together.
-pub(crate) fn heed_group(gave: &GaveTogether) -> Heeded
-    ensures closed { result.closed ≡ (list_any (λ o. saying.has_closed o.reply) gave.now.outcomes.items
+/// Whether something closed by lives that were taken together.
+pub(crate) fn group_closed(gave: &GaveTogether) -> bool
+    ensures { result ≡ (list_any (λ o. saying.has_closed o.reply) gave.now.outcomes.items
         || list_any saying.has_closed gave.now.replies.items) }
-    ensures wrong { result.wrong ≡ (list_any (λ o. goes_wrong o.reply) gave.now.outcomes.items
-        || list_any goes_wrong gave.now.replies.items) }
 {
-    let Heeded { closed, wrong } = heed(gave.replies.as_slice());
-    Heeded {
-        closed: any_closed(gave.outcomes.as_slice()) || closed,
-        wrong: any_wrong(gave.outcomes.as_slice()) || wrong,
-    }
+    any_outcome_closed(gave.outcomes.as_slice()) || any_closed(gave.replies.as_slice())
 }
 
 /// Tells what came of lives that were taken together, and then what followed.

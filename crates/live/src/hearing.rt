@@ -11,12 +11,11 @@ ghost use Rattle.live.specs.Arrivals.{Arrival, life, place};
 ghost use Rattle.live.specs.Gathering.{HearsMore, HeardAll, IsTurnOf};
 ghost use Rattle.live.specs.Taking.{TakingFailed, TookArrival};
 
-use crate::grouping::{heed_group, run_group, tell_lives};
+use crate::grouping::{group_closed, run_group, tell_lives};
 use crate::holding::{Hold, begin_again, tell_over};
 use crate::manner::Manner;
 use crate::stepping::Stand;
 use crate::taking::take_life;
-use crate::wrongs::stop_if;
 use arrivals::{Input, Sources, Woken};
 use child_calls::Seat;
 use child_edge::{MOST_TOGETHER, receive_event};
@@ -75,8 +74,8 @@ fn hear_ready<S: Sources>(
     Ok(events)
 }
 
-/// Takes what these lives have together, and gives the wait that goes on. Where something closed, the time of a line
-/// begins again.
+/// Takes what these lives have together, where the input isn't strict, and gives the wait that goes on. Where something
+/// closed, the time of a line begins again.
 fn take_lives<D: Disk, S: Sources, T: Tells, W: Write>(
     alloc: Global,
     manner: Manner,
@@ -105,12 +104,9 @@ fn take_lives<D: Disk, S: Sources, T: Tells, W: Write>(
     if let Err(fault) = tell_lives(host.sheet(), &gave, tells, writer) {
         return Err(fault);
     }
-    let heeded = heed_group(&gave);
+    let closed = group_closed(&gave);
     match tell_over(stand.held, stand.number, host, tells, writer) {
-        Ok(on) => {
-            let held = begin_again(sources, manner.limit, on, heeded.closed);
-            Ok(stop_if(manner.strict, heeded.wrong, held))
-        }
+        Ok(on) => Ok(begin_again(sources, manner.limit, on, closed)),
         Err(fault) => Err(fault),
     }
 }

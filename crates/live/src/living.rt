@@ -165,14 +165,15 @@ where
 /// work, and what their children write is taken when it comes. What an event gives is printed at once, in
 /// words (docs/SCRIPT.md, "Live", has the lines) or as JSON (docs/JSON.md). It gives the disk back.
 ///
-/// Lines that are there together and only change the worksheet are a group, up to 1,024 of them. What it gives
-/// is durable at once and printed then; where the disk failed in it, nothing of it is printed.
+/// Commands that are there together, but for `checkpoint`, are a group, up to 1,024 of them; so is what several
+/// interpreters have then. What it gives is durable at once, and only then carried out and printed. Where the host had
+/// a fault in it, nothing of it is printed.
 ///
 /// A `wait` holds back the lines after it until no item waits for an answer. `wait SECONDS` ends after so
 /// many seconds too, and each session in which an item still waits counts as stalled. At the end of the
 /// input each life that goes on is stopped, in the order of their sessions.
 ///
-/// All memory for lines is taken before the disk is opened. `Open` where the disk isn't opened: nothing
+/// All memory for the buffer of lines is taken before the disk is opened. `Open` where the disk isn't opened: nothing
 /// was read or written. `Input` where the input can't be read or its sources can't be watched,
 /// `InputTooLong` after 2^64 - 1 arrivals or 2^64 - 1,025 lines, `Host` where the host has a fault,
 /// `OutOfMemory`: what was returned before is written. `Output` where the writer fails: a part of the text may

@@ -214,7 +214,7 @@ fn say<D: Disk, S: Sources, T: Tells, W: Write>(
     }
 }
 
-/// Does what a line says, and gives the wait that it begins, and whether it went wrong.
+/// Reads a line and does what it says. One that isn't known went wrong.
 fn say_line<D: Disk, S: Sources, T: Tells, W: Write>(
     alloc: Global,
     manner: Manner,

@@ -41,7 +41,7 @@ pub(crate) fn has_closed(reply: &Reply) -> bool
 }
 
 /// Whether one of these replies says so.
-fn any_closed(replies: &[Reply]) -> bool
+pub(crate) fn any_closed(replies: &[Reply]) -> bool
     ensures { result ≡ list_any saying.has_closed replies.now }
 {
     replies.iter().any(|reply| has_closed(reply))
@@ -57,7 +57,7 @@ pub(crate) struct Heeded {
 }
 
 /// What is heeded of these replies.
-pub(crate) fn heed(replies: &[Reply]) -> Heeded
+fn heed(replies: &[Reply]) -> Heeded
     ensures closed { result.closed ≡ list_any saying.has_closed replies.now }
     ensures wrong { result.wrong ≡ list_any is_wrong replies.now }
 {

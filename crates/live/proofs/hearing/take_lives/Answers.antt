@@ -46,15 +46,14 @@ returns-in-Ok-tell_over-clause-ok g c = λ before seat w lax heard h.
     let x = g.W.Write.contents c.args.writer.now in
     let y = g.W.Write.contents c.tell_lives.new.writer in
     let z = g.W.Write.contents c.tell_over.new.writer in
-    let heeded = c.heed_group-heeded.result in
+    let closed = c.group_closed-closed.result in
     let on = c.in-Ok-tell_over.on in
-    let held = c.begin_again-held.result in (
+    let held = c.begin_again.result in (
       lives seat seats,
       inr (seats, refl),
-      subst (λ stand. TookArrival o p (lives seat seats) (left host d x z) c.args.stand.number stand) (sym c.stop_if.ensures)
-          (lives_took o p seat seats c.args.sources.now c.args.events.items asks host d c.in-Ok.gave r lax x y z heeded on held c.heed_group-heeded.ensures.closed c.heed_group-heeded.ensures.wrong
+      lives_took o p seat seats c.args.sources.now c.args.events.items asks host d c.in-Ok.gave r lax x y z closed on held c.group_closed-closed.ensures
           (subst (λ s. Appends x y (lives_text g.T.Tells.voice s c.in-Ok.gave.outcomes.items c.in-Ok.gave.replies.items)) (ap (λ s. s.contents) c.sheet.ensures.sheet) c.in_default.ensures.ok)
-          (c.in-Ok-tell_over.ensures.on r.leads r.stands) (again_by o d (has_limit on && heeded.closed) on held c.begin_again-held.ensures.again c.begin_again-held.ensures.stays) c.in-Ok-tell_over.ensures.told),
+          (c.in-Ok-tell_over.ensures.on r.leads r.stands) (again_by o d (has_limit on && closed) on held c.begin_again.ensures.again c.begin_again.ensures.stays) c.in-Ok-tell_over.ensures.told,
     )
 
 pub returns-clause-err : goal.returns-clause-err
