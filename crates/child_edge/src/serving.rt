@@ -1,5 +1,5 @@
 //! Commands and waits, each effect carried out.
-ghost use Rattle.std.specs.Prelude.{◌≡◌, ◌+◌, ◌++◌, ◌≤◌, ◌<◌, IfOk, IfErr, IsErrOf, MatchResult, OnOk, OnErr, Option, Some, None, [], true, length, vec_len, vec_capacity};
+ghost use Rattle.std.specs.Prelude.{◌≡◌, ◌+◌, ◌++◌, ◌≤◌, ◌<◌, IfOk, IfErr, IsErrOf, MatchResult, OnOk, OnErr, Option, Some, None, [], true, vec_len, vec_capacity};
 ghost use Rattle.disk_model.specs.Disk.{SameDisk};
 ghost use Rattle.session_engine.specs.World.{World};
 ghost use Rattle.session_engine.specs.Host.{IsHost, Took};

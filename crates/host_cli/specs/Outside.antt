@@ -8,18 +8,6 @@ use Rattle.live.specs.Records.{Clock, Watch}
 use Rattle.sheet_files.specs.Closing.{Closable, closable}
 use Rattle.sheet_files.specs.declared.places.Places as places
 
--- How what is outside is seen, and what calls on it may lead to.
-pub record OutsideView (D P S I W E : Type 0) : Type 1 where
-  pub places : places.Ghosts P D
-  pub disks : Closable D
-  pub after : Relation S
-  pub clock : Clock S
-  pub wakes : Watch S
-  pub stream : I → Option (List ℕ)
-  pub written : W → Option (List ℕ)
-  pub brought : W → Bool → W → Type 0
-  pub said : E → Option (List ℕ)
-
 -- What the sources may do: the children at a call, the clock, and a watch.
 pub record SourcesSeen (S : Type 0) : Type 1 where
   pub after : Relation S
@@ -42,6 +30,12 @@ streams_seen i w b e = record { stream = i.remaining; written = w.contents; brou
 abbrev pub disks_seen : {D : Type 0} → disks.Ghosts D → (D → Type 0) → Closable D
 disks_seen d closed = closable d.view closed
 
+-- How what is outside is seen, and what calls on it may lead to.
+pub record OutsideView (D P S I W E : Type 0) : Type 1 where
+  pub places : places.Ghosts P D
+  pub disks : Closable D
+  pub sources : SourcesSeen S
+  pub streams : StreamsSeen I W E
+
 abbrev pub outer : {D P S I W E : Type 0} → places.Ghosts P D → Closable D → SourcesSeen S → StreamsSeen I W E → OutsideView D P S I W E
-outer p d s t =
-    record { places = p; disks = d; after = s.after; clock = s.clock; wakes = s.wakes; stream = t.stream; written = t.written; brought = t.brought; said = t.said }
+outer p d s t = record { places = p; disks = d; sources = s; streams = t }

@@ -95,7 +95,7 @@ module _ {Y D P S I W E Q : Type 0} where
 module _ {Y D P S I W E Q : Type 0} (o : OutsideView D P S I W E) where
   -- the output and the stream of errors, before and after
   abbrev pub streams_of : Outside Y D P S I W E Q → Outside Y D P S I W E Q → Streams W E
-  streams_of old new = streams (writing o.written old.output new.output) (writing o.said old.errors new.errors)
+  streams_of old new = streams (writing o.streams.written old.output new.output) (writing o.streams.said old.errors new.errors)
 
   -- the interpreters, before and after
   abbrev pub calling_of : Outside Y D P S I W E Q → Outside Y D P S I W E Q → Calling S
@@ -103,7 +103,7 @@ module _ {Y D P S I W E Q : Type 0} (o : OutsideView D P S I W E) where
 
   -- how a program with this answer ends, and what it says on the stream of errors
   abbrev pub EndsWith : Outside Y D P S I W E Q → Outside Y D P S I W E Q → Ending → ProgramAnswer → Type 0
-  EndsWith old new ending answer = EndsAs (writing o.said old.errors new.errors) ending answer
+  EndsWith old new ending answer = EndsAs (writing o.streams.said old.errors new.errors) ending answer
 
   -- The places of the standard streams are held before anything else is done. Where they can't be, that is the fault.
   abbrev pub HeldFirst : Outside Y D P S I W E Q → Outside Y D P S I W E Q → (RunFault → Type 0) → (P → Type 0) → Type 0
@@ -112,19 +112,19 @@ module _ {Y D P S I W E Q : Type 0} (o : OutsideView D P S I W E) where
 
   -- `blocks`
   abbrev pub DoesBlocks : Outside Y D P S I W E Q → Outside Y D P S I W E Q → Ending → Type 0
-  DoesBlocks old new ending = (answer : ProgramAnswer) × BlocksAnswer (o.stream old.input) o.written old.output new.output answer × EndsWith old new ending answer
+  DoesBlocks old new ending = (answer : ProgramAnswer) × BlocksAnswer (o.streams.stream old.input) o.streams.written old.output new.output answer × EndsWith old new ending answer
 
   -- `blocks --json`, which has a fault of its own last
   abbrev pub DoesBlocksInJson : Outside Y D P S I W E Q → Outside Y D P S I W E Q → Ending → Type 0
-  DoesBlocksInJson old new ending = (answer : ProgramAnswer) × (mid : W) × ObjectsAnswer (o.stream old.input) o.written old.output mid answer
-      × LastTold in_json o.written mid new.output ending.told answer × EndsWith old new ending answer
+  DoesBlocksInJson old new ending = (answer : ProgramAnswer) × (mid : W) × ObjectsAnswer (o.streams.stream old.input) o.streams.written old.output mid answer
+      × LastTold in_json o.streams.written mid new.output ending.told answer × EndsWith old new ending answer
 
   -- `create` of what the places make at a path, or of why they don't
   abbrev pub DoesCreate : Outside Y D P S I W E Q → Outside Y D P S I W E Q → Ending → Text → Type 0
   DoesCreate old new ending path =
       HeldFirst old new (λ why. EndsWith old new ending (Err why)) (λ held. (files : Result D MakeFault) × o.places.creates held path files new.places
-      × IfErr files (λ why. (ending.status ≡ 1) × TellsMake o.said old.errors new.errors ending.told why)
-      × IfOk files (λ disk. CreateEnds (given_disk o.disks disk) (writing o.said old.errors new.errors) ending))
+      × IfErr files (λ why. (ending.status ≡ 1) × TellsMake o.streams.said old.errors new.errors ending.told why)
+      × IfOk files (λ disk. CreateEnds (given_disk o.disks disk) (writing o.streams.said old.errors new.errors) ending))
 
   -- `show` of what they open to read at a path
   abbrev pub DoesShow : Outside Y D P S I W E Q → Outside Y D P S I W E Q → Ending → Text → Type 0
@@ -135,12 +135,12 @@ module _ {Y D P S I W E Q : Type 0} (o : OutsideView D P S I W E) where
   -- `check` of the same, of one field after another
   abbrev pub ChecksAs : Outside Y D P S I W E Q → Outside Y D P S I W E Q → CheckEnding → Text → CheckPlan → Type 0
   ChecksAs old new end path c = (files : Result D FilesFault) × o.places.reads old.places path files new.places
-      × CheckEnds o.disks (one_by_one (way o.after o.clock o.wakes c.request.limit) c.request.chosen c.request.format) files (calling_of old new) (streams_of old new) end
+      × CheckEnds o.disks (one_by_one (way o.sources.after o.sources.clock o.sources.wakes c.request.limit) c.request.chosen c.request.format) files (calling_of old new) (streams_of old new) end
 
   -- the same, of fields of so many sessions side by side
   abbrev pub TogetherAs : Outside Y D P S I W E Q → Outside Y D P S I W E Q → CheckEnding → Text → CheckPlan → Type 0
   TogetherAs old new end path c = (files : Result D FilesFault) × o.places.reads old.places path files new.places
-      × TogetherEnds o.disks (side_by_side (way o.after o.clock o.wakes c.request.limit) c.jobs c.request.chosen c.request.format) files (calling_of old new) (streams_of old new) end
+      × TogetherEnds o.disks (side_by_side (way o.sources.after o.sources.clock o.sources.wakes c.request.limit) c.jobs c.request.chosen c.request.format) files (calling_of old new) (streams_of old new) end
 
   -- the one or the other, once the places are held
   abbrev pub Compares : Outside Y D P S I W E Q → Outside Y D P S I W E Q → CheckEnding → Text → CheckPlan → Type 0
@@ -156,7 +156,7 @@ module _ {Y D P S I W E Q : Type 0} (o : OutsideView D P S I W E) where
   abbrev pub AcceptsAs : Outside Y D P S I W E Q → Outside Y D P S I W E Q → Ending → Text → Request → Type 0
   AcceptsAs old new ending path request =
       HeldFirst old new (λ why. (new.sources ≡ old.sources) × EndsWith old new ending (Err why)) (λ held. (files : Result D FilesFault) × o.places.opens held path files new.places
-      × AcceptEnds o.disks (to_accept (way o.after o.clock o.wakes request.limit) request.chosen) files (calling_of old new) (streams_of old new) ending)
+      × AcceptEnds o.disks (to_accept (way o.sources.after o.sources.clock o.sources.wakes request.limit) request.chosen) files (calling_of old new) (streams_of old new) ending)
 
   -- the one or the other
   abbrev pub ChecksIn : Report → Outside Y D P S I W E Q → Outside Y D P S I W E Q → Ending → Text → CheckPlan → Type 0
@@ -173,7 +173,7 @@ module _ {Y D P S I W E Q : Type 0} (o : OutsideView D P S I W E) where
   -- nothing is done, and that is the fault.
   abbrev pub ComparesNext : Outside Y D P S I W E Q → Outside Y D P S I W E Q → CheckEnding → Text → CheckPlan → Type 0
   ComparesNext old new end path c =
-      ((headed : W) × Appends (o.written old.output) (o.written headed) (worksheet_line path) × Compares (record old { output = headed }) new end path c)
+      ((headed : W) × Appends (o.streams.written old.output) (o.streams.written headed) (worksheet_line path) × Compares (record old { output = headed }) new end path c)
       ⊎ (OnlyWritten old new × (end.answer ≡ Err fault.Output) × EndsWith old new end.ending (Err fault.Output))
 
   -- Worksheets are checked one after another, each over what the one before it left, after others that ended so; then the total of all is
@@ -191,22 +191,22 @@ module _ {Y D P S I W E Q : Type 0} (o : OutsideView D P S I W E) where
   -- where the words ask for no check they are refused, and nothing is done
   abbrev pub ChecksNone : Outside Y D P S I W E Q → Outside Y D P S I W E Q → Ending → RequestFault → Type 0
   ChecksNone old new ending why = (new.places ≡ old.places) × (new.sources ≡ old.sources) × (new.output ≡ old.output) × (new.progress ≡ old.progress)
-      × RefusesRequest why o.said old.errors new.errors ending
+      × RefusesRequest why o.streams.said old.errors new.errors ending
 
   -- where they name no time
   abbrev pub ChecksNoTime : Outside Y D P S I W E Q → Outside Y D P S I W E Q → Ending → Type 0
   ChecksNoTime old new ending = (new.places ≡ old.places) × (new.sources ≡ old.sources) × (new.output ≡ old.output) × (new.progress ≡ old.progress)
-      × RefusesWith no_check_seconds_text o.said old.errors new.errors ending
+      × RefusesWith no_check_seconds_text o.streams.said old.errors new.errors ending
 
   -- where they name no number of sessions
   abbrev pub ChecksNoJobs : Outside Y D P S I W E Q → Outside Y D P S I W E Q → Ending → JobsFault → Type 0
   ChecksNoJobs old new ending why = (new.places ≡ old.places) × (new.sources ≡ old.sources) × (new.output ≡ old.output) × (new.progress ≡ old.progress)
-      × RefusesJobs why o.said old.errors new.errors ending
+      × RefusesJobs why o.streams.said old.errors new.errors ending
 
   -- where several worksheets aren't checked so
   abbrev pub ChecksNoSeveral : Outside Y D P S I W E Q → Outside Y D P S I W E Q → Ending → SeveralFault → Type 0
   ChecksNoSeveral old new ending why = (new.places ≡ old.places) × (new.sources ≡ old.sources) × (new.output ≡ old.output) × (new.progress ≡ old.progress)
-      × RefusesSeveral why o.said old.errors new.errors ending
+      × RefusesSeveral why o.streams.said old.errors new.errors ending
 
   -- several, or why they aren't
   abbrev pub ChecksSeveral : Outside Y D P S I W E Q → Outside Y D P S I W E Q → Ending → CheckView → CheckPlan → Type 0
@@ -237,7 +237,7 @@ module _ {Y D P S I W E Q : Type 0} (o : OutsideView D P S I W E) where
   -- `run` of a script on a disk, in words, strict or not
   abbrev pub RunsOn : Bool → Outside Y D P S I W E Q → Outside Y D P S I W E Q → Ending → D → Type 0
   RunsOn strict old new ending disk =
-      ScriptEnds (edge_by (line_by_line None strict) in_words o.after o.clock o.wakes) (o.stream old.input) (given_disk o.disks disk) (calling_of old new) (streams_of old new) ending
+      ScriptEnds (edge_by (line_by_line None strict) in_words o.sources.after o.sources.clock o.sources.wakes) (o.streams.stream old.input) (given_disk o.disks disk) (calling_of old new) (streams_of old new) ending
 
   -- `run` in words over what the places open at a path, strict or not
   abbrev pub RunsAs : Bool → Outside Y D P S I W E Q → Outside Y D P S I W E Q → Ending → Text → Type 0
@@ -248,7 +248,7 @@ module _ {Y D P S I W E Q : Type 0} (o : OutsideView D P S I W E) where
   -- `eval` on a disk, printed in a voice
   abbrev pub EvaluatesOn : Voice → Plan → Outside Y D P S I W E Q → Outside Y D P S I W E Q → Ending → D → Type 0
   EvaluatesOn V plan old new ending disk =
-      EvaluationEnded (setting V o.after o.clock o.wakes plan []) (given_disk o.disks disk) (calling_of old new) (streams_of old new) ending
+      EvaluationEnded (setting V o.sources.after o.sources.clock o.sources.wakes plan []) (given_disk o.disks disk) (calling_of old new) (streams_of old new) ending
 
   -- `eval` over what the places open at a path, by a plan
   abbrev pub EvaluatesAs : Voice → Plan → Outside Y D P S I W E Q → Outside Y D P S I W E Q → Ending → Text → Type 0
@@ -258,7 +258,7 @@ module _ {Y D P S I W E Q : Type 0} (o : OutsideView D P S I W E) where
 
   -- where the words ask for nothing that there is they are refused, and nothing is done
   abbrev pub EvaluatesNothing : Outside Y D P S I W E Q → Outside Y D P S I W E Q → Ending → PlanFault → Type 0
-  EvaluatesNothing old new ending why = (new.places ≡ old.places) × (new.output ≡ old.output) × (new.sources ≡ old.sources) × RefusesPlan why o.said old.errors new.errors ending
+  EvaluatesNothing old new ending why = (new.places ≡ old.places) × (new.output ≡ old.output) × (new.sources ≡ old.sources) × RefusesPlan why o.streams.said old.errors new.errors ending
 
   -- as the words of `eval` ask for it
   abbrev pub DoesEval : Outside Y D P S I W E Q → Outside Y D P S I W E Q → Ending → Text → EvalView → Type 0
@@ -270,7 +270,7 @@ module _ {Y D P S I W E Q : Type 0} (o : OutsideView D P S I W E) where
   LivesAs manner V old new ending path =
       HeldFirst old new (λ why. (new.sources ≡ old.sources) × EndsWith old new ending (Err why)) (λ held. (files : Result D FilesFault) × o.places.opens held path files new.places
       × IfErr files (λ why. (new.input ≡ old.input) × LiveUnopened V (calling_of old new) (streams_of old new) ending why)
-      × IfOk files (λ disk. LiveEnded (edge_by manner V o.after o.clock o.wakes) (o.stream old.input) (given_disk o.disks disk) (calling_of old new) (streams_of old new) ending))
+      × IfOk files (λ disk. LiveEnded (edge_by manner V o.sources.after o.sources.clock o.sources.wakes) (o.streams.stream old.input) (given_disk o.disks disk) (calling_of old new) (streams_of old new) ending))
 
   -- `live` in a voice
   abbrev pub DoesLive : Voice → Outside Y D P S I W E Q → Outside Y D P S I W E Q → Ending → Text → Type 0
@@ -279,7 +279,7 @@ module _ {Y D P S I W E Q : Type 0} (o : OutsideView D P S I W E) where
   -- where the words of `run` ask for nothing that there is they are refused with this text, and nothing is done
   abbrev pub RunsNothing : List ℕ → Outside Y D P S I W E Q → Outside Y D P S I W E Q → Ending → Type 0
   RunsNothing text old new ending = (new.places ≡ old.places) × (new.sources ≡ old.sources) × (new.input ≡ old.input) × (new.output ≡ old.output)
-      × RefusesWith text o.said old.errors new.errors ending
+      × RefusesWith text o.streams.said old.errors new.errors ending
 
   -- `run --json`, or with a limit of time, or both, strict or not: what `live` does where lines come first
   abbrev pub RunsByLines : Outside Y D P S I W E Q → Outside Y D P S I W E Q → Ending → Text → RunView → Option ℕ → Type 0
@@ -316,7 +316,7 @@ module _ {Y D P S I W E Q : Type 0} (o : OutsideView D P S I W E) where
 
   -- where there is no format of that name the words are refused, and nothing is done
   abbrev pub RefusesFormat : Outside Y D P S I W E Q → Outside Y D P S I W E Q → Ending → Type 0
-  RefusesFormat old new ending = (new.places ≡ old.places) × (new.output ≡ old.output) × (ending.status ≡ 2) × (ending.told ≡ true → Appends (o.said old.errors) (o.said new.errors) no_format_text)
+  RefusesFormat old new ending = (new.places ≡ old.places) × (new.output ≡ old.output) × (ending.status ≡ 2) × (ending.told ≡ true → Appends (o.streams.said old.errors) (o.streams.said new.errors) no_format_text)
 
   -- `export` in the format of this name
   abbrev pub DoesExport : Outside Y D P S I W E Q → Outside Y D P S I W E Q → Ending → Text → Text → Type 0
@@ -357,7 +357,7 @@ module _ {Y D P S I W E Q : Type 0} (o : OutsideView D P S I W E) where
     pub no_words : IfErr words (λ k. OnlyWritten old new × (new.output ≡ old.output))
     pub asked : IfOk words (λ all. DoesAsked (texts all) old new ending)
 
-  -- how the program ends where all that it wrote was flushed, or not: then that is the fault of an end that has none
+  -- how the program ends where all that it wrote was flushed, or not: then that is the fault, but where its status is 1 already
   abbrev pub EndsBrought : Bool → Outside Y D P S I W E Q → Outside Y D P S I W E Q → Ending → Ending → Type 0
   EndsBrought true old new alone ending = (ending ≡ alone) × (new.errors ≡ old.errors)
   EndsBrought false old new alone ending = (alone.status ≡ 1 → (ending ≡ alone) × (new.errors ≡ old.errors))
@@ -365,7 +365,7 @@ module _ {Y D P S I W E Q : Type 0} (o : OutsideView D P S I W E) where
 
   -- Last of all the output is flushed, after what the program came to.
   abbrev pub BringsOut : Outside Y D P S I W E Q → Outside Y D P S I W E Q → Ending → Ending → Type 0
-  BringsOut old new alone ending = OnlyWritten old new × ((all : Bool) × o.brought old.output all new.output × EndsBrought all old new alone ending)
+  BringsOut old new alone ending = OnlyWritten old new × ((all : Bool) × o.streams.brought old.output all new.output × EndsBrought all old new alone ending)
 
   -- the whole program: it ends by its words, and then its output is flushed
   abbrev pub Performs : {T : Type 0} → (T → List Text) → Result T IoKind → Outside Y D P S I W E Q → Outside Y D P S I W E Q → Ending → Type 0

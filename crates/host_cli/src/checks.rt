@@ -64,7 +64,8 @@ fn check_together_as<Y: System>(
     )
 }
 
-/// The one or the other, once the places are held.
+/// Checks a worksheet, once the places of closed streams are held: its sessions side by side where that is asked
+/// for, and else one field after another.
 fn compare<Y: System>(
     alloc: Global,
     outside: &mut Outside<Y>,

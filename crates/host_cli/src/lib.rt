@@ -3,13 +3,13 @@
 //! `program_endings`, and a worksheet's files in `sheet_files`.
 #![tactic(auto)]
 
+mod blocks;
 mod checks;
 mod outlet;
 mod outside;
 mod plans;
 mod refusing;
 mod runs;
-mod streams;
 mod tasks;
 
 pub use outlet::Outlet;

@@ -6,9 +6,10 @@ ghost use Rattle.host_cli.specs.Plans as plan;
 ghost use Rattle.host_cli.specs.inside.Reading.{IsWhy};
 
 use block_tree::{OutOfMemory, Sequence};
-use check_report::{Format as Report, read_number};
+use check_report::Format as Report;
 use command_words::EvalWords;
 use evaluation::{Plan, Which};
+use sheet_text::read_number;
 use std::alloc::Global;
 
 /// The most seconds that a field may be given.

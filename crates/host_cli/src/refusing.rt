@@ -4,7 +4,7 @@ ghost use Rattle.std.specs.Io.KnownBytes.{Appends};
 ghost use Rattle.std.specs.declared.io.ErrorKind.TheVariants as io_kind;
 ghost use Rattle.clap.specs.Words.{kind_of};
 ghost use Rattle.clap.specs.declared.error.kind.ErrorKind.TheVariants as kind;
-ghost use Rattle.host_cli.specs.Refused.{RefusesJobs, RefusesPlan, RefusesRequest, RefusesWith, ShowsText, no_acceptance_text, no_both_text, no_check_seconds_text, no_format_text, no_id_text, no_ids_text, no_report_text, no_seconds_text, no_session_text, no_run_seconds_text, RefusesSeveral};
+ghost use Rattle.host_cli.specs.Refused.{RefusesJobs, RefusesPlan, RefusesRequest, RefusesWith, ShowsText, no_check_seconds_text, no_format_text, no_run_seconds_text, RefusesSeveral};
 ghost use Rattle.program_endings.specs.Ending.{TellsFault};
 ghost use Rattle.offline_programs.specs.declared.fault.RunFault.TheVariants as fault;
 

@@ -1,6 +1,6 @@
 //! Which program runs for which words, over all that is outside. Each contract here has the same `outer ..`, which names what is
 //! outside: what stands before and after it is the contract's own.
-ghost use Rattle.std.specs.Prelude.{◌≡◌, ◌≢◌, [], List, Err, map, option_map, string_bytes};
+ghost use Rattle.std.specs.Prelude.{◌≡◌, ◌≢◌, [], Err, map, string_bytes};
 ghost use Rattle.command_words.specs.Asked.{eval_view, task_view};
 ghost use Rattle.command_words.specs.Asked as asked;
 ghost use Rattle.host_cli.specs.Outside.{disks_seen, outer, sources_seen, streams_seen};
@@ -8,13 +8,13 @@ ghost use Rattle.host_cli.specs.Tasks.{BringsOut, DoesCreate, DoesEval, DoesExpo
 ghost use Rattle.program_endings.specs.Ending.{TellsFault};
 ghost use Rattle.offline_programs.specs.declared.fault.RunFault.TheVariants as fault;
 
+use crate::blocks::{blocks, blocks_in_json};
 use crate::checks::check_at;
 use crate::outlet::Outlet;
 use crate::outside::{Outside, System};
 use crate::plans::read_plan;
 use crate::refusing::{refuse_format, refuse_plan};
 use crate::runs::{live_at, live_json_at, run_at};
-use crate::streams::{blocks, blocks_in_json};
 use crate::{refuse_unread_words, refuse_words};
 use command_words::{EvalWords, Task, read_words};
 use evaluation::Plan;
@@ -205,7 +205,7 @@ pub fn do_task<Y: System>(alloc: Global, task: Task<'_>, outside: &mut Outside<Y
     }
 }
 
-/// The end of a program whose output can't be flushed: the fault `Output`, where it has none of its own.
+/// The end of a program whose output can't be flushed: the fault `Output`, but where its status is 1 already.
 fn end_unsent<E: Write>(alone: Ending, errors: &mut E) -> Ending
     ensures same { alone.status ≡ 1 → (result ≡ alone) × (errors.new ≡ errors.old) }
     ensures unsent { alone.status ≢ 1 → (result.status ≡ 1)

@@ -2,7 +2,7 @@
 //! which stream.
 ghost use Rattle.std.specs.Prelude.{◌≡◌, ◌≤◌, IfErr, IfOk};
 ghost use Rattle.program_endings.specs.Programs.{CreateEnds, ShowEnds, ShownOf, TellsMake};
-ghost use Rattle.program_endings.specs.Records.{calling, given_disk, streams, writing};
+ghost use Rattle.program_endings.specs.Records.{given_disk, streams, writing};
 ghost use Rattle.sheet_files.specs.Closing.{closable};
 
 use crate::ending::{answered, ended};
@@ -11,9 +11,8 @@ use crate::{Ending, create_fault_text, end_program};
 use child_calls::Children;
 use offline_programs::{RunFault, Shown, show};
 use sheet_files::{Close, FilesFault, MakeFault};
-use sheet_programs::{Ran, run};
 use std::alloc::Global;
-use std::io::{Read, Write};
+use std::io::Write;
 
 /// Tells on a line why no worksheet was made.
 pub(crate) fn end_create<E: Write>(why: MakeFault, errors: &mut E) -> Ending

@@ -1,6 +1,5 @@
 //! The program `run` over a worksheet's files, in words and without a limit of time, from its files on.
-ghost use Rattle.std.specs.Prelude.{◌≡◌, ◌≤◌, IfErr, IfOk, None, length};
-ghost use Rattle.offline_programs.specs.Input.{longest_standard_input};
+ghost use Rattle.std.specs.Prelude.{◌≡◌, ◌≤◌, IfErr, IfOk, None};
 ghost use Rattle.live.specs.Records.{edge_by, line_by_line};
 ghost use Rattle.program_endings.specs.Programs.{EndsUnopened};
 ghost use Rattle.program_endings.specs.Records.{calling, given_disk, streams, writing};

@@ -5,7 +5,6 @@ ghost use Rattle.disk_model.specs.Disk.{Leaves};
 ghost use Rattle.recovery.specs.Sheets.{IsSheetImage, Makes};
 ghost use Rattle.session_engine.specs.World.{World};
 ghost use Rattle.session_engine.specs.Host.{IsHost};
-ghost use Rattle.check_report.specs.Chosen.{shown_by};
 ghost use Rattle.sheet_check.specs.Check.{IsCopy};
 ghost use Rattle.sheet_check.specs.Together as together;
 ghost use Rattle.std.specs.Option.{option_copied};
@@ -16,7 +15,7 @@ use disk_model::{Disk, GREATEST_ROOM, MemoryDisk};
 use recovery::{Store, save};
 use session_engine::Host;
 use std::alloc::{AllocError, Global};
-use worksheet::{Answer, Field, Op, Sheet};
+use worksheet::{Answer, Op, Sheet};
 
 /// Clears the field with this number, where the worksheet has one. Whether that was done.
 fn clear_field<D: Disk>(store: &mut Store<D>, id: u32) -> bool

@@ -1,5 +1,5 @@
 //! What is to be seen while a check goes on.
-ghost use Rattle.std.specs.Prelude.{◌≡◌, ◌+◌, ◌++◌, ◌<◌, ◌^◌, IfOk, OnOk, codes, nat_eq};
+ghost use Rattle.std.specs.Prelude.{◌≡◌, ◌+◌, ◌++◌, ◌<◌, ◌^◌, OnOk};
 ghost use Rattle.std.specs.Io.KnownBytes.{Appends};
 ghost use Rattle.sheet_check.specs.Screen as screen;
 ghost use Rattle.sheet_check.specs.declared.progress.Sight.TheVariants as sight;

@@ -1,10 +1,10 @@
 //! A worksheet in a format, in words or as a line of JSON.
-ghost use Rattle.std.specs.Prelude.{◌≡◌, ◌++◌, ◌∷◌, [], IfErr, IfOk, List, None, OnOk, Option, Some, cond, ℕ};
+ghost use Rattle.std.specs.Prelude.{◌≡◌, ◌++◌, ◌∷◌, [], IfErr, IfOk, None, OnOk, Option, Some};
 ghost use Rattle.std.specs.Option.{option_map};
 ghost use Rattle.std.specs.Io.KnownBytes.{Appends};
 ghost use Rattle.sheet_export.specs.Formats as exports;
 ghost use Rattle.tellings.specs.Json.{exported_json, in_json, text_told};
-ghost use Rattle.tellings.specs.Voice.{IsUntold, page_title};
+ghost use Rattle.tellings.specs.Voice.{IsUntold};
 ghost use Rattle.tellings.specs.Words.{exported_words, needs_json};
 
 use crate::writing::write_made;

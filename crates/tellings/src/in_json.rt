@@ -1,5 +1,5 @@
 //! As lines of JSON.
-ghost use Rattle.std.specs.Prelude.{◌≡◌, ◌+◌, ◌<◌, ◌^◌, IfErr, OnOk, length, true};
+ghost use Rattle.std.specs.Prelude.{◌≡◌, ◌+◌, ◌<◌, ◌^◌, IfErr, OnOk, length};
 ghost use Rattle.std.specs.Io.KnownBytes.{Appends};
 ghost use Rattle.tellings.specs.Json as texts;
 ghost use Rattle.tellings.specs.Voice.{IsUntold, came_text, numbered_text, replied_text};
@@ -11,7 +11,7 @@ use crate::sheets_json::{write_field, write_sheet};
 use crate::writing::{write_if, write_made};
 use crate::{Frame, Note, Tells, faults};
 use disk_model::Disk;
-use host_events::{ChildReply, Closed, Outcome, Reply};
+use host_events::{ChildReply, Outcome, Reply};
 use offline_programs::RunFault;
 use serde_json::Value;
 use session_engine::Host;
@@ -20,7 +20,7 @@ use sheet_json::{
     asked_value, closed_value, default_value, done_value, end_value, ended_value, fault_value,
     hello_value, made_value, no_field_value, nothing_value, refused_value, stopped_value,
 };
-use std::alloc::{AllocError, Global};
+use std::alloc::Global;
 use std::io::Write;
 use worksheet::Sheet;
 
