@@ -5,7 +5,8 @@
 //! how a case is added.
 #![tactic(auto)]
 
-use offline_programs::run_memory;
+use host_cli::perform;
+use offline_programs::{RunFault, run_memory};
 use program_endings::end_program;
 use std::io;
 use std::process::{Command, ExitCode};
@@ -59,5 +60,9 @@ fn main(rt: HostRuntime) -> ExitCode {
             Asked::Nothing => {}
         }
     }
-    ExitCode::from(startup::start(&rt, words))
+    let ending = match startup::outside(&rt) {
+        Ok(mut outside) => perform(rt.alloc(), words, &mut outside),
+        Err(_) => end_program(Err(RunFault::OutOfMemory), &mut rt.stderr()),
+    };
+    ExitCode::from(ending.status)
 }

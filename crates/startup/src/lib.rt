@@ -1,14 +1,13 @@
-//! Gives `host_cli`, which decides what is done, the program's words and the system's streams, files and
-//! children. `tmhost` and `programs` both begin with it.
+//! The program's words, and the system's streams, files and children, over which `host_cli` does what the words
+//! ask for. `tmhost` and `programs` both begin with it.
 #![tactic(auto)]
 
 use arrivals::Polled;
 use child_calls::Processes;
-use host_cli::{Outside, System, perform};
-use offline_programs::RunFault;
-use program_endings::end_program;
+use host_cli::{Outside, System};
 use sheet_check::ProgressLine;
 use sheet_files::{Closed, FileDisk, FilePlaces};
+use std::alloc::AllocError;
 use std::fs::File;
 use std::io::{BufWriter, ErrorKind, IsTerminal, Stderr, Stdin, Stdout};
 use std::marker::PhantomData;
@@ -48,22 +47,17 @@ pub fn words(rt: &HostRuntime) -> Result<Vec<String>, ErrorKind> {
     }
 }
 
-/// The program's end where there is no memory for what it begins with.
-fn end_without_memory(rt: &HostRuntime) -> u8 {
-    end_program(Err(RunFault::OutOfMemory), &mut rt.stderr()).status
-}
-
-/// Does what the words ask for, and gives the status.
-pub fn start<'a>(rt: &'a HostRuntime, words: Result<Vec<String>, ErrorKind>) -> u8 {
+/// The system's streams, files and children as one value, and the line of progress where the errors go to a terminal.
+///
+/// `AllocError`: there was no memory for them.
+pub fn outside<'a>(rt: &'a HostRuntime) -> Result<Outside<Real<'a>>, AllocError> {
     let closed = Closed::find(&rt.stdin(), &rt.stdout(), &rt.stderr());
     let Ok(output) = BufWriter::with_capacity(rt.alloc(), BUFFER, rt.stdout()) else {
-        return end_without_memory(rt);
+        return Err(AllocError);
     };
     let children = Processes::new(rt, rt.alloc());
-    let Ok(sources) = Polled::new(rt.alloc(), children, rt.stdin().as_raw_fd(), rt) else {
-        return end_without_memory(rt);
-    };
-    let mut outside: Outside<Real<'a>> = Outside {
+    let sources = Polled::new(rt.alloc(), children, rt.stdin().as_raw_fd(), rt)?;
+    Ok(Outside {
         places: FilePlaces::new(rt, rt.alloc(), closed),
         sources,
         input: rt.stdin(),
@@ -73,6 +67,5 @@ pub fn start<'a>(rt: &'a HostRuntime, words: Result<Vec<String>, ErrorKind>) -> 
             rt.alloc(),
             Some(rt.stderr()).filter(|errors| errors.is_terminal()),
         ),
-    };
-    perform(rt.alloc(), words, &mut outside).status
+    })
 }

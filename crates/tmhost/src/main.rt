@@ -2,9 +2,16 @@
 //! what it says where, and with which status it ends, `host_cli` decides.
 #![tactic(auto)]
 
+use host_cli::perform;
+use offline_programs::RunFault;
+use program_endings::end_program;
 use std::process::ExitCode;
 
 fn main(rt: HostRuntime) -> ExitCode {
     let words = startup::words(&rt);
-    ExitCode::from(startup::start(&rt, words))
+    let ending = match startup::outside(&rt) {
+        Ok(mut outside) => perform(rt.alloc(), words, &mut outside),
+        Err(_) => end_program(Err(RunFault::OutOfMemory), &mut rt.stderr()),
+    };
+    ExitCode::from(ending.status)
 }
