@@ -20,7 +20,7 @@ use Rattle.live.specs.declared.holding.Hold.{Hold}
 use Rattle.live.specs.declared.holding.Hold.TheVariants as hold
 use Rattle.live.specs.Records.{Clock, Edge, Watch, Watches, edge, watches}
 use Rattle.live.specs.Saying.{IsTimed, WaitGoesOn, is_held, seconds_behind}
-use Rattle.live.specs.Arrivals.{WatchTells, Comes, time_over}
+use Rattle.live.specs.Arrivals.{WatchTells, Comes, respite, time_over}
 use Rattle.evaluation.specs.declared.plan.Plan.{Plan}
 use Rattle.evaluation.specs.declared.plan.Stand.{Stand}
 use Rattle.evaluation.specs.Meant.{IsAsked, line_behind}
@@ -67,10 +67,6 @@ pub data Step : Type 0 where
   over : ℕ → ℕ → Step
   -- so are the two seconds that an interpreter has after the interrupt
   stalled : Step
-
--- the seconds that an interrupted interpreter has
-abbrev pub grace : ℕ
-grace = 2
 
 -- the field at this place, with this number, may be asked here: no item waits, or it joins those that wait
 abbrev pub MayAsk : {C : Type 0} → Setting C → EvalPlace C → ℕ → ℕ → Type 0
@@ -172,7 +168,7 @@ StepDone o p stalled beats text t = OneTurn (hearing o.after false) (waits p.run
 abbrev pub StandsBehind : {C : Type 0} → Setting C → EvalPlace C → Step → At C → Stand → Type 0
 StandsBehind o p (ask k id) t stand = (begun : Hold) × (held : Hold) × LimitBegins o.clock t.children o.plan.limit begun × WaitGoesOn begun t.world held × (stand ≡ asked_at p.stand k id held)
 StandsBehind o p (heard seat) t stand = (held : Hold) × WaitGoesOn p.stand.held t.world held × (stand ≡ held_at p.stand held)
-StandsBehind o p (over n id) t stand = (now : ℕ) × o.clock t.children now × (stand ≡ warned_at p.stand n (hold.Until (seconds_behind now grace)))
+StandsBehind o p (over n id) t stand = (now : ℕ) × o.clock t.children now × (stand ≡ warned_at p.stand n (hold.Until (seconds_behind now respite)))
 StandsBehind o p stalled t stand = stand ≡ held_at p.stand hold.Free
 
 abbrev pub TakesStep : {C : Type 0} → Setting C → EvalPlace C → Step → List Beat → List ℕ → EvalPlace C → Type 0

@@ -15,15 +15,12 @@ use crate::plan::{Plan, Stand, held_at, warned_at};
 use arrivals::Sources;
 use child_edge::{Interrupted, interrupt, waiting_lives};
 use disk_model::Disk;
-use live::{Hold, tell_stalled, wait_for};
+use live::{Hold, RESPITE, tell_stalled, wait_for};
 use offline_programs::RunFault;
 use session_engine::Host;
 use std::alloc::Global;
 use std::io::Write;
 use tellings::{Note, Tells};
-
-/// The seconds that an interrupted interpreter has.
-const GRACE: u32 = 2;
 
 /// The wait for a field that was asked now.
 pub(crate) fn limit_from<S: Sources>(sources: &S, limit: Option<u32>) -> Hold
@@ -67,7 +64,7 @@ pub(crate) fn end_time<D: Disk, S: Sources, T: Tells, W: Write>(
 {
     let told = interrupt_for(host, sources, late.id);
     match tells.note(Note::Over(late.id, told), writer) {
-        Ok(()) => Ok(warned_at(stand, late.place, wait_for(sources.now(), GRACE))),
+        Ok(()) => Ok(warned_at(stand, late.place, wait_for(sources.now(), RESPITE))),
         Err(fault) => Err(fault),
     }
 }

@@ -22,3 +22,4 @@ pub use manner::Manner;
 pub use saying::say_command;
 pub use stepping::next_turn;
 pub use taking::{hear, tell_stalled};
+pub use timing::RESPITE;

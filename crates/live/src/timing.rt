@@ -26,7 +26,7 @@ use std::io::Write;
 use tellings::{Note, Tells};
 
 /// How many seconds interpreters have that were interrupted.
-const RESPITE: u32 = 2;
+pub const RESPITE: u32 = 2;
 
 /// Ends the wait of a line whose time is over: each life in which an item still waits has stalled. A strict input stops
 /// where items were lost by that.

@@ -21,6 +21,7 @@ use crate::groups::{number_if, take_group};
 use crate::taking::{run_line, take_command};
 use bstr::ByteSlice;
 use child_calls::Children;
+use child_edge::MOST_TOGETHER;
 use disk_model::Disk;
 use host_events::{Command, Event};
 use offline_programs::RunFault;
@@ -29,9 +30,6 @@ use sheet_text::{ScriptLine, read_line};
 use std::alloc::Global;
 use std::io::Write;
 use std::mem;
-
-/// The most commands that are taken together.
-const MOST_COMMANDS: usize = 1_024;
 
 /// The most bytes that lines have before they are taken.
 const MOST_BYTES: usize = 1_048_576;
@@ -184,7 +182,7 @@ fn take_all<D: Disk, C: Children, W: Write>(
 fn is_full(stretch: &Stretch) -> bool
     ensures few { result ≡ false → length stretch.now.events.items < most_commands }
 {
-    stretch.events.len() >= MOST_COMMANDS || stretch.bytes >= MOST_BYTES
+    stretch.events.len() >= MOST_TOGETHER || stretch.bytes >= MOST_BYTES
 }
 
 /// Does a line that isn't held back. Its number, where the run stops after it.
