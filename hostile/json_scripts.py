@@ -142,12 +142,20 @@ class Maker:
             self.stop(other)
         return True
 
+    def lose(self, line: bytes) -> None:
+        """Asks an item that is lost at once. The commands after it would find it waiting still, where they are one group with it: a line
+        that is no command parts them from it."""
+        self.say(line)
+        if self.rng.random() < 0.5:
+            self.say(b"clear 0")
+        self.say(b"print 0")
+
     def ask(self, id: int, line: bytes, completes: bool) -> None:
         """Asks an item that is accepted, and waits for what comes of it, where it isn't quiet."""
         name = self.fields[id][0]
         room = self.rooms[name]
         if room.play is None or room.is_deaf:
-            self.say(line)
+            self.lose(line)
             return room.end()
         if room.is_quiet(self.opened):
             self.say(line)
