@@ -69,8 +69,7 @@ Example: tmhost create sheet";
 
 const RUN_ABOUT: &str = "Run the script on standard input over a worksheet";
 
-const RUN_NOTES: &str =
-    "The script is read whole from standard input. What each line of it gives is\n\
+const RUN_NOTES: &str = "The script is read from standard input. What each line of it gives is\n\
 written before the next one is taken, but lines that only change the worksheet\n\
 are taken together; what it reports as done is on the disk.\n\
 Where another program has the worksheet the script isn't read and nothing is\n\
@@ -244,8 +243,8 @@ const FAULTS_NOTES: &str =
 \x20                nothing was written: export it in another format\n\
 37 NoField ID    no field has this number, which was given to `eval`; nothing was\n\
 \x20                evaluated: `show` has the numbers\n\
-40 Input         standard input can't be read; nothing was done: give it again. Of\n\
-\x20                `live`: at some line; all that was printed is kept\n\
+40 Input         standard input can't be read, or interpreters not watched; all\n\
+\x20                that was printed is kept: give the rest again\n\
 41 InputTooLong  more than 67,108,864 bytes; nothing was done: cut it into parts\n\
 42 Output        standard output can't be written; what was done is on the disk, and\n\
 \x20                one line or group more than was printed may be: `show` says\n\

@@ -17,8 +17,8 @@ pub enum ChildEvent {
     ReadFault,
     /// A line could not be sent to it. The life ends.
     SendFault,
-    /// An item of it still waits at the end of the 100,000 turns of a wait, whatever else it answered in
-    /// them. The life ends.
+    /// An item of it still waits at the end of a wait (100,000 turns, or its time), whatever else it answered.
+    /// The life ends.
     Stalled,
     /// It could not be stopped. Nothing comes of it.
     StopFault,

@@ -9,10 +9,11 @@ use Rattle.disk_model.specs.declared.disk.Area.TheVariants.{First, Second}
 abbrev pub header : ℕ → List ℕ
 header selector = 84 ∷ 77 ∷ 87 ∷ 83 ∷ 72 ∷ 69 ∷ 69 ∷ 84 ∷ 1 ∷ selector ∷ []
 
--- the selectors `A`, as which First is written, and `B`
+-- the selector `A`, as which First is written
 abbrev pub names_first : ℕ
 names_first = 65
 
+-- the selector `B`, which names Second
 abbrev pub names_second : ℕ
 names_second = 66
 

@@ -124,7 +124,7 @@ impl Window {
             return Ok(());
         }
         let len = (self.limit - at).min(LONGEST_READ);
-        // The bytes that were shown are read over, so that no further read takes fresh memory.
+        // The bytes that were shown are read over, so that reads of one length share memory.
         let Window {
             alloc,
             area,

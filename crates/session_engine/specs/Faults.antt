@@ -17,7 +17,7 @@ abbrev pub is_piece : World → Event → Bool
 is_piece w (event.Child name number (child.Piece piece)) = is_some (with_number number (life_of w name))
 is_piece w _ = false
 
--- The end of a life at which a line keeps its reason takes memory too; no other event of a child does.
+-- A piece takes memory, and a life's end where a line keeps its reason; no other event of a child does.
 abbrev pub event_takes_memory : World → Event → Bool
 event_takes_memory w (event.Child name number child.StartRefused) = is_some (kept_at_end w reason.StartRefused (with_number number (life_of w name)))
 event_takes_memory w (event.Child name number (child.Piece piece)) = is_piece w (event.Child name number (child.Piece piece))

@@ -142,7 +142,7 @@ impl<D: Disk> Host<D> {
     }
 
     /// The worksheet. After a fault it is that of the events before it; where the disk failed in a group, that
-    /// after its events.
+    /// after the events of it that were taken.
     pub fn sheet(&self) -> &Sheet
         ensures sheet { result.now ≡ self.now.store.sheet }
         ensures stands { (w : World) → IsHost self.now w → result.now.contents ≡ sheet_in w }

@@ -13,7 +13,7 @@ use block_tree::OutOfMemory;
 use plugin_core::{Life, Step};
 use worksheet::Name;
 
-/// A life that goes on, and the session that it is of. Contracts see it as a `Going`, callers of the host as a
+/// A life that goes on, and the session that it is of. A `World` has it as a `Going`, callers of the host as a
 /// `LifeView`; a `Seat` is its session and number alone.
 #[derive(Drop)]
 pub(crate) struct Running {
