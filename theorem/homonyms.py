@@ -8,7 +8,8 @@ import re
 import sys
 
 ROOT = os.path.dirname(os.path.dirname(os.path.abspath(__file__)))
-DEFINED = re.compile(r"(?:abbrev |unfoldable )?pub (?:record |data )?([^\s:]+)[\s:]")
+# An indented line may be a field, unless it says that it is a definition.
+DEFINED = re.compile(r"(?:(?:abbrev |unfoldable )?pub |\s+(?:abbrev pub |unfoldable pub |pub (?=record |data )))(?:record |data )?([^\s:]+)[\s:]")
 LAW = re.compile(r"pub fn (\w+)")
 
 

@@ -240,8 +240,8 @@ module _ {Y D P S I W E Q : Type 0} (o : OutsideView D P S I W E) where
       ScriptEnds (edge_by (line_by_line None strict) in_words o.sources.after o.sources.clock o.sources.wakes) (o.streams.stream old.input) (given_disk o.disks disk) (calling_of old new) (streams_of old new) ending
 
   -- `run` in words over what the places open at a path, strict or not
-  abbrev pub RunsAs : Bool → Outside Y D P S I W E Q → Outside Y D P S I W E Q → Ending → Text → Type 0
-  RunsAs strict old new ending path =
+  abbrev pub RunsScript : Bool → Outside Y D P S I W E Q → Outside Y D P S I W E Q → Ending → Text → Type 0
+  RunsScript strict old new ending path =
       HeldFirst old new (λ why. (new.sources ≡ old.sources) × EndsWith old new ending (Err why)) (λ held. (files : Result D FilesFault) × o.places.opens held path files new.places
       × IfErr files (Unopened old new ending) × IfOk files (RunsOn strict old new ending))
 
@@ -287,7 +287,7 @@ module _ {Y D P S I W E Q : Type 0} (o : OutsideView D P S I W E) where
 
   -- `run` as its words ask for it, within this limit of time, where there is one
   abbrev pub RunsWithin : Outside Y D P S I W E Q → Outside Y D P S I W E Q → Ending → Text → RunView → Option ℕ → Type 0
-  RunsWithin old new ending path words limit = EitherRuns (words.json || is_some limit) (RunsByLines old new ending path words limit) (RunsAs words.strict old new ending path)
+  RunsWithin old new ending path words limit = EitherRuns (words.json || is_some limit) (RunsByLines old new ending path words limit) (RunsScript words.strict old new ending path)
 
   abbrev pub DoesRun : Outside Y D P S I W E Q → Outside Y D P S I W E Q → Ending → Text → RunView → Type 0
   DoesRun old new ending path words = MatchOption (limit_asked words.timeout) (RunsNothing no_run_seconds_text old new ending) (RunsWithin old new ending path words)

@@ -27,7 +27,7 @@ pub enum Hold {
     /// Until no item waits, or until this moment of the sources' clock, in milliseconds.
     Until(u64),
     /// The same, but at this moment interpreters are interrupted, and have two seconds more. It begins again
-    /// where one answers.
+    /// where something closes.
     Limited(u64),
     /// The same, after interpreters were interrupted: at this moment what still waits has stalled.
     Warned(u64),

@@ -109,7 +109,7 @@ pub struct LiveEnd<D: Disk> {
 /// back, whatever children have, and what those wrote is taken in waits alone.
 ///
 /// A strict input stops after the first line that goes wrong, and gives its number: one that isn't known, asks for a
-/// field or a session that isn't there or is refused, one in whose wait items were lost, or one whose time is over.
+/// field or a session that isn't there or is refused, one by which items were lost, or one whose time is over.
 ///
 /// Faults are those of `live`.
 pub fn live_by<R: Read, W: Write, D: Disk, S: Sources, T: Tells>(
