@@ -3,7 +3,7 @@
 # 1,000 and 10,000 fields, and how long such a worksheet takes to open: the best of RUNS runs (3 where it isn't set). 500 fields, spread
 # over the worksheet, are evaluated, each with a `wait` after it. Beside it `tmhost live` does the same, and the ratio of their rates is
 # printed. Then it prints how many times as many evaluations `live` does with eight interpreters that take 50 ms a line each as with one, and
-# with 8 and 64 that answer at once, and the processor time that it takes while nothing comes; and how long `check` and `eval` take with eight of them beside one. The files lie in
+# with 8 and 64 that answer at once (the best of as many runs), and the processor time that it takes while nothing comes; and how long `check` and `eval` take with eight of them beside one. The files lie in
 # FOLDER, or where none is given in the current one.
 set -euo pipefail
 folder=$(readlink -f "${1:-.}")
@@ -55,9 +55,9 @@ for line in sys.stdin:
 
 slow, quick = interpreter("slow", 0.05), interpreter("quick", 0)
 
-def evaluations(child, count, lines):
+def evaluations(child, count, lines, run=0):
     """How many evaluations a second so many interpreters do, once they have started."""
-    sheet = f"{child}.{count}"
+    sheet = f"{child}.{count}.{run}"
     subprocess.run([program, "create", sheet], check=True)
     live = subprocess.Popen([program, "live", sheet], stdin=subprocess.PIPE, stdout=subprocess.PIPE, text=True)
     def say(text):
@@ -88,7 +88,7 @@ def evaluations(child, count, lines):
 one, _ = evaluations(slow, 1, 40)
 eight, idle = evaluations(slow, 8, 40)
 print(f"live, interpreters of 50 ms a line: one {one:.1f} evals/s, eight {eight:.1f}, {eight / one:.2f} times as many")
-quicks = [evaluations(quick, count, 100)[0] for count in (1, 8, 64)]
+quicks = [max(evaluations(quick, count, 100, run)[0] for run in range(runs)) for count in (1, 8, 64)]
 print(f"live, interpreters that answer at once: one {quicks[0]:.0f} evals/s, 8 and 64 of them {quicks[1] / quicks[0]:.2f} and {quicks[2] / quicks[0]:.2f} times as many")
 print(f"live, three seconds in which nothing comes: {1000 * idle / os.sysconf('SC_CLK_TCK'):.0f} ms of processor time")
 
