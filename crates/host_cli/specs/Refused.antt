@@ -1,8 +1,8 @@
 -- What is printed where the words ask for nothing that there is.
-use Rattle.std.specs.Prelude.{◌≡◌, ◌⊎◌, ℕ, true, List, Option, Err, codes}
-use Rattle.std.specs.Io.KnownBytes.{Appends}
+use Rattle.std.specs.Prelude.{◌≡◌, ◌⊎◌, ℕ, Bool, true, false, List, None, Err, codes}
 use Rattle.check_report.specs.declared.request.RequestFault.{RequestFault}
 use Rattle.check_report.specs.declared.request.RequestFault.TheVariants as request
+use Rattle.offline_programs.specs.Saying.{IsSaid, Saying}
 use Rattle.offline_programs.specs.declared.fault.RunFault.TheVariants as fault
 use Rattle.host_cli.specs.declared.plans.JobsFault.{JobsFault}
 use Rattle.host_cli.specs.declared.plans.JobsFault.TheVariants as jobs_fault
@@ -82,34 +82,47 @@ abbrev pub several_left_out_text : List ℕ
 several_left_out_text = codes "error: --leave-out goes with one PATH alone\n\nFor more information, try 'tmhost check --help'.\n"
 
 -- the words are refused with this text
-abbrev pub RefusesWith : {E : Type 0} → List ℕ → (E → Option (List ℕ)) → E → E → Ending → Type 0
-RefusesWith text said old new ending = (ending.status ≡ 2) × (ending.told ≡ true → Appends (said old) (said new) text)
+abbrev pub RefusesWith : {E : Type 0} → List ℕ → Saying E → Ending → Type 0
+RefusesWith text errors ending = (ending.status ≡ 2) × IsSaid errors text ending.told
+
+-- A message of `clap` was tried on a stream, and whether it went out. No contract of `clap` knows its text.
+abbrev pub IsTried : {E : Type 0} → Saying E → Bool → Type 0
+IsTried stream went = stream.tried stream.old None went stream.new
+
+-- Help, or the version, was said on the output, or that failed, which is the fault.
+abbrev pub ShowsHelp : {W E : Type 0} → Saying W → Saying E → Ending → Type 0
+ShowsHelp output errors ending = (IsTried output true × (ending.status ≡ 0) × (errors.new ≡ errors.old))
+    ⊎ (IsTried output false × (ending.status ≡ 1) × TellsFault errors ending.told (Err fault.Output))
+
+-- Why the words are refused was said on the stream of errors, whatever became of it.
+abbrev pub RefusesWords : {E : Type 0} → Saying E → Ending → Type 0
+RefusesWords errors ending = (ending.status ≡ 2) × ((went : Bool) × IsTried errors went)
 
 -- how the program ends where the words of `eval` ask for nothing that there is, or where there was no memory for them
-abbrev pub RefusesPlan : {E : Type 0} → PlanFault → (E → Option (List ℕ)) → E → E → Ending → Type 0
-RefusesPlan plans.Seconds said old new ending = RefusesWith no_seconds_text said old new ending
-RefusesPlan plans.Id said old new ending = RefusesWith no_id_text said old new ending
-RefusesPlan plans.Both said old new ending = RefusesWith no_both_text said old new ending
-RefusesPlan plans.Jobs said old new ending = RefusesWith no_jobs_text said old new ending
-RefusesPlan plans.Strict said old new ending = RefusesWith strict_jobs_text said old new ending
-RefusesPlan plans.OutOfMemory said old new ending = (ending.status ≡ 1) × TellsFault said old new ending.told (Err fault.OutOfMemory)
+abbrev pub RefusesPlan : {E : Type 0} → PlanFault → Saying E → Ending → Type 0
+RefusesPlan plans.Seconds errors ending = RefusesWith no_seconds_text errors ending
+RefusesPlan plans.Id errors ending = RefusesWith no_id_text errors ending
+RefusesPlan plans.Both errors ending = RefusesWith no_both_text errors ending
+RefusesPlan plans.Jobs errors ending = RefusesWith no_jobs_text errors ending
+RefusesPlan plans.Strict errors ending = RefusesWith strict_jobs_text errors ending
+RefusesPlan plans.OutOfMemory errors ending = (ending.status ≡ 1) × TellsFault errors ending.told (Err fault.OutOfMemory)
 
 -- how the program ends where the words of `check` ask for none, or where there was no memory for them
-abbrev pub RefusesRequest : {E : Type 0} → RequestFault → (E → Option (List ℕ)) → E → E → Ending → Type 0
-RefusesRequest request.Format said old new ending = RefusesWith no_report_text said old new ending
-RefusesRequest request.Session said old new ending = RefusesWith no_session_text said old new ending
-RefusesRequest request.Ids said old new ending = RefusesWith no_ids_text said old new ending
-RefusesRequest request.Accepting said old new ending = RefusesWith no_acceptance_text said old new ending
-RefusesRequest request.Both said old new ending = RefusesWith two_formats_text said old new ending
-RefusesRequest request.OutOfMemory said old new ending = (ending.status ≡ 1) × TellsFault said old new ending.told (Err fault.OutOfMemory)
+abbrev pub RefusesRequest : {E : Type 0} → RequestFault → Saying E → Ending → Type 0
+RefusesRequest request.Format errors ending = RefusesWith no_report_text errors ending
+RefusesRequest request.Session errors ending = RefusesWith no_session_text errors ending
+RefusesRequest request.Ids errors ending = RefusesWith no_ids_text errors ending
+RefusesRequest request.Accepting errors ending = RefusesWith no_acceptance_text errors ending
+RefusesRequest request.Both errors ending = RefusesWith two_formats_text errors ending
+RefusesRequest request.OutOfMemory errors ending = (ending.status ≡ 1) × TellsFault errors ending.told (Err fault.OutOfMemory)
 
 -- how the program ends where they name no number of sessions
-abbrev pub RefusesJobs : {E : Type 0} → JobsFault → (E → Option (List ℕ)) → E → E → Ending → Type 0
-RefusesJobs jobs_fault.Number said old new ending = RefusesWith no_check_jobs_text said old new ending
-RefusesJobs jobs_fault.Accepting said old new ending = RefusesWith accept_jobs_text said old new ending
+abbrev pub RefusesJobs : {E : Type 0} → JobsFault → Saying E → Ending → Type 0
+RefusesJobs jobs_fault.Number errors ending = RefusesWith no_check_jobs_text errors ending
+RefusesJobs jobs_fault.Accepting errors ending = RefusesWith accept_jobs_text errors ending
 
 -- how the program ends where several worksheets aren't checked so
-abbrev pub RefusesSeveral : {E : Type 0} → SeveralFault → (E → Option (List ℕ)) → E → E → Ending → Type 0
-RefusesSeveral several_fault.Format said old new ending = RefusesWith several_formats_text said old new ending
-RefusesSeveral several_fault.Accepting said old new ending = RefusesWith several_accept_text said old new ending
-RefusesSeveral several_fault.LeftOut said old new ending = RefusesWith several_left_out_text said old new ending
+abbrev pub RefusesSeveral : {E : Type 0} → SeveralFault → Saying E → Ending → Type 0
+RefusesSeveral several_fault.Format errors ending = RefusesWith several_formats_text errors ending
+RefusesSeveral several_fault.Accepting errors ending = RefusesWith several_accept_text errors ending
+RefusesSeveral several_fault.LeftOut errors ending = RefusesWith several_left_out_text errors ending

@@ -17,7 +17,7 @@ use Rattle.command_words.specs.Asked.{CheckView, EvalView, RunView, TaskView, as
 use Rattle.command_words.specs.declared.words.Task.{Task}
 use Rattle.command_words.specs.Asked as asked
 use Rattle.host_cli.specs.Plans.{AsksNoPlan, AsksPlan, check_jobs_asked, limit_asked, CheckBounds, CheckPlan, are_several, check_bounds, check_plan, several_refused}
-use Rattle.host_cli.specs.Refused.{RefusesJobs, RefusesPlan, RefusesRequest, RefusesWith, ShowsText, no_check_seconds_text, no_format_text, no_run_seconds_text, RefusesSeveral}
+use Rattle.host_cli.specs.Refused.{RefusesJobs, RefusesPlan, RefusesRequest, RefusesSeveral, RefusesWith, RefusesWords, ShowsHelp, ShowsText, no_check_seconds_text, no_format_text, no_run_seconds_text}
 use Rattle.host_cli.specs.declared.outside.Outside.{Outside}
 use Rattle.host_cli.specs.Outside.{OutsideView}
 use Rattle.host_cli.specs.declared.plans.JobsFault.{JobsFault}
@@ -25,6 +25,7 @@ use Rattle.host_cli.specs.declared.plans.PlanFault.{PlanFault}
 use Rattle.live.specs.Records.{as_it_comes, edge_by, line_by_line}
 use Rattle.live.specs.declared.manner.Manner.{Manner}
 use Rattle.host_cli.specs.declared.plans.SeveralFault.{SeveralFault}
+use Rattle.offline_programs.specs.Saying.{Saying, saying}
 use Rattle.offline_programs.specs.declared.fault.RunFault.{RunFault}
 use Rattle.offline_programs.specs.declared.fault.RunFault.TheVariants as fault
 use Rattle.program_endings.specs.AcceptProgram.{AcceptEnds}
@@ -42,7 +43,7 @@ use Rattle.program_endings.specs.LiveProgram.{LastTold, LiveEnded, LiveUnopened}
 use Rattle.tellings.specs.Json.{in_json}
 use Rattle.tellings.specs.Voice.{Voice}
 use Rattle.tellings.specs.Words.{in_words}
-use Rattle.program_endings.specs.RescueProgram.{FilesAreRead, RescueEnds}
+use Rattle.program_endings.specs.RescueProgram.{FilesAreRead, RescueEnds, said_streams}
 use Rattle.program_endings.specs.ScriptProgram.{ScriptEnds}
 use Rattle.program_endings.specs.declared.check_program.CheckEnding.{CheckEnding}
 use Rattle.program_endings.specs.declared.ending.Ending.{Ending}
@@ -93,9 +94,16 @@ module _ {Y D P S I W E Q : Type 0} where
   OnlyWritten old new = (new.places ≡ old.places) × (new.sources ≡ old.sources) × (new.input ≡ old.input) × (new.progress ≡ old.progress)
 
 module _ {Y D P S I W E Q : Type 0} (o : OutsideView D P S I W E) where
+  -- what is said on the stream of errors, and on the output
+  abbrev pub errors_of : Outside Y D P S I W E Q → Outside Y D P S I W E Q → Saying E
+  errors_of old new = saying o.streams.said o.streams.tried old.errors new.errors
+
+  abbrev pub output_of : Outside Y D P S I W E Q → Outside Y D P S I W E Q → Saying W
+  output_of old new = saying o.streams.written o.streams.shown old.output new.output
+
   -- the output and the stream of errors, before and after
   abbrev pub streams_of : Outside Y D P S I W E Q → Outside Y D P S I W E Q → Streams W E
-  streams_of old new = streams (writing o.streams.written old.output new.output) (writing o.streams.said old.errors new.errors)
+  streams_of old new = streams (writing o.streams.written old.output new.output) (errors_of old new)
 
   -- the interpreters, before and after
   abbrev pub calling_of : Outside Y D P S I W E Q → Outside Y D P S I W E Q → Calling S
@@ -103,7 +111,7 @@ module _ {Y D P S I W E Q : Type 0} (o : OutsideView D P S I W E) where
 
   -- how a program with this answer ends, and what it says on the stream of errors
   abbrev pub EndsWith : Outside Y D P S I W E Q → Outside Y D P S I W E Q → Ending → ProgramAnswer → Type 0
-  EndsWith old new ending answer = EndsAs (writing o.streams.said old.errors new.errors) ending answer
+  EndsWith old new ending answer = EndsAs (errors_of old new) ending answer
 
   -- The places of the standard streams are held before anything else is done. Where they can't be, that is the fault.
   abbrev pub HeldFirst : Outside Y D P S I W E Q → Outside Y D P S I W E Q → (RunFault → Type 0) → (P → Type 0) → Type 0
@@ -123,8 +131,8 @@ module _ {Y D P S I W E Q : Type 0} (o : OutsideView D P S I W E) where
   abbrev pub DoesCreate : Outside Y D P S I W E Q → Outside Y D P S I W E Q → Ending → Text → Type 0
   DoesCreate old new ending path =
       HeldFirst old new (λ why. EndsWith old new ending (Err why)) (λ held. (files : Result D MakeFault) × o.places.creates held path files new.places
-      × IfErr files (λ why. (ending.status ≡ 1) × TellsMake o.streams.said old.errors new.errors ending.told why)
-      × IfOk files (λ disk. CreateEnds (given_disk o.disks disk) (writing o.streams.said old.errors new.errors) ending))
+      × IfErr files (λ why. (ending.status ≡ 1) × TellsMake (errors_of old new) ending.told why)
+      × IfOk files (λ disk. CreateEnds (given_disk o.disks disk) (errors_of old new) ending))
 
   -- `show` of what they open to read at a path
   abbrev pub DoesShow : Outside Y D P S I W E Q → Outside Y D P S I W E Q → Ending → Text → Type 0
@@ -191,22 +199,22 @@ module _ {Y D P S I W E Q : Type 0} (o : OutsideView D P S I W E) where
   -- where the words ask for no check they are refused, and nothing is done
   abbrev pub ChecksNone : Outside Y D P S I W E Q → Outside Y D P S I W E Q → Ending → RequestFault → Type 0
   ChecksNone old new ending why = (new.places ≡ old.places) × (new.sources ≡ old.sources) × (new.output ≡ old.output) × (new.progress ≡ old.progress)
-      × RefusesRequest why o.streams.said old.errors new.errors ending
+      × RefusesRequest why (errors_of old new) ending
 
   -- where they name no time
   abbrev pub ChecksNoTime : Outside Y D P S I W E Q → Outside Y D P S I W E Q → Ending → Type 0
   ChecksNoTime old new ending = (new.places ≡ old.places) × (new.sources ≡ old.sources) × (new.output ≡ old.output) × (new.progress ≡ old.progress)
-      × RefusesWith no_check_seconds_text o.streams.said old.errors new.errors ending
+      × RefusesWith no_check_seconds_text (errors_of old new) ending
 
   -- where they name no number of sessions
   abbrev pub ChecksNoJobs : Outside Y D P S I W E Q → Outside Y D P S I W E Q → Ending → JobsFault → Type 0
   ChecksNoJobs old new ending why = (new.places ≡ old.places) × (new.sources ≡ old.sources) × (new.output ≡ old.output) × (new.progress ≡ old.progress)
-      × RefusesJobs why o.streams.said old.errors new.errors ending
+      × RefusesJobs why (errors_of old new) ending
 
   -- where several worksheets aren't checked so
   abbrev pub ChecksNoSeveral : Outside Y D P S I W E Q → Outside Y D P S I W E Q → Ending → SeveralFault → Type 0
   ChecksNoSeveral old new ending why = (new.places ≡ old.places) × (new.sources ≡ old.sources) × (new.output ≡ old.output) × (new.progress ≡ old.progress)
-      × RefusesSeveral why o.streams.said old.errors new.errors ending
+      × RefusesSeveral why (errors_of old new) ending
 
   -- several, or why they aren't
   abbrev pub ChecksSeveral : Outside Y D P S I W E Q → Outside Y D P S I W E Q → Ending → CheckView → CheckPlan → Type 0
@@ -258,7 +266,7 @@ module _ {Y D P S I W E Q : Type 0} (o : OutsideView D P S I W E) where
 
   -- where the words ask for nothing that there is they are refused, and nothing is done
   abbrev pub EvaluatesNothing : Outside Y D P S I W E Q → Outside Y D P S I W E Q → Ending → PlanFault → Type 0
-  EvaluatesNothing old new ending why = (new.places ≡ old.places) × (new.output ≡ old.output) × (new.sources ≡ old.sources) × RefusesPlan why o.streams.said old.errors new.errors ending
+  EvaluatesNothing old new ending why = (new.places ≡ old.places) × (new.output ≡ old.output) × (new.sources ≡ old.sources) × RefusesPlan why (errors_of old new) ending
 
   -- as the words of `eval` ask for it
   abbrev pub DoesEval : Outside Y D P S I W E Q → Outside Y D P S I W E Q → Ending → Text → EvalView → Type 0
@@ -279,7 +287,7 @@ module _ {Y D P S I W E Q : Type 0} (o : OutsideView D P S I W E) where
   -- where the words of `run` ask for nothing that there is they are refused with this text, and nothing is done
   abbrev pub RunsNothing : List ℕ → Outside Y D P S I W E Q → Outside Y D P S I W E Q → Ending → Type 0
   RunsNothing text old new ending = (new.places ≡ old.places) × (new.sources ≡ old.sources) × (new.input ≡ old.input) × (new.output ≡ old.output)
-      × RefusesWith text o.streams.said old.errors new.errors ending
+      × RefusesWith text (errors_of old new) ending
 
   -- `run --json`, or with a limit of time, or both, strict or not: what `live` does where lines come first
   abbrev pub RunsByLines : Outside Y D P S I W E Q → Outside Y D P S I W E Q → Ending → Text → RunView → Option ℕ → Type 0
@@ -295,7 +303,7 @@ module _ {Y D P S I W E Q : Type 0} (o : OutsideView D P S I W E) where
   -- `rescue` of what was found, to what the places make at a new path
   abbrev pub RescuesTo : Rescued D → Outside Y D P S I W E Q → Outside Y D P S I W E Q → Ending → Text → Type 0
   RescuesTo found old new ending to = (made : Result D MakeFault) × o.places.creates old.places to made new.places
-      × RescueEnds o.disks.closed o.disks made found (streams_of old new) ending
+      × RescueEnds o.disks.closed o.disks made found (said_streams (output_of old new) (errors_of old new)) ending
 
   -- `rescue` of files, or of why they weren't opened; nothing is made where nothing was found
   abbrev pub RescuesFrom : Result D FilesFault → Outside Y D P S I W E Q → Outside Y D P S I W E Q → Ending → Text → Type 0
@@ -316,7 +324,7 @@ module _ {Y D P S I W E Q : Type 0} (o : OutsideView D P S I W E) where
 
   -- where there is no format of that name the words are refused, and nothing is done
   abbrev pub RefusesFormat : Outside Y D P S I W E Q → Outside Y D P S I W E Q → Ending → Type 0
-  RefusesFormat old new ending = (new.places ≡ old.places) × (new.output ≡ old.output) × (ending.status ≡ 2) × (ending.told ≡ true → Appends (o.streams.said old.errors) (o.streams.said new.errors) no_format_text)
+  RefusesFormat old new ending = (new.places ≡ old.places) × (new.output ≡ old.output) × RefusesWith no_format_text (errors_of old new) ending
 
   -- `export` in the format of this name
   abbrev pub DoesExport : Outside Y D P S I W E Q → Outside Y D P S I W E Q → Ending → Text → Text → Type 0
@@ -340,8 +348,8 @@ module _ {Y D P S I W E Q : Type 0} (o : OutsideView D P S I W E) where
   -- How the program ends where `clap` gave no task, by the kind of its error.
   pub record Refuses (old new : Outside Y D P S I W E Q) (ending : Ending) (k : ErrorKind) : Type 0 where
     pub memory : k ≡ kind.OutOfMemory → (new.output ≡ old.output) × EndsWith old new ending (Err fault.OutOfMemory)
-    pub shown : ShowsText k → ((ending.status ≡ 0) × (new.errors ≡ old.errors)) ⊎ EndsWith old new ending (Err fault.Output)
-    pub refused : k ≢ kind.OutOfMemory → (ShowsText k → ⊥) → (new.output ≡ old.output) × (ending.status ≡ 2)
+    pub shown : ShowsText k → ShowsHelp (output_of old new) (errors_of old new) ending
+    pub refused : k ≢ kind.OutOfMemory → (ShowsText k → ⊥) → (new.output ≡ old.output) × RefusesWords (errors_of old new) ending
 
   -- the words ask for a task, which is done, or they are refused
   abbrev pub DoesAsked : List Text → Outside Y D P S I W E Q → Outside Y D P S I W E Q → Ending → Type 0

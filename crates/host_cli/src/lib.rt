@@ -10,6 +10,7 @@ mod outside;
 mod plans;
 mod refusing;
 mod runs;
+pub mod startup;
 mod tasks;
 
 pub use outlet::Outlet;

@@ -1,9 +1,10 @@
 //! All that is outside of the program, as one value.
 use crate::Outlet;
 use arrivals::Sources;
+use offline_programs::Says;
 use sheet_check::Progress;
 use sheet_files::{Close, Places};
-use std::io::{Read, Write};
+use std::io::Read;
 
 /// Of what kinds all that is outside of the program is.
 pub trait System {
@@ -16,9 +17,9 @@ pub trait System {
     /// Standard input.
     type Input: Read + Drop;
     /// Standard output.
-    type Output: Outlet + Drop;
+    type Output: Outlet + Says + Drop;
     /// Standard error.
-    type Errors: Write + Drop;
+    type Errors: Says + Drop;
     /// Whoever shows how far a check is.
     type Progress: Progress + Drop;
 }

@@ -1,18 +1,19 @@
 //! How the program ends where its words ask for nothing that there is.
-ghost use Rattle.std.specs.Prelude.{◌≡◌, ◌≢◌, ◌⊎◌, Err, true};
-ghost use Rattle.std.specs.Io.KnownBytes.{Appends};
+ghost use Rattle.std.specs.Prelude.{◌≡◌, ◌≢◌, Err, None, Some};
 ghost use Rattle.std.specs.declared.io.ErrorKind.TheVariants as io_kind;
 ghost use Rattle.clap.specs.Words.{kind_of};
 ghost use Rattle.clap.specs.declared.error.kind.ErrorKind.TheVariants as kind;
-ghost use Rattle.host_cli.specs.Refused.{RefusesJobs, RefusesPlan, RefusesRequest, RefusesWith, ShowsText, no_check_seconds_text, no_format_text, no_run_seconds_text, RefusesSeveral};
+ghost use Rattle.host_cli.specs.Refused.{RefusesJobs, RefusesPlan, RefusesRequest, RefusesSeveral, RefusesWith, RefusesWords, ShowsHelp, ShowsText, no_check_seconds_text, no_format_text, no_run_seconds_text};
 ghost use Rattle.program_endings.specs.Ending.{TellsFault};
+ghost use Rattle.offline_programs.specs.Saying.{saying};
 ghost use Rattle.offline_programs.specs.declared.fault.RunFault.TheVariants as fault;
 
 use crate::plans::{JobsFault, PlanFault, SeveralFault};
 use check_report::RequestFault;
 use clap::error::ErrorKind;
-use offline_programs::RunFault;
+use offline_programs::{Message, RunFault, Says};
 use program_endings::{Ending, end_program};
+use sheet_text::WriteFault;
 use std::io;
 use std::io::Write;
 
@@ -23,47 +24,67 @@ fn refused(told: bool) -> Ending
     Ending { status: 2, told }
 }
 
+/// Why `clap` gave no task, or the help that was asked for.
+struct FromClap<'a> {
+    error: &'a clap::Error,
+}
+
+impl Message for FromClap<'_> {
+    ghost text = { λ _. None };
+
+    fn write<W: Write>(&self, out: &mut W) -> Result<(), WriteFault> {
+        let error = self.error;
+        write!(out, "{error}").map_err(|_| WriteFault)
+    }
+}
+
+/// A text of this program's own.
+struct Text<'a> {
+    bytes: &'a [u8],
+}
+
+impl Message for Text<'_> {
+    ghost text = { λ text. Some text.bytes.now };
+
+    fn write<W: Write>(&self, out: &mut W) -> Result<(), WriteFault> {
+        out.write_all(self.bytes).map_err(|_| WriteFault)
+    }
+}
+
 /// Ends the program where `clap` gave no task for its words: help that was asked for goes to `output`,
 /// and why the words are refused to `errors`. Help that can't be written is `Output`, and lack of
 /// memory is reported as the program's own.
-pub fn refuse_words<W: Write, E: Write>(
-    error: &clap::Error,
-    output: &mut W,
-    errors: &mut E,
-) -> Ending
+pub fn refuse_words<W: Says, E: Says>(error: &clap::Error, output: &mut W, errors: &mut E) -> Ending
     ensures memory { kind_of error.now ≡ kind.OutOfMemory
         → (output.new ≡ output.old) × (result.status ≡ 1)
-        × TellsFault E.contents errors.old errors.new result.told (Err fault.OutOfMemory) }
+        × TellsFault (saying E.contents E.tried errors.old errors.new) result.told (Err fault.OutOfMemory) }
     ensures shown { ShowsText (kind_of error.now)
-        → ((result.status ≡ 0) × (errors.new ≡ errors.old))
-        ⊎ ((result.status ≡ 1)
-        × TellsFault E.contents errors.old errors.new result.told (Err fault.Output)) }
-
-    // Whatever becomes of the text.
+        → ShowsHelp (saying W.contents W.tried output.old output.new) (saying E.contents E.tried errors.old errors.new) result }
     ensures refused { kind_of error.now ≢ kind.OutOfMemory → (ShowsText (kind_of error.now) → ⊥)
-        → (output.new ≡ output.old) × (result.status ≡ 2) }
+        → (output.new ≡ output.old) × RefusesWords (saying E.contents E.tried errors.old errors.new) result }
 {
     match error.kind() {
         ErrorKind::OutOfMemory => end_program(Err(RunFault::OutOfMemory), errors),
         ErrorKind::DisplayHelp | ErrorKind::DisplayVersion => {
-            if write!(output, "{error}").is_err() || output.flush().is_err() {
-                return end_program(Err(RunFault::Output), errors);
-            }
-            Ending {
-                status: 0,
-                told: true,
+            if output.say(&FromClap { error }) {
+                Ending {
+                    status: 0,
+                    told: true,
+                }
+            } else {
+                end_program(Err(RunFault::Output), errors)
             }
         }
-        _ => refused(write!(errors, "{error}").is_ok()),
+        _ => refused(errors.say(&FromClap { error })),
     }
 }
 
 /// Ends the program where its words can't be had: a word that is not UTF-8 gives status 2 without a
 /// text, and lack of memory is reported.
-pub fn refuse_unread_words<E: Write>(kind: io::ErrorKind, errors: &mut E) -> Ending
+pub fn refuse_unread_words<E: Says>(kind: io::ErrorKind, errors: &mut E) -> Ending
     ensures memory { kind ≡ io_kind.OutOfMemory
         → (result.status ≡ 1)
-        × TellsFault E.contents errors.old errors.new result.told (Err fault.OutOfMemory) }
+        × TellsFault (saying E.contents E.tried errors.old errors.new) result.told (Err fault.OutOfMemory) }
     ensures refused { kind ≢ io_kind.OutOfMemory
         → (errors.new ≡ errors.old) × (result.status ≡ 2) }
 {
@@ -73,32 +94,27 @@ pub fn refuse_unread_words<E: Write>(kind: io::ErrorKind, errors: &mut E) -> End
     }
 }
 
-/// Refuses words that ask for a format that there isn't.
-pub(crate) fn refuse_format<E: Write>(errors: &mut E) -> Ending
-    ensures status { result.status ≡ 2 }
-    ensures told { result.told ≡ true
-        → Appends (E.contents errors.old) (E.contents errors.new) no_format_text }
+/// Refuses words that ask for nothing that there is, with this text.
+fn refuse_with<E: Says>(text: &[u8], errors: &mut E) -> Ending
+    ensures { RefusesWith text.now (saying E.contents E.tried errors.old errors.new) result }
 {
-    let told = errors.write_all(
-        b"error: there is no such format: FORMAT is script, markdown, html, notebook or json\n\n\
-        For more information, try 'tmhost export --help'.\n",
-    );
-    refused(told.is_ok())
+    refused(errors.say(&Text { bytes: text }))
 }
 
-/// Refuses words that ask for nothing that there is, with this text.
-fn refuse_with<E: Write>(text: &[u8], errors: &mut E) -> Ending
-    ensures status { result.status ≡ 2 }
-    ensures told { result.told ≡ true
-        → Appends (E.contents errors.old) (E.contents errors.new) text.now }
+/// Refuses words that ask for a format that there isn't.
+pub(crate) fn refuse_format<E: Says>(errors: &mut E) -> Ending
+    ensures { RefusesWith no_format_text (saying E.contents E.tried errors.old errors.new) result }
 {
-    let told = errors.write_all(text);
-    refused(told.is_ok())
+    refuse_with(
+        b"error: there is no such format: FORMAT is script, markdown, html, notebook or json\n\n\
+        For more information, try 'tmhost export --help'.\n",
+        errors,
+    )
 }
 
 /// Ends the program where the words of `eval` ask for nothing that there is.
-pub(crate) fn refuse_plan<E: Write>(why: PlanFault, errors: &mut E) -> Ending
-    ensures { RefusesPlan why E.contents errors.old errors.new result }
+pub(crate) fn refuse_plan<E: Says>(why: PlanFault, errors: &mut E) -> Ending
+    ensures { RefusesPlan why (saying E.contents E.tried errors.old errors.new) result }
 {
     match why {
         PlanFault::Seconds => refuse_with(
@@ -131,8 +147,8 @@ pub(crate) fn refuse_plan<E: Write>(why: PlanFault, errors: &mut E) -> Ending
 }
 
 /// Refuses words of `run` that name no time.
-pub(crate) fn refuse_run_limit<E: Write>(errors: &mut E) -> Ending
-    ensures { RefusesWith no_run_seconds_text E.contents errors.old errors.new result }
+pub(crate) fn refuse_run_limit<E: Says>(errors: &mut E) -> Ending
+    ensures { RefusesWith no_run_seconds_text (saying E.contents E.tried errors.old errors.new) result }
 {
     refuse_with(
         b"error: this is no time: SECONDS is a number from 1 to 1000000\n\n\
@@ -142,8 +158,8 @@ pub(crate) fn refuse_run_limit<E: Write>(errors: &mut E) -> Ending
 }
 
 /// Refuses words of `check` that name no time.
-pub(crate) fn refuse_check_limit<E: Write>(errors: &mut E) -> Ending
-    ensures { RefusesWith no_check_seconds_text E.contents errors.old errors.new result }
+pub(crate) fn refuse_check_limit<E: Says>(errors: &mut E) -> Ending
+    ensures { RefusesWith no_check_seconds_text (saying E.contents E.tried errors.old errors.new) result }
 {
     refuse_with(
         b"error: this is no time: SECONDS is a number from 1 to 1000000\n\n\
@@ -153,8 +169,8 @@ pub(crate) fn refuse_check_limit<E: Write>(errors: &mut E) -> Ending
 }
 
 /// Refuses words of `check` that name no number of sessions.
-pub(crate) fn refuse_jobs<E: Write>(why: JobsFault, errors: &mut E) -> Ending
-    ensures { RefusesJobs why E.contents errors.old errors.new result }
+pub(crate) fn refuse_jobs<E: Says>(why: JobsFault, errors: &mut E) -> Ending
+    ensures { RefusesJobs why (saying E.contents E.tried errors.old errors.new) result }
 {
     match why {
         JobsFault::Number => refuse_with(
@@ -171,8 +187,8 @@ pub(crate) fn refuse_jobs<E: Write>(why: JobsFault, errors: &mut E) -> Ending
 }
 
 /// Refuses words of `check` that ask for more of several worksheets than there is.
-pub(crate) fn refuse_several<E: Write>(why: SeveralFault, errors: &mut E) -> Ending
-    ensures { RefusesSeveral why E.contents errors.old errors.new result }
+pub(crate) fn refuse_several<E: Says>(why: SeveralFault, errors: &mut E) -> Ending
+    ensures { RefusesSeveral why (saying E.contents E.tried errors.old errors.new) result }
 {
     match why {
         SeveralFault::Format => refuse_with(
@@ -194,8 +210,8 @@ pub(crate) fn refuse_several<E: Write>(why: SeveralFault, errors: &mut E) -> End
 }
 
 /// Ends the program where the words of `check` ask for none.
-pub(crate) fn refuse_request<E: Write>(why: RequestFault, errors: &mut E) -> Ending
-    ensures { RefusesRequest why E.contents errors.old errors.new result }
+pub(crate) fn refuse_request<E: Says>(why: RequestFault, errors: &mut E) -> Ending
+    ensures { RefusesRequest why (saying E.contents E.tried errors.old errors.new) result }
 {
     match why {
         RequestFault::Format => refuse_with(

@@ -6,6 +6,7 @@ ghost use Rattle.command_words.specs.Asked as asked;
 ghost use Rattle.host_cli.specs.Outside.{disks_seen, outer, sources_seen, streams_seen};
 ghost use Rattle.host_cli.specs.Tasks.{BringsOut, DoesCreate, DoesEval, DoesExport, DoesRescue, DoesShow, DoesTask, EvaluatesAs, ExportsAs, LeavesAlone, Performs, voice_by};
 ghost use Rattle.program_endings.specs.Ending.{TellsFault};
+ghost use Rattle.offline_programs.specs.Saying.{saying};
 ghost use Rattle.offline_programs.specs.declared.fault.RunFault.TheVariants as fault;
 
 use crate::blocks::{blocks, blocks_in_json};
@@ -18,7 +19,7 @@ use crate::runs::{live_at, live_json_at, run_at};
 use crate::{refuse_unread_words, refuse_words};
 use command_words::{EvalWords, Task, read_words};
 use evaluation::Plan;
-use offline_programs::RunFault;
+use offline_programs::{RunFault, Says};
 use program_endings::{
     Ending, end_program, end_unheld, read_rescued, run_create, run_evaluation, run_export,
     run_rescue, run_show,
@@ -27,13 +28,12 @@ use sheet_export::{Format, format_named, last_part};
 use sheet_files::Places;
 use std::alloc::Global;
 use std::io;
-use std::io::Write;
 use tellings::{InJson, InWords, Tells};
 
 /// `create` at a path.
 fn create_at<Y: System>(outside: &mut Outside<Y>, path: &str) -> Ending
     ensures does { DoesCreate (outer Y.Places.Places (disks_seen Y.Disk.Disk Y.Disk.closed) (sources_seen Y.Sources.after Y.Sources.clock Y.Sources.wakes)
-        (streams_seen Y.Input.Read Y.Output.Write Y.Output.brought Y.Errors.Write)) outside.old outside.new result path.now }
+        (streams_seen Y.Input.Read Y.Output.Write Y.Output.brought Y.Output.Says Y.Errors.Write Y.Errors.Says)) outside.old outside.new result path.now }
     ensures leaves { LeavesAlone outside.old outside.new (asked.create path.now) }
 {
     match outside.places.hold() {
@@ -45,7 +45,7 @@ fn create_at<Y: System>(outside: &mut Outside<Y>, path: &str) -> Ending
 /// `show` of the worksheet at a path.
 fn show_at<Y: System>(alloc: Global, outside: &mut Outside<Y>, path: &str) -> Ending
     ensures does { DoesShow (outer Y.Places.Places (disks_seen Y.Disk.Disk Y.Disk.closed) (sources_seen Y.Sources.after Y.Sources.clock Y.Sources.wakes)
-        (streams_seen Y.Input.Read Y.Output.Write Y.Output.brought Y.Errors.Write)) outside.old outside.new result path.now }
+        (streams_seen Y.Input.Read Y.Output.Write Y.Output.brought Y.Output.Says Y.Errors.Write Y.Errors.Says)) outside.old outside.new result path.now }
     ensures leaves { LeavesAlone outside.old outside.new (asked.show path.now) }
 {
     match outside.places.hold() {
@@ -68,7 +68,7 @@ fn eval_as<Y: System, T: Tells>(
     path: &str,
 ) -> Ending
     ensures does { EvaluatesAs (outer Y.Places.Places (disks_seen Y.Disk.Disk Y.Disk.closed) (sources_seen Y.Sources.after Y.Sources.clock Y.Sources.wakes)
-        (streams_seen Y.Input.Read Y.Output.Write Y.Output.brought Y.Errors.Write)) T.voice plan.now outside.old outside.new result path.now }
+        (streams_seen Y.Input.Read Y.Output.Write Y.Output.brought Y.Output.Says Y.Errors.Write Y.Errors.Says)) T.voice plan.now outside.old outside.new result path.now }
     ensures leaves { (outside.new.input ≡ outside.old.input)
         × (outside.new.progress ≡ outside.old.progress) }
 {
@@ -95,7 +95,7 @@ fn eval_told<Y: System>(
     path: &str,
 ) -> Ending
     ensures does { EvaluatesAs (outer Y.Places.Places (disks_seen Y.Disk.Disk Y.Disk.closed) (sources_seen Y.Sources.after Y.Sources.clock Y.Sources.wakes)
-        (streams_seen Y.Input.Read Y.Output.Write Y.Output.brought Y.Errors.Write)) (voice_by json) plan.now outside.old outside.new result path.now }
+        (streams_seen Y.Input.Read Y.Output.Write Y.Output.brought Y.Output.Says Y.Errors.Write Y.Errors.Says)) (voice_by json) plan.now outside.old outside.new result path.now }
     ensures leaves { (outside.new.input ≡ outside.old.input)
         × (outside.new.progress ≡ outside.old.progress) }
 {
@@ -114,7 +114,7 @@ fn eval_at<Y: System>(
     words: EvalWords<'_>,
 ) -> Ending
     ensures does { DoesEval (outer Y.Places.Places (disks_seen Y.Disk.Disk Y.Disk.closed) (sources_seen Y.Sources.after Y.Sources.clock Y.Sources.wakes)
-        (streams_seen Y.Input.Read Y.Output.Write Y.Output.brought Y.Errors.Write)) outside.old outside.new result path.now (eval_view words.entry) }
+        (streams_seen Y.Input.Read Y.Output.Write Y.Output.brought Y.Output.Says Y.Errors.Write Y.Errors.Says)) outside.old outside.new result path.now (eval_view words.entry) }
     ensures leaves { LeavesAlone outside.old outside.new (asked.eval path.now (eval_view words.entry)) }
 {
     match read_plan(alloc, &words) {
@@ -126,7 +126,7 @@ fn eval_at<Y: System>(
 /// `rescue` from a path to a new one, which is made only where there is something to rescue.
 fn rescue_at<Y: System>(alloc: Global, outside: &mut Outside<Y>, path: &str, new: &str) -> Ending
     ensures does { DoesRescue (outer Y.Places.Places (disks_seen Y.Disk.Disk Y.Disk.closed) (sources_seen Y.Sources.after Y.Sources.clock Y.Sources.wakes)
-        (streams_seen Y.Input.Read Y.Output.Write Y.Output.brought Y.Errors.Write)) outside.old outside.new result path.now new.now }
+        (streams_seen Y.Input.Read Y.Output.Write Y.Output.brought Y.Output.Says Y.Errors.Write Y.Errors.Says)) outside.old outside.new result path.now new.now }
     ensures leaves { LeavesAlone outside.old outside.new (asked.rescue path.now new.now) }
 {
     if let Err(why) = outside.places.hold() {
@@ -152,7 +152,7 @@ fn export_as<Y: System>(
     path: &str,
 ) -> Ending
     ensures does { ExportsAs (outer Y.Places.Places (disks_seen Y.Disk.Disk Y.Disk.closed) (sources_seen Y.Sources.after Y.Sources.clock Y.Sources.wakes)
-        (streams_seen Y.Input.Read Y.Output.Write Y.Output.brought Y.Errors.Write)) outside.old outside.new result path.now format }
+        (streams_seen Y.Input.Read Y.Output.Write Y.Output.brought Y.Output.Says Y.Errors.Write Y.Errors.Says)) outside.old outside.new result path.now format }
     ensures leaves { LeavesAlone outside.old outside.new (asked.export [] path.now) }
 {
     match outside.places.hold() {
@@ -171,7 +171,7 @@ fn export_as<Y: System>(
 /// `export` in the format of this name.
 fn export_at<Y: System>(alloc: Global, outside: &mut Outside<Y>, name: &str, path: &str) -> Ending
     ensures does { DoesExport (outer Y.Places.Places (disks_seen Y.Disk.Disk Y.Disk.closed) (sources_seen Y.Sources.after Y.Sources.clock Y.Sources.wakes)
-        (streams_seen Y.Input.Read Y.Output.Write Y.Output.brought Y.Errors.Write)) outside.old outside.new result name.now path.now }
+        (streams_seen Y.Input.Read Y.Output.Write Y.Output.brought Y.Output.Says Y.Errors.Write Y.Errors.Says)) outside.old outside.new result name.now path.now }
     ensures leaves { LeavesAlone outside.old outside.new (asked.export name.now path.now) }
 {
     match format_named(name) {
@@ -186,7 +186,7 @@ fn export_at<Y: System>(alloc: Global, outside: &mut Outside<Y>, name: &str, pat
 /// errors. `check` alone has `progress` show something.
 pub fn do_task<Y: System>(alloc: Global, task: Task<'_>, outside: &mut Outside<Y>) -> Ending
     ensures does { DoesTask (outer Y.Places.Places (disks_seen Y.Disk.Disk Y.Disk.closed) (sources_seen Y.Sources.after Y.Sources.clock Y.Sources.wakes)
-        (streams_seen Y.Input.Read Y.Output.Write Y.Output.brought Y.Errors.Write)) outside.old outside.new result (task_view task.entry) }
+        (streams_seen Y.Input.Read Y.Output.Write Y.Output.brought Y.Output.Says Y.Errors.Write Y.Errors.Says)) outside.old outside.new result (task_view task.entry) }
     ensures leaves { LeavesAlone outside.old outside.new (task_view task.entry) }
 {
     match task {
@@ -206,10 +206,10 @@ pub fn do_task<Y: System>(alloc: Global, task: Task<'_>, outside: &mut Outside<Y
 }
 
 /// The end of a program whose output can't be flushed: the fault `Output`, but where its status is 1 already.
-fn end_unsent<E: Write>(alone: Ending, errors: &mut E) -> Ending
+fn end_unsent<E: Says>(alone: Ending, errors: &mut E) -> Ending
     ensures same { alone.status ≡ 1 → (result ≡ alone) × (errors.new ≡ errors.old) }
     ensures unsent { alone.status ≢ 1 → (result.status ≡ 1)
-        × TellsFault E.contents errors.old errors.new result.told (Err fault.Output) }
+        × TellsFault (saying E.contents E.tried errors.old errors.new) result.told (Err fault.Output) }
 {
     if alone.status == 1 {
         alone
@@ -221,7 +221,7 @@ fn end_unsent<E: Write>(alone: Ending, errors: &mut E) -> Ending
 /// Flushes what the output keeps back, at the end of the program.
 fn bring_out<Y: System>(outside: &mut Outside<Y>, alone: Ending) -> Ending
     ensures { BringsOut (outer Y.Places.Places (disks_seen Y.Disk.Disk Y.Disk.closed) (sources_seen Y.Sources.after Y.Sources.clock Y.Sources.wakes)
-        (streams_seen Y.Input.Read Y.Output.Write Y.Output.brought Y.Errors.Write)) outside.old outside.new alone result }
+        (streams_seen Y.Input.Read Y.Output.Write Y.Output.brought Y.Output.Says Y.Errors.Write Y.Errors.Says)) outside.old outside.new alone result }
 {
     match outside.output.bring_out() {
         Ok(()) => alone,
@@ -237,7 +237,7 @@ pub fn perform<Y: System>(
     outside: &mut Outside<Y>,
 ) -> Ending
     ensures { Performs (outer Y.Places.Places (disks_seen Y.Disk.Disk Y.Disk.closed) (sources_seen Y.Sources.after Y.Sources.clock Y.Sources.wakes)
-        (streams_seen Y.Input.Read Y.Output.Write Y.Output.brought Y.Errors.Write)) (λ all. map string_bytes all.items) words outside.old outside.new result }
+        (streams_seen Y.Input.Read Y.Output.Write Y.Output.brought Y.Output.Says Y.Errors.Write Y.Errors.Says)) (λ all. map string_bytes all.items) words outside.old outside.new result }
 {
     let ending = match words {
         Ok(words) => match read_words(alloc, words.as_slice()) {

@@ -1,4 +1,5 @@
 pub mod Input
 pub mod Faults
+pub mod Saying
 pub mod Memory
 pub mod Rescue

@@ -7,6 +7,7 @@ mod input;
 mod memory;
 mod printing;
 mod rescuing;
+mod saying;
 mod writing;
 
 pub use fault::{RunFault, fault_text};
@@ -14,4 +15,5 @@ pub use input::{LONGEST_STANDARD_INPUT, read_input};
 pub use memory::run_memory;
 pub use printing::{Shown, show};
 pub use rescuing::{FrontFault, RescueFault, Saved, read_front, save_rescued};
+pub use saying::{Message, Says};
 pub use writing::{tell_bad_line, tell_replies, tell_sheet};

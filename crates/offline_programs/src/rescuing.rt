@@ -1,5 +1,5 @@
 //! What stands in a damaged worksheet before the damage, and the new worksheet that it is written to.
-ghost use Rattle.std.specs.Prelude.{◌≡◌, ◌≤◌, Err, List, IfErr, OnOk};
+ghost use Rattle.std.specs.Prelude.{◌≡◌, ◌≤◌, Err, List, IfErr, OnOk, Some, false};
 ghost use Rattle.std.specs.Io.KnownBytes.{Appends};
 ghost use Rattle.recovery.specs.Sheets.{Makes};
 ghost use Rattle.offline_programs.specs.Rescue as printed;
@@ -8,11 +8,12 @@ ghost use Rattle.offline_programs.specs.declared.fault.RunFault.TheVariants as f
 ghost use Rattle.offline_programs.specs.declared.rescuing.RescueFault.TheVariants as rescues;
 ghost use Rattle.worksheet.specs.declared.op.Op.{Op};
 
-use crate::RunFault;
+use crate::{Message, RunFault, Says};
 use disk_model::Disk;
 use host_events::HostFault;
 use journal::{OpenCause, OpenFault};
 use recovery::{Rescued, SaveCause, SaveFault, rescue, save};
+use sheet_text::WriteFault;
 use std::alloc::Global;
 use std::io::Write;
 use thiserror::Error;
@@ -65,19 +66,38 @@ fn save_fault(cause: SaveCause) -> RescueFault
     }
 }
 
-/// Tells on a line how many ops were kept, and where the damage is.
-fn write_kept<W: Write>(kept: u64, damage: Option<u64>, writer: &mut W) -> Result<(), RunFault>
-    ensures ok { OnOk result
-        (Appends (W.contents writer.old) (W.contents writer.new) (printed.kept_text kept damage)) }
-    ensures err { IfErr result (λ e. e ≡ fault.Output) }
-{
-    match damage {
-        Some(gate) => writeln!(writer, "kept {kept}, damaged at {gate}"),
-        None => writeln!(writer, "kept {kept}, whole"),
+/// How many ops were kept, and the offset of the gate where the damage is.
+#[derive(Clone, Copy)]
+struct Kept {
+    ops: u64,
+    damage: Option<u64>,
+}
+
+impl Message for Kept {
+    ghost text = { λ kept. Some (printed.kept_text kept.ops kept.damage) };
+
+    fn write<W: Write>(&self, out: &mut W) -> Result<(), WriteFault> {
+        let kept = self.ops;
+        match self.damage {
+            Some(gate) => writeln!(out, "kept {kept}, damaged at {gate}"),
+            None => writeln!(out, "kept {kept}, whole"),
+        }
+        .map_err(|_| WriteFault)
     }
-    .map_err(|_| RunFault::Output)?;
-    writer.flush().map_err(|_| RunFault::Output)?;
-    Ok(())
+}
+
+/// Tells on a line how many ops were kept, and where the damage is.
+fn tell_kept<W: Says>(kept: u64, damage: Option<u64>, writer: &mut W) -> Result<(), RescueFault>
+    ensures told { OnOk result
+        (Appends (W.contents writer.old) (W.contents writer.new) (printed.kept_text kept damage)) }
+    ensures unsaid { IfErr result (λ e. (e ≡ rescues.Run fault.Output)
+        × W.tried writer.old (Some (printed.kept_text kept damage)) false writer.new) }
+{
+    if writer.say(&Kept { ops: kept, damage }) {
+        Ok(())
+    } else {
+        Err(RescueFault::Run(RunFault::Output))
+    }
 }
 
 /// What the writing of a new worksheet answers, and the disk that it was given.
@@ -91,7 +111,7 @@ pub struct Saved<D: Disk> {
 
 /// Writes what was rescued to an empty disk of at least 11 bytes of room, and then tells on a line of
 /// `writer` how much it is: `kept N, whole`, or `kept N, damaged at OFFSET`.
-pub fn save_rescued<D: Disk, N: Disk, W: Write>(
+pub fn save_rescued<D: Disk, N: Disk, W: Says>(
     alloc: Global,
     found: &Rescued<D>,
     disk: N,
@@ -106,17 +126,13 @@ pub fn save_rescued<D: Disk, N: Disk, W: Write>(
         (printed.kept_text found.now.kept found.now.damage)) }
     ensures untold { IfErr result.answer
         (λ e. (e ≡ rescues.Run fault.Output → ⊥) → writer.new ≡ writer.old) }
+    ensures unsaid { result.answer ≡ Err (rescues.Run fault.Output)
+        → W.tried writer.old (Some (printed.kept_text found.now.kept found.now.damage)) false writer.new }
 {
     match save(alloc, disk, &found.sheet) {
-        Ok(disk) => match write_kept(found.kept, found.damage, writer) {
-            Ok(()) => Saved {
-                disk,
-                answer: Ok(()),
-            },
-            Err(fault) => Saved {
-                disk,
-                answer: Err(RescueFault::Run(fault)),
-            },
+        Ok(disk) => Saved {
+            disk,
+            answer: tell_kept(found.kept, found.damage, writer),
         },
         Err(SaveFault { cause, disk }) => Saved {
             disk,

@@ -3,9 +3,9 @@ use Rattle.std.specs.Prelude.{◌≡◌, ◌<◌, ◌≤◌, ℕ, Bool, true, fa
 use Rattle.std.specs.Io.KnownBytes.{Appends}
 use Rattle.meta_format.specs.Limits.{limits}
 use Rattle.offline_programs.specs.Faults.{fault_text}
+use Rattle.offline_programs.specs.Saying.{IsSaid, Saying}
 use Rattle.offline_programs.specs.Input.{IsStreamFault, longest_standard_input}
 use Rattle.program_endings.specs.Printed.{Printed}
-use Rattle.program_endings.specs.Records.{Writing}
 use Rattle.program_endings.specs.declared.ending.Ending.{Ending}
 use Rattle.offline_programs.specs.declared.fault.RunFault.{RunFault}
 use Rattle.offline_programs.specs.declared.fault.RunFault.TheVariants as fault
@@ -25,14 +25,14 @@ status_of (Ok true) = 0
 status_of (Ok false) = 1
 status_of (Err fault) = 1
 
--- a fault is a line on the stream of errors, where that takes it; nothing else stands there
-abbrev pub TellsFault : {E : Type 0} → (E → Option (List ℕ)) → E → E → Bool → ProgramAnswer → Type 0
-TellsFault contents old new told (Ok whole) = new ≡ old
-TellsFault contents old new told (Err fault) = told ≡ true → Appends (contents old) (contents new) (fault_text fault)
+-- a fault is a line that is said on the stream of errors; nothing else stands there
+abbrev pub TellsFault : {E : Type 0} → Saying E → Bool → ProgramAnswer → Type 0
+TellsFault errors told (Ok whole) = errors.new ≡ errors.old
+TellsFault errors told (Err fault) = IsSaid errors (fault_text fault) told
 
 -- how a program with this answer ends: the status, and the line of its fault
-abbrev pub EndsAs : {E : Type 0} → Writing E → Ending → ProgramAnswer → Type 0
-EndsAs errors ending answer = (ending.status ≡ status_of answer) × TellsFault errors.contents errors.old errors.new ending.told answer
+abbrev pub EndsAs : {E : Type 0} → Saying E → Ending → ProgramAnswer → Type 0
+EndsAs errors ending answer = (ending.status ≡ status_of answer) × TellsFault errors ending.told answer
 
 -- What `blocks` answers, and what it has written then: its clauses. The stream is what the reader gives,
 -- where it is known; `contents` are the bytes that the writer holds.

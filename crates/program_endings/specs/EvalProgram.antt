@@ -5,6 +5,7 @@ use Rattle.disk_model.specs.Disk.{Rises, SameDisk}
 use Rattle.journal.specs.declared.opening.OpenCause.TheVariants as opens
 use Rattle.host_events.specs.declared.outcome.HostFault.TheVariants as hosts
 use Rattle.offline_programs.specs.Faults.{Untouched}
+use Rattle.offline_programs.specs.Saying.{IsSaid, Saying}
 use Rattle.offline_programs.specs.declared.fault.RunFault.{RunFault}
 use Rattle.offline_programs.specs.declared.fault.RunFault.TheVariants as fault
 use Rattle.tellings.specs.Voice.{IsUntold, Voice}
@@ -43,11 +44,10 @@ abbrev pub evaluation_status : EvaluationAnswer → ℕ
 evaluation_status (Ok end) = status_of_end end.stopped_at end.counts
 evaluation_status (Err why) = 1
 
--- Where it stopped is a line on the stream of errors, as of `run --strict`, where that takes it, and so is a fault; nothing else stands
--- there.
-abbrev pub TellsEval : {E : Type 0} → (E → Option (List ℕ)) → E → E → Bool → EvaluationAnswer → Type 0
-TellsEval said old new told (Ok end) = TellsStop said old new told (Ok end.stopped_at)
-TellsEval said old new told (Err why) = told ≡ true → Appends (said old) (said new) (eval_fault_text why)
+-- Where it stopped is a line that is said on the stream of errors, as of `run --strict`, and so is a fault; nothing else stands there.
+abbrev pub TellsEval : {E : Type 0} → Saying E → Bool → EvaluationAnswer → Type 0
+TellsEval errors told (Ok end) = TellsStop errors told (Ok end.stopped_at)
+TellsEval errors told (Err why) = IsSaid errors (eval_fault_text why) told
 
 -- A fault is reported last of all, where the voice has it and the output takes it.
 abbrev pub LastOfEval : {O : Type 0} → Voice → (O → Option (List ℕ)) → O → O → Bool → EvaluationAnswer → Type 0
@@ -88,4 +88,4 @@ pub record EvaluationEnded {D C O E : Type 0} (o : Setting C) (g : GivenDisk D) 
   pub answered : EvalAnswer o g q (writing s.output.contents s.output.old mid) answer
   pub last_told : LastOfEval o.voice s.output.contents mid s.output.new ending.told answer
   pub status : ending.status ≡ evaluation_status answer
-  pub told : TellsEval s.errors.contents s.errors.old s.errors.new ending.told answer
+  pub told : TellsEval s.errors ending.told answer

@@ -8,6 +8,7 @@ use Rattle.sheet_export.specs.Formats.{ReadsBack, TellsExport, export_fault_text
 use Rattle.sheet_export.specs.declared.fault.ExportFault.{ExportFault}
 use Rattle.sheet_export.specs.declared.fault.ExportFault.TheVariants as exports
 use Rattle.sheet_export.specs.declared.formats.Format.{Format}
+use Rattle.offline_programs.specs.Saying.{IsSaid, Saying}
 use Rattle.offline_programs.specs.declared.fault.RunFault.TheVariants as fault
 use Rattle.worksheet.specs.Contents.{Contents}
 use Rattle.program_endings.specs.Faults.{no_files}
@@ -24,10 +25,10 @@ abbrev pub export_status : ExportAnswer → ℕ
 export_status (Ok u) = 0
 export_status (Err why) = 1
 
--- a fault is a line on the stream of errors, where that takes it; nothing else stands there
-abbrev pub TellsExported : {E : Type 0} → (E → Option (List ℕ)) → E → E → Bool → ExportAnswer → Type 0
-TellsExported contents old new told (Ok u) = new ≡ old
-TellsExported contents old new told (Err why) = told ≡ true → Appends (contents old) (contents new) (export_fault_text why)
+-- a fault is a line that is said on the stream of errors; nothing else stands there
+abbrev pub TellsExported : {E : Type 0} → Saying E → Bool → ExportAnswer → Type 0
+TellsExported errors told (Ok u) = errors.new ≡ errors.old
+TellsExported errors told (Err why) = IsSaid errors (export_fault_text why) told
 
 -- What `export` answers on a disk, and what it has written then: its clauses.
 pub record ExportedFrom {D W : Type 0} (g : GivenDisk D) (format : Format) (title : List ℕ) (w : Writing W) (answer : ExportAnswer) : Type 0 where
@@ -55,4 +56,4 @@ Exports k files format title w answer =
 -- how `export` ends on its files, or on why they weren't opened
 abbrev pub ExportEnds : {D W E : Type 0} → Closable D → Result D FilesFault → Format → List ℕ → Streams W E → Ending → Type 0
 ExportEnds k files format title s ending = (answer : ExportAnswer) × Exports k files format title s.output answer
-    × (ending.status ≡ export_status answer) × TellsExported s.errors.contents s.errors.old s.errors.new ending.told answer
+    × (ending.status ≡ export_status answer) × TellsExported s.errors ending.told answer

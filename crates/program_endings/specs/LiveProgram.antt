@@ -69,4 +69,4 @@ pub record LiveEnded {D C O E : Type 0} (o : Edge C) (stream : Option (List ℕ)
   pub answered : LiveAnswer o stream g q (writing s.output.contents s.output.old mid) answer
   pub last_told : LastTold o.voice s.output.contents mid s.output.new ending.told answer
   pub status : ending.status ≡ strict_status answer
-  pub told : TellsStop s.errors.contents s.errors.old s.errors.new ending.told answer
+  pub told : TellsStop s.errors ending.told answer

@@ -15,6 +15,7 @@ use Rattle.program_endings.specs.Ending.{EndsAs, ProgramAnswer}
 use Rattle.program_endings.specs.Records.{Calling, DoesNothing, GivenDisk, Streams, Writing, given_disk, text_after, text_before, view_given}
 use Rattle.program_endings.specs.declared.ending.Ending.{Ending}
 use Rattle.offline_programs.specs.Faults.{TellsShow}
+use Rattle.offline_programs.specs.Saying.{IsSaid, Saying}
 use Rattle.program_endings.specs.Faults.{create_fault_text, no_files}
 use Rattle.sheet_files.specs.Closing.{Closable}
 use Rattle.sheet_files.specs.declared.files_fault.FilesFault.{FilesFault}
@@ -30,15 +31,14 @@ abbrev pub create_status : CreateAnswer → ℕ
 create_status None = 0
 create_status (Some why) = 1
 
--- why no worksheet was made is a line on the stream of errors, where that takes it; nothing else stands there
-abbrev pub TellsMake : {E : Type 0} → (E → Option (List ℕ)) → E → E → Bool → MakeFault → Type 0
-TellsMake contents old new told why =
-    told ≡ true → Appends (contents old) (contents new) (create_fault_text why)
+-- why no worksheet was made is a line that is said on the stream of errors; nothing else stands there
+abbrev pub TellsMake : {E : Type 0} → Saying E → Bool → MakeFault → Type 0
+TellsMake errors told why = IsSaid errors (create_fault_text why) told
 
 -- the same of what `create` answers: nothing stands there where it made a worksheet
-abbrev pub TellsCreate : {E : Type 0} → (E → Option (List ℕ)) → E → E → Bool → CreateAnswer → Type 0
-TellsCreate contents old new told None = new ≡ old
-TellsCreate contents old new told (Some why) = TellsMake contents old new told (makes.Create why)
+abbrev pub TellsCreate : {E : Type 0} → Saying E → Bool → CreateAnswer → Type 0
+TellsCreate errors told None = errors.new ≡ errors.old
+TellsCreate errors told (Some why) = TellsMake errors told (makes.Create why)
 
 -- What `create` makes of a disk, and what it answers: its clauses.
 pub record Creates (old new : DiskView) (answer : CreateAnswer) : Type 0 where
@@ -53,10 +53,10 @@ pub record Creates (old new : DiskView) (answer : CreateAnswer) : Type 0 where
   pub faulty : answer ≡ Some creates.Disk → Rises old.faults new.faults
 
 -- how `create` ends on a disk, as which the disk was closed, and what is said of it
-abbrev pub CreateEnds : {D E : Type 0} → GivenDisk D → Writing E → Ending → Type 0
+abbrev pub CreateEnds : {D E : Type 0} → GivenDisk D → Saying E → Ending → Type 0
 CreateEnds {D = D} g errors ending =
     (later : D) × g.how.closed later × ((answer : CreateAnswer) × Creates (view_given g) (g.how.view later) answer
-    × (ending.status ≡ create_status answer) × TellsCreate errors.contents errors.old errors.new ending.told answer)
+    × (ending.status ≡ create_status answer) × TellsCreate errors ending.told answer)
 
 -- What `show` answers on a disk, and what it has written then.
 pub record ShownOf {D W : Type 0} (g : GivenDisk D) (w : Writing W) (answer : ProgramAnswer) : Type 0 where

@@ -2,6 +2,7 @@
 use Rattle.std.specs.Prelude.{◌≡◌, ℕ, List, Option}
 use Rattle.disk_model.specs.Disk.{DiskView}
 use Rattle.live.specs.Records.{Outside, outside}
+use Rattle.offline_programs.specs.Saying.{Saying}
 use Rattle.sheet_files.specs.Closing.{Closable}
 
 -- A disk that a program is given, and how it is seen and closed.
@@ -34,11 +35,11 @@ abbrev pub text_after : {W : Type 0} → Writing W → Option (List ℕ)
 text_after w = w.contents w.new
 
 -- A program's output and its stream of errors.
-pub record Streams (W E : Type 0) : Type 0 where
+pub record Streams (W E : Type 0) : Type 1 where
   pub output : Writing W
-  pub errors : Writing E
+  pub errors : Saying E
 
-abbrev pub streams : {W E : Type 0} → Writing W → Writing E → Streams W E
+abbrev pub streams : {W E : Type 0} → Writing W → Saying E → Streams W E
 streams output errors = record { output = output; errors = errors }
 
 -- The children, or the sources of all that comes, before a program's calls on them and after these.

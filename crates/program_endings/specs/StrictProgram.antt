@@ -1,8 +1,8 @@
 -- How a run ends that may have stopped after a line that went wrong: what it tells on which stream, and the exit status.
 use Rattle.std.specs.Prelude.{◌≡◌, ℕ, Bool, true, List, [], ◌∷◌, ◌++◌, Option, Some, None, Result, Ok, Err, codes}
 use Rattle.std.specs.Fmt.{decimal}
-use Rattle.std.specs.Io.KnownBytes.{Appends}
 use Rattle.offline_programs.specs.Faults.{fault_text}
+use Rattle.offline_programs.specs.Saying.{IsSaid, Saying}
 use Rattle.offline_programs.specs.declared.fault.RunFault.{RunFault}
 
 -- what the program answers: the line after which it stopped, if it did, or its fault
@@ -18,8 +18,8 @@ strict_status (Err why) = 1
 abbrev pub stopped_text : ℕ → List ℕ
 stopped_text number = codes "stopped at line " ++ decimal number ++ 10 ∷ []
 
--- where it stopped is a line on the stream of errors, where that takes it, and so is a fault; nothing else stands there
-abbrev pub TellsStop : {E : Type 0} → (E → Option (List ℕ)) → E → E → Bool → StrictAnswer → Type 0
-TellsStop said old new told (Ok None) = new ≡ old
-TellsStop said old new told (Ok (Some number)) = told ≡ true → Appends (said old) (said new) (stopped_text number)
-TellsStop said old new told (Err why) = told ≡ true → Appends (said old) (said new) (fault_text why)
+-- where it stopped is a line that is said on the stream of errors, and so is a fault; nothing else stands there
+abbrev pub TellsStop : {E : Type 0} → Saying E → Bool → StrictAnswer → Type 0
+TellsStop errors told (Ok None) = errors.new ≡ errors.old
+TellsStop errors told (Ok (Some number)) = IsSaid errors (stopped_text number) told
+TellsStop errors told (Err why) = IsSaid errors (fault_text why) told

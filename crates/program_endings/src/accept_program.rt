@@ -5,6 +5,7 @@ ghost use Rattle.offline_programs.specs.declared.fault.RunFault.{RunFault};
 ghost use Rattle.sheet_check.specs.Accept.{to_accept};
 ghost use Rattle.sheet_check.specs.Evaluated.{way};
 ghost use Rattle.sheet_files.specs.Closing.{closable};
+ghost use Rattle.offline_programs.specs.Saying.{saying};
 ghost use Rattle.program_endings.specs.Ending.{EndsAs};
 ghost use Rattle.program_endings.specs.AcceptProgram.{AcceptDone, AcceptEnds, accepts_all, answer_of_acceptance};
 ghost use Rattle.program_endings.specs.Records.{calling, given_disk, streams, writing};
@@ -14,7 +15,7 @@ use crate::telling::no_files;
 use crate::{Ending, end_program};
 use arrivals::Sources;
 use check_report::{Chosen, Counts, Request};
-use offline_programs::RunFault;
+use offline_programs::{RunFault, Says};
 use sheet_check::{Checked, Progress, check_accepting};
 use sheet_files::{Close, FilesFault};
 use std::alloc::Global;
@@ -29,12 +30,12 @@ fn are_accepted(chosen: &Chosen, counts: Counts) -> bool
 }
 
 /// Ends the program by what a check that accepts answered.
-fn end_acceptance<E: Write>(
+fn end_acceptance<E: Says>(
     chosen: &Chosen,
     answer: Result<Counts, RunFault>,
     errors: &mut E,
 ) -> Ending
-    ensures { EndsAs (writing E.contents errors.old errors.new) result (answer_of_acceptance chosen.now answer) }
+    ensures { EndsAs (saying E.contents E.tried errors.old errors.new) result (answer_of_acceptance chosen.now answer) }
 {
     match answer {
         Ok(counts) => end_program(Ok(are_accepted(chosen, counts)), errors),
@@ -43,7 +44,7 @@ fn end_acceptance<E: Write>(
 }
 
 /// Checks the worksheet on a disk and accepts what differs, and closes the disk at the end.
-fn accept_on<D: Close, C: Sources, P: Progress, W: Write, E: Write>(
+fn accept_on<D: Close, C: Sources, P: Progress, W: Write, E: Says>(
     alloc: Global,
     request: &Request,
     disk: D,
@@ -54,7 +55,7 @@ fn accept_on<D: Close, C: Sources, P: Progress, W: Write, E: Write>(
 ) -> Ending
     ensures { AcceptDone (to_accept (way C.after C.clock C.wakes request.now.limit) request.now.chosen)
         (given_disk (closable D.view D.closed) disk) (calling sources.old sources.new)
-        (streams (writing W.contents output.old output.new) (writing E.contents errors.old errors.new)) result }
+        (streams (writing W.contents output.old output.new) (saying E.contents E.tried errors.old errors.new)) result }
 {
     let Checked { disk, answer } = check_accepting(alloc, request, disk, sources, progress, output);
     disk.close();
@@ -64,7 +65,7 @@ fn accept_on<D: Close, C: Sources, P: Progress, W: Write, E: Write>(
 /// The whole program `check --accept` on its files, which are opened to write, or on why they weren't
 /// opened: the report goes to `output`, each part flushed once what it tells is on the disk, and the
 /// line of a fault to `errors`. `progress` shows how far it is, and nothing at its end.
-pub fn run_accept<D: Close, C: Sources, P: Progress, W: Write, E: Write>(
+pub fn run_accept<D: Close, C: Sources, P: Progress, W: Write, E: Says>(
     alloc: Global,
     request: &Request,
     files: Result<D, FilesFault>,
@@ -75,7 +76,7 @@ pub fn run_accept<D: Close, C: Sources, P: Progress, W: Write, E: Write>(
 ) -> Ending
     ensures { AcceptEnds (closable D.view D.closed) (to_accept (way C.after C.clock C.wakes request.now.limit) request.now.chosen)
         files (calling sources.old sources.new)
-        (streams (writing W.contents output.old output.new) (writing E.contents errors.old errors.new)) result }
+        (streams (writing W.contents output.old output.new) (saying E.contents E.tried errors.old errors.new)) result }
 {
     match files {
         Ok(disk) => accept_on(alloc, request, disk, sources, progress, output, errors),

@@ -4,6 +4,7 @@ ghost use Rattle.check_report.specs.declared.verdict.Counts.{Counts};
 ghost use Rattle.offline_programs.specs.declared.fault.RunFault.{RunFault};
 ghost use Rattle.sheet_check.specs.Evaluated.{one_by_one, way};
 ghost use Rattle.sheet_files.specs.Closing.{closable};
+ghost use Rattle.offline_programs.specs.Saying.{saying};
 ghost use Rattle.program_endings.specs.Ending.{EndsAs};
 ghost use Rattle.program_endings.specs.CheckProgram.{CheckDone, CheckEnds, LastOfCheck, all_same, answer_of_check, finds_any, passes};
 ghost use Rattle.program_endings.specs.Faults as printed;
@@ -14,7 +15,7 @@ use crate::telling::no_files;
 use crate::{Ending, end_program};
 use arrivals::Sources;
 use check_report::{Chosen, Counts, Format, Request};
-use offline_programs::RunFault;
+use offline_programs::{RunFault, Says};
 use sheet_check::{Checked, Progress, check};
 use sheet_files::{Close, FilesFault};
 use std::alloc::Global;
@@ -55,7 +56,7 @@ fn is_passed(chosen: &Chosen, counts: Counts) -> bool
 }
 
 /// Ends the program by what it answered: a fault is printed on both streams where the report is JSON.
-fn end_report<W: Write, E: Write>(
+fn end_report<W: Write, E: Says>(
     alloc: Global,
     format: Format,
     answer: Result<bool, RunFault>,
@@ -63,7 +64,7 @@ fn end_report<W: Write, E: Write>(
     errors: &mut E,
 ) -> Ending
     ensures last { LastOfCheck format (writing W.contents output.old output.new) result.told answer }
-    ensures ends { EndsAs (writing E.contents errors.old errors.new) result answer }
+    ensures ends { EndsAs (saying E.contents E.tried errors.old errors.new) result answer }
 {
     match format {
         Format::Json => end_told(answer, &InJson { alloc }, output, errors),
@@ -74,7 +75,7 @@ fn end_report<W: Write, E: Write>(
 }
 
 /// Ends the program by what a check answered.
-pub(crate) fn end_check<W: Write, E: Write>(
+pub(crate) fn end_check<W: Write, E: Says>(
     alloc: Global,
     request: &Request,
     answer: Result<Counts, RunFault>,
@@ -83,7 +84,7 @@ pub(crate) fn end_check<W: Write, E: Write>(
 ) -> Ending
     ensures last { LastOfCheck request.now.format (writing W.contents output.old output.new) result.told
         (answer_of_check request.now.chosen answer) }
-    ensures ends { EndsAs (writing E.contents errors.old errors.new) result
+    ensures ends { EndsAs (saying E.contents E.tried errors.old errors.new) result
         (answer_of_check request.now.chosen answer) }
 {
     match answer {
@@ -96,7 +97,7 @@ pub(crate) fn end_check<W: Write, E: Write>(
 }
 
 /// Ends the program where the files of its worksheet weren't opened.
-pub(crate) fn end_unopened<W: Write, E: Write>(
+pub(crate) fn end_unopened<W: Write, E: Says>(
     alloc: Global,
     format: Format,
     why: FilesFault,
@@ -106,7 +107,7 @@ pub(crate) fn end_unopened<W: Write, E: Write>(
     ensures answer { result.answer ≡ Err (printed.no_files why) }
     ensures last { LastOfCheck format (writing W.contents output.old output.new) result.ending.told
         (Err (printed.no_files why)) }
-    ensures ends { EndsAs (writing E.contents errors.old errors.new) result.ending (Err (printed.no_files why)) }
+    ensures ends { EndsAs (saying E.contents E.tried errors.old errors.new) result.ending (Err (printed.no_files why)) }
 {
     let fault = no_files(why);
     let ending = end_report(alloc, format, Err(fault), output, errors);
@@ -117,7 +118,7 @@ pub(crate) fn end_unopened<W: Write, E: Write>(
 }
 
 /// Checks the worksheet on a disk, and closes the disk at the end.
-fn check_on<D: Close, C: Sources, P: Progress, W: Write, E: Write>(
+fn check_on<D: Close, C: Sources, P: Progress, W: Write, E: Says>(
     alloc: Global,
     request: &Request,
     disk: D,
@@ -128,7 +129,7 @@ fn check_on<D: Close, C: Sources, P: Progress, W: Write, E: Write>(
 ) -> CheckEnding
     ensures { CheckDone (one_by_one (way C.after C.clock C.wakes request.now.limit) request.now.chosen request.now.format)
         (given_disk (closable D.view D.closed) disk) (calling sources.old sources.new)
-        (streams (writing W.contents output.old output.new) (writing E.contents errors.old errors.new)) result }
+        (streams (writing W.contents output.old output.new) (saying E.contents E.tried errors.old errors.new)) result }
 {
     let Checked { disk, answer } = check(alloc, request, disk, sources, progress, output);
     disk.close();
@@ -140,7 +141,7 @@ fn check_on<D: Close, C: Sources, P: Progress, W: Write, E: Write>(
 /// each part flushed when it is known, and the line of a fault to `errors`; one in JSON has the fault
 /// last. `progress` shows how far it is, and nothing at its end. What the check answered is
 /// given beside how the program ends.
-pub fn run_check<D: Close, C: Sources, P: Progress, W: Write, E: Write>(
+pub fn run_check<D: Close, C: Sources, P: Progress, W: Write, E: Says>(
     alloc: Global,
     request: &Request,
     files: Result<D, FilesFault>,
@@ -152,7 +153,7 @@ pub fn run_check<D: Close, C: Sources, P: Progress, W: Write, E: Write>(
     ensures { CheckEnds (closable D.view D.closed)
         (one_by_one (way C.after C.clock C.wakes request.now.limit) request.now.chosen request.now.format)
         files (calling sources.old sources.new)
-        (streams (writing W.contents output.old output.new) (writing E.contents errors.old errors.new)) result }
+        (streams (writing W.contents output.old output.new) (saying E.contents E.tried errors.old errors.new)) result }
 {
     match files {
         Ok(disk) => check_on(alloc, request, disk, sources, progress, output, errors),

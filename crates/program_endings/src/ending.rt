@@ -1,10 +1,10 @@
 //! How the program ends: its exit status, and what it says on which stream.
 ghost use Rattle.std.specs.Prelude.{◌≡◌};
+ghost use Rattle.offline_programs.specs.Saying.{saying};
 ghost use Rattle.program_endings.specs.Ending.{BlocksAnswer, EndsAs, ProgramAnswer, TellsFault, answer_of, status_of};
-ghost use Rattle.program_endings.specs.Records.{writing};
 
 use crate::blocks;
-use offline_programs::{RunFault, fault_text};
+use offline_programs::{RunFault, Says};
 use std::alloc::Global;
 use std::io::{Read, Write};
 
@@ -37,19 +37,19 @@ pub(crate) fn answered<T: Copy>(done: Result<T, RunFault>) -> Result<bool, RunFa
 }
 
 /// Ends a program by what it answered, whether all is well or its fault, which is printed on a line.
-pub fn end_program<E: Write>(answer: Result<bool, RunFault>, errors: &mut E) -> Ending
+pub fn end_program<E: Says>(answer: Result<bool, RunFault>, errors: &mut E) -> Ending
     ensures status { result.status ≡ status_of answer }
-    ensures told { TellsFault E.contents errors.old errors.new result.told answer }
+    ensures told { TellsFault (saying E.contents E.tried errors.old errors.new) result.told answer }
 {
     match answer {
         Ok(true) => ended(0, true),
         Ok(false) => ended(1, true),
-        Err(fault) => ended(1, fault_text(fault, errors).is_ok()),
+        Err(fault) => ended(1, errors.say(&fault)),
     }
 }
 
 /// The whole program `blocks`: from `input` to `output`, with the line of its fault on `errors`.
-pub fn run_blocks<R: Read, W: Write, E: Write>(
+pub fn run_blocks<R: Read, W: Write, E: Says>(
     alloc: Global,
     input: &mut R,
     output: &mut W,
@@ -57,7 +57,7 @@ pub fn run_blocks<R: Read, W: Write, E: Write>(
 ) -> Ending
     ensures { (answer : ProgramAnswer)
         × BlocksAnswer (R.remaining input.old) W.contents output.old output.new answer
-        × EndsAs (writing E.contents errors.old errors.new) result answer }
+        × EndsAs (saying E.contents E.tried errors.old errors.new) result answer }
 {
     let answer = blocks(alloc, input, output);
     end_program(answer, errors)

@@ -2,6 +2,7 @@
 ghost use Rattle.std.specs.Prelude.{◌≡◌, Err, IfErr, IfOk, []};
 ghost use Rattle.evaluation.specs.Steps.{setting};
 ghost use Rattle.evaluation.specs.declared.fault.EvalFault.TheVariants as evals;
+ghost use Rattle.offline_programs.specs.Saying.{saying};
 ghost use Rattle.program_endings.specs.EvalProgram.{EvalAnswer, EvaluatesTo, EvaluationEnded, LastOfEval, TellsEval, are_none_over, counts_status, evaluation_status};
 ghost use Rattle.program_endings.specs.LiveProgram.{LiveUnopened};
 ghost use Rattle.program_endings.specs.Records.{calling, given_disk, streams, writing};
@@ -10,9 +11,11 @@ ghost use Rattle.sheet_files.specs.Closing.{closable};
 use crate::Ending;
 use crate::ending::ended;
 use crate::live_program::end_told;
+use crate::messages::{NotEvaluated, StoppedAt};
 use crate::telling::no_files;
 use arrivals::Sources;
-use evaluation::{EvalEnd, EvalFault, Evaluated, Plan, eval_fault_text, evaluate};
+use evaluation::{EvalEnd, EvalFault, Evaluated, Plan, evaluate};
+use offline_programs::Says;
 use sheet_files::{Close, FilesFault};
 use std::alloc::Global;
 use std::io::Write;
@@ -82,19 +85,19 @@ fn evaluate_framed<W: Write, D: Close, S: Sources, T: Tells>(
 }
 
 /// Ends the program where an evaluation came to its end: where it stopped is a line.
-fn end_evaluated<E: Write>(end: EvalEnd, errors: &mut E) -> Ending
+fn end_evaluated<E: Says>(end: EvalEnd, errors: &mut E) -> Ending
     ensures status { result.status ≡ evaluation_status (Ok end) }
-    ensures told { TellsEval E.contents errors.old errors.new result.told (Ok end) }
+    ensures told { TellsEval (saying E.contents E.tried errors.old errors.new) result.told (Ok end) }
 {
     match end.stopped_at {
         None => ended(status_by(end.counts), true),
-        Some(number) => ended(3, writeln!(errors, "stopped at line {number}").is_ok()),
+        Some(number) => ended(3, errors.say(&StoppedAt { line: number })),
     }
 }
 
 /// Ends the program where no field has a number that was asked for, which goes to both streams where its
 /// voice has it.
-fn end_without<W: Write, E: Write, T: Tells>(
+fn end_without<W: Write, E: Says, T: Tells>(
     id: u32,
     tells: &T,
     output: &mut W,
@@ -102,15 +105,17 @@ fn end_without<W: Write, E: Write, T: Tells>(
 ) -> Ending
     ensures last { LastOfEval T.voice W.contents output.old output.new result.told (Err (evals.NoField id)) }
     ensures status { result.status ≡ 1 }
-    ensures told { TellsEval E.contents errors.old errors.new result.told (Err (evals.NoField id)) }
+    ensures told { TellsEval (saying E.contents E.tried errors.old errors.new) result.told (Err (evals.NoField id)) }
 {
     let said = tells.frame(Frame::NoField(id), output).is_ok();
-    let told = eval_fault_text(EvalFault::NoField(id), errors).is_ok();
+    let told = errors.say(&NotEvaluated {
+        why: EvalFault::NoField(id),
+    });
     ended(1, told && said)
 }
 
 /// Ends the program where an evaluation had a fault, which goes to both streams where its voice has it.
-fn end_faulty<W: Write, E: Write, T: Tells>(
+fn end_faulty<W: Write, E: Says, T: Tells>(
     fault: EvalFault,
     tells: &T,
     output: &mut W,
@@ -118,7 +123,7 @@ fn end_faulty<W: Write, E: Write, T: Tells>(
 ) -> Ending
     ensures last { LastOfEval T.voice W.contents output.old output.new result.told (Err fault) }
     ensures status { result.status ≡ 1 }
-    ensures told { TellsEval E.contents errors.old errors.new result.told (Err fault) }
+    ensures told { TellsEval (saying E.contents E.tried errors.old errors.new) result.told (Err fault) }
 {
     match fault {
         EvalFault::NoField(id) => end_without(id, tells, output, errors),
@@ -127,7 +132,7 @@ fn end_faulty<W: Write, E: Write, T: Tells>(
 }
 
 /// Ends the program by what it answered.
-fn end_evaluation<W: Write, E: Write, T: Tells>(
+fn end_evaluation<W: Write, E: Says, T: Tells>(
     answer: Result<EvalEnd, EvalFault>,
     tells: &T,
     output: &mut W,
@@ -135,7 +140,7 @@ fn end_evaluation<W: Write, E: Write, T: Tells>(
 ) -> Ending
     ensures last { LastOfEval T.voice W.contents output.old output.new result.told answer }
     ensures status { result.status ≡ evaluation_status answer }
-    ensures told { TellsEval E.contents errors.old errors.new result.told answer }
+    ensures told { TellsEval (saying E.contents E.tried errors.old errors.new) result.told answer }
 {
     match answer {
         Ok(end) => end_evaluated(end, errors),
@@ -144,7 +149,7 @@ fn end_evaluation<W: Write, E: Write, T: Tells>(
 }
 
 /// Evaluates the fields of the worksheet on a disk, and reports how that ended.
-fn end_on<W: Write, E: Write, D: Close, S: Sources, T: Tells>(
+fn end_on<W: Write, E: Says, D: Close, S: Sources, T: Tells>(
     alloc: Global,
     plan: &Plan,
     tells: &T,
@@ -154,7 +159,7 @@ fn end_on<W: Write, E: Write, D: Close, S: Sources, T: Tells>(
     sources: &mut S,
 ) -> Ending
     ensures { EvaluationEnded (setting T.voice S.after S.clock S.wakes plan.now []) (given_disk (closable D.view D.closed) disk) (calling sources.old sources.new)
-        (streams (writing W.contents output.old output.new) (writing E.contents errors.old errors.new)) result }
+        (streams (writing W.contents output.old output.new) (saying E.contents E.tried errors.old errors.new)) result }
 {
     let answer = evaluate_framed(alloc, plan, tells, output, disk, sources);
     end_evaluation(answer, tells, output, errors)
@@ -163,7 +168,7 @@ fn end_on<W: Write, E: Write, D: Close, S: Sources, T: Tells>(
 /// The whole program `eval` on its files, or on why they weren't opened: what comes of each field goes to
 /// `output`, flushed at once, and the counts at the end. The line of a fault goes to `errors`, and so does
 /// that of the place where a strict evaluation stopped.
-pub fn run_evaluation<W: Write, E: Write, D: Close, S: Sources, T: Tells>(
+pub fn run_evaluation<W: Write, E: Says, D: Close, S: Sources, T: Tells>(
     alloc: Global,
     plan: &Plan,
     tells: &T,
@@ -173,10 +178,10 @@ pub fn run_evaluation<W: Write, E: Write, D: Close, S: Sources, T: Tells>(
     sources: &mut S,
 ) -> Ending
     ensures unopened { IfErr files (LiveUnopened T.voice (calling sources.old sources.new)
-        (streams (writing W.contents output.old output.new) (writing E.contents errors.old errors.new)) result) }
+        (streams (writing W.contents output.old output.new) (saying E.contents E.tried errors.old errors.new)) result) }
 
     ensures files { IfOk files (λ disk. EvaluationEnded (setting T.voice S.after S.clock S.wakes plan.now []) (given_disk (closable D.view D.closed) disk) (calling sources.old sources.new)
-        (streams (writing W.contents output.old output.new) (writing E.contents errors.old errors.new)) result) }
+        (streams (writing W.contents output.old output.new) (saying E.contents E.tried errors.old errors.new)) result) }
 {
     match files {
         Ok(disk) => end_on(alloc, plan, tells, output, errors, disk, sources),

@@ -1,13 +1,16 @@
 //! The program `export` over a worksheet's files, from its files on.
 ghost use Rattle.std.specs.Prelude.{◌≡◌};
+ghost use Rattle.offline_programs.specs.Saying.{saying};
 ghost use Rattle.program_endings.specs.ExportProgram.{ExportEnds, ExportedFrom, TellsExported, export_status};
 ghost use Rattle.program_endings.specs.Records.{given_disk, streams, writing};
 ghost use Rattle.sheet_files.specs.Closing.{closable};
 
 use crate::Ending;
 use crate::ending::ended;
+use crate::messages::NotExported;
 use crate::telling::no_files;
-use sheet_export::{ExportFault, Exported, Format, export, export_fault_text};
+use offline_programs::Says;
+use sheet_export::{ExportFault, Exported, Format, export};
 use sheet_files::{Close, FilesFault};
 use std::alloc::Global;
 use std::io::Write;
@@ -28,20 +31,20 @@ fn export_disk<D: Close, W: Write>(
 }
 
 /// Ends the program by what an export answered.
-fn end_export<E: Write>(answer: Result<(), ExportFault>, errors: &mut E) -> Ending
+fn end_export<E: Says>(answer: Result<(), ExportFault>, errors: &mut E) -> Ending
     ensures { (result.status ≡ export_status answer)
-        × TellsExported E.contents errors.old errors.new result.told answer }
+        × TellsExported (saying E.contents E.tried errors.old errors.new) result.told answer }
 {
     match answer {
         Ok(()) => ended(0, true),
-        Err(fault) => ended(1, export_fault_text(fault, errors).is_ok()),
+        Err(fault) => ended(1, errors.say(&NotExported { why: fault })),
     }
 }
 
 /// The whole program `export` on its files, or on why they weren't opened: the worksheet goes to
 /// `output` in this format, with this title where the format has one, and the line of a fault to
 /// `errors`.
-pub fn run_export<D: Close, W: Write, E: Write>(
+pub fn run_export<D: Close, W: Write, E: Says>(
     alloc: Global,
     format: Format,
     files: Result<D, FilesFault>,
@@ -50,7 +53,7 @@ pub fn run_export<D: Close, W: Write, E: Write>(
     errors: &mut E,
 ) -> Ending
     ensures { ExportEnds (closable D.view D.closed) files format title.now
-        (streams (writing W.contents output.old output.new) (writing E.contents errors.old errors.new)) result }
+        (streams (writing W.contents output.old output.new) (saying E.contents E.tried errors.old errors.new)) result }
 {
     let answer = match files {
         Ok(disk) => export_disk(alloc, format, disk, title, output),

@@ -11,6 +11,7 @@ mod ending;
 mod eval_program;
 mod export_program;
 mod live_program;
+mod messages;
 mod programs;
 mod rescue_program;
 mod script_program;

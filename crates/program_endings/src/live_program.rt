@@ -1,6 +1,7 @@
 //! The programs `live`, `run --json` and `run --timeout` over a worksheet's files, from its files on.
 ghost use Rattle.std.specs.Prelude.{◌≡◌, ◌&&◌, IfErr, IfOk};
 ghost use Rattle.live.specs.Records.{edge_by};
+ghost use Rattle.offline_programs.specs.Saying.{saying};
 ghost use Rattle.program_endings.specs.Ending.{TellsFault, status_of};
 ghost use Rattle.program_endings.specs.LiveProgram.{LastTold, LiveAnswer, LiveEnded, LiveUnopened, LivesOn};
 ghost use Rattle.program_endings.specs.Records.{calling, given_disk, streams, writing};
@@ -12,7 +13,7 @@ use crate::telling::no_files;
 use crate::{Ending, end_program};
 use arrivals::Sources;
 use live::{LiveEnd, Manner, live_by};
-use offline_programs::RunFault;
+use offline_programs::{RunFault, Says};
 use sheet_files::{Close, FilesFault};
 use std::alloc::Global;
 use std::io::{Read, Write};
@@ -88,7 +89,7 @@ fn with_last(ending: Ending, said: bool) -> Ending
 
 /// Ends the program by what it answered: a fault is printed on standard error, and on standard output where
 /// its voice has it.
-pub(crate) fn end_told<W: Write, E: Write, T: Tells>(
+pub(crate) fn end_told<W: Write, E: Says, T: Tells>(
     answer: Result<bool, RunFault>,
     tells: &T,
     output: &mut W,
@@ -96,14 +97,14 @@ pub(crate) fn end_told<W: Write, E: Write, T: Tells>(
 ) -> Ending
     ensures last { LastTold T.voice W.contents output.old output.new result.told answer }
     ensures status { result.status ≡ status_of answer }
-    ensures told { TellsFault E.contents errors.old errors.new result.told answer }
+    ensures told { TellsFault (saying E.contents E.tried errors.old errors.new) result.told answer }
 {
     let said = tell_last(answer, tells, output);
     with_last(end_program(answer, errors), said)
 }
 
 /// The same where it may have stopped after a line, whose number is printed on standard error.
-fn end_stopped<W: Write, E: Write, T: Tells>(
+fn end_stopped<W: Write, E: Says, T: Tells>(
     answer: Result<Option<u64>, RunFault>,
     tells: &T,
     output: &mut W,
@@ -111,14 +112,14 @@ fn end_stopped<W: Write, E: Write, T: Tells>(
 ) -> Ending
     ensures last { LastTold T.voice W.contents output.old output.new result.told answer }
     ensures status { result.status ≡ strict_status answer }
-    ensures told { TellsStop E.contents errors.old errors.new result.told answer }
+    ensures told { TellsStop (saying E.contents E.tried errors.old errors.new) result.told answer }
 {
     let said = tell_last(answer, tells, output);
     with_last(end_strict(answer, errors), said)
 }
 
 /// Holds the worksheet on a disk open, and tells the fault, or where it stopped.
-pub(crate) fn end_live<R: Read, W: Write, E: Write, D: Close, S: Sources, T: Tells>(
+pub(crate) fn end_live<R: Read, W: Write, E: Says, D: Close, S: Sources, T: Tells>(
     alloc: Global,
     manner: Manner,
     input: &mut R,
@@ -129,7 +130,7 @@ pub(crate) fn end_live<R: Read, W: Write, E: Write, D: Close, S: Sources, T: Tel
     sources: &mut S,
 ) -> Ending
     ensures { LiveEnded (edge_by manner T.voice S.after S.clock S.wakes) (R.remaining input.old) (given_disk (closable D.view D.closed) disk) (calling sources.old sources.new)
-        (streams (writing W.contents output.old output.new) (writing E.contents errors.old errors.new)) result }
+        (streams (writing W.contents output.old output.new) (saying E.contents E.tried errors.old errors.new)) result }
 {
     let answer = live_framed(alloc, manner, input, tells, output, disk, sources);
     end_stopped(answer, tells, output, errors)
@@ -139,7 +140,7 @@ pub(crate) fn end_live<R: Read, W: Write, E: Write, D: Close, S: Sources, T: Tel
 /// opened: its lines come from `input`, which is read only where there are files, and what comes of them and
 /// of interpreters goes to `output`, flushed at once. The line of a fault goes to `errors`, and so does that of
 /// the line after which a strict input stopped.
-pub fn run_live<R: Read, W: Write, E: Write, D: Close, S: Sources, T: Tells>(
+pub fn run_live<R: Read, W: Write, E: Says, D: Close, S: Sources, T: Tells>(
     alloc: Global,
     manner: Manner,
     input: &mut R,
@@ -151,10 +152,10 @@ pub fn run_live<R: Read, W: Write, E: Write, D: Close, S: Sources, T: Tells>(
 ) -> Ending
     // It is printed before a line is read.
     ensures unopened { IfErr files (λ why. (input.new ≡ input.old) × LiveUnopened T.voice (calling sources.old sources.new)
-        (streams (writing W.contents output.old output.new) (writing E.contents errors.old errors.new)) result why) }
+        (streams (writing W.contents output.old output.new) (saying E.contents E.tried errors.old errors.new)) result why) }
 
     ensures files { IfOk files (λ disk. LiveEnded (edge_by manner T.voice S.after S.clock S.wakes) (R.remaining input.old) (given_disk (closable D.view D.closed) disk)
-        (calling sources.old sources.new) (streams (writing W.contents output.old output.new) (writing E.contents errors.old errors.new)) result) }
+        (calling sources.old sources.new) (streams (writing W.contents output.old output.new) (saying E.contents E.tried errors.old errors.new)) result) }
 {
     match files {
         Ok(disk) => end_live(alloc, manner, input, tells, output, errors, disk, sources),

@@ -1,31 +1,33 @@
 //! The programs over a worksheet's files, from their files on: how each ends, and what it says on
 //! which stream.
 ghost use Rattle.std.specs.Prelude.{◌≡◌, ◌≤◌, IfErr, IfOk};
+ghost use Rattle.offline_programs.specs.Saying.{saying};
 ghost use Rattle.program_endings.specs.Programs.{CreateEnds, ShowEnds, ShownOf, TellsMake};
 ghost use Rattle.program_endings.specs.Records.{given_disk, streams, writing};
 ghost use Rattle.sheet_files.specs.Closing.{closable};
 
 use crate::ending::{answered, ended};
+use crate::messages::NotMade;
 use crate::telling::no_files;
-use crate::{Ending, create_fault_text, end_program};
+use crate::{Ending, end_program};
 use child_calls::Children;
-use offline_programs::{RunFault, Shown, show};
+use offline_programs::{RunFault, Says, Shown, show};
 use sheet_files::{Close, FilesFault, MakeFault};
 use std::alloc::Global;
 use std::io::Write;
 
 /// Tells on a line why no worksheet was made.
-pub(crate) fn end_create<E: Write>(why: MakeFault, errors: &mut E) -> Ending
+pub(crate) fn end_create<E: Says>(why: MakeFault, errors: &mut E) -> Ending
     ensures { (result.status ≡ 1)
-        × TellsMake E.contents errors.old errors.new result.told why }
+        × TellsMake (saying E.contents E.tried errors.old errors.new) result.told why }
 {
-    ended(1, create_fault_text(why, errors).is_ok())
+    ended(1, errors.say(&NotMade { why }))
 }
 
 /// Lays an empty worksheet on a disk, closes the disk, and tells where that failed why.
-fn create_on<D: Close, E: Write>(disk: D, errors: &mut E) -> Ending
+fn create_on<D: Close, E: Says>(disk: D, errors: &mut E) -> Ending
     requires { 11 ≤ (D.view disk).room }
-    ensures { CreateEnds (given_disk (closable D.view D.closed) disk) (writing E.contents errors.old errors.new) result }
+    ensures { CreateEnds (given_disk (closable D.view D.closed) disk) (saying E.contents E.tried errors.old errors.new) result }
 {
     match journal::create(disk) {
         Ok(made) => {
@@ -41,15 +43,15 @@ fn create_on<D: Close, E: Write>(disk: D, errors: &mut E) -> Ending
 
 /// The whole program `create` on its files, or on why they weren't made: lays an empty worksheet,
 /// and tells on a line of `errors` why there is none.
-pub fn run_create<D: Close, E: Write>(files: Result<D, MakeFault>, errors: &mut E) -> Ending
+pub fn run_create<D: Close, E: Says>(files: Result<D, MakeFault>, errors: &mut E) -> Ending
     requires { IfOk files (λ disk. 11 ≤ (D.view disk).room) }
 
     ensures no_files { IfErr files (λ why. (result.status ≡ 1)
-        × TellsMake E.contents errors.old errors.new result.told why) }
+        × TellsMake (saying E.contents E.tried errors.old errors.new) result.told why) }
 
     // What becomes of the disk, and what is said of it.
     ensures files { IfOk files (λ disk. CreateEnds (given_disk (closable D.view D.closed) disk)
-        (writing E.contents errors.old errors.new) result) }
+        (saying E.contents E.tried errors.old errors.new) result) }
 {
     match files {
         Ok(disk) => create_on(disk, errors),
@@ -68,14 +70,14 @@ fn show_disk<D: Close, W: Write>(alloc: Global, disk: D, output: &mut W) -> Resu
 
 /// The whole program `show` on its files, or on why they weren't opened: the worksheet goes to
 /// `output`, and the line of a fault to `errors`.
-pub fn run_show<D: Close, W: Write, E: Write>(
+pub fn run_show<D: Close, W: Write, E: Says>(
     alloc: Global,
     files: Result<D, FilesFault>,
     output: &mut W,
     errors: &mut E,
 ) -> Ending
     ensures { ShowEnds (closable D.view D.closed) files
-        (streams (writing W.contents output.old output.new) (writing E.contents errors.old errors.new)) result }
+        (streams (writing W.contents output.old output.new) (saying E.contents E.tried errors.old errors.new)) result }
 {
     let answer = match files {
         Ok(disk) => show_disk(alloc, disk, output),

@@ -1,8 +1,9 @@
 //! The program `rescue` over a worksheet's files, from its files on.
 ghost use Rattle.std.specs.Prelude.{◌≡◌, ◌≤◌, List, IfErr, IfOk, Result};
+ghost use Rattle.offline_programs.specs.Saying.{saying};
 ghost use Rattle.program_endings.specs.Programs.{TellsMake};
-ghost use Rattle.program_endings.specs.Records.{given_disk, streams, writing};
-ghost use Rattle.program_endings.specs.RescueProgram.{DiskIsRead, FilesAreRead, RescueDone, RescueEnds, TellsRescueFault, TellsRescued, rescue_status};
+ghost use Rattle.program_endings.specs.Records.{given_disk};
+ghost use Rattle.program_endings.specs.RescueProgram.{DiskIsRead, FilesAreRead, RescueDone, RescueEnds, TellsRescueFault, TellsRescued, rescue_status, said_streams};
 ghost use Rattle.sheet_files.specs.Closing.{closable};
 ghost use Rattle.recovery.specs.Sheets.{Makes};
 ghost use Rattle.worksheet.specs.declared.op.Op.{Op};
@@ -13,11 +14,10 @@ use crate::telling::no_files;
 use crate::{Ending, end_program};
 use disk_model::Disk;
 use journal::CreateCause;
-use offline_programs::{FrontFault, RescueFault, RunFault, Saved, read_front, save_rescued};
+use offline_programs::{FrontFault, RescueFault, RunFault, Saved, Says, read_front, save_rescued};
 use recovery::Rescued;
 use sheet_files::{Close, FilesFault, MakeFault};
 use std::alloc::Global;
-use std::io::Write;
 
 /// What stands on a worksheet's disk before the first damage. Where that can't be had the disk is closed.
 fn read_disk<D: Close>(alloc: Global, disk: D) -> Result<Rescued<D>, RunFault>
@@ -48,9 +48,9 @@ pub fn read_rescued<D: Close>(
 }
 
 /// Tells on a line why nothing was rescued.
-fn refuse_rescue<E: Write>(why: RescueFault, errors: &mut E) -> Ending
+fn refuse_rescue<E: Says>(why: RescueFault, errors: &mut E) -> Ending
     ensures { (result.status ≡ 1)
-        × TellsRescueFault E.contents errors.old errors.new result.told why }
+        × TellsRescueFault (saying E.contents E.tried errors.old errors.new) result.told why }
 {
     match why {
         RescueFault::NotEmpty => end_create(MakeFault::Create(CreateCause::NotEmpty), errors),
@@ -59,9 +59,9 @@ fn refuse_rescue<E: Write>(why: RescueFault, errors: &mut E) -> Ending
 }
 
 /// Ends the program by what the writing of the new worksheet answered.
-fn end_rescue<E: Write>(answer: Result<(), RescueFault>, errors: &mut E) -> Ending
+fn end_rescue<E: Says>(answer: Result<(), RescueFault>, errors: &mut E) -> Ending
     ensures { (result.status ≡ rescue_status answer)
-        × TellsRescued E.contents errors.old errors.new result.told answer }
+        × TellsRescued (saying E.contents E.tried errors.old errors.new) result.told answer }
 {
     match answer {
         Ok(()) => ended(0, true),
@@ -70,7 +70,7 @@ fn end_rescue<E: Write>(answer: Result<(), RescueFault>, errors: &mut E) -> Endi
 }
 
 /// Writes what was rescued to a new disk, closes the disk, and ends the program.
-fn rescue_on<D: Disk, N: Close, W: Write, E: Write>(
+fn rescue_on<D: Disk, N: Close, W: Says, E: Says>(
     alloc: Global,
     found: &Rescued<D>,
     disk: N,
@@ -80,7 +80,7 @@ fn rescue_on<D: Disk, N: Close, W: Write, E: Write>(
     requires room { 11 ≤ (N.view disk).room }
     requires made { (ops : List Op) × Makes ops found.now.sheet.contents }
     ensures { RescueDone (given_disk (closable N.view N.closed) disk) found.now
-        (streams (writing W.contents output.old output.new) (writing E.contents errors.old errors.new)) result }
+        (said_streams (saying W.contents W.tried output.old output.new) (saying E.contents E.tried errors.old errors.new)) result }
 {
     let Saved { disk, answer } = save_rescued(alloc, found, disk, output);
     disk.close();
@@ -88,7 +88,7 @@ fn rescue_on<D: Disk, N: Close, W: Write, E: Write>(
 }
 
 /// Writes what was rescued to the files of its new worksheet, where they were made, and ends the program.
-fn rescue_to<D: Disk, N: Close, W: Write, E: Write>(
+fn rescue_to<D: Disk, N: Close, W: Says, E: Says>(
     alloc: Global,
     found: &Rescued<D>,
     files: Result<N, MakeFault>,
@@ -99,11 +99,11 @@ fn rescue_to<D: Disk, N: Close, W: Write, E: Write>(
     requires made { (ops : List Op) × Makes ops found.now.sheet.contents }
 
     ensures no_files { IfErr files (λ why. (output.new ≡ output.old) × (result.status ≡ 1)
-        × TellsMake E.contents errors.old errors.new result.told why) }
+        × TellsMake (saying E.contents E.tried errors.old errors.new) result.told why) }
 
     // What becomes of the disk, and what is said of it.
     ensures files { IfOk files (λ disk. RescueDone (given_disk (closable N.view N.closed) disk) found.now
-        (streams (writing W.contents output.old output.new) (writing E.contents errors.old errors.new)) result) }
+        (said_streams (saying W.contents W.tried output.old output.new) (saying E.contents E.tried errors.old errors.new)) result) }
 {
     match files {
         Ok(disk) => rescue_on(alloc, found, disk, output, errors),
@@ -114,7 +114,7 @@ fn rescue_to<D: Disk, N: Close, W: Write, E: Write>(
 /// The end of the program `rescue` on the files of its new worksheet, or on why they weren't made: what
 /// was rescued is written there, how much it is goes to `output`, and the line of a fault to `errors`. Last of
 /// all the disk that it was rescued from is closed.
-pub fn run_rescue<D: Close, N: Close, W: Write, E: Write>(
+pub fn run_rescue<D: Close, N: Close, W: Says, E: Says>(
     alloc: Global,
     found: Rescued<D>,
     files: Result<N, MakeFault>,
@@ -124,7 +124,7 @@ pub fn run_rescue<D: Close, N: Close, W: Write, E: Write>(
     requires room { IfOk files (λ disk. 11 ≤ (N.view disk).room) }
     requires made { (ops : List Op) × Makes ops found.sheet.contents }
     ensures { RescueEnds D.closed (closable N.view N.closed) files found
-        (streams (writing W.contents output.old output.new) (writing E.contents errors.old errors.new)) result }
+        (said_streams (saying W.contents W.tried output.old output.new) (saying E.contents E.tried errors.old errors.new)) result }
 {
     let ending = rescue_to(alloc, &found, files, output, errors);
     found.disk.close();

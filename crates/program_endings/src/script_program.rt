@@ -1,6 +1,7 @@
 //! The program `run` over a worksheet's files, in words and without a limit of time, from its files on.
 ghost use Rattle.std.specs.Prelude.{◌≡◌, ◌≤◌, IfErr, IfOk, None};
 ghost use Rattle.live.specs.Records.{edge_by, line_by_line};
+ghost use Rattle.offline_programs.specs.Saying.{saying};
 ghost use Rattle.program_endings.specs.Programs.{EndsUnopened};
 ghost use Rattle.program_endings.specs.Records.{calling, given_disk, streams, writing};
 ghost use Rattle.program_endings.specs.ScriptProgram as meant;
@@ -15,7 +16,7 @@ use crate::{Ending, end_program};
 use arrivals::Sources;
 use bstr::ByteSlice;
 use live::{LiveLine, Manner, read_live_line};
-use offline_programs::read_input;
+use offline_programs::{Says, read_input};
 use sheet_files::{Close, FilesFault};
 use sheet_programs::{Ran, run_read};
 use sheet_text::LineFault;
@@ -55,7 +56,7 @@ fn has_form(alloc: Global, script: &[u8]) -> bool
 ///
 /// A script of which a line has a form that only `live` has (`print ID`, `wait SECONDS`, `interrupt NAME`, `export
 /// FORMAT`) is taken line by line, as by `run_live` where lines come first.
-pub fn run_script<R: Read, W: Write, E: Write, D: Close, S: Sources>(
+pub fn run_script<R: Read, W: Write, E: Says, D: Close, S: Sources>(
     alloc: Global,
     strict: bool,
     input: &mut R,
@@ -66,10 +67,10 @@ pub fn run_script<R: Read, W: Write, E: Write, D: Close, S: Sources>(
 ) -> Ending
     // Why there are no files is printed; the input isn't read.
     ensures unopened { IfErr files (λ why. (input.new ≡ input.old) × EndsUnopened (calling sources.old sources.new)
-        (streams (writing W.contents output.old output.new) (writing E.contents errors.old errors.new)) result why) }
+        (streams (writing W.contents output.old output.new) (saying E.contents E.tried errors.old errors.new)) result why) }
 
     ensures files { IfOk files (λ disk. ScriptEnds (edge_by (line_by_line None strict) in_words S.after S.clock S.wakes) (R.remaining input.old) (given_disk (closable D.view D.closed) disk) (calling sources.old sources.new)
-        (streams (writing W.contents output.old output.new) (writing E.contents errors.old errors.new)) result) }
+        (streams (writing W.contents output.old output.new) (saying E.contents E.tried errors.old errors.new)) result) }
 {
     let disk = match files {
         Ok(disk) => disk,

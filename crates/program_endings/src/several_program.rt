@@ -2,6 +2,7 @@
 ghost use Rattle.std.specs.Prelude.{◌≡◌, ◌++◌, ◌∷◌, ◌+◌, ◌<◌, ◌^◌, ◌&&◌, ◌==◌, [], Err, List, OnOk};
 ghost use Rattle.std.specs.Io.KnownBytes.{Appends};
 ghost use Rattle.offline_programs.specs.declared.fault.RunFault.TheVariants as fault;
+ghost use Rattle.offline_programs.specs.Saying.{saying};
 ghost use Rattle.program_endings.specs.Ending.{EndsAs};
 ghost use Rattle.program_endings.specs.Records.{streams, writing};
 ghost use Rattle.program_endings.specs.SeveralProgram.{IsBounded, TotalEnds, ending_of, faults_part, summed_part, total_of, total_text, worksheet_line};
@@ -14,7 +15,7 @@ use crate::check_program::CheckEnding;
 use crate::ending::ended;
 use crate::{Ending, end_program};
 use check_report::{Counts, bring_out};
-use offline_programs::RunFault;
+use offline_programs::{RunFault, Says};
 use sheet_text::{WriteFault, write_line};
 use std::io::Write;
 
@@ -156,9 +157,9 @@ pub fn tell_worksheet<W: Write>(path: &str, output: &mut W) -> Result<(), WriteF
 }
 
 /// Ends the check of a worksheet above whose report no line could be written: nothing of it was done.
-pub fn end_unwritten<E: Write>(errors: &mut E) -> CheckEnding
+pub fn end_unwritten<E: Says>(errors: &mut E) -> CheckEnding
     ensures answer { result.answer ≡ Err fault.Output }
-    ensures ends { EndsAs (writing E.contents errors.old errors.new) result.ending (Err fault.Output) }
+    ensures ends { EndsAs (saying E.contents E.tried errors.old errors.new) result.ending (Err fault.Output) }
 {
     let ending = end_program(Err(RunFault::Output), errors);
     CheckEnding {
@@ -209,8 +210,8 @@ fn write_total<W: Write>(total: Total, out: &mut W) -> Result<(), WriteFault>
 }
 
 /// The end of a check whose total can't be written.
-fn end_unsummed<E: Write>(total: Total, errors: &mut E) -> Ending
-    ensures { (last : Ending) × EndsAs (writing E.contents errors.old errors.new) last (Err fault.Output)
+fn end_unsummed<E: Says>(total: Total, errors: &mut E) -> Ending
+    ensures { (last : Ending) × EndsAs (saying E.contents E.tried errors.old errors.new) last (Err fault.Output)
         × (result ≡ record { status = 1; told = total.told && last.told }) }
 {
     let last = end_program(Err(RunFault::Output), errors);
@@ -219,9 +220,9 @@ fn end_unsummed<E: Write>(total: Total, errors: &mut E) -> Ending
 
 /// The end of a check of several worksheets: their total goes to `output`, and is flushed. Where that fails
 /// it is the fault `Output`, with its line on `errors`.
-pub fn end_total<W: Write, E: Write>(total: Total, output: &mut W, errors: &mut E) -> Ending
+pub fn end_total<W: Write, E: Says>(total: Total, output: &mut W, errors: &mut E) -> Ending
     ensures { TotalEnds total
-        (streams (writing W.contents output.old output.new) (writing E.contents errors.old errors.new)) result }
+        (streams (writing W.contents output.old output.new) (saying E.contents E.tried errors.old errors.new)) result }
 {
     match write_total(total, output) {
         Ok(()) => total.ending(),

@@ -1,20 +1,22 @@
 //! How a run ends that may have stopped after a line that went wrong.
 ghost use Rattle.std.specs.Prelude.{◌≡◌};
+ghost use Rattle.offline_programs.specs.Saying.{saying};
 ghost use Rattle.program_endings.specs.StrictProgram.{TellsStop, strict_status};
 
 use crate::ending::ended;
+use crate::messages::StoppedAt;
 use crate::{Ending, end_program};
-use offline_programs::RunFault;
+use offline_programs::{RunFault, Says};
 use std::io::Write;
 
 /// Ends the program by where a strict run stopped, which is printed on a line, or by its fault.
-pub(crate) fn end_strict<E: Write>(answer: Result<Option<u64>, RunFault>, errors: &mut E) -> Ending
+pub(crate) fn end_strict<E: Says>(answer: Result<Option<u64>, RunFault>, errors: &mut E) -> Ending
     ensures status { result.status ≡ strict_status answer }
-    ensures told { TellsStop E.contents errors.old errors.new result.told answer }
+    ensures told { TellsStop (saying E.contents E.tried errors.old errors.new) result.told answer }
 {
     match answer {
         Ok(None) => ended(0, true),
-        Ok(Some(number)) => ended(3, writeln!(errors, "stopped at line {number}").is_ok()),
+        Ok(Some(number)) => ended(3, errors.say(&StoppedAt { line: number })),
         Err(fault) => end_program(Err(fault), errors),
     }
 }

@@ -1,12 +1,13 @@
 //! What a program tells that has no files of a worksheet, or no place of a stream.
 ghost use Rattle.std.specs.Prelude.{◌≡◌, Err, OnOk};
 ghost use Rattle.std.specs.Io.KnownBytes.{Appends};
+ghost use Rattle.offline_programs.specs.Saying.{saying};
 ghost use Rattle.program_endings.specs.Ending.{TellsFault};
 ghost use Rattle.program_endings.specs.Faults as printed;
 
 use crate::{Ending, end_program};
 use journal::{CreateCause, OpenCause};
-use offline_programs::RunFault;
+use offline_programs::{RunFault, Says};
 use sheet_files::{FilesFault, HoldFault, MakeFault};
 use sheet_text::WriteFault;
 use std::io::Write;
@@ -32,9 +33,9 @@ fn no_place(why: HoldFault) -> RunFault
 }
 
 /// Ends a program that can't hold the place of a closed stream: the fault is printed on a line.
-pub fn end_unheld<E: Write>(why: HoldFault, errors: &mut E) -> Ending
+pub fn end_unheld<E: Says>(why: HoldFault, errors: &mut E) -> Ending
     ensures status { result.status ≡ 1 }
-    ensures told { TellsFault E.contents errors.old errors.new result.told (Err (printed.no_place why)) }
+    ensures told { TellsFault (saying E.contents E.tried errors.old errors.new) result.told (Err (printed.no_place why)) }
 {
     end_program(Err(no_place(why)), errors)
 }

@@ -3,19 +3,21 @@ ghost use Rattle.std.specs.Prelude.{Result};
 ghost use Rattle.sheet_check.specs.Evaluated.{way};
 ghost use Rattle.sheet_check.specs.Together.{side_by_side};
 ghost use Rattle.sheet_files.specs.Closing.{closable};
+ghost use Rattle.offline_programs.specs.Saying.{saying};
 ghost use Rattle.program_endings.specs.Records.{calling, given_disk, streams, writing};
 ghost use Rattle.program_endings.specs.TogetherProgram.{TogetherDone, TogetherEnds};
 
 use crate::check_program::{CheckEnding, end_check, end_unopened};
 use arrivals::Sources;
 use check_report::Request;
+use offline_programs::Says;
 use sheet_check::{Checked, Progress, check_together};
 use sheet_files::{Close, FilesFault};
 use std::alloc::Global;
 use std::io::Write;
 
 /// Checks the worksheet on a disk, fields of so many sessions side by side, and closes the disk at the end.
-fn check_together_on<D: Close, C: Sources, P: Progress, W: Write, E: Write>(
+fn check_together_on<D: Close, C: Sources, P: Progress, W: Write, E: Says>(
     alloc: Global,
     request: &Request,
     jobs: u32,
@@ -28,7 +30,7 @@ fn check_together_on<D: Close, C: Sources, P: Progress, W: Write, E: Write>(
     ensures { TogetherDone
         (side_by_side (way C.after C.clock C.wakes request.now.limit) jobs request.now.chosen request.now.format)
         (given_disk (closable D.view D.closed) disk) (calling sources.old sources.new)
-        (streams (writing W.contents output.old output.new) (writing E.contents errors.old errors.new)) result }
+        (streams (writing W.contents output.old output.new) (saying E.contents E.tried errors.old errors.new)) result }
 {
     let Checked { disk, answer } = check_together(
         alloc, request, jobs, disk, sources, progress, output,
@@ -42,7 +44,7 @@ fn check_together_on<D: Close, C: Sources, P: Progress, W: Write, E: Write>(
 /// `output` once the last answer came, but of fields of one session as by [`run_check`](crate::run_check), and the
 /// line of a fault to `errors`; one in JSON has the fault last. `progress` shows how far the report is, and nothing
 /// at its end. What the check answered is given beside how the program ends.
-pub fn run_check_together<D: Close, C: Sources, P: Progress, W: Write, E: Write>(
+pub fn run_check_together<D: Close, C: Sources, P: Progress, W: Write, E: Says>(
     alloc: Global,
     request: &Request,
     jobs: u32,
@@ -55,7 +57,7 @@ pub fn run_check_together<D: Close, C: Sources, P: Progress, W: Write, E: Write>
     ensures { TogetherEnds (closable D.view D.closed)
         (side_by_side (way C.after C.clock C.wakes request.now.limit) jobs request.now.chosen request.now.format)
         files (calling sources.old sources.new)
-        (streams (writing W.contents output.old output.new) (writing E.contents errors.old errors.new)) result }
+        (streams (writing W.contents output.old output.new) (saying E.contents E.tried errors.old errors.new)) result }
 {
     match files {
         Ok(disk) => check_together_on(

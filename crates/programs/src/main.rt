@@ -5,7 +5,7 @@
 //! how a case is added.
 #![tactic(auto)]
 
-use host_cli::perform;
+use host_cli::{perform, startup};
 use offline_programs::{RunFault, run_memory};
 use program_endings::end_program;
 use std::io;

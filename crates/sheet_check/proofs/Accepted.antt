@@ -16,9 +16,9 @@ use Rattle.worksheet.specs.Checks.{field_in, has_field}
 use Rattle.worksheet.specs.Laws.{HasShortPrompt, IsField, OpsMakeWorksheets}
 use Rattle.worksheet.specs.Ops.{field_of, next_after, order_after, order_from, sheet_of}
 use Rattle.recovery.specs.Sheets.{StoreView}
-use Rattle.acceptance.specs.Kept.{Stores}
-use Rattle.acceptance.specs.declared.accepting.AcceptFault.{AcceptFault}
-use Rattle.acceptance.specs.declared.accepting.AcceptFault.TheVariants as refused
+use Rattle.sheet_check.specs.Kept.{Stores}
+use Rattle.sheet_check.specs.declared.putting.AcceptFault.{AcceptFault}
+use Rattle.sheet_check.specs.declared.putting.AcceptFault.TheVariants as refused
 use Rattle.session_engine.specs.World.{World}
 use Rattle.session_engine.specs.Host.{HostView, IsHost}
 use Rattle.child_edge.specs.Faithful.{At, at}

@@ -11,7 +11,7 @@ use Rattle.recovery.specs.Laws.{OneSheet}
 use Rattle.worksheet.specs.declared.op.Op.{Op}
 use Rattle.worksheet.specs.Contents.{Contents}
 use Rattle.recovery.specs.Sheets.{IsSheetImage, Makes, StoreView}
-use Rattle.acceptance.specs.Kept.{IsAmong, Stores}
+use Rattle.sheet_check.specs.Kept.{IsAmong, Stores}
 use Rattle.session_engine.specs.World.{World, sheet_in}
 use Rattle.session_engine.specs.Host.{HostView, IsHost}
 use Rattle.child_edge.specs.Faithful.{At, at}

@@ -1,3 +1,4 @@
+pub mod Behind
 pub mod Counting
 pub mod Fields
 pub mod Ends

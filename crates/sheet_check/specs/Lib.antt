@@ -1,6 +1,7 @@
 pub mod Evaluated
 pub mod Check
 pub mod Together
+pub mod Kept
 pub mod Accept
 pub mod Screen
 pub mod Progress

@@ -1,5 +1,5 @@
 -- What the line of progress looks like: the bytes that go to a terminal.
-use Rattle.std.specs.Prelude.{◌≡◌, ◌⊎◌, ℕ, List, [], ◌∷◌, ◌++◌, Option, Some, None, codes, nat_eq, if◌then◌else◌}
+use Rattle.std.specs.Prelude.{◌≡◌, ◌⊎◌, ℕ, Bool, true, false, List, [], ◌∷◌, ◌++◌, Option, Some, None, codes, nat_eq, if◌then◌else◌}
 use Rattle.std.specs.Fmt.{decimal}
 use Rattle.std.specs.Io.KnownBytes.{Appends}
 use Rattle.check_report.specs.Verdicts.{total}
@@ -25,6 +25,9 @@ sight_text (sight.Line counts all) =
     13 ∷ decimal (total counts) ++ codes " of " ++ decimal all ++ differ_part counts.differ ++ unanswered_part counts.unanswered ++ clear_rest
 sight_text sight.Nothing = 13 ∷ clear_rest
 
--- A line over a writer showed this: its bytes went out. Where there is no writer, or it was given up, nothing did.
-abbrev pub LineShows : {W : Type 0} → (W → Option (List ℕ)) → Option W → Sight → Option W → Type 0
-LineShows {W = W} contents old seen new = (new ≡ None) ⊎ ((a : W) × (b : W) × (old ≡ Some a) × (new ≡ Some b) × Appends (contents a) (contents b) (sight_text seen))
+-- What a line over a writer shows: where there is one, the bytes of the sight are said on it, and it is given up only where they didn't
+-- go out.
+abbrev pub LineShows : {W : Type 0} → (W → Option (List ℕ)) → (W → Option (List ℕ) → Bool → W → Type 0) → Option W → Sight → Option W → Type 0
+LineShows contents tried None seen new = new ≡ None
+LineShows {W = W} contents tried (Some a) seen new = (b : W) × ((tried a (Some (sight_text seen)) true b × (new ≡ Some b) × Appends (contents a) (contents b) (sight_text seen))
+    ⊎ (tried a (Some (sight_text seen)) false b × (new ≡ None)))

@@ -1,3 +1,4 @@
 pub mod Checking
 pub mod Accepting
 pub mod Comparing
+pub mod Faults

@@ -7,7 +7,7 @@ ghost use Rattle.worksheet.specs.Checks.{has_field};
 ghost use Rattle.worksheet.specs.Laws.{HasShortPrompt};
 ghost use Rattle.session_engine.specs.World.{World};
 ghost use Rattle.session_engine.specs.Host.{IsHost};
-ghost use Rattle.acceptance.specs.Kept.{Stores};
+ghost use Rattle.sheet_check.specs.Kept.{Stores};
 ghost use Rattle.check_report.specs.declared.report.Format.TheVariants as formats;
 ghost use Rattle.sheet_check.specs.Accept.{accepted_answer, answer_ops};
 ghost use Rattle.sheet_check.specs.Evaluated.{came_if, shown_in};
@@ -15,8 +15,8 @@ ghost use Rattle.sheet_check.specs.Progress.{LeavesLine, MakesRoom};
 ghost use Rattle.sheet_check.specs.inside.Accepting.{Finds, NotPut, NotTaken, fault_of_acceptance, storing};
 
 use crate::progress::Progress;
+use crate::putting::{AcceptFault, accept};
 use crate::telling::make_room;
-use acceptance::{AcceptFault, accept};
 use block_tree::OutOfMemory;
 use check_report::{Chosen, Format, Verdict, acceptance_in_memory, bring_out};
 use disk_model::Disk;

@@ -8,7 +8,7 @@ ghost use Rattle.recovery.specs.Sheets.{Makes};
 ghost use Rattle.session_engine.specs.World.{World};
 ghost use Rattle.session_engine.specs.Host.{IsHost};
 ghost use Rattle.child_edge.specs.Faithful.{at};
-ghost use Rattle.acceptance.specs.Kept.{Stores};
+ghost use Rattle.sheet_check.specs.Kept.{Stores};
 ghost use Rattle.offline_programs.specs.declared.fault.RunFault.TheVariants as told;
 ghost use Rattle.journal.specs.declared.opening.OpenCause.TheVariants as opens;
 ghost use Rattle.check_report.specs.Chosen.{shown_by};

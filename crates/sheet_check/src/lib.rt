@@ -10,6 +10,7 @@ mod copying;
 mod differing;
 mod evaluating;
 mod progress;
+mod putting;
 mod sessions;
 mod telling;
 mod together;

@@ -1,11 +1,12 @@
 //! What is to be seen while a check goes on.
-ghost use Rattle.std.specs.Prelude.{◌≡◌, ◌+◌, ◌++◌, ◌<◌, ◌^◌, OnOk};
+ghost use Rattle.std.specs.Prelude.{◌≡◌, OnOk, Some};
 ghost use Rattle.std.specs.Io.KnownBytes.{Appends};
 ghost use Rattle.sheet_check.specs.Screen as screen;
 ghost use Rattle.sheet_check.specs.declared.progress.Sight.TheVariants as sight;
 
 use check_report::Counts;
-use std::alloc::Global;
+use offline_programs::{Message, Says};
+use sheet_text::WriteFault;
 use std::io;
 use std::io::Write;
 
@@ -50,88 +51,80 @@ impl Progress for NoProgress {
     }
 }
 
-/// A line of a terminal that is rewritten, as `12 of 340, 1 differs`. Each sight is one write.
+/// A line of a terminal that is rewritten, as `12 of 340, 1 differs`. Each sight is one message.
 #[derive(Drop)]
-pub struct ProgressLine<W: Write> {
-    alloc: Global,
+pub struct ProgressLine<W: Says> {
     writer: Option<W>,
 }
 
-impl<W: Write> ProgressLine<W> {
+impl<W: Says> ProgressLine<W> {
     /// On the line of this terminal, where there is one; else nothing is shown. A terminal that
-    /// can't be written is given up, as where there is no memory for the line.
-    pub fn on(alloc: Global, terminal: Option<W>) -> ProgressLine<W>
+    /// can't be written is given up.
+    pub fn on(terminal: Option<W>) -> ProgressLine<W>
         ensures { result.writer ≡ terminal }
     {
-        ProgressLine {
-            alloc,
-            writer: terminal,
-        }
+        ProgressLine { writer: terminal }
     }
 }
 
 /// How many differ, where some do.
-fn write_differ(differ: u32, text: &mut Vec<u8>) -> io::Result<()>
-    ensures { OnOk result (text.new.items ≡ text.old.items ++ screen.differ_part differ) }
+fn write_differ<W: Write>(differ: u32, out: &mut W) -> io::Result<()>
+    ensures { OnOk result (Appends (W.contents out.old) (W.contents out.new) (screen.differ_part differ)) }
 {
     match differ {
         0 => Ok(()),
-        1 => write!(text, ", 1 differs"),
-        _ => write!(text, ", {differ} differ"),
+        1 => write!(out, ", 1 differs"),
+        _ => write!(out, ", {differ} differ"),
     }
 }
 
 /// How many were left unanswered, where some were.
-fn write_unanswered(unanswered: u32, text: &mut Vec<u8>) -> io::Result<()>
-    ensures { OnOk result (text.new.items ≡ text.old.items ++ screen.unanswered_part unanswered) }
+fn write_unanswered<W: Write>(unanswered: u32, out: &mut W) -> io::Result<()>
+    ensures { OnOk result (Appends (W.contents out.old) (W.contents out.new) (screen.unanswered_part unanswered)) }
 {
     match unanswered {
         0 => Ok(()),
-        _ => write!(text, ", {unanswered} unanswered"),
+        _ => write!(out, ", {unanswered} unanswered"),
     }
 }
 
 /// Writes a line with how far the check is, in the place of what the terminal's line shows.
-fn write_line(counts: Counts, all: u32, text: &mut Vec<u8>) -> io::Result<()>
-    ensures { OnOk result (text.new.items ≡ text.old.items ++ screen.sight_text (sight.Line counts all)) }
+fn write_line<W: Write>(counts: Counts, all: u32, out: &mut W) -> io::Result<()>
+    ensures { OnOk result (Appends (W.contents out.old) (W.contents out.new) (screen.sight_text (sight.Line counts all))) }
 {
     let checked = counts.total();
-    write!(text, "\r{checked} of {all}")?;
-    write_differ(counts.differ, text)?;
-    write_unanswered(counts.unanswered, text)?;
-    write!(text, "\x1b[K")
+    write!(out, "\r{checked} of {all}")?;
+    write_differ(counts.differ, out)?;
+    write_unanswered(counts.unanswered, out)?;
+    write!(out, "\x1b[K")
 }
 
 /// Writes a sight.
-fn write_sight(sight: Sight, text: &mut Vec<u8>) -> io::Result<()>
-    ensures { OnOk result (text.new.items ≡ text.old.items ++ screen.sight_text sight) }
+fn write_sight<W: Write>(sight: Sight, out: &mut W) -> io::Result<()>
+    ensures { OnOk result (Appends (W.contents out.old) (W.contents out.new) (screen.sight_text sight)) }
 {
     match sight {
-        Sight::Line { counts, all } => write_line(counts, all, text),
-        Sight::Nothing => write!(text, "\r\x1b[K"),
+        Sight::Line { counts, all } => write_line(counts, all, out),
+        Sight::Nothing => write!(out, "\r\x1b[K"),
     }
 }
 
-/// Brings a sight out in one write.
-fn show_on<W: Write>(alloc: Global, sight: Sight, writer: &mut W) -> io::Result<()>
-    ensures { OnOk result (Appends (W.contents writer.old) (W.contents writer.new)
-        (screen.sight_text sight)) }
-{
-    let mut text = Vec::new(alloc);
-    write_sight(sight, &mut text)?;
-    writer.write_all(text.as_slice())?;
-    writer.flush()?;
-    Ok(())
+impl Message for Sight {
+    ghost text = { λ seen. Some (screen.sight_text seen) };
+
+    fn write<W: Write>(&self, out: &mut W) -> Result<(), WriteFault> {
+        write_sight(*self, out).map_err(|_| WriteFault)
+    }
 }
 
-impl<W: Write + Drop> Progress for ProgressLine<W> {
+impl<W: Says + Drop> Progress for ProgressLine<W> {
     ghost use Rattle.sheet_check.specs.Screen.{LineShows};
 
-    ghost shows = { λ p sight q. LineShows W.contents p.writer sight q.writer };
+    ghost shows = { λ p sight q. LineShows W.contents W.tried p.writer sight q.writer };
 
     fn show(&mut self, sight: Sight) {
         if let Some(writer) = &mut self.writer
-            && show_on(self.alloc, sight, writer).is_err()
+            && !writer.say(&sight)
         {
             self.writer = None;
         }

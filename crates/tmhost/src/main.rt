@@ -2,7 +2,7 @@
 //! what it says where, and with which status it ends, `host_cli` decides.
 #![tactic(auto)]
 
-use host_cli::perform;
+use host_cli::{perform, startup};
 use offline_programs::RunFault;
 use program_endings::end_program;
 use std::process::ExitCode;

@@ -2,6 +2,7 @@
 ghost use Rattle.std.specs.Prelude.{◌≤◌, IfOk};
 ghost use Rattle.disk_model.specs.Disk.{greatest_room};
 
+use super::streams::Deaf;
 use disk_model::{FuseDisk, FuseMode, MemoryDisk};
 use host_events::HostFault;
 use journal::{CreateCause, OpenCause};
@@ -119,7 +120,7 @@ fn create_without_files(rt: HostRuntime) {
     assert!(rt; creates_without_files(alloc, there, b"fault 34 NotEmpty\n"));
     assert!(rt; creates_without_files(alloc, MakeFault::InUse, b"fault 35 InUse\n"));
     let none: Result<MemoryDisk, MakeFault> = Err(there);
-    assert!(rt; run_create(none, &mut Full) == ending(1, false));
+    assert!(rt; run_create(none, &mut Deaf) == ending(1, false));
 }
 
 // A disk with these bytes in area First.

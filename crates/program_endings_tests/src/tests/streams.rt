@@ -1,9 +1,31 @@
 //! Streams that are read in parts of three bytes, readers and writers that fail, and one that takes all memory.
-use offline_programs::RunFault;
+use offline_programs::{Message, RunFault, Says};
 use program_endings::{Ending, Total, blocks, end_total, run_blocks, tell_worksheet};
 use std::alloc::Global;
+use std::io;
 use std::io::{Read, Write};
 use tests_desk::{Exhausting, Full, InterruptedOnce, Parts, Unflushed};
+
+/// A stream of errors that takes nothing.
+pub struct Deaf;
+
+impl Write for Deaf {
+    fn write(&mut self, buf: &[u8]) -> io::Result<usize> {
+        Full.write(buf)
+    }
+
+    fn flush(&mut self) -> io::Result<()> {
+        Full.flush()
+    }
+}
+
+impl Says for Deaf {
+    ghost tried = { λ _ _ _ _. Unit {0} };
+
+    fn say<M: Message>(&mut self, message: &M) -> bool {
+        message.write(self).is_ok()
+    }
+}
 
 // Whether `blocks` prints this text of the stream, and gives this answer.
 fn prints(alloc: Global, stream: &[u8], text: &[u8], whole: bool) -> bool {
@@ -127,7 +149,7 @@ fn ends_full(alloc: Global, said: &[u8]) -> bool {
 // How it ends where its errors can't be written either.
 fn ends_untold(alloc: Global) -> Ending {
     let mut input = a_block();
-    run_blocks(alloc, &mut input, &mut Full, &mut Full)
+    run_blocks(alloc, &mut input, &mut Full, &mut Deaf)
 }
 
 #[test]
@@ -159,7 +181,7 @@ fn a_total_that_is_not_written_is_a_fault(rt: HostRuntime) {
     assert!(rt; ends_without_total(rt.alloc(), &mut Full, b"fault 42 Output\n"));
     assert!(rt; ends_without_total(rt.alloc(), &mut Unflushed, b"fault 42 Output\n"));
     assert!(rt;
-        end_total(Total::none(), &mut Full, &mut Full)
+        end_total(Total::none(), &mut Full, &mut Deaf)
             == Ending {
                 status: 1,
                 told: false

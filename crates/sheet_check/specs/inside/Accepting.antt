@@ -8,9 +8,9 @@ use Rattle.worksheet.specs.declared.field.Field.{Field}
 use Rattle.worksheet.specs.Contents.{Contents}
 use Rattle.worksheet.specs.Ops.{sheet_of}
 use Rattle.recovery.specs.Sheets.{StoreView}
-use Rattle.acceptance.specs.Kept.{HoldsBut, NoPlace, Stores}
-use Rattle.acceptance.specs.declared.accepting.AcceptFault.{AcceptFault}
-use Rattle.acceptance.specs.declared.accepting.AcceptFault.TheVariants as refused
+use Rattle.sheet_check.specs.Kept.{HoldsBut, NoPlace, Stores}
+use Rattle.sheet_check.specs.declared.putting.AcceptFault.{AcceptFault}
+use Rattle.sheet_check.specs.declared.putting.AcceptFault.TheVariants as refused
 use Rattle.host_events.specs.declared.outcome.HostFault.TheVariants as hosts
 use Rattle.session_engine.specs.World.{World}
 use Rattle.session_engine.specs.Host.{HostView, IsHost}

@@ -1,6 +1,6 @@
 use Rattle.std.proofs.Common.{[], inl, inr, refl, subst, sym}
 use Rattle.recovery.specs.Sheets.{StoreView}
-use Rattle.acceptance.specs.Kept.{HoldsAll}
+use Rattle.sheet_check.specs.Kept.{HoldsAll}
 use Rattle.sheet_programs.proofs.Runs.{if_err_is, if_ok_is}
 use Rattle.check_report.specs.Verdicts.{counts_of}
 use Rattle.sheet_check.specs.Evaluated.{way}

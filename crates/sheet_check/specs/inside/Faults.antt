@@ -1,8 +1,8 @@
 -- Why an answer isn't accepted, by why its op isn't committed.
 use Rattle.recovery.specs.declared.fault.CommitFault.{CommitFault}
 use Rattle.recovery.specs.declared.fault.CommitFault.TheVariants as commits
-use Rattle.acceptance.specs.declared.accepting.AcceptFault.{AcceptFault}
-use Rattle.acceptance.specs.declared.accepting.AcceptFault.TheVariants as fault
+use Rattle.sheet_check.specs.declared.putting.AcceptFault.{AcceptFault}
+use Rattle.sheet_check.specs.declared.putting.AcceptFault.TheVariants as fault
 
 abbrev pub fault_for : CommitFault → AcceptFault
 fault_for (commits.Full back) = fault.Full

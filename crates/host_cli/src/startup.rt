@@ -1,10 +1,8 @@
-//! The program's words, and the system's streams, files and children, over which `host_cli` does what the words
-//! ask for. `tmhost` and `programs` both begin with it.
-#![tactic(auto)]
-
+//! The program's words, and the system's streams, files and children, over which the rest of the crate does what
+//! the words ask for. `tmhost` and `programs` both begin with it.
+use crate::{Outside, System};
 use arrivals::Polled;
 use child_calls::Processes;
-use host_cli::{Outside, System};
 use sheet_check::ProgressLine;
 use sheet_files::{Closed, FileDisk, FilePlaces};
 use std::alloc::AllocError;
@@ -15,6 +13,9 @@ use std::os::fd::AsRawFd;
 
 /// How much of its output a program holds back at most, in bytes.
 const BUFFER: usize = 65_536;
+
+/// More bytes than a line of progress has.
+const LINE: usize = 256;
 
 /// The kinds of the real system.
 pub struct Real<'a> {
@@ -34,7 +35,7 @@ impl<'a> System for Real<'a> {
 
     type Errors = Stderr;
 
-    type Progress = ProgressLine<Stderr>;
+    type Progress = ProgressLine<BufWriter<Stderr>>;
 }
 
 /// The words that the program was started with, its own name first.
@@ -45,6 +46,16 @@ pub fn words(rt: &HostRuntime) -> Result<Vec<String>, ErrorKind> {
             .map_err(|_| ErrorKind::OutOfMemory),
         Err(error) => Err(error.kind()),
     }
+}
+
+/// The line of progress where the errors go to a terminal, and there is memory for it. Each sight is one write.
+fn progress(rt: &HostRuntime) -> ProgressLine<BufWriter<Stderr>> {
+    let terminal = Some(rt.stderr()).filter(|errors| errors.is_terminal());
+    ProgressLine::on(terminal.and_then(|errors| BufWriter::with_capacity(
+        rt.alloc(),
+        LINE,
+        errors,
+    ).ok()))
 }
 
 /// The system's streams, files and children as one value, and the line of progress where the errors go to a terminal.
@@ -63,9 +74,6 @@ pub fn outside<'a>(rt: &'a HostRuntime) -> Result<Outside<Real<'a>>, AllocError>
         input: rt.stdin(),
         output,
         errors: rt.stderr(),
-        progress: ProgressLine::on(
-            rt.alloc(),
-            Some(rt.stderr()).filter(|errors| errors.is_terminal()),
-        ),
+        progress: progress(rt),
     })
 }

@@ -1,9 +1,9 @@
 use Rattle.std.proofs.Common.{sym, subst}
 use Rattle.std.specs.Prelude.{Err}
-use Rattle.acceptance.specs.Kept.{PutsOne, answer_op}
-use Rattle.acceptance.specs.declared.accepting.AcceptFault.{AcceptFault}
-use Rattle.acceptance.proofs.Behind.{answer_allowed, not_put, put}
-use Rattle.acceptance.proofs.accepting.accept.Goals as goal
+use Rattle.sheet_check.specs.Kept.{PutsOne, answer_op}
+use Rattle.sheet_check.specs.declared.putting.AcceptFault.{AcceptFault}
+use Rattle.sheet_check.proofs.Behind.{answer_allowed, not_put, put}
+use Rattle.sheet_check.proofs.putting.accept.Goals as goal
 
 pub returns-in-Ok-clause-puts : goal.returns-in-Ok-clause-puts
 returns-in-Ok-clause-puts g c = λ ops more disk has.

@@ -16,8 +16,8 @@ use Rattle.recovery.specs.Committed.{Commits}
 use Rattle.recovery.specs.Sheets.{IsEither, IsSheetImage, IsStore, SameStore, StoreView}
 use Rattle.recovery.specs.declared.fault.CommitFault.{CommitFault}
 use Rattle.recovery.specs.declared.fault.CommitFault.TheVariants as commits
-use Rattle.acceptance.specs.Kept.{PutsOne, HoldsAll, IsAmong, Stores}
-use Rattle.acceptance.specs.inside.Faults.{fault_for}
+use Rattle.sheet_check.specs.Kept.{PutsOne, HoldsAll, IsAmong, Stores}
+use Rattle.sheet_check.specs.inside.Faults.{fault_for}
 
 -- an answer with a short prompt to a field that there is
 pub answer_allowed : (sheet : Contents) (id : ℕ) (prompt : List ℕ) (output : Tree) → has_field sheet id ≡ true → length prompt ≤ longest_kept_prompt → first_refusal sheet (op.Answer id prompt output) ≡ None

@@ -4,8 +4,8 @@ ghost use Rattle.disk_model.specs.Disk.{DiskView};
 ghost use Rattle.worksheet.specs.declared.op.Op.{Op};
 ghost use Rattle.worksheet.specs.Checks.{has_field};
 ghost use Rattle.worksheet.specs.Limits.{longest_kept_prompt};
-ghost use Rattle.acceptance.specs.Kept.{PutsOne, Stores, answer_op};
-ghost use Rattle.acceptance.specs.inside.Faults.{fault_for};
+ghost use Rattle.sheet_check.specs.Kept.{PutsOne, Stores, answer_op};
+ghost use Rattle.sheet_check.specs.inside.Faults.{fault_for};
 
 use disk_model::Disk;
 use recovery::{CommitFault, Store};
