@@ -5,7 +5,6 @@ use Rattle.std.specs.declared.io.Write as write
 use Rattle.disk_model.specs.declared.disk.Disk as disks
 use Rattle.child_edge.specs.Faithful.{Relation}
 use Rattle.live.specs.Records.{Clock, Watch}
-use Rattle.offline_programs.specs.declared.saying.Says as says
 use Rattle.sheet_files.specs.Closing.{Closable, closable}
 use Rattle.sheet_files.specs.declared.places.Places as places
 
@@ -27,8 +26,8 @@ pub record StreamsSeen (I W E : Type 0) : Type 1 where
   pub said : E → Option (List ℕ)
   pub tried : E → Option (List ℕ) → Bool → E → Type 0
 
-abbrev pub streams_seen : {I W E : Type 0} → read.Ghosts I → write.Ghosts W → (W → Bool → W → Type 0) → says.Ghosts W → write.Ghosts E → says.Ghosts E → StreamsSeen I W E
-streams_seen i w b s e t = record { stream = i.remaining; written = w.contents; brought = b; shown = s.tried; said = e.contents; tried = t.tried }
+abbrev pub streams_seen : {I W E : Type 0} → read.Ghosts I → write.Ghosts W → (W → Bool → W → Type 0) → (W → Option (List ℕ) → Bool → W → Type 0) → write.Ghosts E → (E → Option (List ℕ) → Bool → E → Type 0) → StreamsSeen I W E
+streams_seen i w b s e t = record { stream = i.remaining; written = w.contents; brought = b; shown = s; said = e.contents; tried = t }
 
 abbrev pub disks_seen : {D : Type 0} → disks.Ghosts D → (D → Type 0) → Closable D
 disks_seen d closed = closable d.view closed

@@ -26,7 +26,7 @@ fn check_as<Y: System>(
     path: &str,
 ) -> CheckEnding
     ensures does { ChecksAs (outer Y.Places.Places (disks_seen Y.Disk.Disk Y.Disk.closed) (sources_seen Y.Sources.after Y.Sources.clock Y.Sources.wakes)
-        (streams_seen Y.Input.Read Y.Output.Write Y.Output.brought Y.Output.Says Y.Errors.Write Y.Errors.Says)) outside.old outside.new result path.now (check_plan request.now jobs) }
+        (streams_seen Y.Input.Read Y.Output.Write Y.Output.brought Y.Output.tried Y.Errors.Write Y.Errors.tried)) outside.old outside.new result path.now (check_plan request.now jobs) }
     ensures leaves { outside.new.input ≡ outside.old.input }
 {
     run_check(
@@ -49,7 +49,7 @@ fn check_together_as<Y: System>(
     path: &str,
 ) -> CheckEnding
     ensures does { TogetherAs (outer Y.Places.Places (disks_seen Y.Disk.Disk Y.Disk.closed) (sources_seen Y.Sources.after Y.Sources.clock Y.Sources.wakes)
-        (streams_seen Y.Input.Read Y.Output.Write Y.Output.brought Y.Output.Says Y.Errors.Write Y.Errors.Says)) outside.old outside.new result path.now (check_plan request.now jobs) }
+        (streams_seen Y.Input.Read Y.Output.Write Y.Output.brought Y.Output.tried Y.Errors.Write Y.Errors.tried)) outside.old outside.new result path.now (check_plan request.now jobs) }
     ensures leaves { outside.new.input ≡ outside.old.input }
 {
     run_check_together(
@@ -74,7 +74,7 @@ fn compare<Y: System>(
     path: &str,
 ) -> CheckEnding
     ensures does { Compares (outer Y.Places.Places (disks_seen Y.Disk.Disk Y.Disk.closed) (sources_seen Y.Sources.after Y.Sources.clock Y.Sources.wakes)
-        (streams_seen Y.Input.Read Y.Output.Write Y.Output.brought Y.Output.Says Y.Errors.Write Y.Errors.Says)) outside.old outside.new result path.now (check_plan request.now jobs) }
+        (streams_seen Y.Input.Read Y.Output.Write Y.Output.brought Y.Output.tried Y.Errors.Write Y.Errors.tried)) outside.old outside.new result path.now (check_plan request.now jobs) }
     ensures leaves { outside.new.input ≡ outside.old.input }
 {
     if jobs <= 1 {
@@ -93,7 +93,7 @@ fn check_by<Y: System>(
     path: &str,
 ) -> Ending
     ensures does { ChecksBy (outer Y.Places.Places (disks_seen Y.Disk.Disk Y.Disk.closed) (sources_seen Y.Sources.after Y.Sources.clock Y.Sources.wakes)
-        (streams_seen Y.Input.Read Y.Output.Write Y.Output.brought Y.Output.Says Y.Errors.Write Y.Errors.Says)) outside.old outside.new result path.now (check_plan request.now jobs) }
+        (streams_seen Y.Input.Read Y.Output.Write Y.Output.brought Y.Output.tried Y.Errors.Write Y.Errors.tried)) outside.old outside.new result path.now (check_plan request.now jobs) }
     ensures leaves { outside.new.input ≡ outside.old.input }
 {
     if let Err(why) = outside.places.hold() {
@@ -124,7 +124,7 @@ fn compare_next<Y: System>(
     path: &str,
 ) -> CheckEnding
     ensures does { ComparesNext (outer Y.Places.Places (disks_seen Y.Disk.Disk Y.Disk.closed) (sources_seen Y.Sources.after Y.Sources.clock Y.Sources.wakes)
-        (streams_seen Y.Input.Read Y.Output.Write Y.Output.brought Y.Output.Says Y.Errors.Write Y.Errors.Says)) outside.old outside.new result path.now (check_plan request.now jobs) }
+        (streams_seen Y.Input.Read Y.Output.Write Y.Output.brought Y.Output.tried Y.Errors.Write Y.Errors.tried)) outside.old outside.new result path.now (check_plan request.now jobs) }
     ensures leaves { outside.new.input ≡ outside.old.input }
 {
     match tell_worksheet(path, &mut outside.output) {
@@ -143,7 +143,7 @@ fn compare_each<Y: System>(
     paths: &[&str],
 ) -> Ending
     ensures does { ComparesEach (outer Y.Places.Places (disks_seen Y.Disk.Disk Y.Disk.closed) (sources_seen Y.Sources.after Y.Sources.clock Y.Sources.wakes)
-        (streams_seen Y.Input.Read Y.Output.Write Y.Output.brought Y.Output.Says Y.Errors.Write Y.Errors.Says)) (check_plan request.now jobs) [] (map (λ path. path.now) paths.now) outside.old outside.new result }
+        (streams_seen Y.Input.Read Y.Output.Write Y.Output.brought Y.Output.tried Y.Errors.Write Y.Errors.tried)) (check_plan request.now jobs) [] (map (λ path. path.now) paths.now) outside.old outside.new result }
     ensures leaves { outside.new.input ≡ outside.old.input }
 {
     let mut total = Total::none();
@@ -167,7 +167,7 @@ fn check_paths<Y: System>(
     jobs: u32,
 ) -> Ending
     ensures does { ChecksPaths (outer Y.Places.Places (disks_seen Y.Disk.Disk Y.Disk.closed) (sources_seen Y.Sources.after Y.Sources.clock Y.Sources.wakes)
-        (streams_seen Y.Input.Read Y.Output.Write Y.Output.brought Y.Output.Says Y.Errors.Write Y.Errors.Says)) outside.old outside.new result path.now (check_view words.now) (check_plan request.now jobs) }
+        (streams_seen Y.Input.Read Y.Output.Write Y.Output.brought Y.Output.tried Y.Errors.Write Y.Errors.tried)) outside.old outside.new result path.now (check_view words.now) (check_plan request.now jobs) }
     ensures leaves { outside.new.input ≡ outside.old.input }
 {
     if !are_several(words.paths.as_slice()) {
@@ -190,7 +190,7 @@ pub(crate) fn check_at<Y: System>(
     words: CheckWords<'_>,
 ) -> Ending
     ensures does { DoesCheck (outer Y.Places.Places (disks_seen Y.Disk.Disk Y.Disk.closed) (sources_seen Y.Sources.after Y.Sources.clock Y.Sources.wakes)
-        (streams_seen Y.Input.Read Y.Output.Write Y.Output.brought Y.Output.Says Y.Errors.Write Y.Errors.Says)) outside.old outside.new result path.now (check_view words.entry) }
+        (streams_seen Y.Input.Read Y.Output.Write Y.Output.brought Y.Output.tried Y.Errors.Write Y.Errors.tried)) outside.old outside.new result path.now (check_view words.entry) }
     ensures leaves { outside.new.input ≡ outside.old.input }
 {
     let Some(limit) = read_limit(words.timeout) else {

@@ -25,7 +25,7 @@ fn live_told<Y: System, T: Tells>(
     path: &str,
 ) -> Ending
     ensures does { LivesAs (outer Y.Places.Places (disks_seen Y.Disk.Disk Y.Disk.closed) (sources_seen Y.Sources.after Y.Sources.clock Y.Sources.wakes)
-        (streams_seen Y.Input.Read Y.Output.Write Y.Output.brought Y.Output.Says Y.Errors.Write Y.Errors.Says)) manner T.voice outside.old outside.new result path.now }
+        (streams_seen Y.Input.Read Y.Output.Write Y.Output.brought Y.Output.tried Y.Errors.Write Y.Errors.tried)) manner T.voice outside.old outside.new result path.now }
     ensures leaves { outside.new.progress ≡ outside.old.progress }
 {
     match outside.places.hold() {
@@ -46,7 +46,7 @@ fn live_told<Y: System, T: Tells>(
 /// `live` in words.
 pub(crate) fn live_at<Y: System>(alloc: Global, outside: &mut Outside<Y>, path: &str) -> Ending
     ensures does { DoesLive (outer Y.Places.Places (disks_seen Y.Disk.Disk Y.Disk.closed) (sources_seen Y.Sources.after Y.Sources.clock Y.Sources.wakes)
-        (streams_seen Y.Input.Read Y.Output.Write Y.Output.brought Y.Output.Says Y.Errors.Write Y.Errors.Says)) in_words outside.old outside.new result path.now }
+        (streams_seen Y.Input.Read Y.Output.Write Y.Output.brought Y.Output.tried Y.Errors.Write Y.Errors.tried)) in_words outside.old outside.new result path.now }
     ensures leaves { outside.new.progress ≡ outside.old.progress }
 {
     live_told(
@@ -65,7 +65,7 @@ pub(crate) fn live_at<Y: System>(alloc: Global, outside: &mut Outside<Y>, path: 
 /// `live` in lines of JSON.
 pub(crate) fn live_json_at<Y: System>(alloc: Global, outside: &mut Outside<Y>, path: &str) -> Ending
     ensures does { DoesLive (outer Y.Places.Places (disks_seen Y.Disk.Disk Y.Disk.closed) (sources_seen Y.Sources.after Y.Sources.clock Y.Sources.wakes)
-        (streams_seen Y.Input.Read Y.Output.Write Y.Output.brought Y.Output.Says Y.Errors.Write Y.Errors.Says)) in_json outside.old outside.new result path.now }
+        (streams_seen Y.Input.Read Y.Output.Write Y.Output.brought Y.Output.tried Y.Errors.Write Y.Errors.tried)) in_json outside.old outside.new result path.now }
     ensures leaves { outside.new.progress ≡ outside.old.progress }
 {
     live_told(
@@ -89,7 +89,7 @@ pub(crate) fn run_at<Y: System>(
     words: RunWords<'_>,
 ) -> Ending
     ensures does { DoesRun (outer Y.Places.Places (disks_seen Y.Disk.Disk Y.Disk.closed) (sources_seen Y.Sources.after Y.Sources.clock Y.Sources.wakes)
-        (streams_seen Y.Input.Read Y.Output.Write Y.Output.brought Y.Output.Says Y.Errors.Write Y.Errors.Says)) outside.old outside.new result path.now (run_view words.entry) }
+        (streams_seen Y.Input.Read Y.Output.Write Y.Output.brought Y.Output.tried Y.Errors.Write Y.Errors.tried)) outside.old outside.new result path.now (run_view words.entry) }
     ensures leaves { outside.new.progress ≡ outside.old.progress }
 {
     let Some(limit) = read_limit(words.timeout) else {

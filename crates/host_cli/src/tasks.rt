@@ -33,7 +33,7 @@ use tellings::{InJson, InWords, Tells};
 /// `create` at a path.
 fn create_at<Y: System>(outside: &mut Outside<Y>, path: &str) -> Ending
     ensures does { DoesCreate (outer Y.Places.Places (disks_seen Y.Disk.Disk Y.Disk.closed) (sources_seen Y.Sources.after Y.Sources.clock Y.Sources.wakes)
-        (streams_seen Y.Input.Read Y.Output.Write Y.Output.brought Y.Output.Says Y.Errors.Write Y.Errors.Says)) outside.old outside.new result path.now }
+        (streams_seen Y.Input.Read Y.Output.Write Y.Output.brought Y.Output.tried Y.Errors.Write Y.Errors.tried)) outside.old outside.new result path.now }
     ensures leaves { LeavesAlone outside.old outside.new (asked.create path.now) }
 {
     match outside.places.hold() {
@@ -45,7 +45,7 @@ fn create_at<Y: System>(outside: &mut Outside<Y>, path: &str) -> Ending
 /// `show` of the worksheet at a path.
 fn show_at<Y: System>(alloc: Global, outside: &mut Outside<Y>, path: &str) -> Ending
     ensures does { DoesShow (outer Y.Places.Places (disks_seen Y.Disk.Disk Y.Disk.closed) (sources_seen Y.Sources.after Y.Sources.clock Y.Sources.wakes)
-        (streams_seen Y.Input.Read Y.Output.Write Y.Output.brought Y.Output.Says Y.Errors.Write Y.Errors.Says)) outside.old outside.new result path.now }
+        (streams_seen Y.Input.Read Y.Output.Write Y.Output.brought Y.Output.tried Y.Errors.Write Y.Errors.tried)) outside.old outside.new result path.now }
     ensures leaves { LeavesAlone outside.old outside.new (asked.show path.now) }
 {
     match outside.places.hold() {
@@ -68,7 +68,7 @@ fn eval_as<Y: System, T: Tells>(
     path: &str,
 ) -> Ending
     ensures does { EvaluatesAs (outer Y.Places.Places (disks_seen Y.Disk.Disk Y.Disk.closed) (sources_seen Y.Sources.after Y.Sources.clock Y.Sources.wakes)
-        (streams_seen Y.Input.Read Y.Output.Write Y.Output.brought Y.Output.Says Y.Errors.Write Y.Errors.Says)) T.voice plan.now outside.old outside.new result path.now }
+        (streams_seen Y.Input.Read Y.Output.Write Y.Output.brought Y.Output.tried Y.Errors.Write Y.Errors.tried)) T.voice plan.now outside.old outside.new result path.now }
     ensures leaves { (outside.new.input ≡ outside.old.input)
         × (outside.new.progress ≡ outside.old.progress) }
 {
@@ -95,7 +95,7 @@ fn eval_told<Y: System>(
     path: &str,
 ) -> Ending
     ensures does { EvaluatesAs (outer Y.Places.Places (disks_seen Y.Disk.Disk Y.Disk.closed) (sources_seen Y.Sources.after Y.Sources.clock Y.Sources.wakes)
-        (streams_seen Y.Input.Read Y.Output.Write Y.Output.brought Y.Output.Says Y.Errors.Write Y.Errors.Says)) (voice_by json) plan.now outside.old outside.new result path.now }
+        (streams_seen Y.Input.Read Y.Output.Write Y.Output.brought Y.Output.tried Y.Errors.Write Y.Errors.tried)) (voice_by json) plan.now outside.old outside.new result path.now }
     ensures leaves { (outside.new.input ≡ outside.old.input)
         × (outside.new.progress ≡ outside.old.progress) }
 {
@@ -114,7 +114,7 @@ fn eval_at<Y: System>(
     words: EvalWords<'_>,
 ) -> Ending
     ensures does { DoesEval (outer Y.Places.Places (disks_seen Y.Disk.Disk Y.Disk.closed) (sources_seen Y.Sources.after Y.Sources.clock Y.Sources.wakes)
-        (streams_seen Y.Input.Read Y.Output.Write Y.Output.brought Y.Output.Says Y.Errors.Write Y.Errors.Says)) outside.old outside.new result path.now (eval_view words.entry) }
+        (streams_seen Y.Input.Read Y.Output.Write Y.Output.brought Y.Output.tried Y.Errors.Write Y.Errors.tried)) outside.old outside.new result path.now (eval_view words.entry) }
     ensures leaves { LeavesAlone outside.old outside.new (asked.eval path.now (eval_view words.entry)) }
 {
     match read_plan(alloc, &words) {
@@ -126,7 +126,7 @@ fn eval_at<Y: System>(
 /// `rescue` from a path to a new one, which is made only where there is something to rescue.
 fn rescue_at<Y: System>(alloc: Global, outside: &mut Outside<Y>, path: &str, new: &str) -> Ending
     ensures does { DoesRescue (outer Y.Places.Places (disks_seen Y.Disk.Disk Y.Disk.closed) (sources_seen Y.Sources.after Y.Sources.clock Y.Sources.wakes)
-        (streams_seen Y.Input.Read Y.Output.Write Y.Output.brought Y.Output.Says Y.Errors.Write Y.Errors.Says)) outside.old outside.new result path.now new.now }
+        (streams_seen Y.Input.Read Y.Output.Write Y.Output.brought Y.Output.tried Y.Errors.Write Y.Errors.tried)) outside.old outside.new result path.now new.now }
     ensures leaves { LeavesAlone outside.old outside.new (asked.rescue path.now new.now) }
 {
     if let Err(why) = outside.places.hold() {
@@ -152,7 +152,7 @@ fn export_as<Y: System>(
     path: &str,
 ) -> Ending
     ensures does { ExportsAs (outer Y.Places.Places (disks_seen Y.Disk.Disk Y.Disk.closed) (sources_seen Y.Sources.after Y.Sources.clock Y.Sources.wakes)
-        (streams_seen Y.Input.Read Y.Output.Write Y.Output.brought Y.Output.Says Y.Errors.Write Y.Errors.Says)) outside.old outside.new result path.now format }
+        (streams_seen Y.Input.Read Y.Output.Write Y.Output.brought Y.Output.tried Y.Errors.Write Y.Errors.tried)) outside.old outside.new result path.now format }
     ensures leaves { LeavesAlone outside.old outside.new (asked.export [] path.now) }
 {
     match outside.places.hold() {
@@ -171,7 +171,7 @@ fn export_as<Y: System>(
 /// `export` in the format of this name.
 fn export_at<Y: System>(alloc: Global, outside: &mut Outside<Y>, name: &str, path: &str) -> Ending
     ensures does { DoesExport (outer Y.Places.Places (disks_seen Y.Disk.Disk Y.Disk.closed) (sources_seen Y.Sources.after Y.Sources.clock Y.Sources.wakes)
-        (streams_seen Y.Input.Read Y.Output.Write Y.Output.brought Y.Output.Says Y.Errors.Write Y.Errors.Says)) outside.old outside.new result name.now path.now }
+        (streams_seen Y.Input.Read Y.Output.Write Y.Output.brought Y.Output.tried Y.Errors.Write Y.Errors.tried)) outside.old outside.new result name.now path.now }
     ensures leaves { LeavesAlone outside.old outside.new (asked.export name.now path.now) }
 {
     match format_named(name) {
@@ -186,7 +186,7 @@ fn export_at<Y: System>(alloc: Global, outside: &mut Outside<Y>, name: &str, pat
 /// errors. `check` alone has `progress` show something.
 pub fn do_task<Y: System>(alloc: Global, task: Task<'_>, outside: &mut Outside<Y>) -> Ending
     ensures does { DoesTask (outer Y.Places.Places (disks_seen Y.Disk.Disk Y.Disk.closed) (sources_seen Y.Sources.after Y.Sources.clock Y.Sources.wakes)
-        (streams_seen Y.Input.Read Y.Output.Write Y.Output.brought Y.Output.Says Y.Errors.Write Y.Errors.Says)) outside.old outside.new result (task_view task.entry) }
+        (streams_seen Y.Input.Read Y.Output.Write Y.Output.brought Y.Output.tried Y.Errors.Write Y.Errors.tried)) outside.old outside.new result (task_view task.entry) }
     ensures leaves { LeavesAlone outside.old outside.new (task_view task.entry) }
 {
     match task {
@@ -221,7 +221,7 @@ fn end_unsent<E: Says>(alone: Ending, errors: &mut E) -> Ending
 /// Flushes what the output keeps back, at the end of the program.
 fn bring_out<Y: System>(outside: &mut Outside<Y>, alone: Ending) -> Ending
     ensures { BringsOut (outer Y.Places.Places (disks_seen Y.Disk.Disk Y.Disk.closed) (sources_seen Y.Sources.after Y.Sources.clock Y.Sources.wakes)
-        (streams_seen Y.Input.Read Y.Output.Write Y.Output.brought Y.Output.Says Y.Errors.Write Y.Errors.Says)) outside.old outside.new alone result }
+        (streams_seen Y.Input.Read Y.Output.Write Y.Output.brought Y.Output.tried Y.Errors.Write Y.Errors.tried)) outside.old outside.new alone result }
 {
     match outside.output.bring_out() {
         Ok(()) => alone,
@@ -237,7 +237,7 @@ pub fn perform<Y: System>(
     outside: &mut Outside<Y>,
 ) -> Ending
     ensures { Performs (outer Y.Places.Places (disks_seen Y.Disk.Disk Y.Disk.closed) (sources_seen Y.Sources.after Y.Sources.clock Y.Sources.wakes)
-        (streams_seen Y.Input.Read Y.Output.Write Y.Output.brought Y.Output.Says Y.Errors.Write Y.Errors.Says)) (λ all. map string_bytes all.items) words outside.old outside.new result }
+        (streams_seen Y.Input.Read Y.Output.Write Y.Output.brought Y.Output.tried Y.Errors.Write Y.Errors.tried)) (λ all. map string_bytes all.items) words outside.old outside.new result }
 {
     let ending = match words {
         Ok(words) => match read_words(alloc, words.as_slice()) {
