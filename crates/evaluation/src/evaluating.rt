@@ -226,6 +226,10 @@ pub fn evaluate<W: Write, D: Disk, S: Sources, T: Tells>(
         → Rises (D.view disk).faults (D.view result.disk).faults }
     ensures failed { IsErrOf result.answer (evals.Run (told.Host hosts.Disk))
         → Rises (D.view disk).faults (D.view result.disk).faults }
+
+    // Want of memory at the opening is reported only where no call of the disk failed.
+    ensures memory { IsErrOf result.answer (evals.Run (told.Open opens.OutOfMemory))
+        → (D.view result.disk).faults ≡ (D.view disk).faults }
 {
     let mut host = match Host::open(alloc, disk) {
         Ok(host) => host,

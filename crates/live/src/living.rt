@@ -138,6 +138,10 @@ where
         → Rises (D.view disk).faults (D.view result.disk).faults }
     ensures failed { IsErrOf result.answer (told.Host hosts.Disk)
         → Rises (D.view disk).faults (D.view result.disk).faults }
+
+    // Want of memory at the opening is reported only where no call of the disk failed.
+    ensures memory { IsErrOf result.answer (told.Open opens.OutOfMemory)
+        → (D.view result.disk).faults ≡ (D.view disk).faults }
 {
     let Ok(mut lines) = InputLines::new(alloc, reader) else {
         return LiveEnd {
@@ -204,6 +208,10 @@ where
         → Rises (D.view disk).faults (D.view result.disk).faults }
     ensures failed { IsErrOf result.answer (told.Host hosts.Disk)
         → Rises (D.view disk).faults (D.view result.disk).faults }
+
+    // Want of memory at the opening is reported only where no call of the disk failed.
+    ensures memory { IsErrOf result.answer (told.Open opens.OutOfMemory)
+        → (D.view result.disk).faults ≡ (D.view disk).faults }
 {
     live_by(
         alloc,

@@ -6,6 +6,7 @@ use Rattle.journal.specs.Front.{TellsHeader}
 use Rattle.journal.specs.Open.{AreEmpty}
 use Rattle.journal.specs.declared.opening.OpenCause.{OpenCause}
 use Rattle.journal.specs.declared.opening.OpenCause.TheVariants as opens
+use Rattle.recovery.specs.Checkpointed.{HasRoomAnew}
 use Rattle.recovery.specs.Rescued.{IsRescued}
 use Rattle.recovery.specs.Saved.{IsBeingSaved}
 use Rattle.recovery.specs.Sheets.{IsSheetImage, Makes}
@@ -55,6 +56,8 @@ pub record FrontIsRead {D : Type 0} (view : D → DiskView) (disk after : D)
       × (found.sheet.contents ≡ sheet_of ops) × (found.kept ≡ length ops)))
   pub tells : IfErr answer (TellsRescue (view disk))
   pub failed : answer ≡ Err (fault.Open opens.Disk) → Rises (view disk).faults (view after).faults
+  -- where anything else is answered, no call of the disk failed
+  pub steady : (answer ≡ Err (fault.Open opens.Disk) → ⊥) → (view after).faults ≡ (view disk).faults
 
 -- the fault of a worksheet that can't be written
 abbrev pub save_fault : SaveCause → RescueFault
@@ -78,4 +81,9 @@ pub record RescueIsSaved (old new : DiskView) (sheet : Contents)
   pub moments : InModel old
       (LeavesOnly (IsBeingSaved old.history.now sheet) old.history new.history)
   pub not_empty : InModel old (answer ≡ Err rescues.NotEmpty → AreEmpty (bytes_on old) → ⊥)
+  -- that it doesn't fit is answered only where an area has no room for it, and then nothing was changed
+  pub full : answer ≡ Err (rescues.Run (fault.Host host.JournalFull))
+      → (HasRoomAnew old.room sheet → ⊥) × (new ≡ old)
   pub failed : answer ≡ Err (rescues.Run (fault.Open opens.Disk)) → Rises old.faults new.faults
+  -- where anything else is answered, no call of the disk failed
+  pub steady : (answer ≡ Err (rescues.Run (fault.Open opens.Disk)) → ⊥) → new.faults ≡ old.faults

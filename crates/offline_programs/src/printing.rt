@@ -47,6 +47,10 @@ pub fn show<D: Disk, W: Write>(alloc: Global, disk: D, writer: &mut W) -> Shown<
     // That the disk failed is reported only where it did.
     ensures failed { IsErrOf result.answer (told.Open opens.Disk)
         → Rises (D.view disk).faults (D.view result.disk).faults }
+
+    // Where anything else is answered, no call of the disk failed.
+    ensures steady { (IsErrOf result.answer (told.Open opens.Disk) → ⊥)
+        → (D.view result.disk).faults ≡ (D.view disk).faults }
 {
     match Store::open(alloc, disk) {
         Ok(store) => {

@@ -352,6 +352,10 @@ pub fn check_accepting<D: Disk, C: Sources, W: Write, P: Progress>(
     // That the disk can't be read is reported only where it failed.
     ensures failed { result.answer ≡ Err (told.Open opens.Disk)
         → Rises (D.view disk).faults (D.view result.disk).faults }
+
+    // Want of memory at the opening is reported only where no call of the disk failed.
+    ensures memory { result.answer ≡ Err (told.Open opens.OutOfMemory)
+        → (D.view result.disk).faults ≡ (D.view disk).faults }
 {
     match Store::open(alloc, disk) {
         Ok(mut store) => {

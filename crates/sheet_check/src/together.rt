@@ -283,6 +283,10 @@ pub fn check_together<D: Disk, C: Sources, W: Write, P: Progress>(
     // That the disk failed is reported only where it did.
     ensures failed { result.answer ≡ Err (told.Open opens.Disk)
         → Rises (D.view disk).faults (D.view result.disk).faults }
+
+    // Where anything else is answered, no call of the disk failed.
+    ensures steady { (result.answer ≡ Err (told.Open opens.Disk) → ⊥)
+        → (D.view result.disk).faults ≡ (D.view disk).faults }
 {
     match Store::open(alloc, disk) {
         Ok(store) => {

@@ -289,6 +289,10 @@ pub fn export<D: Disk, W: Write>(
     // That the disk failed is reported only where it did.
     ensures failed { IsErrOf result.answer (fault.Run (run.Open opens.Disk))
         → Rises (D.view disk).faults (D.view result.disk).faults }
+
+    // Where anything else is answered, no call of the disk failed.
+    ensures steady { (IsErrOf result.answer (fault.Run (run.Open opens.Disk)) → ⊥)
+        → (D.view result.disk).faults ≡ (D.view disk).faults }
 {
     match Store::open(alloc, disk) {
         Ok(store) => {

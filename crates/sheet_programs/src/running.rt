@@ -57,6 +57,10 @@ pub fn run_read<W: Write, D: Disk, C: Children>(
         → Rises (D.view disk).faults (D.view result.disk).faults }
     ensures failed { IsErrOf result.answer (told.Host hosts.Disk)
         → Rises (D.view disk).faults (D.view result.disk).faults }
+
+    // Want of memory at the opening is reported only where no call of the disk failed.
+    ensures memory { IsErrOf result.answer (told.Open opens.OutOfMemory)
+        → (D.view result.disk).faults ≡ (D.view disk).faults }
 {
     let mut host = match Host::open(alloc, disk) {
         Ok(host) => host,
@@ -119,6 +123,10 @@ pub fn run<R: Read, W: Write, D: Disk, C: Children>(
         → Rises (D.view disk).faults (D.view result.disk).faults }
     ensures failed { IsErrOf result.answer (told.Host hosts.Disk)
         → Rises (D.view disk).faults (D.view result.disk).faults }
+
+    // Want of memory at the opening is reported only where no call of the disk failed.
+    ensures memory { IsErrOf result.answer (told.Open opens.OutOfMemory)
+        → (D.view result.disk).faults ≡ (D.view disk).faults }
 {
     match read_input(alloc, reader) {
         Ok(script) => run_read(alloc, script.as_slice(), false, writer, disk, children),

@@ -65,6 +65,12 @@ returns-in-Err-ids_in-clause-unopened g c = λ e.
     let start = world_at_opening o.0 (g.D.Disk.view c.args.disk).room c.in-Ok.host.store.end in
     not_opened c.args.plan.now.which (sheet_in start).fields c.in-Err-ids_in.why opens.Disk (c.in-Err-ids_in.ensures.fault start o.1) (err_same _ c.in-Err-ids_in.why (evals.Run (told.Open opens.Disk)) refl e)
 
+pub returns-in-Err-ids_in-clause-memory : goal.returns-in-Err-ids_in-clause-memory
+returns-in-Err-ids_in-clause-memory g c = λ e.
+    let o = c.in-Ok.ensures.opens in
+    let start = world_at_opening o.0 (g.D.Disk.view c.args.disk).room c.in-Ok.host.store.end in
+    not_opened c.args.plan.now.which (sheet_in start).fields c.in-Err-ids_in.why opens.OutOfMemory (c.in-Err-ids_in.ensures.fault start o.1) (err_same _ c.in-Err-ids_in.why (evals.Run (told.Open opens.OutOfMemory)) refl e)
+
 pub returns-in-Err-ids_in-clause-failed : goal.returns-in-Err-ids_in-clause-failed
 returns-in-Err-ids_in-clause-failed g c = λ e.
     let o = c.in-Ok.ensures.opens in
@@ -89,6 +95,14 @@ returns-clause-unopened g c = λ e.
     let start = world_at_opening o.0 disk.room c.in-Ok.host.store.end in
     absurd (broke_opened _ _ _ _ opens.Disk (subst (BrokeOff (setting g.T.Tells.voice g.S.Children.after g.S.Sources.clock g.S.Sources.wakes c.args.plan.now c.as_slice-asked.result.now) (stands (at start c.args.sources.now c.in-Ok.host.store.disk) not_begun) (StoppedBehind g.S.Children.after c.evaluate_and_stop-done.new.sources) (left c.evaluate_and_stop-done.new.host c.evaluate_and_stop-done.new.sources (g.W.Write.contents c.args.writer.now) (g.W.Write.contents c.evaluate_and_stop-done.new.writer)))
     (same_run c.in-Err-done.fault (told.Open opens.Disk) (err_same _ (evals.Run c.in-Err-done.fault) (evals.Run (told.Open opens.Disk)) refl e)) (if_err_is c.evaluate_and_stop-done.result _ c.in-Err-done.fault c.in-Err-done.is (c.evaluate_and_stop-done.ensures.err start o.1))))
+
+pub returns-clause-memory : goal.returns-clause-memory
+returns-clause-memory g c = λ e.
+    let o = c.in-Ok.ensures.opens in
+    let disk = g.D.Disk.view c.args.disk in
+    let start = world_at_opening o.0 disk.room c.in-Ok.host.store.end in
+    absurd (broke_opened _ _ _ _ opens.OutOfMemory (subst (BrokeOff (setting g.T.Tells.voice g.S.Children.after g.S.Sources.clock g.S.Sources.wakes c.args.plan.now c.as_slice-asked.result.now) (stands (at start c.args.sources.now c.in-Ok.host.store.disk) not_begun) (StoppedBehind g.S.Children.after c.evaluate_and_stop-done.new.sources) (left c.evaluate_and_stop-done.new.host c.evaluate_and_stop-done.new.sources (g.W.Write.contents c.args.writer.now) (g.W.Write.contents c.evaluate_and_stop-done.new.writer)))
+    (same_run c.in-Err-done.fault (told.Open opens.OutOfMemory) (err_same _ (evals.Run c.in-Err-done.fault) (evals.Run (told.Open opens.OutOfMemory)) refl e)) (if_err_is c.evaluate_and_stop-done.result _ c.in-Err-done.fault c.in-Err-done.is (c.evaluate_and_stop-done.ensures.err start o.1))))
 
 pub returns-clause-failed : goal.returns-clause-failed
 returns-clause-failed g c = λ e.

@@ -60,6 +60,14 @@ returns-clause-unopened g c = λ e.
     absurd (ended_open (edge_by c.args.manner g.T.Tells.voice g.S.Children.after g.S.Sources.clock g.S.Sources.wakes) (begin_at start c.args.sources.now c.in-Ok-open.host.store.disk) (left c.live_and_stop-answer.new.host c.live_and_stop-answer.new.sources (g.W.Write.contents c.args.writer.now) (g.W.Write.contents c.live_and_stop-answer.new.writer)) (to_come c.in-Ok.lines.held (g.R.Read.remaining c.in-Ok.lines.reader)) opens.Disk
     (if_err_is c.live_and_stop-answer.result _ (told.Open opens.Disk) e (c.live_and_stop-answer.ensures.err start o.1)))
 
+pub returns-clause-memory : goal.returns-clause-memory
+returns-clause-memory g c = λ e.
+    let o = c.in-Ok-open.ensures.opens in
+    let disk = g.D.Disk.view c.args.disk in
+    let start = world_at_opening o.0 disk.room c.in-Ok-open.host.store.end in
+    absurd (ended_open (edge_by c.args.manner g.T.Tells.voice g.S.Children.after g.S.Sources.clock g.S.Sources.wakes) (begin_at start c.args.sources.now c.in-Ok-open.host.store.disk) (left c.live_and_stop-answer.new.host c.live_and_stop-answer.new.sources (g.W.Write.contents c.args.writer.now) (g.W.Write.contents c.live_and_stop-answer.new.writer)) (to_come c.in-Ok.lines.held (g.R.Read.remaining c.in-Ok.lines.reader)) opens.OutOfMemory
+    (if_err_is c.live_and_stop-answer.result _ (told.Open opens.OutOfMemory) e (c.live_and_stop-answer.ensures.err start o.1)))
+
 pub returns-clause-failed : goal.returns-clause-failed
 returns-clause-failed g c = λ e.
     let o = c.in-Ok-open.ensures.opens in

@@ -39,6 +39,15 @@ returns-in-Ok-clause-failed g c = λ is.
     (subst (λ (answer : Result Counts RunFault). SheetAccepts (to_accept (way g.C.Children.after g.C.Sources.clock g.C.Sources.wakes c.args.request.now.limit) c.args.request.now.chosen) c.in-Ok.store.sheet.contents (passage c.args.sources.now c.accept_sheet-answer.new.sources (g.W.Write.contents c.args.writer.now) (g.W.Write.contents c.accept_sheet-answer.new.writer)) nothing (filing e.made.0 c.in-Ok.store.disk c.accept_sheet-answer.new.store.disk) answer) is
     (c.accept_sheet-answer.ensures.accepted e.made.0 c.in-Ok.store.disk (opened_stores (g.D.Disk.view c.args.disk) c.in-Ok.store e.made.0 e.made.1 e.open e.same e.images))))
 
+pub returns-in-Ok-clause-memory : goal.returns-in-Ok-clause-memory
+returns-in-Ok-clause-memory g c = λ is.
+    let e = c.in-Ok.ensures in
+    let nothing : Type 0 = (c.accept_sheet-answer.new.writer ≡ c.args.writer.now) × (c.accept_sheet-answer.new.sources ≡ c.args.sources.now) in
+    absurd (was_opened (way g.C.Children.after g.C.Sources.clock g.C.Sources.wakes c.args.request.now.limit) c.args.request.now.chosen c.in-Ok.store.sheet.contents c.args.sources.now c.accept_sheet-answer.new.sources (g.W.Write.contents c.args.writer.now) (g.W.Write.contents c.accept_sheet-answer.new.writer)
+    e.made.0 c.in-Ok.store.disk c.accept_sheet-answer.new.store.disk opens.OutOfMemory nothing
+    (subst (λ (answer : Result Counts RunFault). SheetAccepts (to_accept (way g.C.Children.after g.C.Sources.clock g.C.Sources.wakes c.args.request.now.limit) c.args.request.now.chosen) c.in-Ok.store.sheet.contents (passage c.args.sources.now c.accept_sheet-answer.new.sources (g.W.Write.contents c.args.writer.now) (g.W.Write.contents c.accept_sheet-answer.new.writer)) nothing (filing e.made.0 c.in-Ok.store.disk c.accept_sheet-answer.new.store.disk) answer) is
+    (c.accept_sheet-answer.ensures.accepted e.made.0 c.in-Ok.store.disk (opened_stores (g.D.Disk.view c.args.disk) c.in-Ok.store e.made.0 e.made.1 e.open e.same e.images))))
+
 pub returns-in-Ok-clause-shown : goal.returns-in-Ok-clause-shown
 returns-in-Ok-clause-shown g c = progress.opened c.in-Ok.store.sheet.contents c.in-Ok.ensures.sheet c.accept_sheet-answer.ensures.shown
 

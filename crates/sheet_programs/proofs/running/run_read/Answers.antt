@@ -66,6 +66,16 @@ returns-clause-unopened g c = λ e.
     (g.W.Write.contents c.args.writer.now) (g.W.Write.contents c.run_lines-answer.new.writer) (c.stop_all.ensures.working, c.stop_all.ensures.stopped) (told.Open opens.Disk) c.stop_all.ensures.numbered
     (if_err_is c.run_lines-answer.result _ (told.Open opens.Disk) e (c.run_lines-answer.ensures.err start o.1))))
 
+pub returns-clause-memory : goal.returns-clause-memory
+returns-clause-memory g c = λ e.
+    let o = c.in-Ok.ensures.opens in
+    let start = world_at_opening o.0 (g.D.Disk.view c.args.disk).room c.in-Ok.host.store.end in
+    absurd (stopped_open (manner g.C.Children.after c.args.strict) (script_lines c.args.script.now) (at start c.args.children.now c.in-Ok.host.store.disk)
+    (left c.run_lines-answer.new.host c.stop_all.new.children (g.W.Write.contents c.args.writer.now) (g.W.Write.contents c.run_lines-answer.new.writer)) opens.OutOfMemory
+    (lines_stopped (manner g.C.Children.after c.args.strict) (script_lines c.args.script.now) (at start c.args.children.now c.in-Ok.host.store.disk) c.run_lines-answer.new.host c.run_lines-answer.new.children c.stop_all.new.children
+    (g.W.Write.contents c.args.writer.now) (g.W.Write.contents c.run_lines-answer.new.writer) (c.stop_all.ensures.working, c.stop_all.ensures.stopped) (told.Open opens.OutOfMemory) c.stop_all.ensures.numbered
+    (if_err_is c.run_lines-answer.result _ (told.Open opens.OutOfMemory) e (c.run_lines-answer.ensures.err start o.1))))
+
 pub returns-clause-failed : goal.returns-clause-failed
 returns-clause-failed g c = λ e.
     let o = c.in-Ok.ensures.opens in
