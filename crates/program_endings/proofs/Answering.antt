@@ -25,16 +25,22 @@ use Rattle.program_endings.specs.Records.{Calling, DoesNothing, GivenDisk, Writi
 no-error : {P : Type 0} (why : RunFault) → IsErrOf {T = Bool} (Ok true) why → P
 no-error why e = absurd cc
 
+done-is-no-error : {P : Type 0} (done : Unit) (why : RunFault) → IsErrOf {T = Unit} (Ok done) why → P
+done-is-no-error done why e = absurd cc
+
 -- a fault of the answer is the one of the call
 of-call : {T : Type 0} (why f : RunFault) → IsErrOf {T = Bool} (Err why) f → IsErrOf {T = T} (Err why) f
 of-call why f e = ap (λ x. Err x) (err_same _ why f refl e)
+
+of-answer : (why f : RunFault) → IsErrOf {T = Unit} (Err why) f → IsErrOf {T = Bool} (Err why) f
+of-answer why f e = ap (λ x. Err x) (err_same _ why f refl e)
 
 module _ {D W : Type 0} (g : GivenDisk D) (later : D) (w : Writing W) (closed : g.how.closed later) (same : SameDisk (view_given g) (g.how.view later))
     (looks : InModel (view_given g) (Looks (view_given g).history (g.how.view later).history)) where
   pub show_answered : (r : Result Unit RunFault) → InModel (view_given g) ((sheet : Contents) → IsSheetImage sheet (bytes_on (view_given g)) → OnOk r (Appends (text_before w) (text_after w) (sheet_text sheet)))
       → InModel (view_given g) (OnOk r ((sheet : Contents) × IsSheetImage sheet (bytes_on (view_given g)))) → (IsErrOf r (fault.Open opens.Disk) → Rises (view_given g).faults (g.how.view later).faults)
-      → IfErr r (TellsShow (view_given g) (w.new ≡ w.old)) → ShownOf g w (answer_of r)
-  show_answered (Ok done) shown found failed told = record {
+      → ((IsErrOf r (fault.Open opens.Disk) → ⊥) → (g.how.view later).faults ≡ (view_given g).faults) → IfErr r (TellsShow (view_given g) (w.new ≡ w.old)) → ShownOf g w (answer_of r)
+  show_answered (Ok done) shown found failed steady told = record {
     later = later;
     closed = closed;
     whole = refl;
@@ -43,9 +49,10 @@ module _ {D W : Type 0} (g : GivenDisk D) (later : D) (w : Writing W) (closed : 
     same = same;
     looks = looks;
     failed = λ e. no-error (fault.Open opens.Disk) e;
+    steady = λ none. steady (λ e. done-is-no-error done (fault.Open opens.Disk) e);
     fault = tt;
   }
-  show_answered (Err why) shown found failed told = record {
+  show_answered (Err why) shown found failed steady told = record {
     later = later;
     closed = closed;
     whole = tt;
@@ -54,5 +61,6 @@ module _ {D W : Type 0} (g : GivenDisk D) (later : D) (w : Writing W) (closed : 
     same = same;
     looks = looks;
     failed = λ e. failed (of-call why (fault.Open opens.Disk) e);
+    steady = λ none. steady (λ e. none (of-answer why (fault.Open opens.Disk) e));
     fault = told;
   }

@@ -59,6 +59,8 @@ pub record CheckDone {D C W E : Type 0} (o : OneByOne C) (g : GivenDisk D) (q : 
   pub read : OnlyRead (view_given g) (g.how.view later)
   -- that the disk failed is reported only where it did
   pub failed : end.answer ≡ Err (fault.Open opens.Disk) → Rises (view_given g).faults (g.how.view later).faults
+  -- and where anything else is answered no call of it failed
+  pub steady : (end.answer ≡ Err (fault.Open opens.Disk) → ⊥) → (g.how.view later).faults ≡ (view_given g).faults
   pub ends : EndsAs s.errors end.ending (answer_of_check o.chosen end.answer)
 
 -- how `check` ends where its files weren't opened: no child is called, and why is its fault

@@ -45,6 +45,8 @@ pub record ExportedFrom {D W : Type 0} (g : GivenDisk D) (format : Format) (titl
   pub looks : InModel (view_given g) (Looks (view_given g).history (g.how.view later).history)
   -- that the disk failed is reported only where it did
   pub failed : IsErrOf answer (exports.Run (fault.Open opens.Disk)) → Rises (view_given g).faults (g.how.view later).faults
+  -- and where anything else is answered no call of it failed
+  pub steady : (IsErrOf answer (exports.Run (fault.Open opens.Disk)) → ⊥) → (g.how.view later).faults ≡ (view_given g).faults
   pub fault : IfErr answer (TellsExport format (view_given g) (w.new ≡ w.old))
 
 -- what `export` answers on its files, or on why they weren't opened

@@ -73,6 +73,8 @@ pub record ShownOf {D W : Type 0} (g : GivenDisk D) (w : Writing W) (answer : Pr
   pub looks : InModel (view_given g) (Looks (view_given g).history (g.how.view later).history)
   -- that the disk failed is reported only where it did
   pub failed : IsErrOf answer (fault.Open opens.Disk) → Rises (view_given g).faults (g.how.view later).faults
+  -- and where anything else is answered no call of it failed
+  pub steady : (IsErrOf answer (fault.Open opens.Disk) → ⊥) → (g.how.view later).faults ≡ (view_given g).faults
   pub fault : IfErr answer (TellsShow (view_given g) (w.new ≡ w.old))
 
 -- What `show` answers on its files, or on why they weren't opened.

@@ -7,5 +7,6 @@ returns g c = record {
   answer = c.check_accepting-disk.result.answer;
   accepted = c.check_accepting-disk.ensures.accepted;
   failed = c.check_accepting-disk.ensures.failed;
+  memory = c.check_accepting-disk.ensures.memory;
   ends = c.end_acceptance.ensures;
 }

@@ -8,5 +8,6 @@ returns g c = record {
   evaluated = c.evaluate-disk.ensures.evaluated;
   unopened = c.evaluate-disk.ensures.unopened;
   failed = c.evaluate-disk.ensures.failed;
+  memory = c.evaluate-disk.ensures.memory;
   fault = c.evaluate-disk.ensures.fault;
 }

@@ -8,5 +8,6 @@ returns g c = record {
   lived = c.live_by-disk.ensures.lived;
   unopened = c.live_by-disk.ensures.unopened;
   failed = c.live_by-disk.ensures.failed;
+  memory = c.live_by-disk.ensures.memory;
   fault = c.live_by-disk.ensures.fault;
 }

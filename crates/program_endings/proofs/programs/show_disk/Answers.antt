@@ -11,4 +11,4 @@ returns g c =
     let wrote = writing g.W.Write.contents c.args.output.now c.show-disk.new.writer in
     subst (ShownOf disk wrote) (sym c.answered.ensures)
     (show_answered disk c.show-disk.result.disk wrote c.close.ensures c.show-disk.ensures.same c.show-disk.ensures.looks
-    c.show-disk.result.answer c.show-disk.ensures.shown c.show-disk.ensures.found c.show-disk.ensures.failed c.show-disk.ensures.fault)
+    c.show-disk.result.answer c.show-disk.ensures.shown c.show-disk.ensures.found c.show-disk.ensures.failed c.show-disk.ensures.steady c.show-disk.ensures.fault)

@@ -47,6 +47,7 @@ returns-clause-files g c =
       ran = ran.ran;
       unopened = ran.unopened;
       failed = ran.failed;
+      memory = ran.memory;
       fault = ran.fault;
       status = c.end_strict.ensures.status;
       told = c.end_strict.ensures.told;

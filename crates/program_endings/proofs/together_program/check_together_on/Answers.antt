@@ -9,5 +9,6 @@ returns g c = record {
   last_told = c.end_check-ending.ensures.last;
   read = c.check_together-disk.ensures.read;
   failed = c.check_together-disk.ensures.failed;
+  steady = c.check_together-disk.ensures.steady;
   ends = c.end_check-ending.ensures.ends;
 }
