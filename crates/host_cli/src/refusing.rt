@@ -25,6 +25,7 @@ fn refused(told: bool) -> Ending
 }
 
 /// Why `clap` gave no task, or the help that was asked for.
+#[derive(Clone, Copy)]
 struct FromClap<'a> {
     error: &'a clap::Error,
 }
@@ -39,6 +40,7 @@ impl Message for FromClap<'_> {
 }
 
 /// A text of this program's own.
+#[derive(Clone, Copy)]
 struct Text<'a> {
     bytes: &'a [u8],
 }
