@@ -9,7 +9,7 @@ use libc::net::{POLLIN, poll};
 use libc::types::pollfd;
 use std::alloc::{AllocError, Global};
 use std::os::fd::RawFd;
-use std::time::Clock;
+use std::time::{Clock, Duration};
 use worksheet::Name;
 
 /// The most children that are watched: a worksheet has at most so many sessions.
@@ -20,6 +20,9 @@ const MOST_PLACES: usize = 65;
 
 /// How often a poll is tried: once, and again at most 1,000 times where it was interrupted.
 const MOST_POLLS: u32 = 1_001;
+
+/// How long lives have that may be about to answer, in microseconds; a system adds some 50 to it.
+const MOMENT: u64 = 1;
 
 /// A place that is left out of a poll.
 const LEFT_OUT: pollfd = pollfd {
@@ -34,6 +37,9 @@ const LEFT_OUT: pollfd = pollfd {
 /// and polls when none of them is left; of a poll the input is returned first. A life that was stopped
 /// since then has no turn. Nothing is read, and an idle watch without a limit takes no processor time.
 ///
+/// Where a poll finds some lives, but not each that the last one found, there is a moment and one more poll:
+/// those may be about to answer too, and what is there together costs one group.
+///
 /// A child that closed its output, and an input at its end, are ready for ever: a caller takes the end of
 /// the first, which stops it, and holds the other back. At most 64 children are watched, those that were
 /// started first, and a limit above 2,147,483,647 milliseconds counts as that many. All memory of a watch
@@ -44,6 +50,7 @@ pub struct Polled<C: Outputs + Drop, K: Clock + Drop> {
     input: RawFd,
     clock: K,
     ready: Vec<Seat>,
+    found: [pollfd; MOST_PLACES],
 }
 
 impl<C: Outputs + Drop, K: Clock + Drop> Polled<C, K> {
@@ -60,6 +67,7 @@ impl<C: Outputs + Drop, K: Clock + Drop> Polled<C, K> {
             input,
             clock,
             ready,
+            found: [LEFT_OUT; MOST_PLACES],
         })
     }
 
@@ -100,12 +108,40 @@ impl<C: Outputs + Drop, K: Clock + Drop> Polled<C, K> {
         }
     }
 
-    /// Polls once. `None` where the poll failed.
+    /// Whether a poll found a life, but not each that the last one found.
+    fn lacks_some(&self, places: &[pollfd; MOST_PLACES]) -> bool {
+        let mut finds = false;
+        let mut lacks = false;
+        for at in 1..MOST_PLACES {
+            let is_same = places[at].fd == self.found[at].fd;
+            finds |= places[at].revents != 0;
+            lacks |= is_same && places[at].revents == 0 && self.found[at].revents != 0;
+        }
+        finds && lacks
+    }
+
+    /// Polls these places, and once more after a moment where some lives may be about to answer. Whether that
+    /// could be done.
+    fn look(&mut self, places: &mut [pollfd; MOST_PLACES], timeout: i32) -> bool {
+        if poll(places, timeout) < 0 {
+            return false;
+        }
+        if self.lacks_some(places) {
+            self.clock.sleep(Duration::from_micros(MOMENT));
+            if poll(places, 0) < 0 {
+                return false;
+            }
+        }
+        self.found = *places;
+        true
+    }
+
+    /// Looks once. `None` where a poll failed.
     fn poll_once(&mut self, input: Input, patience: Option<u64>, timeout: i32) -> Option<Woken>
         ensures { IfSome result (MayCome (asked input patience)) }
     {
         let mut places = self.places(input);
-        if poll(&mut places, timeout) < 0 {
+        if !self.look(&mut places, timeout) {
             return None;
         }
         self.keep_ready(&places);
