@@ -227,7 +227,7 @@ pub fn evaluate<W: Write, D: Disk, S: Sources, T: Tells>(
     ensures failed { IsErrOf result.answer (evals.Run (told.Host hosts.Disk))
         → Rises (D.view disk).faults (D.view result.disk).faults }
 
-    // Want of memory at the opening is reported only where no call of the disk failed.
+    // Lack of memory at the opening is reported only where no call of the disk failed.
     ensures memory { IsErrOf result.answer (evals.Run (told.Open opens.OutOfMemory))
         → (D.view result.disk).faults ≡ (D.view disk).faults }
 {

@@ -46,6 +46,15 @@ impl Tells for Silence {
         Ok(())
     }
 
+    fn lives<W: Write>(
+        &self,
+        _sheet: &Sheet,
+        _replies: &[Reply],
+        _writer: &mut W,
+    ) -> Result<(), RunFault> {
+        Ok(())
+    }
+
     fn events<W: Write>(
         &self,
         _sheet: &Sheet,

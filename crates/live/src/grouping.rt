@@ -80,7 +80,7 @@ pub(crate) fn tell_lines<T: Tells, W: Write>(
     }
 }
 
-/// Tells what came of one life of a group, where that says something.
+/// Tells what came of one life of a group, where that says something. The group is flushed at its end.
 fn tell_outcome<T: Tells, W: Write>(
     sheet: &Sheet,
     outcome: &Outcome,
@@ -93,7 +93,7 @@ fn tell_outcome<T: Tells, W: Write>(
 {
     match &outcome.reply {
         Reply::Nothing => Ok(()),
-        reply => tells.events(sheet, slice::from_ref(reply), writer),
+        reply => tells.lives(sheet, slice::from_ref(reply), writer),
     }
 }
 

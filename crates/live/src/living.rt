@@ -139,7 +139,7 @@ where
     ensures failed { IsErrOf result.answer (told.Host hosts.Disk)
         → Rises (D.view disk).faults (D.view result.disk).faults }
 
-    // Want of memory at the opening is reported only where no call of the disk failed.
+    // Lack of memory at the opening is reported only where no call of the disk failed.
     ensures memory { IsErrOf result.answer (told.Open opens.OutOfMemory)
         → (D.view result.disk).faults ≡ (D.view disk).faults }
 {
@@ -209,7 +209,7 @@ where
     ensures failed { IsErrOf result.answer (told.Host hosts.Disk)
         → Rises (D.view disk).faults (D.view result.disk).faults }
 
-    // Want of memory at the opening is reported only where no call of the disk failed.
+    // Lack of memory at the opening is reported only where no call of the disk failed.
     ensures memory { IsErrOf result.answer (told.Open opens.OutOfMemory)
         → (D.view result.disk).faults ≡ (D.view disk).faults }
 {

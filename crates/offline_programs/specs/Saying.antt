@@ -12,7 +12,7 @@ pub record Saying (E : Type 0) : Type 1 where
 abbrev pub saying : {E : Type 0} → (E → Option (List ℕ)) → (E → Option (List ℕ) → Bool → E → Type 0) → E → E → Saying E
 saying contents tried old new = record { contents = contents; tried = tried; old = old; new = new }
 
--- This text, and nothing else, was tried there; that it was told is reported only where it went out.
+-- This text, and nothing else, was tried there; that it went out is reported only where it did.
 abbrev pub IsSaid : {E : Type 0} → Saying E → List ℕ → Bool → Type 0
 IsSaid errors text told = (went : Bool) × errors.tried errors.old (Some text) went errors.new
     × (told ≡ true → (went ≡ true) × Appends (errors.contents errors.old) (errors.contents errors.new) text)

@@ -54,7 +54,7 @@ impl Says for Vec<u8> {
     }
 }
 
-/// What it keeps back is flushed behind each message.
+/// What it keeps back is flushed after each message.
 impl<W: Write + Drop> Says for BufWriter<W> {
     ghost tried = { λ _ _ _ _. Unit {0} };
 

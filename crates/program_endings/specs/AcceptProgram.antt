@@ -35,7 +35,7 @@ pub record AcceptDone {D C W E : Type 0} (o : OneByOne C) (g : GivenDisk D) (q :
   pub accepted : AcceptAnswer o (view_given g) (g.how.view later) (passage q.old q.new (text_before s.output) (text_after s.output)) (DoesNothing q s.output) answer
   -- that the disk failed at the opening is reported only where it did
   pub failed : answer ≡ Err (fault.Open opens.Disk) → Rises (view_given g).faults (g.how.view later).faults
-  -- want of memory at the opening is reported only where no call of the disk failed
+  -- lack of memory at the opening is reported only where no call of the disk failed
   pub memory : answer ≡ Err (fault.Open opens.OutOfMemory) → (g.how.view later).faults ≡ (view_given g).faults
   pub ends : EndsAs s.errors ending (answer_of_acceptance o.chosen answer)
 

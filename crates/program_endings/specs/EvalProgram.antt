@@ -65,7 +65,7 @@ pub record EvaluatesTo {D C O : Type 0} (o : Setting C) (g : GivenDisk D) (q : C
   -- that the disk failed, at the opening or later, is reported only where it did
   pub unopened : IsErrOf answer (evals.Run (fault.Open opens.Disk)) → Rises (view_given g).faults (g.how.view later).faults
   pub failed : IsErrOf answer (evals.Run (fault.Host hosts.Disk)) → Rises (view_given g).faults (g.how.view later).faults
-  -- want of memory at the opening is reported only where no call of the disk failed
+  -- lack of memory at the opening is reported only where no call of the disk failed
   pub memory : IsErrOf answer (evals.Run (fault.Open opens.OutOfMemory)) → (g.how.view later).faults ≡ (view_given g).faults
   pub fault : IfErr answer (TellsEvalFault o (outside_before g q w) (outside_after g later q w) (DoesNothing q w × Untouched (view_given g) (g.how.view later)))
 

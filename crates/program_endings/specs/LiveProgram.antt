@@ -30,7 +30,7 @@ pub record LivesOn {D C O : Type 0} (o : Edge C) (stream : Option (List ℕ)) (g
   -- that the disk failed, at the opening or later, is reported only where it did
   pub unopened : IsErrOf answer (fault.Open opens.Disk) → Rises (view_given g).faults (g.how.view later).faults
   pub failed : IsErrOf answer (fault.Host hosts.Disk) → Rises (view_given g).faults (g.how.view later).faults
-  -- want of memory at the opening is reported only where no call of the disk failed
+  -- lack of memory at the opening is reported only where no call of the disk failed
   pub memory : IsErrOf answer (fault.Open opens.OutOfMemory) → (g.how.view later).faults ≡ (view_given g).faults
   pub fault : IfErr answer (TellsLive o stream (outside_before g q w) (outside_after g later q w) (DoesNothing q w × Untouched (view_given g) (g.how.view later)))
 

@@ -353,7 +353,7 @@ pub fn check_accepting<D: Disk, C: Sources, W: Write, P: Progress>(
     ensures failed { result.answer ≡ Err (told.Open opens.Disk)
         → Rises (D.view disk).faults (D.view result.disk).faults }
 
-    // Want of memory at the opening is reported only where no call of the disk failed.
+    // Lack of memory at the opening is reported only where no call of the disk failed.
     ensures memory { result.answer ≡ Err (told.Open opens.OutOfMemory)
         → (D.view result.disk).faults ≡ (D.view disk).faults }
 {

@@ -58,7 +58,7 @@ pub fn run_read<W: Write, D: Disk, C: Children>(
     ensures failed { IsErrOf result.answer (told.Host hosts.Disk)
         → Rises (D.view disk).faults (D.view result.disk).faults }
 
-    // Want of memory at the opening is reported only where no call of the disk failed.
+    // Lack of memory at the opening is reported only where no call of the disk failed.
     ensures memory { IsErrOf result.answer (told.Open opens.OutOfMemory)
         → (D.view result.disk).faults ≡ (D.view disk).faults }
 {
@@ -124,7 +124,7 @@ pub fn run<R: Read, W: Write, D: Disk, C: Children>(
     ensures failed { IsErrOf result.answer (told.Host hosts.Disk)
         → Rises (D.view disk).faults (D.view result.disk).faults }
 
-    // Want of memory at the opening is reported only where no call of the disk failed.
+    // Lack of memory at the opening is reported only where no call of the disk failed.
     ensures memory { IsErrOf result.answer (told.Open opens.OutOfMemory)
         → (D.view result.disk).faults ≡ (D.view disk).faults }
 {

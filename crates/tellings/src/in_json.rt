@@ -290,6 +290,15 @@ impl Tells for InJson {
         Ok(())
     }
 
+    fn lives<W: Write>(
+        &self,
+        sheet: &Sheet,
+        replies: &[Reply],
+        writer: &mut W,
+    ) -> Result<(), RunFault> {
+        write_events(self.alloc, sheet, replies, writer)
+    }
+
     fn events<W: Write>(
         &self,
         sheet: &Sheet,

@@ -3,6 +3,7 @@ ghost use Rattle.std.specs.Prelude.{◌≡◌, ◌++◌, ◌∷◌, [], ℕ, IfE
 ghost use Rattle.std.specs.Option.{option_copied};
 ghost use Rattle.std.specs.Io.KnownBytes.{Appends};
 ghost use Rattle.worksheet.specs.Checks.{field_in};
+ghost use Rattle.offline_programs.specs.Memory.{replies_text};
 ghost use Rattle.sheet_text.specs.Texts as texts;
 ghost use Rattle.tellings.specs.Voice.{numbered_text};
 ghost use Rattle.tellings.specs.Words.{answers_text, evaluation_text, field_shown, in_words, interrupt_text, over_line, overs_text};
@@ -66,6 +67,27 @@ fn tell_outcomes<W: Write>(outcomes: &[Outcome], writer: &mut W) -> Result<(), R
         write_outcome(outcome, writer)?;
     }
     writer.flush().map_err(|_| RunFault::Output)?;
+    Ok(())
+}
+
+/// Writes what came of a life.
+fn write_event<W: Write>(reply: &Reply, writer: &mut W) -> Result<(), RunFault>
+    ensures ok { OnOk result (Appends (W.contents writer.old) (W.contents writer.new)
+        (texts.reply_text reply.now)) }
+    ensures err { IfErr result (λ fault. fault ≡ RunFault.Output) }
+{
+    reply_text(reply, writer).map_err(|_| RunFault::Output)
+}
+
+/// Writes what came of lives, in order.
+fn write_events<W: Write>(replies: &[Reply], writer: &mut W) -> Result<(), RunFault>
+    ensures ok { OnOk result (Appends (W.contents writer.old) (W.contents writer.new)
+        (replies_text replies.now)) }
+    ensures err { IfErr result (λ fault. fault ≡ RunFault.Output) }
+{
+    for reply in replies {
+        write_event(reply, writer)?;
+    }
     Ok(())
 }
 
@@ -198,6 +220,15 @@ impl Tells for InWords {
         writer: &mut W,
     ) -> Result<(), RunFault> {
         tell_outcomes(outcomes, writer)
+    }
+
+    fn lives<W: Write>(
+        &self,
+        _sheet: &Sheet,
+        replies: &[Reply],
+        writer: &mut W,
+    ) -> Result<(), RunFault> {
+        write_events(replies, writer)
     }
 
     fn events<W: Write>(

@@ -8,7 +8,7 @@ use sheet_export::Format;
 use std::io::Write;
 use worksheet::Sheet;
 
-/// A format of what is printed. Each call flushes what it writes.
+/// A format of what is printed. Each call but `lives` flushes what it writes.
 ///
 /// `Output` where the writer fails: a part may have gone out. `OutOfMemory` where a voice that takes memory
 /// has none for a line: what was written before it is whole.
@@ -57,6 +57,18 @@ pub trait Tells {
         requires { first + length outcomes.now < 2 ^ 64 }
         ensures ok { OnOk result (Appends (W.contents writer.old) (W.contents writer.new)
             (numbered_text voice first sheet.now.contents outcomes.now)) }
+        ensures err { IfErr result (IsUntold voice) };
+
+    /// Tells what came of lives, where this is the worksheet after it, and flushes nothing: `events` of what
+    /// followed is called next.
+    fn lives<W: Write>(
+        &self,
+        sheet: &Sheet,
+        replies: &[Reply],
+        writer: &mut W,
+    ) -> Result<(), RunFault>
+        ensures ok { OnOk result (Appends (W.contents writer.old) (W.contents writer.new)
+            (came_text voice sheet.now.contents replies.now)) }
         ensures err { IfErr result (IsUntold voice) };
 
     /// Tells what came of lives, where this is the worksheet after it.
