@@ -88,7 +88,9 @@ def evaluations(child, count, lines, run=0):
 one, _ = evaluations(slow, 1, 40)
 eight, idle = evaluations(slow, 8, 40)
 print(f"live, interpreters of 50 ms a line: one {one:.1f} evals/s, eight {eight:.1f}, {eight / one:.2f} times as many")
-quicks = [max(evaluations(quick, count, 100, run)[0] for run in range(runs)) for count in (1, 8, 64)]
+# In turn, so that a disk which is slow for a while is so for each; with as many lines as last a tenth of a second and more.
+rounds = [[evaluations(quick, count, lines, run)[0] for count, lines in ((1, 400), (8, 400), (64, 100))] for run in range(runs)]
+quicks = [max(rates) for rates in zip(*rounds)]
 print(f"live, interpreters that answer at once: one {quicks[0]:.0f} evals/s, 8 and 64 of them {quicks[1] / quicks[0]:.2f} and {quicks[2] / quicks[0]:.2f} times as many")
 print(f"live, three seconds in which nothing comes: {1000 * idle / os.sysconf('SC_CLK_TCK'):.0f} ms of processor time")
 
