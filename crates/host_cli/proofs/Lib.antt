@@ -1,3 +1,4 @@
 pub mod ByWords
 pub mod EachChecked
 pub mod NumbersRead
+pub mod Unheld

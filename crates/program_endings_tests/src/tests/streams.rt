@@ -7,6 +7,7 @@ use std::io::{Read, Write};
 use tests_desk::{Exhausting, Full, InterruptedOnce, Parts, Unflushed};
 
 /// A stream of errors that takes nothing.
+#[derive(Drop)]
 pub struct Deaf;
 
 impl Write for Deaf {
