@@ -55,8 +55,8 @@ for line in sys.stdin:
 
 slow, quick = interpreter("slow", 0.05), interpreter("quick", 0)
 
-def evaluations(child, count, lines, run=0):
-    """How many evaluations a second so many interpreters do, once they have started."""
+def evaluations(child, count, lines, times=1, run=0):
+    """How many evaluations a second so many interpreters do, once they have started: so many lines each, so many times over."""
     sheet = f"{child}.{count}.{run}"
     subprocess.run([program, "create", sheet], check=True)
     live = subprocess.Popen([program, "live", sheet], stdin=subprocess.PIPE, stdout=subprocess.PIPE, text=True)
@@ -74,8 +74,9 @@ def evaluations(child, count, lines, run=0):
     say("".join(f"eval {field}\n" for field in first))
     hear(count)
     begun = time.perf_counter()
-    say("".join(f"eval {field + i}\n" for i in range(lines) for field in first))
-    hear(count * lines)
+    for _ in range(times):
+        say("".join(f"eval {field + i}\n" for i in range(lines) for field in first))
+        hear(count * lines)
     took = time.perf_counter() - begun
     ticks = lambda: sum(map(int, open(f"/proc/{live.pid}/stat").read().rsplit(")", 1)[1].split()[11:13]))
     before = ticks()
@@ -83,13 +84,13 @@ def evaluations(child, count, lines, run=0):
     idle = ticks() - before
     live.stdin.close()
     assert live.wait() == 0
-    return count * lines / took, idle
+    return times * count * lines / took, idle
 
 one, _ = evaluations(slow, 1, 40)
 eight, idle = evaluations(slow, 8, 40)
 print(f"live, interpreters of 50 ms a line: one {one:.1f} evals/s, eight {eight:.1f}, {eight / one:.2f} times as many")
-# In turn, so that a disk which is slow for a while is so for each; with as many lines as last a tenth of a second and more.
-rounds = [[evaluations(quick, count, lines, run)[0] for count, lines in ((1, 400), (8, 400), (64, 100))] for run in range(runs)]
+# In turn, so that a disk which is slow for a while is so for each.
+rounds = [[evaluations(quick, count, 50, 8, run)[0] for count in (1, 8, 64)] for run in range(runs)]
 quicks = [max(rates) for rates in zip(*rounds)]
 print(f"live, interpreters that answer at once: one {quicks[0]:.0f} evals/s, 8 and 64 of them {quicks[1] / quicks[0]:.2f} and {quicks[2] / quicks[0]:.2f} times as many")
 print(f"live, three seconds in which nothing comes: {1000 * idle / os.sysconf('SC_CLK_TCK'):.0f} ms of processor time")

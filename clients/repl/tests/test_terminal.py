@@ -191,6 +191,8 @@ class Control(Case):
 
     def test_a_third_one_stops(self) -> None:
         terminal = self.stuck()
+        # The question is on the screen a moment before a signal ends the wait for its answer.
+        time.sleep(0.3)
         terminal.send("\x03")
         terminal.sees(r"lost: #1 \(Stopped\)\)\nt>\Z")
 
