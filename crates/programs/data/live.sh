@@ -328,6 +328,8 @@ answers_together() {
     until [ "$(cat got 2>/dev/null | wc -l)" = 2 ]; do sleep 0.05; done
     sleep 0.1
     kill -STOP "$host"
+    # It stands still a moment after the signal: a poll that had ended would name one of the two alone.
+    until [ "$(cut -d ' ' -f 3 "/proc/$host/stat")" = T ]; do sleep 0.01; done
     : >go
     until [ "$(cat answered 2>/dev/null | wc -l)" = 2 ]; do sleep 0.05; done
     kill -CONT "$host"
