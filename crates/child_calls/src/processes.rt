@@ -171,16 +171,32 @@ where
     }
 }
 
+/// A command of these words, its program first.
+fn command_of(alloc: Global, words: &[Octets]) -> io::Result<Command> {
+    let Some((program, others)) = words.split_first() else {
+        return Err(io::Error::from(ErrorKind::InvalidInput));
+    };
+    let mut command = Command::new(alloc, text(program)?)?;
+    for word in others {
+        command.arg(text(word)?)?;
+    }
+    Ok(command)
+}
+
+/// The command that sends the signal SIGINT to the process of this number. std has no call for it, so `sh`
+/// does it by its own `kill`.
+fn kill_of(alloc: Global, number: &str) -> io::Result<Command> {
+    let mut command = Command::new(alloc, "/bin/sh")?;
+    command.arg("-c")?;
+    command.arg("kill -INT \"$0\"")?;
+    command.arg(number)?;
+    Ok(command)
+}
+
 impl<R: process::Processes + Drop> Spawner<R> {
     /// Starts a process with these words, its program first.
     fn spawn(&self, words: &[Octets]) -> io::Result<Child<R::Started>> {
-        let Some((program, others)) = words.split_first() else {
-            return Err(io::Error::from(ErrorKind::InvalidInput));
-        };
-        let mut command = Command::new(self.alloc, text(program)?)?;
-        for word in others {
-            command.arg(text(word)?)?;
-        }
+        let mut command = command_of(self.alloc, words)?;
         command
             .stdin(Stdio::piped())
             .stdout(Stdio::piped())
@@ -188,27 +204,27 @@ impl<R: process::Processes + Drop> Spawner<R> {
         command.spawn(&self.runtime)
     }
 
-    /// Sends a process the signal SIGINT, and waits until it is sent.
-    ///
-    /// std has no call for it, so `sh` does it by its own `kill`. The number is this process's as long as
-    /// nobody has waited for it, which its end alone does.
-    fn signal(&self, process: &Spawned<R::Started>) -> io::Result<()> {
-        let mut number = String::new(self.alloc);
-        write!(number, "{}", process.child.id())?;
-        let mut command = Command::new(self.alloc, "/bin/sh")?;
-        command.arg("-c")?;
-        command.arg("kill -INT \"$0\"")?;
-        command.arg(number.as_str())?;
+    /// Runs a command that has no streams, and waits for it. It fails where the command does.
+    fn run(&self, command: Command) -> io::Result<()> {
+        let mut command = command;
         command
             .stdin(Stdio::null())
             .stdout(Stdio::null())
             .stderr(Stdio::null());
-        let mut sender = command.spawn(&self.runtime)?;
-        if sender.wait()?.success() {
+        let mut started = command.spawn(&self.runtime)?;
+        if started.wait()?.success() {
             Ok(())
         } else {
             Err(io::Error::from(ErrorKind::NotFound))
         }
+    }
+
+    /// Sends a process the signal SIGINT, and waits until it is sent. The number is this process's as long
+    /// as nobody has waited for it, which its end alone does.
+    fn signal(&self, process: &Spawned<R::Started>) -> io::Result<()> {
+        let mut number = String::new(self.alloc);
+        write!(number, "{}", process.child.id())?;
+        self.run(kill_of(self.alloc, number.as_str())?)
     }
 }
 

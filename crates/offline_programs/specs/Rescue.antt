@@ -84,6 +84,8 @@ pub record RescueIsSaved (old new : DiskView) (sheet : Contents)
   -- that it doesn't fit is answered only where an area has no room for it, and then nothing was changed
   pub full : answer ≡ Err (rescues.Run (fault.Host host.JournalFull))
       → (HasRoomAnew old.room sheet → ⊥) × (new ≡ old)
+  -- where anything else is answered an area has room for it
+  pub fits : (answer ≡ Err (rescues.Run (fault.Host host.JournalFull)) → ⊥) → HasRoomAnew old.room sheet
   pub failed : answer ≡ Err (rescues.Run (fault.Open opens.Disk)) → Rises old.faults new.faults
   -- where anything else is answered, no call of the disk failed
   pub steady : (answer ≡ Err (rescues.Run (fault.Open opens.Disk)) → ⊥) → new.faults ≡ old.faults

@@ -7,7 +7,6 @@ use crate::ending::ended;
 use crate::messages::StoppedAt;
 use crate::{Ending, end_program};
 use offline_programs::{RunFault, Says};
-use std::io::Write;
 
 /// Ends the program by where a strict run stopped, which is printed on a line, or by its fault.
 pub(crate) fn end_strict<E: Says>(answer: Result<Option<u64>, RunFault>, errors: &mut E) -> Ending

@@ -333,13 +333,19 @@ answers_together() {
     : >go
     until [ "$(cat answered 2>/dev/null | wc -l)" = 2 ]; do sleep 0.05; done
     kill -CONT "$host"
-    sleep 0.3
+    # What it tells is there while its input is open.
+    for _ in $(seq 200); do
+        [ "$(wc -l <text)" -lt "$2" ] || break
+        sleep 0.05
+    done
+    heard=$(wc -l <text)
     exec 3>&-
     wait "$host"
 }
-answers_together 2
+answers_together 2 6
+compare 'answers that came together are told before the next line' "$heard" 6
 compare 'answers that came together' "$(sort text)" "$(printf 'answered 1\nanswered 2\nasked\nasked\nbanner a\nbanner b')"
-answers_together 1
+answers_together 1 5
 compare 'answers that came together, on a full disk' "$(sort text)" "$(printf 'asked\nasked\nbanner a\nbanner b\nfault 21 Disk')"
 compare 'answers that came together, on a full disk, shown' "$(answer show sheet </dev/null)" "$(ending '#1 a\n> x\n?\n#2 b\n> y\n?\n' 0)"
 

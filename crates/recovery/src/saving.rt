@@ -121,6 +121,10 @@ pub fn save<D: Disk>(alloc: Global, disk: D, sheet: &Sheet) -> Result<D, SaveFau
         → Looks (D.view disk).history (D.view e.disk).history)) }
     ensures full { IfErr result (λ e. e.cause ≡ causes.Full
         → (HasRoomAnew (D.view disk).room sheet.now.contents → ⊥) × (e.disk ≡ disk)) }
+
+    // Where anything else is answered an area has room for it.
+    ensures fits { MatchResult result (λ _. HasRoomAnew (D.view disk).room sheet.now.contents)
+        (λ e. (e.cause ≡ causes.Full → ⊥) → HasRoomAnew (D.view disk).room sheet.now.contents) }
     ensures memory { IfErr result (λ e. e.cause ≡ causes.OutOfMemory → e.disk ≡ disk) }
 
     // A failure of the disk is reported as one, and nothing else is.

@@ -273,9 +273,9 @@ impl<F: DiskFile + Drop> Disk for FileDisk<F> {
 
     ghost small = { λ _. le_refl greatest_room };
 
-    ghost content_stays = { λ disk kept. content_is_image disk.moment (F.view disk.first)
-        (second_of F.view disk.second) disk.first_still disk.second_still
-        (F.content_stays disk.first) (second_stays F.view F.content_stays disk.second) kept };
+    ghost content_stays = { λ disk kept. content_is_image disk.moment (F.view disk.first) (second_of F.view disk.second)
+        (record { still = disk.first_still; stays = F.content_stays disk.first })
+        (record { still = disk.second_still; stays = second_stays F.view F.content_stays disk.second }) kept };
 
     fn room(&self) -> u64 {
         GREATEST_ROOM

@@ -27,8 +27,7 @@ pub(crate) fn create<F: Drop, N: Names<F>>(
     path: &str,
     alt: &str,
 ) -> Result<(F, F), MakeFault>
-    ensures { IfOk result (λ files. Created N.looks N.makes N.locks N.syncs N.syncs_folder
-        path.now alt.now files.0 files.1 names.old names.new) }
+    ensures { IfOk result (λ files. Created N.Names path.now alt.now files names.old names.new) }
 {
     look_for(names, path, alt)?;
     let first = names.make(path)?;
@@ -45,8 +44,7 @@ pub(crate) fn create<F: Drop, N: Names<F>>(
 /// Opens the first file of a worksheet, and locks it. One that has another name is refused, since what
 /// is opened by that name has another second file.
 fn open_first<F: Drop, N: Names<F>>(names: &mut N, path: &str, lock: Lock) -> Result<F, FilesFault>
-    ensures { IfOk result (λ first. FirstOpened N.opens N.locks N.is_single
-        path.now lock first names.old names.new) }
+    ensures { IfOk result (λ first. FirstOpened N.Names path.now lock first names.old names.new) }
 {
     let first = names.open(path, lock)?;
     if names.lock(&first, lock)? {
@@ -59,8 +57,7 @@ fn open_first<F: Drop, N: Names<F>>(names: &mut N, path: &str, lock: Lock) -> Re
 /// Opens the second file of a worksheet, to read and to write. A missing one is made, but where the
 /// worksheet lies in it: then an empty one would stand in the place of what was lost.
 fn open_or_make<F: Drop, N: Names<F>>(names: &mut N, alt: &str, first: &F) -> io::Result<F>
-    ensures { IfOk result (λ second. SecondOpened N.opens N.reads N.makes
-        alt.now first.now second names.old names.new) }
+    ensures { IfOk result (λ second. SecondOpened N.Names alt.now first.now second names.old names.new) }
 {
     match names.open(alt, Lock::Exclusive) {
         Err(error) if error.kind() == ErrorKind::NotFound => {
@@ -80,8 +77,7 @@ pub(crate) fn open<F: Drop, N: Names<F>>(
     path: &str,
     alt: &str,
 ) -> Result<(F, F), FilesFault>
-    ensures { IfOk result (λ files. Opened N.opens N.locks N.is_single N.reads N.makes N.are_two
-        N.syncs_folder path.now alt.now files.0 files.1 names.old names.new) }
+    ensures { IfOk result (λ files. Opened N.Names path.now alt.now files names.old names.new) }
 {
     let first = open_first(names, path, Lock::Exclusive)?;
     let second = open_or_make(names, alt, &first)?;
@@ -92,8 +88,7 @@ pub(crate) fn open<F: Drop, N: Names<F>>(
 
 /// Opens the second file of a worksheet to read alone, where there is one.
 fn open_if_there<F: Drop, N: Names<F>>(names: &mut N, alt: &str, first: &F) -> io::Result<Option<F>>
-    ensures { IfOk result (λ second. SecondRead N.opens N.are_two
-        alt.now first.now second names.old names.new) }
+    ensures { IfOk result (λ second. SecondRead N.Names alt.now first.now second names.old names.new) }
 {
     match names.open(alt, Lock::Shared) {
         Ok(second) => {
@@ -111,8 +106,7 @@ pub(crate) fn open_to_read<F: Drop, N: Names<F>>(
     path: &str,
     alt: &str,
 ) -> Result<(F, Option<F>), FilesFault>
-    ensures { IfOk result (λ files. OpenedToRead N.opens N.locks N.is_single N.are_two
-        path.now alt.now files.0 files.1 names.old names.new) }
+    ensures { IfOk result (λ files. OpenedToRead N.Names path.now alt.now files names.old names.new) }
 {
     let first = open_first(names, path, Lock::Shared)?;
     let second = open_if_there(names, alt, &first)?;

@@ -1,7 +1,7 @@
 -- Lemmas for the layers above: how runs of calls go on. No clause speaks of them.
 use Rattle.std.proofs.Common.{◌≡◌, ℕ, List, [], ◌∷◌, ◌++◌, refl, sym, ◌∙◌, ap, subst, arith, append_assoc, ◌+◌, ◌≤◌, max, length, length-append, length-drop, take, drop, Result, IsTrue}
 use Rattle.std.proofs.lemmas.List.{length-take}
-use Rattle.disk_model.specs.Disk.{overwritten, Image, AtMoment, DiskState, History, DiskView, Leaves, LeavesOnly, Called, Looks, Syncs, IsImage}
+use Rattle.disk_model.specs.Disk.{overwritten, Image, DiskState, History, DiskView, Leaves, LeavesOnly, Called, Looks, Syncs, IsImage}
 use Rattle.disk_model.specs.inside.Words.{Each, states_of}
 use Rattle.disk_model.specs.declared.disk.Area.{Area}
 
@@ -74,21 +74,6 @@ pub syncs_look : {T E : Type 0} (area : Area) (result : Result T E) (old new : H
     → Syncs area result old new → Looks old new
 syncs_look area result old new synced =
     record { content = synced.content; moments = synced.moments }
-
--- a run of calls has P at each moment since its start
-pub at_moment : (P : Image → Type 0) (old new : History) (moment : ℕ) (s : DiskState)
-    → LeavesOnly P old new → length old.past ≤ moment → AtMoment moment new s → Leaves P s
-at_moment P old new moment s run since at =
-    go run.more at.later (sym run.states ∙ at.states) run.each
-  where
-    go : (more later : List DiskState) → more ++ states_of old ≡ later ++ s ∷ at.earlier
-        → Each (Leaves P) more → Leaves P s
-    go [] [] same each = let here : old.now ≡ s = cc in subst (λ t. Leaves P t) here run.start
-    go [] (x ∷ later) same each = absurd
-        (omega (arith, since, at.moment_is, ap length same, length-append later (s ∷ at.earlier)))
-    go (x ∷ more) [] same each = let here : x ≡ s = cc in subst (λ t. Leaves P t) here each.0
-    go (x ∷ more) (y ∷ later) same each =
-        go more later (ap (λ (l : List DiskState). drop 1 l) same) each.1
 
 -- the length after a write that begins within the area
 pub length-overwritten : (old : List ℕ) (at : ℕ) (bytes : List ℕ) → at ≤ length old

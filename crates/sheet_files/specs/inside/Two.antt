@@ -17,10 +17,14 @@ pub second_stays : {F : Type 0} (view : F → FileView) → ((file : F) → Cont
 second_stays view law None = λ kept moment still. refl
 second_stays view law (Some file) = law file
 
-pub content_is_image : (moment : ℕ) (first second : FileView) → IsStill moment first
-    → IsStill moment second → ContentStays first → ContentStays second
+-- a file of which that is so, and to which nothing has happened since that moment
+pub record Rests (moment : ℕ) (v : FileView) : Type 0 where
+  pub still : IsStill moment v
+  pub stays : ContentStays v
+
+pub content_is_image : (moment : ℕ) (first second : FileView) → Rests moment first → Rests moment second
     → IsTrue (first.keeps_model && second.keeps_model)
     → IsImage (both_before first second moment) (content_of (history_of moment first second))
-content_is_image moment first second first_still second_still one other kept =
+content_is_image moment first second one other kept =
     let both = both_keep first.keeps_model second.keeps_model kept in
-    (one both.0 moment first_still, other both.1 moment second_still)
+    (one.stays both.0 moment one.still, other.stays both.1 moment other.still)
