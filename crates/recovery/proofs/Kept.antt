@@ -14,7 +14,7 @@ use Rattle.recovery.specs.Code.{code_of, IsPayloadOf}
 use Rattle.recovery.specs.Sheets.{StoreView, codes_of, Makes, HasPlace, IsSheetImage, IsStore, KeepsOps, SameStore, StandsWithOrWithout}
 use Rattle.recovery.specs.declared.base.Base.{Base}
 use Rattle.recovery.specs.declared.base.Base.TheVariants.{Open, Gathering, Closed}
-use Rattle.recovery.specs.inside.Base.{disk_of, disk_in, end_in, gathers_in, is_closed, is_closed_store, owed_in, real_in, KeepsIn, KeepsSheet, IsStoreOf, store_on}
+use Rattle.recovery.specs.inside.Base.{disk_of, disk_in, end_in, gathers, gathers_in, is_closed, is_closed_store, owed_in, owed_to, real_in, real_of, KeepsIn, KeepsSheet, IsStoreOf, store_on}
 use Rattle.recovery.specs.inside.Taken.{TakesAll}
 use Rattle.recovery.proofs.Allowed.{makes_more}
 use Rattle.recovery.proofs.Images.{all_images, made_in}
@@ -77,6 +77,14 @@ is_store view base sheet holds = record {
   none_owed = plain_in view base;
   written = written_in view base;
 }
+
+-- where memory was made ready, nothing else of a store has changed
+pub ready_same : {D : Type 0} (view : D → DiskView) (at : Option (Base D)) (base new : Base D) (sheet after : SheetView) → at ≡ Some base → after.contents ≡ sheet.contents
+    → disk_of view new ≡ disk_of view base → end_in new ≡ end_in base → is_closed new ≡ is_closed base → real_of view new ≡ real_of view base → owed_to new ≡ owed_to base → gathers new ≡ gathers base
+    → SameStore (store_on view at sheet) (store_on view (Some new) after)
+ready_same {D = D} view at base new sheet after is contents disk end closed real owed gathers_still =
+    subst (λ (b : Option (Base D)). SameStore (store_on view b sheet) (store_on view (Some new) after)) (sym is)
+    (record { disk = disk; end = end; contents = contents; closed = closed; real = real; owed = owed; gathers = gathers_still })
 
 -- what fits once memory was made ready, fitted before
 pub place_before : (old new : StoreView) (n : ℕ) → SameStore old new → HasPlace new n → HasPlace old n

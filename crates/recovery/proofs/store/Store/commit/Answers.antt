@@ -1,9 +1,25 @@
-use Rattle.std.proofs.Common.{length}
+use Rattle.std.proofs.Common.{◌≡◌, rules, length, true, false, refl}
 use Rattle.recovery.specs.Code.{code_of}
-use Rattle.recovery.proofs.Commits.{adds_from, breaks_from, commits_from}
+use Rattle.recovery.proofs.Commits.{adds_from, breaks_from, commits_from, unchanged}
 use Rattle.recovery.proofs.Images.{stays_either, stays_other}
+use Rattle.recovery.specs.Sheets.{HasPlace}
 use Rattle.recovery.proofs.Kept.{place_before, stays_kept}
 use Rattle.recovery.proofs.store.Store.commit.Goals as goal
+
+pub returns-in-Err-Closed-clause-commits : goal.returns-in-Err-Closed-clause-commits
+returns-in-Err-Closed-clause-commits g c =
+    let closed : c.args.self.now.closed ≡ true = search (rules) in
+    unchanged c.args.self.now c.prepare.new.self c.args.op _ c.prepare.ensures.store c.prepare.ensures.same (closed, c.prepare.ensures.same)
+
+pub returns-in-Err-Full-clause-commits : goal.returns-in-Err-Full-clause-commits
+returns-in-Err-Full-clause-commits g c =
+    let full : (c.args.self.now.closed ≡ false) × (HasPlace c.args.self.now (length (code_of c.args.op)) → ⊥) = search (rules) in
+    unchanged c.args.self.now c.prepare.new.self c.args.op _ c.prepare.ensures.store c.prepare.ensures.same (full.0, full.1, refl, c.prepare.ensures.same)
+
+pub returns-in-Err-OutOfMemory-clause-commits : goal.returns-in-Err-OutOfMemory-clause-commits
+returns-in-Err-OutOfMemory-clause-commits g c =
+    let place : HasPlace c.args.self.now (length (code_of c.args.op)) = search (rules) in
+    unchanged c.args.self.now c.prepare.new.self c.args.op _ c.prepare.ensures.store c.prepare.ensures.same (place, refl, c.prepare.ensures.same)
 
 pub returns-in-Err-Full-clause-any_moment : goal.returns-in-Err-Full-clause-any_moment
 returns-in-Err-Full-clause-any_moment g c = λ model is_open. stays_either c.args.self.now.disk c.prepare.new.self.disk c.args.self.now.sheet.contents c.args.op c.prepare.ensures.same.disk (c.prepare.ensures.store.images model is_open)
