@@ -1,6 +1,5 @@
 use Rattle.std.proofs.Common.{◌≡◌, inr, ℕ, rules, ap, sym, ◌∙◌, refl, Ok, Err}
 use Rattle.worksheet.specs.declared.op.Op.TheVariants as op
-use Rattle.recovery.specs.declared.fault.PrepareFault.{PrepareFault}
 use Rattle.recovery.specs.declared.fault.PrepareFault.TheVariants as faults
 use Rattle.session_engine.specs.World.{fits_in}
 use Rattle.session_engine.proofs.Asking.{unfit, fits_unless, refused_queue, refused_full, not_refused}
