@@ -140,7 +140,8 @@ impl<D: Disk> Engine<D> {
         if let Err(refusal) = self.queue(name) {
             return Err(refusal);
         }
-        match self.store.prepare(&Op::Clear { id }) {
+        let prepared = self.store.prepare(&Op::Clear { id });
+        match prepared {
             Ok(frame) => Ok(frame),
             Err(PrepareFault::Full) => Err(Refusal::JournalFull),
             Err(PrepareFault::OutOfMemory) => Err(Refusal::OutOfMemory),

@@ -62,3 +62,84 @@ returns-in-Some-Line-clause-fault g c =
     subst (λ (a : Option Answered). NotKept c.args.store.now c.commit.new.store (op_by c.args.store.now.disk.room c.args.store.now.end a c.args.ended.now) faults.Disk)
     (sym (c.in-Some-Line.is ∙ ap (λ (a : Answered). Some a) c.in-Some-Line.field-0-is))
     (unkept_on_disk (op.Answer c.in-Some-Line.id c.in-Some-Line.prompt c.in-Some-Line.output) c.in-Err.ensures.err.0 c.in-Err.ensures.err.1)
+
+pub returns-in-Ok-clause-same : goal.returns-in-Ok-clause-same
+returns-in-Ok-clause-same g c = c.lose_at_end.ensures.same
+
+pub returns-in-Ok-clause-gathers : goal.returns-in-Ok-clause-gathers
+returns-in-Ok-clause-gathers g c = c.lose_at_end.ensures.gathers
+
+pub returns-in-Ok-clause-fault : goal.returns-in-Ok-clause-fault
+returns-in-Ok-clause-fault g c = tt
+
+pub returns-in-Err-OutOfMemory-clause-same : goal.returns-in-Err-OutOfMemory-clause-same
+returns-in-Err-OutOfMemory-clause-same g c = c.lose_at_end.ensures.same
+
+pub returns-in-Err-OutOfMemory-clause-gathers : goal.returns-in-Err-OutOfMemory-clause-gathers
+returns-in-Err-OutOfMemory-clause-gathers g c = c.lose_at_end.ensures.gathers
+
+pub returns-in-Err-OutOfMemory-clause-ok : goal.returns-in-Err-OutOfMemory-clause-ok
+returns-in-Err-OutOfMemory-clause-ok g c = λ ops is. tt
+
+pub returns-in-None-clause-same : goal.returns-in-None-clause-same
+returns-in-None-clause-same g c = c.lose_at_end.ensures.same
+
+pub returns-in-None-clause-gathers : goal.returns-in-None-clause-gathers
+returns-in-None-clause-gathers g c = c.lose_at_end.ensures.gathers
+
+pub returns-in-None-clause-ok : goal.returns-in-None-clause-ok
+returns-in-None-clause-ok g c = λ ops is. tt
+
+pub returns-in-Ok-lose_at_end-clause-same : goal.returns-in-Ok-lose_at_end-clause-same
+returns-in-Ok-lose_at_end-clause-same g c = c.lose_at_end-in-Some-Banner.ensures.same
+
+pub returns-in-Ok-lose_at_end-clause-gathers : goal.returns-in-Ok-lose_at_end-clause-gathers
+returns-in-Ok-lose_at_end-clause-gathers g c = c.lose_at_end-in-Some-Banner.ensures.gathers
+
+pub returns-in-Ok-lose_at_end-clause-fault : goal.returns-in-Ok-lose_at_end-clause-fault
+returns-in-Ok-lose_at_end-clause-fault g c = tt
+
+pub returns-in-Err-OutOfMemory-lose_at_end-clause-same : goal.returns-in-Err-OutOfMemory-lose_at_end-clause-same
+returns-in-Err-OutOfMemory-lose_at_end-clause-same g c = c.lose_at_end-in-Some-Banner.ensures.same
+
+pub returns-in-Err-OutOfMemory-lose_at_end-clause-gathers : goal.returns-in-Err-OutOfMemory-lose_at_end-clause-gathers
+returns-in-Err-OutOfMemory-lose_at_end-clause-gathers g c = c.lose_at_end-in-Some-Banner.ensures.gathers
+
+pub returns-in-Err-OutOfMemory-lose_at_end-clause-ok : goal.returns-in-Err-OutOfMemory-lose_at_end-clause-ok
+returns-in-Err-OutOfMemory-lose_at_end-clause-ok g c = λ ops is. tt
+
+pub returns-in-Some-Banner-clause-same : goal.returns-in-Some-Banner-clause-same
+returns-in-Some-Banner-clause-same g c = c.lose_at_end-in-Some-Banner.ensures.same
+
+pub returns-in-Some-Banner-clause-gathers : goal.returns-in-Some-Banner-clause-gathers
+returns-in-Some-Banner-clause-gathers g c = c.lose_at_end-in-Some-Banner.ensures.gathers
+
+pub returns-in-Some-Banner-clause-ok : goal.returns-in-Some-Banner-clause-ok
+returns-in-Some-Banner-clause-ok g c = λ ops is. tt
+
+pub returns-in-Ok-None-clause-same : goal.returns-in-Ok-None-clause-same
+returns-in-Ok-None-clause-same g c = c.commit.ensures.same
+
+pub returns-in-Ok-None-clause-gathers : goal.returns-in-Ok-None-clause-gathers
+returns-in-Ok-None-clause-gathers g c = c.commit.ensures.gathers
+
+pub returns-in-Ok-None-clause-fault : goal.returns-in-Ok-None-clause-fault
+returns-in-Ok-None-clause-fault g c = tt
+
+pub returns-in-Ok-Some-JournalFull-clause-same : goal.returns-in-Ok-Some-JournalFull-clause-same
+returns-in-Ok-Some-JournalFull-clause-same g c = c.commit.ensures.same
+
+pub returns-in-Ok-Some-JournalFull-clause-gathers : goal.returns-in-Ok-Some-JournalFull-clause-gathers
+returns-in-Ok-Some-JournalFull-clause-gathers g c = c.commit.ensures.gathers
+
+pub returns-in-Ok-Some-JournalFull-clause-ok : goal.returns-in-Ok-Some-JournalFull-clause-ok
+returns-in-Ok-Some-JournalFull-clause-ok g c = λ ops is. tt
+
+pub returns-in-Some-Line-clause-same : goal.returns-in-Some-Line-clause-same
+returns-in-Some-Line-clause-same g c = c.commit.ensures.same
+
+pub returns-in-Some-Line-clause-gathers : goal.returns-in-Some-Line-clause-gathers
+returns-in-Some-Line-clause-gathers g c = c.commit.ensures.gathers
+
+pub returns-in-Some-Line-clause-ok : goal.returns-in-Some-Line-clause-ok
+returns-in-Some-Line-clause-ok g c = λ ops is. tt

@@ -29,3 +29,33 @@ returns-in-Ok-Some-clause-fault g c =
     let n : NotCommitted c.args.store.now (op.Lost c.in-Some.id c.args.reason) c.commit.new.store c.in-Ok-Some.field-0-0 = search rules in
     let other : c.in-Ok-Some.field-0-0 ≡ refusal.JournalFull → ⊥ = search rules in
     unlost_for_memory c.args.store.now c.commit.new.store c.args.reason c.args.line c.in-Some.id c.in-Ok-Some.field-0-0 c.in-Some.is n other
+
+pub returns-in-Ok-None-clause-same : goal.returns-in-Ok-None-clause-same
+returns-in-Ok-None-clause-same g c = c.commit.ensures.same
+
+pub returns-in-Ok-None-clause-gathers : goal.returns-in-Ok-None-clause-gathers
+returns-in-Ok-None-clause-gathers g c = c.commit.ensures.gathers
+
+pub returns-in-Ok-None-clause-fault : goal.returns-in-Ok-None-clause-fault
+returns-in-Ok-None-clause-fault g c = tt
+
+pub returns-in-Ok-Some-JournalFull-clause-same : goal.returns-in-Ok-Some-JournalFull-clause-same
+returns-in-Ok-Some-JournalFull-clause-same g c = c.commit.ensures.same
+
+pub returns-in-Ok-Some-JournalFull-clause-gathers : goal.returns-in-Ok-Some-JournalFull-clause-gathers
+returns-in-Ok-Some-JournalFull-clause-gathers g c = c.commit.ensures.gathers
+
+pub returns-in-Ok-Some-JournalFull-clause-fault : goal.returns-in-Ok-Some-JournalFull-clause-fault
+returns-in-Ok-Some-JournalFull-clause-fault g c = tt
+
+pub returns-in-Err-clause-same : goal.returns-in-Err-clause-same
+returns-in-Err-clause-same g c = c.commit.ensures.same
+
+pub returns-in-Err-clause-gathers : goal.returns-in-Err-clause-gathers
+returns-in-Err-clause-gathers g c = c.commit.ensures.gathers
+
+pub returns-in-Err-clause-ok : goal.returns-in-Err-clause-ok
+returns-in-Err-clause-ok g c = λ ops is. tt
+
+pub returns-in_default-clause-fault : goal.returns-in_default-clause-fault
+returns-in_default-clause-fault g c = tt

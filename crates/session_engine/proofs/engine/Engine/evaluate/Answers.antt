@@ -1,5 +1,5 @@
 use Rattle.std.proofs.Common.{◌≡◌, inl, sym, subst, None}
-use Rattle.disk_model.specs.Disk.{InModel, Leaves}
+use Rattle.disk_model.specs.Disk.{InModel, Leaves, SameDisk}
 use Rattle.worksheet.specs.declared.op.Op.TheVariants as op
 use Rattle.worksheet.specs.Contents.{Contents}
 use Rattle.worksheet.specs.Checks.{first_refusal}
@@ -32,3 +32,30 @@ returns-in-Ok-commit_ready-clause-ok g c = λ w h left has.
       committed store new c.ask_session.new.self.lives.items c.ask_session.new.self.begun v o done.1 here c.commit_ready.ensures.same
           (subst (λ (s : Contents). first_refusal s o ≡ None) done.1.contents ready.allowed) (spared_clear c.args.id v.lives),
     )
+
+pub returns-in-Ok-commit_ready-clause-contents : goal.returns-in-Ok-commit_ready-clause-contents
+returns-in-Ok-commit_ready-clause-contents g c = tt
+
+pub returns-in-Ok-commit_ready-clause-numbers : goal.returns-in-Ok-commit_ready-clause-numbers
+returns-in-Ok-commit_ready-clause-numbers g c = λ other. tt
+
+pub returns-in-Ok-commit_ready-clause-fault : goal.returns-in-Ok-commit_ready-clause-fault
+returns-in-Ok-commit_ready-clause-fault g c = tt
+
+pub returns-in-Err-clause-contents : goal.returns-in-Err-clause-contents
+returns-in-Err-clause-contents g c = tt
+
+pub returns-in-Err-clause-numbers : goal.returns-in-Err-clause-numbers
+returns-in-Err-clause-numbers g c = λ other. tt
+
+pub returns-in-Err-clause-fault : goal.returns-in-Err-clause-fault
+returns-in-Err-clause-fault g c = tt
+
+pub returns-in-Err-commit_ready-clause-ok : goal.returns-in-Err-commit_ready-clause-ok
+returns-in-Err-commit_ready-clause-ok g c = λ w h left has. tt
+
+pub returns-in-Ok-commit_ready-clause-same : goal.returns-in-Ok-commit_ready-clause-same
+returns-in-Ok-commit_ready-clause-same g c = subst (λ (s : StoreView). SameDisk s.disk c.commit_ready.new.self.disk) c.ask_session.ensures.store c.commit_ready.ensures.same
+
+pub returns-in-Err-commit_ready-clause-same : goal.returns-in-Err-commit_ready-clause-same
+returns-in-Err-commit_ready-clause-same g c = subst (λ (s : StoreView). SameDisk s.disk c.commit_ready.new.self.disk) c.ask_session.ensures.store c.commit_ready.ensures.same

@@ -1,6 +1,5 @@
-use Rattle.std.proofs.Common.{◌≡◌, inr, ℕ, ap, sym, ◌∙◌, refl, Ok, Err}
+use Rattle.std.proofs.Common.{◌≡◌, inr, ℕ, rules, ap, sym, ◌∙◌, refl, Ok, Err}
 use Rattle.worksheet.specs.declared.op.Op.TheVariants as op
-use Rattle.recovery.specs.declared.fault.PrepareFault.{PrepareFault}
 use Rattle.recovery.specs.declared.fault.PrepareFault.TheVariants as faults
 use Rattle.session_engine.specs.World.{fits_in}
 use Rattle.session_engine.proofs.Asking.{unfit, fits_unless, refused_queue, refused_full, not_refused}
@@ -20,12 +19,12 @@ pub returns-in-Err-Full-clause-err : goal.returns-in-Err-Full-clause-err
 returns-in-Err-Full-clause-err g c = λ w h is.
     let o = op.Clear c.args.id in
     let store = c.args.self.now.store in
-    let e = c.in-Err-Full.ensures.full.0 (ap (λ (x : PrepareFault). Err x) c.in-Err-Full.field-0-is) in
+    let e = c.prepare-prepared.ensures.full.0 (search rules) in
     refused_full w c.args.id c.args.name is (sym (c.in_default.ensures w h)) (ap (λ (k : ℕ). fits_in k w.end o) (sym h.room) ∙ ap (λ (k : ℕ). fits_in store.disk.room k o) (sym h.end) ∙ unfit store.disk.room store.end o e.1)
 
 pub returns-in-Err-OutOfMemory-clause-err : goal.returns-in-Err-OutOfMemory-clause-err
 returns-in-Err-OutOfMemory-clause-err g c = λ w h is.
     let o = op.Clear c.args.id in
     let store = c.args.self.now.store in
-    let f = fits_unless store.disk.room store.end o (λ no. let full = c.in-Err-OutOfMemory.ensures.full.1 (h.still_open, no) in let other = ap (λ (x : PrepareFault). Err x) (sym c.in-Err-OutOfMemory.field-0-is) ∙ full in cc) in
+    let f = fits_unless store.disk.room store.end o (λ no. let full = c.prepare-prepared.ensures.full.1 (h.still_open, no) in let no : ⊥ = search rules in no) in
     inr (not_refused w c.args.id c.args.name is (sym (c.in_default.ensures w h)) (ap (λ (k : ℕ). fits_in k w.end o) (sym h.room) ∙ ap (λ (k : ℕ). fits_in store.disk.room k o) (sym h.end) ∙ f), refl)
