@@ -59,7 +59,8 @@ fn outputs_of(alloc: Global, block: &Block) -> Result<(Value, Value), AllocError
 {
     let output = output_of(alloc, block)?;
     let shown = shown_value(alloc, &output)?;
-    Ok((block_value(alloc, &output)?, shown))
+    let blocks = block_value(alloc, &output)?;
+    Ok((blocks, shown))
 }
 
 /// The same, of a block.
