@@ -1,16 +1,18 @@
 //! A worksheet as a notebook.
-ghost use Rattle.std.specs.Prelude.{◌≡◌, ◌++◌, IfOk, Some, None, IsUtf8, codes, string_bytes};
+ghost use Rattle.std.specs.Prelude.{◌≡◌, ◌++◌, IfOk, Some, None, IsUtf8, codes, string_bytes, true};
 ghost use Rattle.std.specs.Fmt.{decimal};
 ghost use Rattle.block_tree.specs.Tree.{Tree};
 ghost use Rattle.serde_json.specs.Read.{read};
 ghost use Rattle.serde_json.specs.View.{view};
 ghost use Rattle.sheet_notebook.specs.Formulas.{formula_behind as behind, formula_of as formula_in};
 ghost use Rattle.sheet_notebook.specs.Notebook as notebook;
+ghost use Rattle.sheet_notebook.specs.Strings as shown;
+ghost use Rattle.sheet_text.specs.InputLines as lines;
 
 use crate::formulas::{formula_behind, formula_of};
 use crate::strings::{block_string, string_of};
 use block_tree::Block;
-use serde_json::{Value, json};
+use serde_json::{Map, Value, json, put};
 use sheet_text::unfolded;
 use std::alloc::{AllocError, Global};
 use worksheet::{Answer, Field, Sheet};
@@ -117,24 +119,44 @@ fn metadata_of(alloc: Global, field: &Field) -> Result<Value, AllocError>
     json!(in alloc; {"tmhost": {"session": session}})
 }
 
-/// A field as a cell of code, its input with a line feed for each U+2028.
+/// The input of a field, with a line feed for each U+2028.
+fn source_of(alloc: Global, field: &Field) -> Result<String, AllocError>
+    ensures { IfOk result
+        (λ text. string_bytes text ≡ shown.string_of true (lines.unfolded field.now.input)) }
+{
+    let input = unfolded(alloc, field.input.as_str())?;
+    let source = string_of(alloc, input.as_bytes(), true)?;
+    Ok(source)
+}
+
+/// A field as a cell of code.
 #[tactic(auto, unfolding(crate::specs::Notebook::cell_of))]
 fn cell_of(alloc: Global, field: &Field) -> Result<Value, AllocError>
     ensures { IfOk result (λ value. view value ≡ notebook.cell_of field.now) }
 {
-    let id = id_of(alloc, field.id)?;
-    let metadata = metadata_of(alloc, field)?;
-    let outputs = outputs_of(alloc, &field.answer)?;
-    let input = unfolded(alloc, field.input.as_str())?;
-    let source = string_of(alloc, input.as_bytes(), true)?;
-    json!(in alloc; {
-        "cell_type": "code",
-        "execution_count": null,
-        "id": id,
-        "metadata": metadata,
-        "outputs": outputs,
-        "source": source
-    })
+    let mut cell = Map::new(alloc);
+    put(
+        &mut cell,
+        alloc,
+        "cell_type",
+        Value::try_from_str(alloc, "code")?,
+    )?;
+    put(&mut cell, alloc, "execution_count", Value::Null)?;
+    put(&mut cell, alloc, "id", Value::from(id_of(alloc, field.id)?))?;
+    put(&mut cell, alloc, "metadata", metadata_of(alloc, field)?)?;
+    put(
+        &mut cell,
+        alloc,
+        "outputs",
+        outputs_of(alloc, &field.answer)?,
+    )?;
+    put(
+        &mut cell,
+        alloc,
+        "source",
+        Value::from(source_of(alloc, field)?),
+    )?;
+    Ok(Value::Object(cell))
 }
 
 /// The cells of the fields, in their order.

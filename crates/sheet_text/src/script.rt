@@ -1,6 +1,6 @@
 //! Lines of a script.
 ghost use Rattle.std.specs.Prelude.{◌≡◌, IfOk, IsErrOf, None, Some, true};
-ghost use Rattle.std.specs.Option.{option_copied};
+ghost use Rattle.std.specs.Option.{option_copied, option_map};
 ghost use Rattle.sheet_text.specs.Script as said;
 ghost use Rattle.sheet_text.specs.declared.script.LineFault.TheVariants as fault;
 ghost use Rattle.host_events.specs.declared.command.Command.TheVariants as command;
@@ -200,6 +200,51 @@ fn read_complete(alloc: Global, rest: &[u8]) -> Result<Command, LineFault>
     read_cursor(alloc, id, rest)
 }
 
+/// `ID`
+fn read_remove(rest: &[u8]) -> Result<Command, LineFault>
+    ensures ok { IfOk result (λ told. option_map (λ id. command.Remove id) (said.number_written rest.now)
+        ≡ Some told) }
+    ensures bad { IsErrOf result fault.BadLine
+        → option_map (λ id. command.Remove id) (said.number_written rest.now) ≡ None }
+    ensures held { IsErrOf result fault.OutOfMemory → ⊥ }
+{
+    let id = number(rest)?;
+    Ok(Command::Remove { id })
+}
+
+/// `ID`
+fn read_clear(rest: &[u8]) -> Result<Command, LineFault>
+    ensures ok { IfOk result (λ told. option_map (λ id. command.Clear id) (said.number_written rest.now)
+        ≡ Some told) }
+    ensures bad { IsErrOf result fault.BadLine
+        → option_map (λ id. command.Clear id) (said.number_written rest.now) ≡ None }
+    ensures held { IsErrOf result fault.OutOfMemory → ⊥ }
+{
+    let id = number(rest)?;
+    Ok(Command::Clear { id })
+}
+
+/// `ID`
+fn read_eval(rest: &[u8]) -> Result<Command, LineFault>
+    ensures ok { IfOk result (λ told. option_map (λ id. command.Eval id) (said.number_written rest.now)
+        ≡ Some told) }
+    ensures bad { IsErrOf result fault.BadLine
+        → option_map (λ id. command.Eval id) (said.number_written rest.now) ≡ None }
+    ensures held { IsErrOf result fault.OutOfMemory → ⊥ }
+{
+    let id = number(rest)?;
+    Ok(Command::Eval { id })
+}
+
+/// `NAME`
+fn read_stop(alloc: Global, rest: &[u8]) -> Result<Command, LineFault>
+    ensures ok { IfOk result (λ told. told ≡ command.Stop rest.now) }
+    ensures good { IsErrOf result fault.BadLine → ⊥ }
+{
+    let name = copied(alloc, rest)?;
+    Ok(Command::Stop { name })
+}
+
 /// The command of this name, with what comes after the space that ends the name.
 fn read_command(alloc: Global, name: &[u8], rest: &[u8]) -> Result<Command, LineFault>
     ensures ok { IfOk result (λ told. said.command_of name.now rest.now ≡ Some told) }
@@ -214,19 +259,17 @@ fn read_command(alloc: Global, name: &[u8], rest: &[u8]) -> Result<Command, Line
     } else if name == b"set".as_slice() {
         read_set(alloc, rest)
     } else if name == b"remove".as_slice() {
-        Ok(Command::Remove { id: number(rest)? })
+        read_remove(rest)
     } else if name == b"move".as_slice() {
         read_move(rest)
     } else if name == b"clear".as_slice() {
-        Ok(Command::Clear { id: number(rest)? })
+        read_clear(rest)
     } else if name == b"eval".as_slice() {
-        Ok(Command::Eval { id: number(rest)? })
+        read_eval(rest)
     } else if name == b"complete".as_slice() {
         read_complete(alloc, rest)
     } else if name == b"stop".as_slice() {
-        Ok(Command::Stop {
-            name: copied(alloc, rest)?,
-        })
+        read_stop(alloc, rest)
     } else {
         Err(LineFault::BadLine)
     }

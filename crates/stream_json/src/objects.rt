@@ -2,13 +2,14 @@
 ghost use Rattle.std.specs.Prelude.{◌≡◌, IfOk, codes};
 ghost use Rattle.block_tree.specs.Output.{output, text_on_channel};
 ghost use Rattle.sheet_json.specs.Blocks.{tree_data};
-ghost use Rattle.serde_json.specs.View.{view};
+ghost use Rattle.serde_json.specs.Data.{member, no_members};
+ghost use Rattle.serde_json.specs.View.{members_view, view};
 ghost use Rattle.sheet_json.specs.Objects.{shown_data};
 ghost use Rattle.sheet_text.specs.Blocks as printed;
 ghost use Rattle.stream_json.specs.StreamObjects.{channel_data, outer_data, outer_with, unfinished_data};
 
 use block_tree::{Block, channel_text, output_of};
-use serde_json::{Value, json};
+use serde_json::{Map, Value, json, put};
 use sheet_json::{block_value, bytes_value};
 use sheet_text::block_text;
 use std::alloc::{AllocError, Global};
@@ -51,6 +52,17 @@ struct Taken {
     shown: Value,
 }
 
+/// The output of a block: its blocks, and it as a worksheet shows it.
+fn outputs_of(alloc: Global, block: &Block) -> Result<(Value, Value), AllocError>
+    ensures output { IfOk result (λ outputs. view outputs.0 ≡ tree_data (output block.now)) }
+    ensures shown { IfOk result (λ outputs. view outputs.1 ≡ shown_data (output block.now)) }
+{
+    let output = output_of(alloc, block)?;
+    let shown = shown_value(alloc, &output)?;
+    let blocks = block_value(alloc, &output)?;
+    Ok((blocks, shown))
+}
+
 /// The same, of a block.
 fn taken_of(alloc: Global, block: &Block) -> Result<Taken, AllocError>
     ensures default { IfOk result (λ taken. view taken.default
@@ -60,17 +72,36 @@ fn taken_of(alloc: Global, block: &Block) -> Result<Taken, AllocError>
         ≡ channel_data (text_on_channel (codes "prompt") block.now)) }
     ensures shown { IfOk result (λ taken. view taken.shown ≡ shown_data (output block.now)) }
 {
-    let output = output_of(alloc, block)?;
-    let shown = shown_value(alloc, &output)?;
-    let output = block_value(alloc, &output)?;
     let default = channel_value(alloc, block, b"input")?;
     let prompt = channel_value(alloc, block, b"prompt")?;
+    let (output, shown) = outputs_of(alloc, block)?;
     Ok(Taken {
         default,
         output,
         prompt,
         shown,
     })
+}
+
+/// What a host takes of a block, as members of an object.
+fn members_of(alloc: Global, taken: Taken) -> Result<Map<String, Value>, AllocError>
+    ensures { IfOk result (λ map. members_view map.entries
+        ≡ member (codes "default") (view taken.default) (member (codes "output") (view taken.output)
+        (member (codes "prompt") (view taken.prompt)
+        (member (codes "shown") (view taken.shown) no_members)))) }
+{
+    let Taken {
+        default,
+        output,
+        prompt,
+        shown,
+    } = taken;
+    let mut map = Map::new(alloc);
+    put(&mut map, alloc, "default", default)?;
+    put(&mut map, alloc, "output", output)?;
+    put(&mut map, alloc, "prompt", prompt)?;
+    put(&mut map, alloc, "shown", shown)?;
+    Ok(map)
 }
 
 /// A block with its offsets, and with what a host takes of it.
@@ -85,23 +116,17 @@ fn framed(
         ≡ outer_with record { start = start; stop = stop; block = block.now }
         (view taken.default) (view taken.output) (view taken.prompt) (view taken.shown)) }
 {
-    let whole = block_value(alloc, block)?;
-    let Taken {
-        default,
-        output,
-        prompt,
-        shown,
-    } = taken;
-    json!(in alloc; {
-        "block": whole,
-        "default": default,
-        "output": output,
-        "prompt": prompt,
-        "shown": shown,
-        "start": start as u64,
-        "stop": stop as u64,
-        "type": "block"
-    })
+    let mut map = members_of(alloc, taken)?;
+    put(&mut map, alloc, "block", block_value(alloc, block)?)?;
+    put(&mut map, alloc, "start", Value::from(start as u64))?;
+    put(&mut map, alloc, "stop", Value::from(stop as u64))?;
+    put(
+        &mut map,
+        alloc,
+        "type",
+        Value::try_from_str(alloc, "block")?,
+    )?;
+    Ok(Value::Object(map))
 }
 
 /// An outer block: where it starts, where the next byte stands, and the block with all its tags; and what a
