@@ -34,8 +34,9 @@ pub(crate) struct Row {
     pub(crate) notes: &'static str,
 }
 
-/// The number of this version, which `--version` shows after the name of the program.
-pub(crate) const VERSION: &str = "0.1.0";
+/// What `--version` shows after the name of the program: its number, the format of the journals that it
+/// writes (the byte at offset 8 of each) and the kit that its proofs are checked by.
+pub(crate) const VERSION: &str = "0.1.0 (journal format 1, rattle-kit-13f)";
 
 /// What the help of the program says below its lists.
 pub(crate) const NOTES: &str = "Without a command it is `blocks`.\n\n\

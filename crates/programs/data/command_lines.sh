@@ -89,9 +89,11 @@ for task in blocks create run live eval show check rescue export faults; do
     whole_help "$task" "$task"
 done
 
-# The version: the name of the program and a number.
+# The version: the name of the program, a number, the journals' format, which each header has, and the kit.
 "$tmhost" --version >text 2>errors
-compare 'the version' "$? $(wc -c <errors) $(bytes text)" "0 0 $(printf 'tmhost 0.1.0\n' >wanted; bytes wanted)"
+compare 'the version' "$? $(wc -c <errors) $(bytes text)" "0 0 $(printf 'tmhost 0.1.0 (journal format 1, rattle-kit-13f)\n' >wanted; bytes wanted)"
+"$tmhost" create versioned
+compare 'the format that it names' "$(od -An -tu1 -j8 -N1 versioned | tr -d ' ')" "$(sed 's/.*journal format \([0-9]*\),.*/\1/' text)"
 "$tmhost" -V >same 2>errors
 compare 'the version by a letter' "$? $(wc -c <errors) $(bytes same)" "0 0 $(bytes text)"
 "$tmhost" --version >/dev/full 2>errors
