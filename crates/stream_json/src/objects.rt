@@ -63,7 +63,7 @@ fn outputs_of(alloc: Global, block: &Block) -> Result<(Value, Value), AllocError
     Ok((blocks, shown))
 }
 
-/// The same, of a block.
+/// What a host takes of a block as an answer: its default, its output in blocks and as shown, and its prompt.
 fn taken_of(alloc: Global, block: &Block) -> Result<Taken, AllocError>
     ensures default { IfOk result (λ taken. view taken.default
         ≡ channel_data (text_on_channel (codes "input") block.now)) }
