@@ -168,7 +168,57 @@ class Case(unittest.TestCase):
         return shown.stdout.decode("utf-8", "replace")
 
 
+class PageCase(Case):
+    """A test of a page that is open in a browser."""
+
+    def begin(self, *words: str) -> None:
+        self.server = self.serve(*words)
+        self.page = Page(self.server)
+        self.page.call("session", name="s", words=SPOKEN, tab=True)
+        self.browser = self.browse()
+
+    def all_states(self) -> None:
+        """Cells in each state that there is."""
+        self.page.call("new", session=None, text=PROSE, after=0)
+        last = self.page.snapshot()["order"][-1]
+        for text in ("say stale", "exit", "say 1", "block latex JFxzcXJ0e3h9JA==", "bytes 30000", "sleep 60", "say waits"):
+            last = self.page.call("new", session="s", text=text, after=last)["id"]
+            if text not in ("sleep 60", "say waits"):
+                self.page.call("eval", id=last)
+                self.page.until_idle()
+        self.page.call("session", name="t", words=SPOKEN, tab=False)
+        self.page.call("eval", id=self.page.call("new", session="t", text="say ended", after=last)["id"])
+        self.page.until_idle()
+        self.page.call("stop", session="t")
+        cells = self.page.cells()
+        stale = next(cell for cell in cells.values() if cell["input"] == "say stale")
+        self.page.call("set", id=stale["id"], text="say changed", base="say stale")
+        for id, cell in cells.items():
+            if cell["input"] in ("sleep 60", "say waits"):
+                self.page.call("eval", id=id)
+        self.page.call("remove", id=next(id for id, cell in cells.items() if cell["input"] == "say 1"))
+
+
 READY = "document.documentElement.dataset.ready"
+IN_TEXT = "document.activeElement.localName === 'textarea' && document.activeElement.closest('.cell').id"
+PROSE = """# Head
+
+A *word*, `code`, [a link](https://www.texmacs.org), $\\frac{1}{2}$ and <b>no markup</b>.
+
+1. one
+2. two
+
+> said
+
+| a | b |
+|:-:|--:|
+| 1 | 2 |
+
+$$
+a
+- b
+$$
+"""
 
 # The next request waits for a call of `go`.
 HOLDS = """
