@@ -128,50 +128,59 @@ class Sheet:
 
     def take(self, kind, *op):
         """Does an op that is allowed, and raises Refused at another."""
-        if kind == 1:
-            name, _, words = op
-            named = 1 <= len(name) <= 32 and set(name) <= NAME and name not in self.sessions
-            if not named or not 1 <= len(words) <= 16 or not all(word and is_text(word, 1_024) for word in words) or len(self.sessions) == 64:
-                raise Refused
-            self.sessions.append(name)
-        elif kind == 2:
-            after, session, given = op
-            if session not in self.sessions or after and after not in self.fields or not is_text(given, 4_095, b"\t") or self.next > 1_000_000:
-                raise Refused
-            self.fields[self.next] = [session, given, None]
-            self.put(self.next, after)
-            self.next += 1
-        elif kind == 3:
-            self.field(op[0])
-            if not is_text(op[1], 4_095, b"\t"):
-                raise Refused
-            self.fields[op[0]][1:] = op[1], None
-        elif kind == 4:
-            self.field(op[0])
-            del self.fields[op[0]]
-            self.order.remove(op[0])
-        elif kind == 5:
-            number, after = op
-            self.field(number)
-            if after:
-                self.field(after)
-            place = self.order.index(number)
-            if after == number or after == (self.order[place - 1] if place else 0):
-                raise Refused
-            self.order.remove(number)
-            self.put(number, after)
-        elif kind == 6:
-            self.field(op[0])[2] = None
-        elif kind == 7:
-            if len(op[1]) > 1_024:
-                raise Refused
-            self.field(op[0])[2] = op[1], op[2]
-        elif kind == 8:
-            self.field(op[0])[2] = REASONS[op[1] - 1]
-        else:
-            if not self.next <= op[0] <= 1_000_001:
-                raise Refused
-            self.next = op[0]
+        self.TAKES[kind - 1](self, *op)
+
+    def make_session(self, name, _, words):
+        named = 1 <= len(name) <= 32 and set(name) <= NAME and name not in self.sessions
+        if not named or not 1 <= len(words) <= 16 or not all(word and is_text(word, 1_024) for word in words) or len(self.sessions) == 64:
+            raise Refused
+        self.sessions.append(name)
+
+    def make_field(self, after, session, given):
+        if session not in self.sessions or after and after not in self.fields or not is_text(given, 4_095, b"\t") or self.next > 1_000_000:
+            raise Refused
+        self.fields[self.next] = [session, given, None]
+        self.put(self.next, after)
+        self.next += 1
+
+    def set_input(self, number, given):
+        field = self.field(number)
+        if not is_text(given, 4_095, b"\t"):
+            raise Refused
+        field[1:] = given, None
+
+    def remove(self, number):
+        self.field(number)
+        del self.fields[number]
+        self.order.remove(number)
+
+    def move(self, number, after):
+        self.field(number)
+        if after:
+            self.field(after)
+        place = self.order.index(number)
+        if after == number or after == (self.order[place - 1] if place else 0):
+            raise Refused
+        self.order.remove(number)
+        self.put(number, after)
+
+    def clear(self, number):
+        self.field(number)[2] = None
+
+    def answer(self, number, prompt, output):
+        if len(prompt) > 1_024:
+            raise Refused
+        self.field(number)[2] = prompt, output
+
+    def lose(self, number, reason):
+        self.field(number)[2] = REASONS[reason - 1]
+
+    def start_at(self, number):
+        if not self.next <= number <= 1_000_001:
+            raise Refused
+        self.next = number
+
+    TAKES = make_session, make_field, set_input, remove, move, clear, answer, lose, start_at  # by kind, from 1
 
     def text(self):
         """The worksheet in print."""

@@ -256,6 +256,18 @@ class Followed:
         self.sheets, self.is_whole, self.refusals = sheets, is_whole, refusals
 
 
+def waited(model, told, number):
+    """Whether all that a `wait` tells was told, which is taken away then."""
+    wanted = [model.told_in_wait(*item) for item in model.sessions.items() if item[1].waiting]
+    count = sum(map(len, wanted))
+    merge(wanted, told[:count], number)
+    if len(told) < count:
+        return False
+    model.wait()
+    del told[:count]
+    return True
+
+
 def follow(script, output, kinds, memory=False):
     """Follows a run of the script by the lines that it wrote. With `memory` a command may be refused for want of it, and a
     start too."""
@@ -266,13 +278,8 @@ def follow(script, output, kinds, memory=False):
         if line == "" or line.startswith("#"):
             continue
         if verb == "wait":
-            wanted = [model.told_in_wait(*item) for item in model.sessions.items() if item[1].waiting]
-            count = sum(map(len, wanted))
-            merge(wanted, told[:count], number)
-            if len(told) < count:
+            if not waited(model, told, number):
                 return Followed(model.sheets_in_wait(told), False, refusals)
-            model.wait()
-            del told[:count]
             continue
         if verb == "print":
             wanted = before.splitlines()
