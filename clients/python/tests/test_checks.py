@@ -1,5 +1,6 @@
 """Checks of worksheets, and that each line of JSON is of the schema."""
 
+import importlib
 import json
 import os
 import subprocess
@@ -87,11 +88,11 @@ class Checks(Case):
 
     def test_lines_are_of_the_schema(self) -> None:
         try:
-            import jsonschema
+            jsonschema: Any = importlib.import_module("jsonschema")  # by its name: mypy needs no stubs of it
         except ImportError:
             self.skipTest("there is no jsonschema")
         with open(SCHEMA) as file:
-            schema: Any = jsonschema.Draft202012Validator(json.load(file))
+            schema = jsonschema.Draft202012Validator(json.load(file))
         self.made()
         told = [json.loads(line) for line in [*lines("check", "--json", self.path), *lines("check", "--json", "--leave-out=2", self.path),
                                               *lines("eval", "--json", self.path, "9"), *lines("check", "--json", self.folder)]]
