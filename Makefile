@@ -8,7 +8,7 @@ SHARE = $(DESTDIR)$(PREFIX)/share
 # The adapters and the clients lie there as they do here, since the clients find them and each other by their folders.
 HERE = $(SHARE)/tmhost
 ADAPTERS = gp python prompted.py
-CLIENTS = import typeset notebook repl weave
+CLIENTS = import typeset notebook repl suite weave
 
 .PHONY: all install uninstall
 
@@ -30,7 +30,7 @@ install: all
 	install -m 644 clients/python/tmhost/*.py clients/python/tmhost/py.typed $(HERE)/clients/python/tmhost
 	install -m 644 clients/typeset/lib/*.js $(HERE)/clients/typeset/lib
 	install -m 644 clients/notebook/page/* $(HERE)/clients/notebook/page
-	for client in import notebook repl weave; do \
+	for client in import notebook repl suite weave; do \
 		install -d $(HERE)/clients/$$client/tmhost_$$client && \
 		install -m 644 clients/$$client/tmhost_$$client/*.py $(HERE)/clients/$$client/tmhost_$$client || exit 1; \
 	done

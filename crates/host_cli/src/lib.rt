@@ -12,6 +12,7 @@ mod refusing;
 mod runs;
 pub mod startup;
 mod tasks;
+pub mod terminal;
 
 pub use outlet::Outlet;
 pub use outside::{Outside, System};

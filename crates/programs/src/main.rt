@@ -5,7 +5,7 @@
 //! how a case is added.
 #![tactic(auto)]
 
-use host_cli::{perform, startup};
+use host_cli::{perform, startup, terminal};
 use offline_programs::{RunFault, run_memory};
 use program_endings::end_program;
 use std::io;
@@ -60,9 +60,11 @@ fn main(rt: HostRuntime) -> ExitCode {
             Asked::Nothing => {}
         }
     }
+    terminal::say_what_is_awaited(&rt);
     let ending = match startup::outside(&rt) {
         Ok(mut outside) => perform(rt.alloc(), words, &mut outside),
         Err(_) => end_program(Err(RunFault::OutOfMemory), &mut rt.stderr()),
     };
+    terminal::explain(&rt, ending.status);
     ExitCode::from(ending.status)
 }

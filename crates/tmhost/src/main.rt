@@ -2,16 +2,18 @@
 //! what it says where, and with which status it ends, `host_cli` decides.
 #![tactic(auto)]
 
-use host_cli::{perform, startup};
+use host_cli::{perform, startup, terminal};
 use offline_programs::RunFault;
 use program_endings::end_program;
 use std::process::ExitCode;
 
 fn main(rt: HostRuntime) -> ExitCode {
     let words = startup::words(&rt);
+    terminal::say_what_is_awaited(&rt);
     let ending = match startup::outside(&rt) {
         Ok(mut outside) => perform(rt.alloc(), words, &mut outside),
         Err(_) => end_program(Err(RunFault::OutOfMemory), &mut rt.stderr()),
     };
+    terminal::explain(&rt, ending.status);
     ExitCode::from(ending.status)
 }

@@ -1,0 +1,105 @@
+"""What the tests share: suites in a folder of their own, and the command over the real program."""
+import json
+import os
+import re
+import shutil
+import subprocess
+import sys
+import tempfile
+import unittest
+from typing import Any, Dict, List, NamedTuple
+
+HERE = os.path.dirname(os.path.realpath(__file__))
+ROOT = os.path.dirname(os.path.dirname(os.path.dirname(HERE)))
+COMMAND = os.path.join(os.path.dirname(HERE), "tmhost-suite")
+PROGRAM = os.environ.get("TMHOST") or shutil.which("tmhost") or os.path.join(ROOT, "crates/tmhost/out/tmhost")
+# It answers a line by a value that depends on all lines that it has got; `say TEXT`, `die`, `stuck`, `sleep N` and the like are its words.
+INTERPRETER = os.path.join(ROOT, "clients/weave/tests/interpreter.py")
+
+sys.path[:0] = [os.path.dirname(HERE), os.path.join(ROOT, "clients/python"), os.path.join(ROOT, "clients/weave")]
+
+
+def missing() -> str:
+    """Why there is no program to test with; nothing where there is one."""
+    try:
+        subprocess.run([PROGRAM, "--version"], stdin=subprocess.DEVNULL, capture_output=True)
+    except OSError as error:
+        return f"{PROGRAM} can't be started ({error.strerror}); TMHOST names another one"
+    return ""
+
+
+WHY = missing()
+
+
+class Outcome(NamedTuple):
+    status: int
+    output: str
+    errors: str
+
+
+def words(*more: str) -> List[str]:
+    return [sys.executable, "-B", COMMAND, *more]
+
+
+def environment() -> Dict[str, str]:
+    return {**os.environ, "TMHOST": PROGRAM}
+
+
+def case(code: str, wanted: "str | None" = None, info: str = "a") -> str:
+    """A case of a text, in fences that are longer than any in it."""
+    found = f"````{info}\n{code}\n````\n"
+    return found if wanted is None else f"{found}\n````answer\n{wanted}\n````\n"
+
+
+class Case(unittest.TestCase):
+    """`path` is that of the suite."""
+
+    maxDiff = None
+
+    def setUp(self) -> None:
+        if WHY:
+            self.skipTest(WHY)
+        self.folder = tempfile.mkdtemp(prefix="tmhost-suite-test.")
+        self.addCleanup(shutil.rmtree, self.folder)
+        self.path = self.place("suite.md")
+
+    def place(self, name: str) -> str:
+        return os.path.join(self.folder, name)
+
+    def front(self, *names: str, more: str = "") -> str:
+        """The front matter for sessions with these names, each of which logs its lines."""
+        found = {name: [sys.executable, INTERPRETER, self.place(name + ".log")] for name in names}
+        return "---\nsessions:\n" + "".join(f"  {name}: {json.dumps(these)}\n" for name, these in found.items()) + more + "---\n"
+
+    def write(self, *parts: str, path: str = "", more: str = "") -> None:
+        with open(path or self.path, "w", encoding="utf-8", newline="") as file:
+            file.write(self.front("a", "b", more=more) + "\n" + "\nText.\n\n".join(parts))
+
+    def read(self, path: str = "") -> str:
+        with open(path or self.path, encoding="utf-8", newline="") as file:
+            return file.read()
+
+    def log(self, name: str) -> List[str]:
+        """The lines that an interpreter got, in its folder's file."""
+        try:
+            return self.read(self.place(name + ".log")).splitlines()
+        except FileNotFoundError:
+            return []
+
+    def run_suite(self, *more: str, given: str = "") -> Outcome:
+        ran = subprocess.run(words(*more), input=given, capture_output=True, text=True, env=environment(), cwd=self.folder, timeout=120)
+        return Outcome(ran.returncode, ran.stdout, ran.stderr)
+
+    def objects(self, *more: str) -> List[Dict[str, Any]]:
+        """What came of each case, by the report in lines of JSON."""
+        report = self.place("report.jsonl")
+        self.outcome = self.run_suite(*more, "--json", report)
+        self.assertEqual(self.outcome.errors, "")
+        return [json.loads(line) for line in self.read(report).split("\n") if line]
+
+    def verdicts(self, *more: str) -> List[str]:
+        return [str(one["verdict"]) for one in self.objects(*more)]
+
+
+def without_seconds(text: str) -> str:
+    return re.sub(r" in [\d.]+ s$", "", text, flags=re.MULTILINE)

@@ -1,0 +1,98 @@
+"""A run that was cut off goes on where it was, and reports what one in one piece does. TMHOST_KILLS says how many runs are killed."""
+import contextlib
+import os
+import random
+import signal
+import subprocess
+import time
+from typing import List, Tuple
+
+from .support import Case, case, environment, words
+from .values import expected
+
+KILLS = int(os.environ.get("TMHOST_KILLS", "20"))
+
+
+class Resuming(Case):
+    def setUp(self) -> None:
+        super().setUp()
+        self.random = random.Random(self.id())
+
+    def make(self) -> None:
+        """A suite of two sessions, in which interpreters end and what is wanted depends on all lines before it."""
+        code: List[Tuple[str, str, bool]] = []
+        for at in range(self.random.randint(8, 16)):
+            session = self.random.choice("ab")
+            kind = self.random.random()
+            line = "die" if kind < 0.15 else f"sleep 0.0{self.random.randint(1, 9)}" if kind < 0.5 else f"x{at}"
+            code.append((session, line, line != "die" and self.random.random() < 0.2))
+        wanted = expected(code)
+        # One of them is wanted otherwise, so that a report has a difference.
+        self.wrong = self.random.randrange(len(code))
+        parts = []
+        for at, ((session, line, is_setup), value) in enumerate(zip(code, wanted)):
+            info = session + (" {setup}" if is_setup else "")
+            parts.append(case(line, "other" if at == self.wrong else value, info))
+        self.write(*parts)
+
+    def cut_off(self, *more: str) -> None:
+        """Runs it, and kills the run and all that it started at a random moment."""
+        run = subprocess.Popen(
+            words(self.path, "--jobs", "2", *more), stdout=subprocess.DEVNULL, stderr=subprocess.DEVNULL, env=environment(), cwd=self.folder, start_new_session=True
+        )
+        time.sleep(self.random.uniform(0.2, 1.2))
+        os.killpg(run.pid, signal.SIGKILL)
+        run.wait()
+
+    def test_runs_that_are_killed(self) -> None:
+        for _ in range(KILLS):
+            self.make()
+            for end in (".run", ".run.alt"):
+                with contextlib.suppress(FileNotFoundError):
+                    os.unlink(self.path + end)
+            self.cut_off()
+            for _ in range(self.random.randint(0, 2)):
+                self.cut_off("--resume")
+            found = self.verdicts(self.path, "--resume")
+            self.assertEqual(found, ["differs" if at == self.wrong else "ok" for at in range(len(found))], self.read())
+
+    def test_what_is_done_is_not_done_again(self) -> None:
+        self.write(case("say 1", "1"), case("say 2", "2"), case("say 3", "3", "b"))
+        self.assertEqual(self.verdicts(self.path), ["ok"] * 3)
+        os.unlink(self.place("a.log"))
+        self.assertEqual(self.verdicts(self.path, "--resume"), ["ok"] * 3)
+        self.assertEqual(self.log("a"), [])
+        self.assertIn("goes on behind 3 of 3 cases", self.outcome.output)
+
+    def test_other_code_is_refused(self) -> None:
+        self.write(case("say 1", "1"))
+        self.run_suite(self.path)
+        self.write(case("say 2", "2"))
+        ran = self.run_suite(self.path, "--resume")
+        self.assertEqual(ran.status, 1)
+        self.assertIn("isn't that of the run that was broken off", ran.errors)
+
+    def test_a_run_that_goes_on_is_left_alone(self) -> None:
+        self.write(case("sleep 30"))
+        run = subprocess.Popen(words(self.path), stdout=subprocess.DEVNULL, stderr=subprocess.DEVNULL, env=environment(), start_new_session=True)
+        try:
+            until = time.monotonic() + 30
+            while not self.log("a") and time.monotonic() < until:
+                time.sleep(0.05)
+            ran = self.run_suite(self.path)
+            self.assertEqual(ran.status, 1)
+            self.assertIn("is in use by another program", ran.errors)
+        finally:
+            os.killpg(run.pid, signal.SIGKILL)
+            run.wait()
+
+    def test_a_text_that_accepts_is_never_torn(self) -> None:
+        for _ in range(KILLS):
+            self.write(case("say one"), case("sleep 0.05"), case("say two"))
+            before = self.read()
+            run = subprocess.Popen(words(self.path, "--accept"), stdout=subprocess.DEVNULL, stderr=subprocess.DEVNULL, env=environment(), start_new_session=True)
+            time.sleep(self.random.uniform(0.3, 1.5))
+            os.killpg(run.pid, signal.SIGKILL)
+            run.wait()
+            after = self.read()
+            self.assertTrue(after == before or after.count("````answer" if "````answer" in after else "```answer") == 3, after)

@@ -1,0 +1,178 @@
+"""Cases over the real program: verdicts, interpreters that end or loop, what is chosen, reports."""
+import importlib
+import json
+import os
+import unittest
+import xml.etree.ElementTree
+from typing import Any, List
+
+from .support import HERE, Case, case, without_seconds
+
+SCHEMA = os.path.join(os.path.dirname(HERE), "report.schema.json")
+
+
+class Verdicts(Case):
+    def test_each(self) -> None:
+        self.write(
+            case("say 1", "1"),
+            case("say 2", "3"),
+            case("say 4"),
+            case("say 5", "6", "a {xfail not yet}"),
+            case("say 7", "7", "a {xfail was mended}"),
+            case("die", "8", "a {skip needs a net}"),
+            case("quiet"),
+            case("say 9", "9", "b"),
+        )
+        self.assertEqual(self.verdicts(self.path), ["ok", "differs", "new", "xfail", "xpass", "skip", "ok", "ok"])
+        self.assertEqual(self.outcome.status, 1)
+        self.assertEqual(
+            without_seconds(self.outcome.output).split("\n"),
+            [
+                f"differs: {self.path}:17 say 2",
+                "  @@ -1 +1 @@",
+                "  -3",
+                "  +2",
+                f"new: {self.path}:27 say 4",
+                "  @@ -0,0 +1 @@",
+                "  +4",
+                f"xpass: {self.path}:43 say 7 (was mended)",
+                "  it is wanted to fail, and passes",
+                "3 ok, 1 xfail, 1 skip, 1 differs, 1 new, 1 xpass",
+                "",
+            ],
+        )
+
+    def test_a_suite_that_passes(self) -> None:
+        self.write(case("say 1\nsay 2\nquiet\nsay 3", "1\n2\n3"))
+        ran = self.run_suite(self.path)
+        self.assertEqual((ran.status, without_seconds(ran.output)), (0, "1 ok\n"))
+
+    def test_an_interpreter_that_ends_costs_one_case(self) -> None:
+        self.write(case("say s", "s", "a {setup}"), case("say x", "x"), case("say t", "t", "a {setup}"), case("die", "? Ended"), case("die", "no"), case("say y", "y"))
+        found = self.objects(self.path)
+        self.assertEqual([one["verdict"] for one in found], ["ok", "ok", "ok", "ok", "differs", "ok"])
+        self.assertEqual([one["startedAgain"] for one in found], [False, False, False, False, True, True])
+        # What sets up is evaluated again in each new interpreter, and nothing else is.
+        self.assertEqual(self.log("a"), ["say s", "say x", "say t", "die", "say s", "say t", "die", "say s", "say t", "say y"])
+
+    def test_a_case_that_loops(self) -> None:
+        self.write(case("stuck", "? over 0.3 s", "a {timeout 0.3}"), case("say y", "y"))
+        self.assertEqual(self.verdicts(self.path), ["ok", "ok"])
+
+    def test_a_program_that_is_not_there(self) -> None:
+        self.write(case("x", "? StartRefused", "c"))
+        with open(self.path, encoding="utf-8") as file:
+            text = file.read().replace("sessions:\n", "sessions:\n  c: [./nothing]\n")
+        with open(self.path, "w", encoding="utf-8") as file:
+            file.write(text)
+        self.assertEqual(self.verdicts(self.path), ["ok"])
+
+    def test_what_takes_down_comes_last(self) -> None:
+        self.write(case("say end", "end", "a {teardown}"), case("say 1", "1"))
+        self.assertEqual(self.verdicts(self.path), ["ok", "ok"])
+        self.assertEqual(self.log("a"), ["say 1", "say end"])
+
+    def test_a_field_that_is_too_long(self) -> None:
+        self.write(case("say " + "x" * 5000, "? refused: it has 5,004 bytes, and a field has at most 4,095"), case("say y", "y"))
+        self.assertEqual(self.verdicts(self.path), ["ok", "ok"])
+
+    def test_flaky(self) -> None:
+        # Its third line is the first one that answers so.
+        self.write(case("x", "z", "a {flaky 2}"))
+        found = self.objects(self.path)[0]
+        self.assertEqual((found["verdict"], found["tries"]), ("differs", 3))
+        self.write(case("x", str(found["came"]), "a {flaky 5}"))
+        found = self.objects(self.path)[0]
+        self.assertEqual((found["verdict"], found["tries"], self.outcome.status), ("flaky", 3, 0))
+
+
+class Chosen(Case):
+    def setUp(self) -> None:
+        super().setUp()
+        self.write(case("say s", "s", "a {setup}"), case("say 1", "1", "a {tags slow}"), case("say 2", "no"), case("say 3", "3", "b {tags quick slow}"))
+
+    def titles(self, *more: str) -> List[str]:
+        return [str(one["code"][0]) for one in self.objects(*more)]
+
+    def test_by_tags(self) -> None:
+        self.assertEqual(self.titles(self.path, "--tags", "quick,none"), ["say s", "say 3"])
+
+    def test_by_name_and_line(self) -> None:
+        self.assertEqual(self.titles(self.path, "--only", "say [23]"), ["say s", "say 2", "say 3"])
+        self.assertEqual(self.titles(self.path, "--only", "17"), ["say s", "say 1"])
+
+    def test_what_failed(self) -> None:
+        self.run_suite(self.path)
+        self.assertEqual(self.titles(self.path, "--rerun", "failed"), ["say s", "say 2"])
+
+    def test_shards_are_all(self) -> None:
+        others = []
+        for number in range(5):
+            others.append(self.place(f"suite{number}.md"))
+            self.write(case(f"say {number}", str(number)), path=others[-1])
+        found = [one["code"][0] for part in (1, 2) for one in self.objects(*others, "--shard", f"{part}/2")]
+        self.assertEqual(sorted(found), [f"say {number}" for number in range(5)])
+
+    def test_the_first_failure_ends_it(self) -> None:
+        self.write(case("say 1", "1"), case("say 2", "no"), case("say 3", "3"))
+        self.assertEqual(self.verdicts(self.path, "--fail-fast", "--jobs", "1"), ["ok", "differs"])
+
+    def test_an_order_by_a_seed(self) -> None:
+        self.write(case("say s", "s", "a {setup}"), *(case(f"say {at}", str(at)) for at in range(12)))
+        orders = []
+        for seed in ("1", "1", "2"):
+            if os.path.exists(self.place("a.log")):
+                os.unlink(self.place("a.log"))
+            self.assertEqual(set(self.verdicts(self.path, "--random", seed)), {"ok"})
+            orders.append(self.log("a"))
+        self.assertEqual(orders[0], orders[1])
+        self.assertNotEqual(orders[0], orders[2])
+        self.assertEqual([order[0] for order in orders], ["say s"] * 3)
+        self.assertEqual(sorted(orders[0]), sorted(orders[2]))
+
+
+class Reports(Case):
+    def setUp(self) -> None:
+        super().setUp()
+        self.write(case("say <1>", "<1>"), case("say \\\\x02&#", "]]>\u2028"), case("say 5", "6", "a {xfail n#t}"), case("x", "", "a {skip}"))
+
+    def test_tap(self) -> None:
+        lines = self.run_suite(self.path, "--tap", "-").output.split("\n")
+        lines = lines[lines.index("TAP version 14") :]
+        self.assertEqual(lines[1], "1..4")
+        points = [line for line in lines if line.startswith(("ok", "not ok"))]
+        self.assertEqual(points[0], f"ok 1 - {self.path}:7 say <1>")
+        self.assertTrue(points[1].startswith(f"not ok 2 - {self.path}:17 "))
+        self.assertEqual(points[2:], [f"not ok 3 - {self.path}:27 say 5 # TODO n#t", f"ok 4 - {self.path}:37 x # SKIP"])
+
+    def test_junit_is_xml(self) -> None:
+        report = self.place("report.xml")
+        self.run_suite(self.path, "--junit", report)
+        suite = xml.etree.ElementTree.parse(report).getroot()[0]
+        self.assertEqual((suite.get("tests"), suite.get("failures"), suite.get("skipped")), ("4", "1", "2"))
+        self.assertEqual([[child.tag for child in one] for one in suite], [[], ["failure"], ["skipped"], ["skipped"]])
+
+    def test_json_is_by_its_schema(self) -> None:
+        try:
+            jsonschema: Any = importlib.import_module("jsonschema")
+        except ImportError:
+            raise unittest.SkipTest("there is no jsonschema") from None
+        with open(SCHEMA, encoding="utf-8") as file:
+            schema = json.load(file)
+        for one in self.objects(self.path):
+            jsonschema.validate(one, schema)
+
+    def test_remarks(self) -> None:
+        github = self.run_suite(self.path, "--github", "-").output
+        self.assertIn(f"::error file={self.path},line=17,title=differs%3A ", github)
+        report = self.place("gitlab.json")
+        self.run_suite(self.path, "--gitlab", report)
+        self.assertEqual([one["location"]["lines"]["begin"] for one in json.loads(self.read(report))], [17])
+
+    def test_rules_that_find_nothing_are_told(self) -> None:
+        self.write(case("say 0x12", "0xff"), more="normal: {'0x[0-9a-f]+': N, 'never': M}\n")
+        ran = self.run_suite(self.path, "--verbose")
+        self.assertEqual(ran.status, 0)
+        self.assertIn("the rule 'never' found nothing", ran.output)
+        self.assertNotIn("'0x[0-9a-f]+' found nothing", ran.output)
+        self.assertIn(f"normalised: {self.path}:8 say 0x12\n  N\n", ran.output)

@@ -1,0 +1,104 @@
+"""The text form: how it is read, and how answers are put into it."""
+import random
+import unittest
+
+from .support import Case, case
+from tmhost_suite.text import Text
+from tmhost_weave.troubles import Trouble
+
+FRONT = "---\nsessions: {a: [x], b: [x]}\n---\n"
+
+
+def read(text: str, front: str = FRONT) -> Text:
+    return Text("suite.md", front + text)
+
+
+class Reading(unittest.TestCase):
+    def test_a_fence_of_a_session_is_a_case(self) -> None:
+        found = read("One.\n\n```a\nx\n```\n\n```answer\n1\n2\n```\n\n~~~b {whole}\ny\n\nz\n~~~\n\n```c\nno\n```\n").cases
+        self.assertEqual([(one.session, one.lines, one.wanted, one.line) for one in found], [("a", ("x",), "1\n2", 6), ("b", ("y", "", "z"), None, 15)])
+
+    def test_an_empty_answer_is_wanted_empty(self) -> None:
+        self.assertEqual([one.wanted for one in read("```a\nx\n```\n```answer\n```\n").cases], [""])
+
+    def test_marks(self) -> None:
+        marks = read("```a {setup} {xfail it is slow} {timeout 2.5} {tags p, q} {flaky 3}\nx\n```\n").cases[0].marks
+        self.assertEqual((marks.is_setup, marks.xfail, marks.timeout, marks.tags, marks.flaky), (True, "it is slow", 2.5, {"p", "q"}, 3))
+
+    def test_marks_of_pandoc(self) -> None:
+        marks = read('``` {.a .setup timeout=2 tags="p q" skip="no net"}\nx\n```\n').cases[0].marks
+        self.assertEqual((marks.is_setup, marks.timeout, marks.tags, marks.skip), (True, 2.0, {"p", "q"}, "no net"))
+
+    def test_what_is_refused(self) -> None:
+        for text, why in (
+            ("```a {setpu}\nx\n```\n", "line 4: 'setpu' is none of the words"),
+            ("```a {timeout soon}\nx\n```\n", "line 4: 'soon' is nothing that timeout can have"),
+            ("```a\nx\n```\n\nWords.\n\n```answer\n1\n```\n", "line 10: an answer stands behind no case"),
+            ("```a\nx\n", "the fence in line 4 isn't closed"),
+            ("```a\n\n```\n", "line 4: the case has no code"),
+        ):
+            with self.assertRaisesRegex(Trouble, why):
+                read(text)
+
+    def test_front_matter_that_is_refused(self) -> None:
+        for more, why in (
+            ("normal: {'[': x}\n", "`normal` has the pattern"),
+            ("normal: x\n", "`normal` is no mapping"),
+            ("tolerance: much\n", "the tolerance 'much' is no number"),
+            ("tolerance: -1\n", "is no number from 0 on"),
+            ("timeout: 0\n", "`timeout` is no number of seconds"),
+        ):
+            with self.assertRaisesRegex(Trouble, why):
+                read("```a\nx\n```\n", "---\nsessions: {a: [x]}\n" + more + "---\n")
+
+
+class Accepting(unittest.TestCase):
+    def test_only_the_answers_change(self) -> None:
+        text = read("Words.\r\n\r\n```a\r\nx\r\n```\r\n\r\n```answer\r\n1\r\n```\r\nMore.\r\n\r\n> ```b\r\n> y\r\n> ```\r\n\r\nEnd", FRONT.replace("\n", "\r\n"))
+        self.assertEqual(
+            text.checked({0: "2\n3", 1: "4"})[len(FRONT) + 3 :],
+            "Words.\r\n\r\n```a\r\nx\r\n```\r\n\r\n```answer\r\n2\r\n3\r\n```\r\nMore.\r\n\r\n> ```b\r\n> y\r\n> ```\r\n>\r\n> ```answer\r\n> 4\r\n> ```\r\n\r\nEnd",
+        )
+
+    def test_a_fence_that_is_the_last_line(self) -> None:
+        self.assertEqual(read("```a\nx\n```").checked({0: "1"}), FRONT + "```a\nx\n```\n\n```answer\n1\n```\n")
+
+    def test_hostile_answers_stand_as_they_are(self) -> None:
+        chance = random.Random(2)
+        parts = ["```", "````", "~~~", "answer", "```a", "> ", "- x", "", " ", "---", "<!--", "# h", "\t", "[a]: b", "\\"]
+        text = read("1. ```a\n   x\n   ```\n\n```b\ny\n```\n")
+        for _ in range(2000):
+            answers = {at: "\n".join("".join(chance.choices(parts, k=chance.randint(0, 3))) for _ in range(chance.randint(1, 5))) for at in (0, 1)}
+            try:
+                new = text.checked(answers)
+            except Trouble:
+                continue  # such as a line of blanks in a list; nothing was written
+            self.assertEqual([one.wanted for one in Text("suite.md", new).cases], list(answers.values()))
+
+
+class Whole(Case):
+    def test_a_text_without_sessions(self) -> None:
+        with open(self.path, "w", encoding="utf-8") as file:
+            file.write("```a\nx\n```\n")
+        self.assertIn("names no sessions", self.run_suite(self.path).errors)
+
+    def test_accepted_answers_pass(self) -> None:
+        self.write(case("say one"), case("say two\\n```\\nthree", "no"), case("quiet"), case("say four", "four"))
+        before = self.read()
+        self.assertEqual(self.verdicts(self.path), ["new", "differs", "ok", "ok"])
+        self.assertEqual(self.read(), before)
+        accepted = self.run_suite("--accept", self.path)
+        self.assertEqual((accepted.status, accepted.output.split("\n")[0]), (1, f"{self.path}: 2 accepted"))
+        self.assertEqual(self.verdicts(self.path), ["ok", "ok", "ok", "ok"])
+
+    def test_an_answer_that_reads_as_a_pattern_is_accepted_as_it_is(self) -> None:
+        self.write(case("say ...", "x"), case("say a (re)"))
+        self.run_suite("--accept", self.path)
+        self.assertEqual(self.verdicts(self.path), ["ok", "ok"])
+        self.write(case("say b", "\\.\\.\\. (re)"), case("say b", "a (re)"))
+        self.assertEqual(self.verdicts(self.path), ["differs", "differs"])
+
+    def test_accepting_one_by_one(self) -> None:
+        self.write(case("say one", "x"), case("say two", "y"))
+        self.run_suite("--accept", "--interactive", self.path, given="n\ny\n")
+        self.assertEqual(self.verdicts(self.path), ["differs", "ok"])

@@ -1,0 +1,1 @@
+"""Test suites of interpreters that are texts: code in fences, and what is wanted behind each."""

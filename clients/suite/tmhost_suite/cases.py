@@ -1,0 +1,66 @@
+"""What a suite is: sessions, rules of comparison, and cases in the order of its text."""
+import dataclasses
+import hashlib
+import json
+from typing import Dict, FrozenSet, List, Optional, Tuple
+
+from tmhost_weave.fields import Group
+
+from .rules import Rules
+
+
+@dataclasses.dataclass(frozen=True)
+class Marks:
+    """What a fence says of its case. `timeout` is in seconds; `flaky` is how often a case that differs is evaluated again."""
+
+    is_setup: bool = False
+    is_teardown: bool = False
+    is_whole: bool = False
+    xfail: Optional[str] = None
+    skip: Optional[str] = None
+    timeout: Optional[float] = None
+    tags: FrozenSet[str] = frozenset()
+    flaky: int = 0
+
+
+@dataclasses.dataclass(frozen=True)
+class Case:
+    """`line` is that of its fence, from 1. `wanted` is None where the text has no answer behind it."""
+
+    session: str
+    marks: Marks
+    lines: Tuple[str, ...]
+    fields: Tuple[Group, ...]
+    line: int
+    wanted: Optional[str]
+
+    @property
+    def title(self) -> str:
+        """Its first line that has anything, in at most 60 characters."""
+        first = next((line.strip() for line in self.lines if line.strip()), "")
+        return first if len(first) <= 60 else first[:57] + "..."
+
+    @property
+    def digest(self) -> str:
+        """The same for the same code in the same session, wherever it stands."""
+        return hashlib.sha256(json.dumps([self.session, self.lines]).encode("utf-8", "surrogatepass")).hexdigest()[:16]
+
+
+@dataclasses.dataclass(frozen=True)
+class Suite:
+    path: str
+    sessions: Dict[str, Tuple[str, ...]]
+    rules: Rules
+    timeout: Optional[float]
+    cases: Tuple[Case, ...]
+
+    @property
+    def digest(self) -> str:
+        """The same for the same sessions and cases, whatever is wanted of them."""
+        whole = [sorted(self.sessions.items()), [[case.digest, case.marks.is_setup, case.marks.is_whole] for case in self.cases]]
+        return hashlib.sha256(json.dumps(whole).encode("utf-8", "surrogatepass")).hexdigest()
+
+    def of(self, session: str) -> List[int]:
+        """The places of a session's cases, from 0, in the order in which they are evaluated: what takes down comes last."""
+        own = [at for at, case in enumerate(self.cases) if case.session == session]
+        return sorted(own, key=lambda at: self.cases[at].marks.is_teardown)

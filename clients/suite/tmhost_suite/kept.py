@@ -1,0 +1,165 @@
+"""The worksheet beside a suite in which a run keeps its answers, so that one that was killed goes on."""
+import contextlib
+import dataclasses
+import json
+import os
+import subprocess
+import time
+from typing import Dict, List, Optional
+
+from tmhost import Answer, Cell, InUse, Refused, Worksheet, find_program
+from tmhost_weave.troubles import Trouble
+
+from .cases import Suite
+
+# The session of notes: what a run is of, and what came of each case. It is never started.
+NOTES, NEVER = "tmhost-suite", ("true",)
+SECOND = ".alt"  # of a worksheet's second file
+PATIENCE, PAUSE = 10.0, 0.05  # seconds; the program of a run that was killed needs a moment to end
+
+
+@dataclasses.dataclass
+class Result:
+    """What came of a case. `got` is what is compared; `tries` is how often it was evaluated; `began_anew` says that its interpreter was
+    started for it, other than for the first case of its session."""
+
+    got: str
+    seconds: float
+    tries: int = 1
+    began_anew: bool = False
+    verdict: str = ""
+
+
+@dataclasses.dataclass
+class Kept:
+    """The worksheet of a run: the cells of each case, and what came of those that are done."""
+
+    sheet: Worksheet
+    suite: Suite
+    cells: List[List[Cell]]
+    misfits: Dict[int, str]
+    results: Dict[int, Result]
+
+    def note(self, at: int, result: Result) -> None:
+        """A case is done when this has returned. What is too long for a note stands in the case's own cells."""
+        short = dataclasses.asdict(result)
+        if result.got == self.shown(at):
+            del short["got"]
+        self.sheet.new(NOTES, json.dumps({"case": at, "digest": self.suite.cases[at].digest, **short}, ensure_ascii=True))
+
+    def shown(self, at: int) -> str:
+        """What the cells of a case show, one after another."""
+        return joined([shown_of(cell.answer) if cell.answer else f"? {cell.reason}" for cell in self.cells[at] if cell.state != "empty"])
+
+
+def shown_of(answer: Answer) -> str:
+    """An answer as it is compared: in print, without line ends behind it."""
+    return str(answer).rstrip("\n")
+
+
+def joined(parts: List[str]) -> str:
+    """What the fields of a case show, one after another. A field that says nothing leaves no line."""
+    return "\n".join(part for part in parts if part)
+
+
+def sheet_path(path: str, folder: Optional[str]) -> str:
+    return (os.path.join(folder, os.path.basename(path)) if folder else path) + ".run"
+
+
+def remove(path: str) -> None:
+    for name in (path, path + SECOND):
+        with contextlib.suppress(FileNotFoundError):
+            os.unlink(name)
+
+
+def opened(path: str) -> Worksheet:
+    until = time.monotonic() + PATIENCE
+    while True:
+        try:
+            return Worksheet(path)
+        except InUse:
+            if time.monotonic() > until:
+                raise Trouble(f"{path} is in use by another program") from None
+            time.sleep(PAUSE)
+
+
+def begin(path: str, suite: Suite) -> Kept:
+    """A new run, in the place of an earlier one."""
+    if os.path.lexists(path):
+        opened(path).close()  # so that the worksheet of a run that goes on isn't taken away
+    remove(path)
+    made = subprocess.run([find_program(), "create", os.path.join(".", path)], stdin=subprocess.DEVNULL, capture_output=True)
+    if made.returncode != 0:
+        raise Trouble(f"{path} can't be made: {made.stderr.decode('utf-8', 'backslashreplace').strip()}")
+    sheet = Worksheet(path)
+    try:
+        return fill(sheet, suite)
+    except BaseException:
+        sheet.close()
+        raise
+
+
+def fill(sheet: Worksheet, suite: Suite) -> Kept:
+    """Makes the cells of all cases, and says at the end of which suite they are."""
+    sheet.session(NOTES, NEVER)
+    kept = Kept(sheet, suite, [], {}, {})
+    for name, words in suite.sessions.items():
+        sheet.session(name, words)
+    for at, case in enumerate(suite.cases):
+        kept.cells.append([])
+        for field in case.fields:
+            try:
+                kept.cells[at].append(sheet.new(case.session, field.input))
+            except Refused as refused:
+                kept.misfits[at] = field.misfit or str(refused)
+    sheet.new(NOTES, json.dumps({"suite": suite.digest}))
+    return kept
+
+
+def resume(path: str, suite: Suite) -> Optional[Kept]:
+    """The run that was broken off. None where there is none, or where it was broken off before a case began."""
+    if not os.path.lexists(path):
+        return None
+    sheet = opened(path)
+    try:
+        return found_in(sheet, suite)
+    except BaseException:
+        sheet.close()
+        raise
+
+
+def notes_in(sheet: Worksheet) -> List[Dict[str, object]]:
+    return [json.loads(cell.input) for cell in sheet.cells if cell.session == NOTES]
+
+
+def found_in(sheet: Worksheet, suite: Suite) -> Optional[Kept]:
+    notes = notes_in(sheet) if NOTES in sheet.sessions else []
+    if not notes:
+        sheet.close()
+        return None
+    if notes[0].get("suite") != suite.digest:
+        raise Trouble("the code of the suite isn't that of the run that was broken off: begin again, without --resume")
+    kept = Kept(sheet, suite, [], {}, {})
+    cells = {name: [cell for cell in sheet.cells if cell.session == name] for name in suite.sessions}
+    for at, case in enumerate(suite.cases):
+        fitting = [field for field in case.fields if field.misfit is None]
+        kept.cells.append([cells[case.session].pop(0) for _ in fitting])
+        if len(fitting) < len(case.fields):
+            kept.misfits[at] = next(field.misfit for field in case.fields if field.misfit) or ""
+    for note in notes[1:]:
+        at = int(str(note.pop("case")))
+        note.pop("digest")
+        note.setdefault("got", kept.shown(at))
+        kept.results[at] = Result(**note)  # type: ignore[arg-type]
+    for left in cells.values():
+        for cell in left:  # of a replay that was cut off
+            cell.remove()
+    return kept
+
+
+def last_failed(path: str) -> List[str]:
+    """The digests of the cases that weren't passed in the last run."""
+    if not os.path.lexists(path):
+        return []
+    with opened(path) as sheet:
+        return [str(note["digest"]) for note in notes_in(sheet)[1:] if note.get("verdict") in ("differs", "new", "xpass")]

@@ -1,0 +1,84 @@
+"""What the info string of a fence says of its case: `gp {setup}`, `py {xfail slow machines} {timeout 5}`, `{.py .setup timeout=5}`."""
+import re
+import shlex
+from typing import Callable, Dict, Iterator, Optional, Tuple
+
+from tmhost_weave.troubles import Trouble
+
+from .cases import Marks
+
+BRACES = re.compile(r"\{([^{}]*)\}")
+MOST_SECONDS = 1_000_000
+MOST_TRIES = 100
+
+Mark = Tuple[str, str]  # its name, and what stands behind it
+
+
+def session_in(info: str) -> Optional[str]:
+    """The first word or class of an info string."""
+    info = info.strip()
+    first = (info.split() or [""])[0]
+    if first.startswith("{"):
+        classes = [word for found in BRACES.findall(info)[:1] for word in found.split()]
+        return classes[0][1:] if classes and classes[0].startswith(".") else None
+    return first or None
+
+
+def of_pandoc(found: str) -> Iterator[Mark]:
+    """The classes and pairs behind the first class: `.setup`, `timeout=5`, `xfail="a reason"`."""
+    for word in shlex.split(found)[1:]:
+        name, _, rest = word.lstrip(".").partition("=")
+        yield name, rest
+
+
+def marks_in(info: str) -> Iterator[Mark]:
+    for at, found in enumerate(BRACES.findall(info)):
+        if at == 0 and info.startswith("{"):
+            yield from of_pandoc(found)
+        elif found.strip():
+            name, _, rest = found.strip().partition(" ")
+            yield name, rest.strip()
+
+
+def seconds(word: str) -> float:
+    value = float(word)
+    if not 0 < value <= MOST_SECONDS:
+        raise ValueError
+    return value
+
+
+def tries(word: str) -> int:
+    value = int(word or "1")
+    if not 1 <= value <= MOST_TRIES:
+        raise ValueError
+    return value
+
+
+READERS: Dict[str, Tuple[str, Callable[[str], object]]] = {
+    "setup": ("is_setup", lambda rest: True),
+    "teardown": ("is_teardown", lambda rest: True),
+    "whole": ("is_whole", lambda rest: True),
+    "xfail": ("xfail", str),
+    "skip": ("skip", str),
+    "timeout": ("timeout", seconds),
+    "tags": ("tags", lambda rest: frozenset(re.split(r"[\s,]+", rest)) - {""}),
+    "flaky": ("flaky", tries),
+}
+# Words of tmhost-weave that change nothing of a case, so that a text may be woven and tested.
+IDLE = ("hide", "fold")
+
+
+def read_marks(info: str, line: int) -> Marks:
+    info = info.strip()
+    found: Dict[str, object] = {}
+    try:
+        for name, rest in marks_in(info):
+            if name in IDLE:
+                continue
+            if name not in READERS:
+                raise Trouble(f"line {line}: {ascii(name)} is none of the words that a case can have: {', '.join(READERS)}")
+            member, read = READERS[name]
+            found[member] = read(rest)
+    except ValueError:
+        raise Trouble(f"line {line}: {ascii(rest)} is nothing that {name} can have") from None
+    return Marks(**found)  # type: ignore[arg-type]

@@ -1,0 +1,230 @@
+"""The command line of tmhost-suite."""
+import argparse
+import fnmatch
+import os
+import random
+import re
+import sys
+import threading
+import time
+from concurrent.futures import ThreadPoolExecutor
+from typing import Callable, Dict, FrozenSet, List, Optional, Tuple
+
+from tmhost import TmhostError
+from tmhost_weave.files import put
+from tmhost_weave.troubles import Trouble
+
+from . import kept as worksheets
+from .cases import Case, Suite
+from .marks import seconds
+from .reports import FORMATS, Told, told_of
+from .rules import as_wanted
+from .running import PASSED, Plan, run
+from .telling import Teller, standard
+from .readers import as_text, reader_of
+from .text import Text, names_sessions
+
+ABOUT = "Runs test suites that are texts: evaluates the code in their fences, and compares what comes with the answers behind them."
+NOTES = """
+The front matter of SUITE names the sessions, as `sessions: {py: [adapters/python]}`, and may have `normal`, `tolerance` and
+`timeout`. A fence of a session is a case, and a fence `answer` behind it what is wanted. Behind the session may stand {setup},
+{teardown}, {xfail REASON}, {skip REASON}, {timeout SECONDS}, {tags A B}, {flaky N} and {whole}.
+What came is kept in the worksheet SUITE.run while the suite runs, so --resume goes on where a run was cut off.
+The program is the one that TMHOST names, or tmhost on PATH. The status is 0 where all is as wanted, 1 where it isn't, and 2
+where the words are refused.
+"""
+INTERRUPTED = 130
+
+
+def shard(word: str) -> Tuple[int, int]:
+    found = re.fullmatch(r"(\d+)/(\d+)", word)
+    if not found or not 1 <= int(found[1]) <= int(found[2]):
+        raise ValueError
+    return int(found[1]), int(found[2])
+
+
+def positive(word: str) -> int:
+    if int(word) < 1:
+        raise ValueError
+    return int(word)
+
+
+def arguments(words: List[str]) -> argparse.Namespace:
+    parser = argparse.ArgumentParser("tmhost-suite", None, ABOUT, NOTES, formatter_class=argparse.RawDescriptionHelpFormatter)
+    parser.add_argument("suites", nargs="+", metavar="SUITE")
+    parser.add_argument("--accept", action="store_true", help="put what came into the text where it isn't what is wanted")
+    parser.add_argument("--interactive", action="store_true", help="with --accept: ask for each case")
+    parser.add_argument("--only", metavar="PATTERN", help="run the cases whose line number or first line is this, with * and ? as in names of files")
+    parser.add_argument("--tags", metavar="TAGS", help="run the cases that have one of these tags, with commas between them")
+    parser.add_argument("--shard", type=shard, default=(1, 1), metavar="I/N", help="run the I-th of N parts of the suites")
+    parser.add_argument("--rerun", choices=["failed"], help="run the cases that weren't as wanted in the last run")
+    parser.add_argument("--resume", action="store_true", help="go on with a run that was cut off")
+    parser.add_argument("--jobs", type=positive, default=os.cpu_count() or 1, metavar="N", help="evaluate so many cases at a time")
+    parser.add_argument("--random", metavar="SEED", help="take the cases of each session in the order of this seed ('new': a new one)")
+    parser.add_argument("--fail-fast", action="store_true", help="begin no case after one that isn't as wanted")
+    parser.add_argument("--seconds", type=seconds, default=60.0, metavar="N", help="how long a case may take that says nothing else (60)")
+    parser.add_argument("--slowest", type=positive, default=0, metavar="N", help="list the N cases that took longest")
+    parser.add_argument("--verbose", action="store_true", help="list all cases, and what the rules made of what came")
+    parser.add_argument("--runs", metavar="FOLDER", help="where the worksheets of runs lie (beside the suites)")
+    parser.add_argument("--convert", action="store_true", help="run nothing, and write the text form of a suite of another form")
+    for format in FORMATS:
+        parser.add_argument(f"--{format}", metavar="FILE", help=f"write a report in the form of {format} (-: standard output)")
+    given = parser.parse_args(words)
+    if given.interactive and not given.accept:
+        parser.error("--interactive is for --accept")
+    if given.resume and given.rerun:
+        parser.error("--resume goes on with a run, and --rerun begins one")
+    return given
+
+
+def chooser(given: argparse.Namespace, path: str) -> Callable[[int, Case], bool]:
+    """Which cases of a suite are run."""
+    tags = frozenset(re.split(r"[\s,]+", given.tags)) if given.tags else None
+    failed = frozenset(worksheets.last_failed(worksheets.sheet_path(path, given.runs))) if given.rerun else None
+
+    def is_chosen(at: int, case: Case) -> bool:
+        names = (str(case.line), case.title)
+        return (
+            (given.only is None or any(fnmatch.fnmatchcase(name, given.only) for name in names))
+            and (tags is None or bool(tags & case.marks.tags))
+            and (failed is None or case.digest in failed)
+        )
+
+    return is_chosen
+
+
+Read = Tuple[Suite, Optional[Text]]
+
+
+def read(path: str) -> Read:
+    """A suite, with its text where it is of the text form."""
+    with open(path, "rb") as file:
+        data = file.read()
+    try:
+        text = data.decode("utf-8")
+    except UnicodeDecodeError:
+        raise Trouble("the text is no UTF-8") from None
+    reader = reader_of(path, text, names_sessions(text))
+    if reader is not None:
+        return reader(path, text), None
+    found = Text(path, text)
+    return found.suite, found
+
+
+class Runner:
+    """Runs the suites of a command line."""
+
+    def __init__(self, given: argparse.Namespace, teller: Teller) -> None:
+        self.given, self.teller = given, teller
+        self.slots, self.ended = threading.Semaphore(given.jobs), threading.Event()
+        self.seed = str(random.randrange(10**6)) if given.random == "new" else given.random
+
+    def run(self) -> bool:
+        number, parts = self.given.shard
+        paths = self.given.suites[number - 1 :: parts]
+        suites = [self._read(path) for path in paths]
+        self.teller.begin(sum(len(suite.cases) for suite, _ in suites))
+        if self.given.random:
+            self.teller.say(f"in the order of --random {self.seed}")
+        began = time.monotonic()
+        with ThreadPoolExecutor(max(1, min(len(suites), self.given.jobs))) as pool:
+            told = [one for found in pool.map(lambda pair: self._run_one(*pair), suites) for one in found]
+        self.teller.end_progress()
+        self._tell(told, time.monotonic() - began)
+        self._write_reports(told)
+        return all(one.verdict in PASSED or one.verdict == "out" for one in told)
+
+    def _read(self, path: str) -> Read:
+        try:
+            return read(path)
+        except Trouble as trouble:
+            raise Trouble(f"{path}: {trouble}") from None
+
+    def _run_one(self, suite: Suite, text: Optional[Text]) -> List[Told]:
+        try:
+            return self._run_suite(suite, text)
+        except (Trouble, TmhostError) as trouble:
+            raise Trouble(f"{suite.path}: {trouble}") from None
+
+    def _run_suite(self, suite: Suite, text: Optional[Text]) -> List[Told]:
+        path = worksheets.sheet_path(suite.path, self.given.runs)
+        chosen = chooser(self.given, suite.path)
+        found = worksheets.resume(path, suite) if self.given.resume else None
+        if found is not None:
+            self.teller.say(f"{suite.path}: goes on behind {len(found.results)} of {len(suite.cases)} cases")
+        kept = found or worksheets.begin(path, suite)
+        with kept.sheet:
+            plan = Plan(chosen, self.given.seconds, self.slots, self.ended, self.given.fail_fast, self.seed)
+            applied = run(kept, plan, lambda at: self.teller.one_more())
+        told = told_of(suite, kept.results)
+        if self.given.accept:
+            self._accept(text, told)
+        if self.given.verbose and found is None:
+            self.teller.tell_idle_rules(suite, applied)
+        return told
+
+    # ---- what is accepted
+
+    def _accept(self, text: Optional[Text], told: List[Told]) -> None:
+        if text is None:
+            raise Trouble("nothing is accepted into a file of this form: --convert writes the text form")
+        answers: Dict[int, str] = {}
+        for at, one in enumerate(told):
+            if one.verdict in ("differs", "new") and (not self.given.interactive or self._is_wanted(one)):
+                answers[at] = "\n".join(as_wanted(one.got))
+        if not answers:
+            return
+        new = text.checked(answers)
+        with open(text.suite.path, "rb") as file:
+            if file.read() != "".join(text.lines).encode("utf-8"):
+                raise Trouble("the text was changed while it was run: nothing is accepted")
+        put(os.path.realpath(text.suite.path), new.encode("utf-8"))
+        self.teller.say(f"{text.suite.path}: {len(answers)} accepted")
+
+    def _is_wanted(self, told: Told) -> bool:
+        self.teller.end_progress()
+        self.teller.tell(told)
+        self.teller.out.write("accept this? [y/N] ")
+        self.teller.out.flush()
+        return sys.stdin.readline().strip().lower() in ("y", "yes")
+
+    # ---- what is told
+
+    def _tell(self, told: List[Told], taken: float) -> None:
+        for one in told:
+            if one.is_wrong:
+                self.teller.tell(one)
+            elif self.given.verbose and one.verdict != "out":
+                self.teller.tell(one)
+                self.teller.tell_normalised(one)
+        if self.given.slowest:
+            self.teller.tell_slowest(told, self.given.slowest)
+        self.teller.tell_counts(told, taken)
+
+    def _write_reports(self, told: List[Told]) -> None:
+        for name, write in FORMATS.items():
+            path: Optional[str] = getattr(self.given, name)
+            if path is None:
+                continue
+            text = "".join(line + "\n" for line in write(told))
+            if path == "-":
+                sys.stdout.write(text)
+            else:
+                with open(path, "w", encoding="utf-8", newline="") as file:
+                    file.write(text)
+
+
+def main(words: List[str]) -> int:
+    given = arguments(words)
+    try:
+        if given.convert:
+            sys.stdout.write("".join(as_text(read(path)[0]) for path in given.suites))
+            return 0
+        return 0 if Runner(given, standard()).run() else 1
+    except (Trouble, TmhostError) as trouble:
+        print(f"tmhost-suite: {trouble}", file=sys.stderr)
+    except OSError as error:
+        print(f"tmhost-suite: {error.strerror or error}" + (f": {error.filename}" if error.filename else ""), file=sys.stderr)
+    except KeyboardInterrupt:
+        return INTERRUPTED
+    return 1

@@ -1,0 +1,88 @@
+"""How what came is compared with what is wanted: exactly, but for what a suite's rules say."""
+import dataclasses
+import decimal
+import fnmatch
+import re
+from decimal import Decimal
+from typing import List, Optional, Sequence, Set, Tuple
+
+# A number that was rounded: it has a point or an exponent, which gp writes behind a space. An integer is exact, and has no tolerance.
+NUMBER = re.compile(r"(?<![\w.])[-+]?(?:(?:\d+\.\d*|\.\d+)(?: ?[eE][-+]?\d+)?|\d+ ?[eE][-+]?\d+)(?!\w)")
+ANY_LINES = "..."
+BY_PATTERN, BY_GLOB = " (re)", " (glob)"
+
+
+@dataclasses.dataclass(frozen=True)
+class Normal:
+    """Each place of this pattern is replaced by this text before texts are compared."""
+
+    pattern: "re.Pattern[str]"
+    put: str
+
+
+@dataclasses.dataclass(frozen=True)
+class Rules:
+    """`relative` and `absolute` are how far numbers may be apart that stand in equal text: the greater of the two allowances."""
+
+    normal: Tuple[Normal, ...] = ()
+    relative: Decimal = Decimal(0)
+    absolute: Decimal = Decimal(0)
+
+    def normalised(self, text: str, applied: Set[int]) -> str:
+        """The text after each rule in turn; the places of those that found something are put into `applied`."""
+        for at, normal in enumerate(self.normal):
+            text, found = normal.pattern.subn(normal.put, text)
+            if found:
+                applied.add(at)
+        return text
+
+    def are_alike(self, wanted: str, got: str, applied: Set[int]) -> bool:
+        wanted, got = self.normalised(wanted, applied), self.normalised(got, applied)
+        return wanted == got or match(wanted.split("\n"), got.split("\n"), self)
+
+
+def value(text: str) -> Decimal:
+    return Decimal(text.replace(" ", ""))
+
+
+def near(wanted: str, got: str, rules: Rules) -> bool:
+    with decimal.localcontext() as context:
+        context.prec = max(28, len(wanted) + len(got))
+        one, other = value(wanted), value(got)
+        return abs(one - other) <= max(rules.absolute, rules.relative * abs(one))
+
+
+def line_matches(wanted: str, got: str, rules: Rules) -> bool:
+    if wanted == got:
+        return True
+    if wanted.endswith(BY_PATTERN):
+        return re.fullmatch(wanted[: -len(BY_PATTERN)], got) is not None
+    if wanted.endswith(BY_GLOB):
+        return fnmatch.fnmatchcase(got, wanted[: -len(BY_GLOB)])
+    if not rules.relative and not rules.absolute:
+        return False
+    if NUMBER.sub("#", wanted) != NUMBER.sub("#", got):
+        return False
+    return all(near(*pair, rules) for pair in zip(NUMBER.findall(wanted), NUMBER.findall(got)))
+
+
+def match(wanted: Sequence[str], got: Sequence[str], rules: Rules) -> bool:
+    """Line by line, where a line `...` stands for any lines. After such a line the first place that goes on is tried, then the next one."""
+    at = other = 0
+    back: Optional[Tuple[int, int]] = None
+    while other < len(got):
+        if at < len(wanted) and wanted[at] == ANY_LINES:
+            at, back = at + 1, (at + 1, other)
+        elif at < len(wanted) and line_matches(wanted[at], got[other], rules):
+            at, other = at + 1, other + 1
+        elif back is not None:
+            back = back[0], back[1] + 1
+            at, other = back
+        else:
+            return False
+    return all(line == ANY_LINES for line in wanted[at:])
+
+
+def as_wanted(text: str) -> List[str]:
+    """The lines of an answer, as they are wanted exactly. What would be read as a pattern is written as one that matches itself alone."""
+    return [re.escape(line) + BY_PATTERN if line == ANY_LINES or line.endswith((BY_PATTERN, BY_GLOB)) else line for line in text.split("\n")]

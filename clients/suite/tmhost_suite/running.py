@@ -1,0 +1,195 @@
+"""Evaluates the cases of a suite, the sessions side by side, and judges what comes."""
+import contextlib
+import dataclasses
+import random
+import threading
+import time
+from concurrent.futures import ThreadPoolExecutor
+from typing import Callable, FrozenSet, List, Optional
+
+from tmhost import Cell, Lost, Refused, TimedOut
+
+from .cases import Case
+from .kept import Kept, Result, joined, shown_of
+
+GRACE = 2.0  # seconds for an interpreter that was interrupted to say so
+PASSED = ("ok", "flaky", "xfail", "skip", "setup")
+WRONG = ("differs", "new", "xpass")
+
+
+@dataclasses.dataclass
+class Plan:
+    """What is run and how: `chosen` says which cases, `slots` how many at a time over all files, `ended` that no more are begun."""
+
+    chosen: Callable[[int, Case], bool]
+    seconds: float
+    slots: threading.Semaphore
+    ended: threading.Event
+    fails_fast: bool = False
+    seed: Optional[int] = None
+
+
+def verdict_of(case: Case, is_good: bool, tries: int) -> str:
+    if case.marks.xfail is not None:
+        return "xpass" if is_good else "xfail"
+    if is_good:
+        return "flaky" if tries > 1 else "ok"
+    if case.wanted is None:
+        return "setup" if case.marks.is_setup or case.marks.is_teardown else "new"
+    return "differs"
+
+
+class Over(Exception):
+    """The time of a case is over."""
+
+
+class Chain:
+    """The cases of one session, one after another, in one interpreter as long as that goes on."""
+
+    def __init__(self, kept: Kept, session: str, plan: Plan, tell: Callable[[int], None]) -> None:
+        self.kept, self.session, self.plan, self.tell = kept, session, plan, tell
+        self.suite = kept.suite
+        self.applied: "set[int]" = set()  # the places of the rules that found something
+        self.is_fresh = True  # its interpreter isn't started, or starts empty
+        self.has_run = False
+
+    @property
+    def order(self) -> List[int]:
+        """The places of its cases. Where they are shuffled, what sets up comes first and what takes down last, as they stand."""
+        places = self.suite.of(self.session)
+        if self.plan.seed is not None:
+            free = [at for at in places if not self._is_fixed(at)]
+            mixed = iter(random.Random(f"{self.plan.seed} {self.session}").sample(free, len(free)))
+            fixed = [at for at in places if self._is_fixed(at)]
+            first = [at for at in fixed if self.suite.cases[at].marks.is_setup]
+            places = first + list(mixed) + [at for at in fixed if at not in first]
+        return places
+
+    def _is_fixed(self, at: int) -> bool:
+        marks = self.suite.cases[at].marks
+        return marks.is_setup or marks.is_teardown
+
+    def run(self) -> None:
+        order = self.order
+        done = [at for at in order if at in self.kept.results]
+        for at in order:
+            case = self.suite.cases[at]
+            if at in self.kept.results or case.marks.skip is not None or not (self.plan.chosen(at, case) or self._is_fixed(at)):
+                continue
+            with self.plan.slots:
+                if self.plan.ended.is_set():
+                    return
+                if done:
+                    self._replay_done(done)
+                    done = []
+                self._judge(at, case)
+            self.tell(at)
+
+    def _judge(self, at: int, case: Case) -> None:
+        tries, good, result = 0, False, Result("", 0.0)
+        while not good and tries <= case.marks.flaky:
+            tries += 1
+            result = self._evaluate(at, case)
+            good = self._is_wanted(case, result.got)
+        result.tries, result.verdict = tries, verdict_of(case, good, tries)
+        self.kept.note(at, result)
+        self.kept.results[at] = result
+        if self.plan.fails_fast and result.verdict in WRONG:
+            self.plan.ended.set()
+
+    def _is_wanted(self, case: Case, got: str) -> bool:
+        """A case without an answer behind it is wanted to say nothing."""
+        return not got if case.wanted is None else self.suite.rules.are_alike(case.wanted, got, self.applied)
+
+    # ---- one case
+
+    def _evaluate(self, at: int, case: Case) -> Result:
+        began_anew = self.is_fresh and self.has_run
+        self._begin_life(at)
+        began = time.monotonic()
+        until = began + (case.marks.timeout or self.suite.timeout or self.plan.seconds)
+        got: List[str] = []
+        try:
+            for cell in self.kept.cells[at]:
+                got.append(self._answer(cell, until))
+        except Lost as lost:
+            got.append(f"? {lost.reason}")
+        except Over:
+            got.append(f"? over {until - began:g} s")
+        except Refused as refused:
+            got.append(f"? {refused}")
+        if at in self.kept.misfits:
+            got.append(f"? {self.kept.misfits[at]}")
+        return Result(joined(got), time.monotonic() - began, began_anew=began_anew)
+
+    def _answer(self, cell: Cell, until: float) -> str:
+        """The answer of a cell. Raises Lost, where its interpreter ended, Over, where the time is, and Refused."""
+        try:
+            return shown_of(cell.evaluate(max(0.001, until - time.monotonic())))
+        except Lost:
+            self.is_fresh = True
+            raise
+        except TimedOut:
+            self._interrupt(cell)
+            raise Over from None
+
+    def _interrupt(self, cell: Cell) -> None:
+        """Ends what an interpreter is at; where it doesn't heed that, the interpreter."""
+        self.kept.sheet.interrupt(self.session)
+        evaluation = cell.evaluation
+        try:
+            if evaluation is not None:
+                evaluation.result(GRACE)
+        except TimedOut:
+            self.kept.sheet.stop(self.session)
+            self.is_fresh = True
+        except Lost:
+            self.is_fresh = True
+
+    # ---- what an interpreter has to know before it
+
+    def _begin_life(self, at: int) -> None:
+        """Where its interpreter starts empty and did so before, what sets up in front of this case is evaluated once more."""
+        if self.is_fresh and self.has_run:
+            places = self.suite.of(self.session)
+            self._replay([one for one in places[: places.index(at)] if self.suite.cases[one].marks.is_setup])
+        self.is_fresh, self.has_run = False, True
+
+    def _replay_done(self, done: List[int]) -> None:
+        """Brings a new interpreter to where that of the run that was broken off stood: what set up before the last case in which an
+        interpreter ended, and all behind that."""
+        cut = max((place for place, at in enumerate(done) if self._was_lost(at)), default=-1)
+        before = [at for at in done[: cut + 1] if self.suite.cases[at].marks.is_setup]
+        self.has_run, self.is_fresh = True, cut + 1 == len(done)
+        if not self.is_fresh:
+            self._replay(before + done[cut + 1 :])
+
+    def _was_lost(self, at: int) -> bool:
+        return any(cell.state != "answered" for cell in self.kept.cells[at])
+
+    def _replay(self, places: List[int]) -> None:
+        """Evaluates cases once more, in a cell of their own: what stands in theirs stays."""
+        if not places:
+            return
+        scratch = self.kept.sheet.new(self.session)
+        try:
+            for at in places:
+                case = self.suite.cases[at]
+                until = time.monotonic() + (case.marks.timeout or self.suite.timeout or self.plan.seconds)
+                for cell in self.kept.cells[at]:
+                    scratch.set(cell.input)
+                    with contextlib.suppress(Over, Refused):
+                        self._answer(scratch, until)
+        except Lost:
+            pass  # the case that comes starts another one
+        finally:
+            scratch.remove()
+
+
+def run(kept: Kept, plan: Plan, tell: Callable[[int], None]) -> "FrozenSet[int]":
+    """Runs all cases, each session in a thread of its own, and gives the places of the rules that found something."""
+    chains = [Chain(kept, name, plan, tell) for name in kept.suite.sessions]
+    with ThreadPoolExecutor(len(chains)) as pool:
+        for done in [pool.submit(chain.run) for chain in chains]:
+            done.result()
+    return frozenset().union(*(chain.applied for chain in chains))

@@ -1,0 +1,87 @@
+"""What came of a run, for people: differences, counts, the slowest cases, and on a terminal how far it is."""
+import sys
+import threading
+from typing import Dict, List, TextIO
+
+from .cases import Suite
+from .reports import Told
+
+COLOURS = {"-": "31", "+": "32", "@": "36"}
+BOLD = "1"
+ORDER = ("ok", "flaky", "xfail", "skip", "differs", "new", "xpass")
+CLEAR = "\r\x1b[K"
+
+
+def readable(text: str) -> str:
+    """Without what moves a terminal's cursor or changes its state."""
+    return "".join(c if c in "\n\t" or c.isprintable() else c.encode("unicode_escape").decode() for c in text)
+
+
+class Teller:
+    def __init__(self, out: TextIO, progress: TextIO) -> None:
+        self.out, self.progress = out, progress
+        self.has_colours = out.isatty()
+        self.shows_progress = progress.isatty()
+        self.lock = threading.Lock()
+        self.done, self.all = 0, 0
+
+    def begin(self, count: int) -> None:
+        self.all = count
+
+    def one_more(self) -> None:
+        with self.lock:
+            self.done += 1
+            if self.shows_progress:
+                self.progress.write(f"{CLEAR}{self.done} of {self.all}")
+                self.progress.flush()
+
+    def end_progress(self) -> None:
+        if self.shows_progress:
+            self.progress.write(CLEAR)
+            self.progress.flush()
+
+    def painted(self, text: str, colour: str) -> str:
+        return f"\x1b[{colour}m{text}\x1b[0m" if self.has_colours and colour else text
+
+    def say(self, line: str) -> None:
+        self.out.write(line + "\n")
+
+    def tell(self, told: Told) -> None:
+        """A case that is wrong, with its difference."""
+        remark = f" ({told.remark})" if told.remark else ""
+        self.say(self.painted(readable(f"{told.verdict}: {told.name}{remark}"), BOLD))
+        if told.verdict == "xpass":
+            self.say("  it is wanted to fail, and passes")
+        for line in told.diff[2:]:
+            self.say("  " + self.painted(readable(line), COLOURS.get(line[:1], "")))
+
+    def tell_slowest(self, all_told: List[Told], count: int) -> None:
+        slowest = sorted((told for told in all_told if told.result), key=lambda told: -told.seconds)[:count]
+        for told in slowest:
+            self.say(readable(f"{told.seconds:9.3f} s  {told.name}"))
+
+    def tell_idle_rules(self, suite: Suite, applied: "frozenset[int]") -> None:
+        for at, normal in enumerate(suite.rules.normal):
+            if at not in applied:
+                self.say(readable(f"{suite.path}: the rule {normal.pattern.pattern!r} found nothing"))
+
+    def tell_normalised(self, told: Told) -> None:
+        """What the rules made of what came, where they changed it."""
+        normalised = told.suite.rules.normalised(told.got, set())
+        if normalised != told.got:
+            self.say(readable(f"normalised: {told.name}"))
+            for line in normalised.split("\n"):
+                self.say("  " + readable(line))
+
+    def tell_counts(self, all_told: List[Told], seconds: float) -> None:
+        counts: Dict[str, int] = {}
+        for told in all_told:
+            counts[told.verdict] = counts.get(told.verdict, 0) + 1
+        parts = [f"{counts[verdict]} {verdict}" for verdict in ORDER if counts.get(verdict)]
+        left_out = counts.get("out", 0)
+        more = f", {left_out} left out" if left_out else ""
+        self.say(f"{', '.join(parts) or 'no cases'}{more} in {seconds:.1f} s")
+
+
+def standard() -> Teller:
+    return Teller(sys.stdout, sys.stderr)

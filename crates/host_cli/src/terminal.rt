@@ -1,0 +1,127 @@
+//! What a person at a terminal reads beside what the programs say: what a program waits for, and why a file can't be had.
+//! Into a pipe or a file nothing of it goes.
+use crate::startup::words;
+use command_words::{Task, read_words};
+use std::fs;
+use std::fs::OpenOptions;
+use std::io;
+use std::io::{IsTerminal, Write};
+use std::os::unix::fs::MetadataExt;
+use std::rt::Files;
+
+/// What a task does with the worksheet at a path.
+#[derive(Clone, Copy, Debug, PartialEq, Eq)]
+enum Use {
+    Makes,
+    Reads,
+    Writes,
+}
+
+/// What the task does with which paths: the first one, and of `rescue` the second.
+fn paths_of<'a>(task: &Task<'a>) -> [Option<(&'a str, Use)>; 2] {
+    match task {
+        Task::Blocks | Task::BlocksJson => [None, None],
+        Task::Create(path) => [Some((*path, Use::Makes)), None],
+        Task::Run(path, _) | Task::Live(path) | Task::LiveJson(path) | Task::Eval(path, _) => {
+            [Some((*path, Use::Writes)), None]
+        }
+        Task::Check(path, asked) => {
+            let use_of = if asked.accept { Use::Writes } else { Use::Reads };
+            [Some((*path, use_of)), None]
+        }
+        Task::Show(path) | Task::ShowJson(path) | Task::Export(path, _) => {
+            [Some((*path, Use::Reads)), None]
+        }
+        Task::Rescue(path, new) => [Some((*path, Use::Reads)), Some((*new, Use::Makes))],
+    }
+}
+
+/// What the program reads from the terminal, where it reads that to its end.
+fn awaited(task: &Task<'_>) -> Option<&'static str> {
+    match task {
+        Task::Blocks | Task::BlocksJson => Some("what an interpreter wrote"),
+        Task::Run(_, _) => Some("a script"),
+        _ => None,
+    }
+}
+
+/// Says what the program waits for, where a person has to type it.
+pub fn say_what_is_awaited(rt: &HostRuntime) {
+    if !rt.stdin().is_terminal() || !rt.stderr().is_terminal() {
+        return;
+    }
+    let Ok(words) = words(rt) else {
+        return;
+    };
+    let Ok(task) = read_words(rt.alloc(), words.as_slice()) else {
+        return;
+    };
+    if let Some(what) = awaited(&task) {
+        let _ = writeln!(
+            rt.stderr(),
+            "tmhost: reading {what} from this terminal, to its end (Control-D); 'tmhost --help' says what else there is"
+        );
+    }
+}
+
+/// Why a file can't be opened, as the system has it.
+fn opening_error(rt: &HostRuntime, path: &str, writes: bool) -> Option<io::Error> {
+    match OpenOptions::new().read(true).write(writes).open(rt, path) {
+        Ok(_) => None,
+        Err(error) => Some(error),
+    }
+}
+
+/// Says that something has the name of a new file, or why the system doesn't tell.
+fn explain_new(rt: &HostRuntime, path: &str) {
+    match fs::symlink_metadata(rt, path) {
+        Ok(_) => {
+            let _ = writeln!(rt.stderr(), "tmhost: {path}: it exists");
+        }
+        Err(error) => {
+            if error.kind() != io::ErrorKind::NotFound {
+                let _ = writeln!(rt.stderr(), "tmhost: {path}: {error}");
+            }
+        }
+    }
+}
+
+/// Says why a file of a worksheet can't be had. A pipe isn't opened, since that would wait for its other end.
+fn explain_file(rt: &HostRuntime, path: &str, writes: bool) {
+    match fs::metadata(rt, path) {
+        Err(error) => {
+            let _ = writeln!(rt.stderr(), "tmhost: {path}: {error}");
+        }
+        Ok(found) => {
+            if !found.is_file() {
+                let _ = writeln!(rt.stderr(), "tmhost: {path}: it is no plain file");
+            } else if found.nlink() > 1 {
+                let _ = writeln!(rt.stderr(), "tmhost: {path}: it has another name (a hard link)");
+            } else if let Some(error) = opening_error(rt, path, writes) {
+                let _ = writeln!(rt.stderr(), "tmhost: {path}: {error}");
+            }
+        }
+    }
+}
+
+/// Says on a terminal why the files of a program with this status can't be had, where the system has a reason. It
+/// asks the system once more, so it says nothing where the reason is gone.
+pub fn explain(rt: &HostRuntime, status: u8) {
+    if status != 1 || !rt.stderr().is_terminal() {
+        return;
+    }
+    let Ok(words) = words(rt) else {
+        return;
+    };
+    let Ok(task) = read_words(rt.alloc(), words.as_slice()) else {
+        return;
+    };
+    for named in paths_of(&task) {
+        match named {
+            Some((path, Use::Makes)) => explain_new(rt, path),
+            Some((path, Use::Reads)) => explain_file(rt, path, false),
+            Some((path, Use::Writes)) => explain_file(rt, path, true),
+            None => {}
+        }
+    }
+}
