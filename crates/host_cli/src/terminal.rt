@@ -37,10 +37,10 @@ fn paths_of<'a>(task: &Task<'a>) -> [Option<(&'a str, Use)>; 2] {
 }
 
 /// What the program reads from the terminal, where it reads that to its end.
-fn awaited(task: &Task<'_>) -> Option<&'static str> {
+fn awaited(rt: &HostRuntime, task: &Task<'_>) -> Option<&'static str> {
     match task {
         Task::Blocks | Task::BlocksJson => Some("what an interpreter wrote"),
-        Task::Run(_, _) => Some("a script"),
+        Task::Run(path, _) if fs::metadata(rt, path).is_ok() => Some("a script"),
         _ => None,
     }
 }
@@ -56,7 +56,7 @@ pub fn say_what_is_awaited(rt: &HostRuntime) {
     let Ok(task) = read_words(rt.alloc(), words.as_slice()) else {
         return;
     };
-    if let Some(what) = awaited(&task) {
+    if let Some(what) = awaited(rt, &task) {
         let _ = writeln!(
             rt.stderr(),
             "tmhost: reading {what} from this terminal, to its end (Control-D); 'tmhost --help' says what else there is"
@@ -72,16 +72,33 @@ fn opening_error(rt: &HostRuntime, path: &str, writes: bool) -> Option<io::Error
     }
 }
 
-/// Says that something has the name of a new file, or why the system doesn't tell.
+/// The folder in which a path stands.
+fn folder_of(path: &str) -> &str {
+    match path.rfind('/') {
+        None => ".",
+        Some(0) => "/",
+        Some(end) => path.get(..end).unwrap_or("."),
+    }
+}
+
+/// Says that something has the name of a new file.
+fn explain_name(rt: &HostRuntime, path: &str) {
+    if fs::symlink_metadata(rt, path).is_ok() {
+        let _ = writeln!(rt.stderr(), "tmhost: {path}: it exists");
+    }
+}
+
+/// Says why the two files of a new worksheet can't be made: their folder, or what has the name of one.
 fn explain_new(rt: &HostRuntime, path: &str) {
-    match fs::symlink_metadata(rt, path) {
-        Ok(_) => {
-            let _ = writeln!(rt.stderr(), "tmhost: {path}: it exists");
-        }
-        Err(error) => {
-            if error.kind() != io::ErrorKind::NotFound {
-                let _ = writeln!(rt.stderr(), "tmhost: {path}: {error}");
-            }
+    let folder = folder_of(path);
+    if let Err(error) = fs::metadata(rt, folder) {
+        let _ = writeln!(rt.stderr(), "tmhost: {folder}: {error}");
+        return;
+    }
+    explain_name(rt, path);
+    if let Ok(mut second) = String::from_str(rt.alloc(), path) {
+        if second.push_str(".alt").is_ok() {
+            explain_name(rt, second.as_str());
         }
     }
 }

@@ -47,12 +47,29 @@ made "$a"'new 0 a one\nnew 1 a differs\neval 1\neval 2\nwait\n'
 compare 'a fault on a terminal' "$(python3 screen.py sent /dev/full "$tmhost" check sheet; echo "status $?")" \
     "$(printf '\r1 of 2\033[K\r\033[K\r\033[Kfault 42 Output\r\n'; echo 'status 1')"
 compare 'a fault on a screen' "$(python3 screen.py left /dev/full "$tmhost" check sheet; echo "status $?")" "$(printf 'fault 42 Output\n'; echo 'status 1')"
-sends 'no worksheet, on a terminal' 1 'fault 32 Disk\r\n' check nowhere
+sends 'no worksheet, on a terminal' 1 'fault 32 Disk\r\ntmhost: nowhere: No such file or directory (os error 2)\r\n' check nowhere
 
 # No other program shows it.
 sends 'show on a terminal' 0 '' show sheet
 sends 'run on a terminal' 0 '' run sheet
 sends 'live on a terminal' 0 '' live sheet
-rm -f again sent lives
+
+# Why a file can't be had stands behind the fault, and what a program waits for is said where a person has to type it.
+sends 'no worksheet to show' 1 'fault 32 Disk\r\ntmhost: no/where: No such file or directory (os error 2)\r\n' show no/where
+sends 'a folder' 1 'fault 32 Disk\r\ntmhost: .: it is no plain file\r\n' live .
+sends 'a name that is taken' 1 'fault 34 NotEmpty\r\ntmhost: sheet: it exists\r\ntmhost: sheet.alt: it exists\r\n' create sheet
+sends 'a folder that is not there' 1 'fault 32 Disk\r\ntmhost: no: No such file or directory (os error 2)\r\n' create no/where
+sends 'two paths' 1 'fault 32 Disk\r\ntmhost: nowhere: No such file or directory (os error 2)\r\ntmhost: sheet: it exists\r\ntmhost: sheet.alt: it exists\r\n' \
+    rescue nowhere sheet
+types() {
+    name=$1 want=$2
+    shift 2
+    compare "$name" "$(python3 screen.py typed text "$tmhost" "$@"; echo "status $?")" "$(printf "$want"; echo 'status 0')"
+}
+end="from this terminal, to its end (Control-D); 'tmhost --help' says what else there is\r\n"
+types 'blocks at a terminal' "tmhost: reading what an interpreter wrote $end"
+types 'a script at a terminal' "tmhost: reading a script $end" run sheet
+types 'lines at a terminal' '' live sheet
+rm -f again sent lives text
 
 counted progress

@@ -1,6 +1,7 @@
 """Runs a program whose standard error is a terminal: `screen.py HOW OUTPUT WORD ..`. Its standard output is the file OUTPUT, or that
 terminal too where OUTPUT is `-`. What the terminal was sent is written where HOW is `sent`, and where it is `left`, the lines that stand
-on its screen at the end. The status is the program's."""
+on its screen at the end. Where HOW is `typed` its standard input is that terminal too, at which the end of the input was typed. The status
+is the program's."""
 
 import os
 import re
@@ -8,11 +9,17 @@ import subprocess
 import sys
 
 
-def sent_to_terminal(output, words):
+END_OF_INPUT = b"\x04"
+
+
+def sent_to_terminal(output, words, is_typed):
     """What a terminal was sent by a program, and the program's status."""
     ours, terminal = os.openpty()
+    if is_typed:
+        os.write(ours, END_OF_INPUT)
     with os.fdopen(terminal, "wb") as errors, open(os.devnull if output == "-" else output, "wb") as file:
-        child = subprocess.Popen(words, stdin=subprocess.DEVNULL, stdout=errors if output == "-" else file, stderr=errors)
+        stdin = errors if is_typed else subprocess.DEVNULL
+        child = subprocess.Popen(words, stdin=stdin, stdout=errors if output == "-" else file, stderr=errors)
     sent = b""
     while True:
         try:
@@ -42,7 +49,7 @@ def left_on_screen(sent):
 
 
 how, output, *words = sys.argv[1:]
-sent, status = sent_to_terminal(output, words)
+sent, status = sent_to_terminal(output, words, how == "typed")
 sys.stdout.buffer.write(left_on_screen(sent.decode()).encode() if how == "left" else sent)
 sys.stdout.flush()
 sys.exit(status)
