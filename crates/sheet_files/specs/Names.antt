@@ -1,15 +1,16 @@
 -- What a place of files went through when a worksheet's two files were made or opened. The place is
 -- followed from each call to the next one, so nothing else was done there, and each answer is said.
-use Rattle.std.specs.Prelude.{◌≡◌, ◌⊎◌, ℕ, List, false, Option, Some, None, Ok, Err}
+use Rattle.std.specs.Prelude.{◌≡◌, ◌≤◌, ◌⊎◌, ℕ, List, false, Option, Some, None, Ok, Err}
 use Rattle.std.specs.IoError.{error_kind}
 use Rattle.std.specs.declared.io.Error.{Error}
 use Rattle.std.specs.declared.io.ErrorKind.TheVariants.{NotFound}
+use Rattle.disk_model.specs.Disk.{greatest_room}
 use Rattle.sheet_files.specs.declared.names.Names as names
 use Rattle.sheet_files.specs.declared.sheet_file.Lock.{Lock}
 use Rattle.sheet_files.specs.declared.sheet_file.Lock.TheVariants.{Shared, Exclusive}
 
--- neither path had anything. Then the first file was made, and locked before the other was made; and
--- then both files and the names of their folder were brought onto the disk
+-- neither path had anything. Then the first file was made, and locked before the other was made, and that
+-- one too; and then both files and the names of their folder were brought onto the disk
 abbrev pub Created : {F N : Type 0} → names.Ghosts N F → List ℕ → List ℕ → F × F → N → N → Type 0
 Created {F} {N} calls path alt files old new =
     (a : N) × calls.looks old path (Ok false) a
@@ -17,9 +18,10 @@ Created {F} {N} calls path alt files old new =
     × ((c : N) × calls.makes b path (Ok files.0) c
     × ((d : N) × calls.locks c files.0 Exclusive (Ok false) d
     × ((e : N) × calls.makes d alt (Ok files.1) e
-    × ((f : N) × calls.syncs e files.0 (Ok tt) f
-    × ((g : N) × calls.syncs f files.1 (Ok tt) g
-    × calls.syncs_folder g path (Ok tt) new))))))
+    × ((f : N) × calls.locks e files.1 Exclusive (Ok false) f
+    × ((g : N) × calls.syncs f files.0 (Ok tt) g
+    × ((h : N) × calls.syncs g files.1 (Ok tt) h
+    × calls.syncs_folder h path (Ok tt) new)))))))
 
 -- a first file was opened, and then locked before anything was read of it, and it has one name
 abbrev pub FirstOpened : {F N : Type 0} → names.Ghosts N F → List ℕ → Lock → F → N → N → Type 0
@@ -37,20 +39,32 @@ SecondOpened {F} {N} calls alt first second old new =
     × ((b : N) × calls.reads a first (Ok false) b
     × calls.makes b alt (Ok second) new))))
 
--- both files were opened to be written, they are two, and then the names of their folder were brought
--- onto the disk
+-- a second file is another than the first, and it was locked before anything was read of it
+abbrev pub SecondLocked : {F N : Type 0} → names.Ghosts N F → F → F → Lock → N → N → Type 0
+SecondLocked {F} {N} calls first second lock old new =
+    (a : N) × calls.are_two old first second (Ok tt) a × calls.locks a second lock (Ok false) new
+
+-- a file is at most as long as an area may be
+abbrev pub WithinRoom : {F N : Type 0} → names.Ghosts N F → F → N → N → Type 0
+WithinRoom {F} {N} calls file old new =
+    (bytes : ℕ) × bytes ≤ greatest_room × calls.measures old file (Ok bytes) new
+
+-- both files were opened to be written, and locked so that nobody else has them; neither is too long, and
+-- then the names of their folder were brought onto the disk
 abbrev pub Opened : {F N : Type 0} → names.Ghosts N F → List ℕ → List ℕ → F × F → N → N → Type 0
 Opened {F} {N} calls path alt files old new =
     (a : N) × FirstOpened calls path Exclusive files.0 old a
     × ((b : N) × SecondOpened calls alt files.0 files.1 a b
-    × ((c : N) × calls.are_two b files.0 files.1 (Ok tt) c
-    × calls.syncs_folder c path (Ok tt) new))
+    × ((c : N) × SecondLocked calls files.0 files.1 Exclusive b c
+    × ((d : N) × WithinRoom calls files.0 c d
+    × ((e : N) × WithinRoom calls files.1 d e
+    × calls.syncs_folder e path (Ok tt) new))))
 
--- a second file that is only read was opened, and it is another file than the first; or there was none,
--- as the error of its opening said
+-- a second file that is only read was opened, and locked so that others may read it; or there was none, as
+-- the error of its opening said
 abbrev pub SecondRead : {F N : Type 0} → names.Ghosts N F → List ℕ → F → Option F → N → N → Type 0
 SecondRead {F} {N} calls alt first (Some second) old new =
-    (a : N) × calls.opens old alt Shared (Ok second) a × calls.are_two a first second (Ok tt) new
+    (a : N) × calls.opens old alt Shared (Ok second) a × SecondLocked calls first second Shared a new
 SecondRead {F} {N} calls alt first None old new =
     (error : Error) × (error_kind error ≡ NotFound × calls.opens old alt Shared (Err error) new)
 

@@ -11,12 +11,12 @@ pub trait Close: Disk {
     /// The disk was closed as it is.
     ghost closed: { Self → Type 0 };
 
-    /// Ends with the disk. What it holds is let go, files and their lock.
+    /// Ends with the disk. What it holds is let go, files and their locks.
     fn close(self)
         ensures { closed self };
 }
 
-/// Both files are closed, the lock on the first one with it. Of the system's own files nothing is claimed.
+/// Both files are closed, the locks on them too. Of the system's own files nothing is claimed.
 impl<F: DiskFile + Drop> Close for FileDisk<F> {
     ghost closed = { λ _. Unit {0} };
 

@@ -12,8 +12,8 @@ use std::io::ErrorKind;
 use std::rt::Files;
 
 /// A worksheet's two files: area First is the file at a path, and area Second the one at that path
-/// with `.alt` added. Each can grow to 2,147,483,648 bytes. The first one is locked, as long as the
-/// disk isn't dropped.
+/// with `.alt` added. Each can grow to 2,147,483,648 bytes. Both are locked, as long as the disk isn't
+/// dropped.
 ///
 /// It keeps the model where both files do: its view is made of theirs. Of what a real file holds nothing
 /// is claimed. It counts its failures, as each disk does. A file that is longer than the room is a failure
@@ -71,7 +71,7 @@ fn sync_failed() -> io::Error {
 impl<F: SheetFile + Drop> FileDisk<F> {
     /// Makes both files, empty, first the one at `path`, which is locked before the other is made.
     /// They and their names are durable once it answers. `NotEmpty` where either exists, a folder and a
-    /// link that leads nowhere included, and nothing was made. `InUse` where another program took the
+    /// link that leads nowhere included, and nothing was made. `InUse` where another program took a
     /// new file before it was locked. `Disk` where a file can't be made, an empty path and lack of
     /// memory for a path included; a file that was made stays.
     pub fn create<R: Files<File = F>>(
@@ -85,12 +85,13 @@ impl<F: SheetFile + Drop> FileDisk<F> {
     }
 
     /// Opens both files, first the one that `path` leads to, which is locked before anything is read
-    /// and before the other is opened; a missing second one is made, unless the worksheet lies in it.
-    /// Their names are durable once it answers, also those of files that were copied, or whose program
-    /// was killed before it flushed their names to the disk. `InUse` where another program has the
-    /// worksheet. `Disk` where a file can't be opened or made: a missing file at `path`, a missing second
-    /// one in which the worksheet lies, a folder or what else is no plain file, a file that has another
-    /// name, a second file that is a link or the first one, one that may not be read and written, a
+    /// and before the other is opened, as that one is then; a missing second one is made, unless the
+    /// worksheet lies in it. Their names are durable once it answers, also those of files that were copied,
+    /// or whose program was killed before it flushed their names to the disk. `InUse` where another program
+    /// has the worksheet, or one of its files. `Disk` where a file can't be opened or made: a missing file at
+    /// `path`, a missing second one in which the worksheet lies, a folder or what else is no plain file, a
+    /// file that has another name, a second file that is a link or the first one, one that may not be read
+    /// and written, one that is longer than an area may be, also where the worksheet lies in the other, a
     /// folder that can't be read or synced, and lack of memory for a path.
     pub fn open<R: Files<File = F>>(
         rt: &R,
@@ -103,8 +104,8 @@ impl<F: SheetFile + Drop> FileDisk<F> {
         Ok(FileDisk::of(first, Some(second), Lock::Exclusive)?)
     }
 
-    /// Opens the files to read alone: the lock is one that other readers may have too, the files needn't be
-    /// such that they may be written, no second file is made, no folder is synced, and each write is a
+    /// Opens the files to read alone: the locks are such that other readers may have too, the files needn't
+    /// be such that they may be written, no second file is made, no folder is synced, and each write is a
     /// failure of the disk, like each call on a second file that is missing, be the worksheet there or not.
     pub fn open_to_read<R: Files<File = F>>(
         rt: &R,

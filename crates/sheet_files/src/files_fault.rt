@@ -26,7 +26,7 @@ pub enum MakeFault {
     /// 34 or 32: something is there already, or the disk failed.
     #[error("the worksheet was not made")]
     Create(CreateCause),
-    /// 35: another program took the new file before it was locked. The file stays.
+    /// 35: another program took a new file before it was locked. What was made stays.
     #[error("the worksheet is in use")]
     InUse,
 }

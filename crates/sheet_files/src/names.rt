@@ -24,6 +24,8 @@ pub trait Names<F> {
 
     ghost are_two: { Self → F → F → Result (Unit {0}) Error → Self → Type 0 };
 
+    ghost measures: { Self → F → Result ℕ Error → Self → Type 0 };
+
     ghost reads: { Self → F → Result Bool Error → Self → Type 0 };
 
     ghost syncs: { Self → F → Result (Unit {0}) Error → Self → Type 0 };
@@ -53,6 +55,10 @@ pub trait Names<F> {
     /// Sees to it that two files are two, each of which has one name.
     fn two(&mut self, first: &F, second: &F) -> io::Result<()>
         ensures { are_two self.old first.now second.now result self.new };
+
+    /// How long a file is, in bytes.
+    fn length(&mut self, file: &F) -> io::Result<u64>
+        ensures { measures self.old file.now result self.new };
 
     /// Reads of a first file whether its worksheet lies in the second one.
     fn names_second(&mut self, first: &F) -> io::Result<bool>

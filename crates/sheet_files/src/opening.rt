@@ -1,9 +1,10 @@
 //! How a worksheet's two files are made and opened, in any place.
-ghost use Rattle.std.specs.Prelude.{IfOk, Ok, false};
-ghost use Rattle.sheet_files.specs.Names.{Created, FirstOpened, Opened, OpenedToRead, SecondOpened, SecondRead};
+ghost use Rattle.std.specs.Prelude.{IfOk, Ok, OnOk, false};
+ghost use Rattle.sheet_files.specs.Names.{Created, FirstOpened, WithinRoom, Opened, OpenedToRead, SecondLocked, SecondOpened, SecondRead};
 
 use crate::names::Names;
 use crate::{FilesFault, Lock, MakeFault};
+use disk_model::GREATEST_ROOM;
 use journal::CreateCause;
 use std::io;
 use std::io::ErrorKind;
@@ -20,8 +21,8 @@ fn look_for<F, N: Names<F>>(names: &mut N, path: &str, alt: &str) -> Result<(), 
     }
 }
 
-/// Makes both files, empty, the first one locked before the other is made. They and their names are
-/// durable once it answers.
+/// Makes both files, empty, each locked before anything else is done. They and their names are durable
+/// once it answers.
 pub(crate) fn create<F: Drop, N: Names<F>>(
     names: &mut N,
     path: &str,
@@ -35,6 +36,9 @@ pub(crate) fn create<F: Drop, N: Names<F>>(
         return Err(MakeFault::InUse);
     }
     let second = names.make(alt)?;
+    if names.lock(&second, Lock::Exclusive)? {
+        return Err(MakeFault::InUse);
+    }
     names.sync(&first)?;
     names.sync(&second)?;
     names.sync_folder(path)?;
@@ -70,8 +74,36 @@ fn open_or_make<F: Drop, N: Names<F>>(names: &mut N, alt: &str, first: &F) -> io
     }
 }
 
-/// Opens both files, the first one locked before anything is read and before the other is opened. Their
-/// names are durable once it answers.
+/// Sees to it that a second file is another than the first, and then locks it: on one file the lock of
+/// the first would forbid the other.
+fn lock_second<F: Drop, N: Names<F>>(
+    names: &mut N,
+    first: &F,
+    second: &F,
+    lock: Lock,
+) -> Result<(), FilesFault>
+    ensures { OnOk result (SecondLocked N.Names first.now second.now lock names.old names.new) }
+{
+    names.two(first, second)?;
+    if names.lock(second, lock)? {
+        return Err(FilesFault::InUse);
+    }
+    Ok(())
+}
+
+/// Sees to it that a file isn't longer than an area may be.
+fn fit<F: Drop, N: Names<F>>(names: &mut N, file: &F) -> io::Result<()>
+    ensures { OnOk result (WithinRoom N.Names file.now names.old names.new) }
+{
+    if names.length(file)? > GREATEST_ROOM {
+        return Err(io::Error::from(ErrorKind::FileTooLarge));
+    }
+    Ok(())
+}
+
+/// Opens both files, each locked before anything is read of it, the first one before the other is opened.
+/// Neither is longer than an area may be, so what is written there can be opened again. Their names are
+/// durable once it answers.
 pub(crate) fn open<F: Drop, N: Names<F>>(
     names: &mut N,
     path: &str,
@@ -81,26 +113,32 @@ pub(crate) fn open<F: Drop, N: Names<F>>(
 {
     let first = open_first(names, path, Lock::Exclusive)?;
     let second = open_or_make(names, alt, &first)?;
-    names.two(&first, &second)?;
+    lock_second(names, &first, &second, Lock::Exclusive)?;
+    fit(names, &first)?;
+    fit(names, &second)?;
     names.sync_folder(path)?;
     Ok((first, second))
 }
 
-/// Opens the second file of a worksheet to read alone, where there is one.
-fn open_if_there<F: Drop, N: Names<F>>(names: &mut N, alt: &str, first: &F) -> io::Result<Option<F>>
+/// Opens the second file of a worksheet to read alone, where there is one, and locks it.
+fn open_if_there<F: Drop, N: Names<F>>(
+    names: &mut N,
+    alt: &str,
+    first: &F,
+) -> Result<Option<F>, FilesFault>
     ensures { IfOk result (λ second. SecondRead N.Names alt.now first.now second names.old names.new) }
 {
     match names.open(alt, Lock::Shared) {
         Ok(second) => {
-            names.two(first, &second)?;
+            lock_second(names, first, &second, Lock::Shared)?;
             Ok(Some(second))
         }
         Err(error) if error.kind() == ErrorKind::NotFound => Ok(None),
-        Err(error) => Err(error),
+        Err(error) => Err(FilesFault::from(error)),
     }
 }
 
-/// Opens the files to read alone, the first one locked before anything is read: none is made or synced.
+/// Opens the files to read alone, each locked before anything is read of it: none is made or synced.
 pub(crate) fn open_to_read<F: Drop, N: Names<F>>(
     names: &mut N,
     path: &str,

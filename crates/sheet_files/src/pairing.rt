@@ -122,6 +122,8 @@ impl<F: SheetFile, R: Files<File = F>> Names<F> for FileNames<'_, R> {
 
     ghost are_two = { λ _ _ _ _ _. Unit {0} };
 
+    ghost measures = { λ _ _ _ _. Unit {0} };
+
     ghost reads = { λ _ _ _ _. Unit {0} };
 
     ghost syncs = { λ _ _ _ _. Unit {0} };
@@ -158,6 +160,10 @@ impl<F: SheetFile, R: Files<File = F>> Names<F> for FileNames<'_, R> {
             return Err(io::Error::from(ErrorKind::InvalidInput));
         }
         Ok(())
+    }
+
+    fn length(&mut self, file: &F) -> io::Result<u64> {
+        Ok(file.metadata()?.len())
     }
 
     fn names_second(&mut self, first: &F) -> io::Result<bool> {

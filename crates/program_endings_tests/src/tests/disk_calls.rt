@@ -60,9 +60,9 @@ fn read_calls(alloc: Global, area: Area, lines: &str) -> bool {
 
 #[test]
 fn a_disk_that_is_only_read_writes_nothing(rt: HostRuntime) {
-    let first = "identify s.alt\nmeasure s\nread s 1 3\nread s 4 2\nsync the data of s\n";
+    let first = "lock to read s.alt\nmeasure s\nread s 1 3\nread s 4 2\nsync the data of s\n";
     let second =
-        "identify s.alt\nmeasure s.alt\nread s.alt 1 3\nread s.alt 4 2\nsync the data of s.alt\n";
+        "lock to read s.alt\nmeasure s.alt\nread s.alt 1 3\nread s.alt 4 2\nsync the data of s.alt\n";
     assert!(rt; read_calls(rt.alloc(), Area::First, first));
     assert!(rt; read_calls(rt.alloc(), Area::Second, second));
 }

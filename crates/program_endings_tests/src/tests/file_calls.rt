@@ -6,7 +6,7 @@ use std::alloc::Global;
 use std::io::ErrorKind;
 
 // What comes of a worksheet that is made at a path.
-fn creates(calls: &Calls, alloc: Global, path: &str) -> Result<(), MakeFault> {
+pub fn creates(calls: &Calls, alloc: Global, path: &str) -> Result<(), MakeFault> {
     match FileDisk::create(&MadeUp { alloc, calls }, alloc, path) {
         Ok(_) => Ok(()),
         Err(why) => Err(why),
@@ -14,7 +14,7 @@ fn creates(calls: &Calls, alloc: Global, path: &str) -> Result<(), MakeFault> {
 }
 
 // The same of one that is opened.
-fn opens(calls: &Calls, alloc: Global, path: &str) -> Result<(), FilesFault> {
+pub fn opens(calls: &Calls, alloc: Global, path: &str) -> Result<(), FilesFault> {
     match FileDisk::open(&MadeUp { alloc, calls }, alloc, path) {
         Ok(_) => Ok(()),
         Err(why) => Err(why),
@@ -22,7 +22,7 @@ fn opens(calls: &Calls, alloc: Global, path: &str) -> Result<(), FilesFault> {
 }
 
 // The same of one that is opened to read.
-fn reads(calls: &Calls, alloc: Global, path: &str) -> Result<(), FilesFault> {
+pub fn reads(calls: &Calls, alloc: Global, path: &str) -> Result<(), FilesFault> {
     match FileDisk::open_to_read(&MadeUp { alloc, calls }, alloc, path) {
         Ok(_) => Ok(()),
         Err(why) => Err(why),
@@ -49,7 +49,7 @@ fn create_syncs_both_files_and_then_their_folder(rt: HostRuntime) {
             rt.alloc(),
             "w/sheet",
             "look for w/sheet\nlook for w/sheet.alt\nmake w/sheet\nlock w/sheet\nmake w/sheet.alt\n\
-         sync w/sheet\nsync w/sheet.alt\nopen to read w\nsync w\n"
+         lock w/sheet.alt\nsync w/sheet\nsync w/sheet.alt\nopen to read w\nsync w\n"
         )
     );
     assert!(rt;
@@ -57,7 +57,7 @@ fn create_syncs_both_files_and_then_their_folder(rt: HostRuntime) {
             rt.alloc(),
             "sheet",
             "look for sheet\nlook for sheet.alt\nmake sheet\nlock sheet\nmake sheet.alt\n\
-         sync sheet\nsync sheet.alt\nopen to read .\nsync .\n"
+         lock sheet.alt\nsync sheet\nsync sheet.alt\nopen to read .\nsync .\n"
         )
     );
     assert!(rt;
@@ -65,7 +65,7 @@ fn create_syncs_both_files_and_then_their_folder(rt: HostRuntime) {
             rt.alloc(),
             "/sheet",
             "look for /sheet\nlook for /sheet.alt\nmake /sheet\nlock /sheet\nmake /sheet.alt\n\
-         sync /sheet\nsync /sheet.alt\nopen to read /\nsync /\n"
+         lock /sheet.alt\nsync /sheet\nsync /sheet.alt\nopen to read /\nsync /\n"
         )
     );
 }
@@ -85,18 +85,18 @@ fn opens_by(alloc: Global, there: There, path: &str, lines: &str, to_read: &str)
         && read.are(to_read)
 }
 
-// The first file is locked before the second one is opened or made, and before anything is read. Both names
-// are brought onto the disk where the worksheet is written.
+// The first file is locked before the second one is opened or made, and before anything is read; then that one
+// is. Where the worksheet is written both are measured, and their names are brought onto the disk.
 #[test]
 fn a_worksheet_is_locked_before_its_second_file_is_opened(rt: HostRuntime) {
     let found =
         "follow v/w/sheet\nlook for v/w/sheet\nopen v/w/sheet\nlock v/w/sheet\nidentify v/w/sheet\n\
          look for v/w/sheet.alt\nopen v/w/sheet.alt\nidentify v/w/sheet\nidentify v/w/sheet.alt\n\
-         open to read v/w\nsync v/w\n";
+         lock v/w/sheet.alt\nmeasure v/w/sheet\nmeasure v/w/sheet.alt\nopen to read v/w\nsync v/w\n";
     let read =
         "follow v/w/sheet\nlook for v/w/sheet\nopen to read v/w/sheet\nlock to read v/w/sheet\n\
          identify v/w/sheet\nlook for v/w/sheet.alt\nopen to read v/w/sheet.alt\n\
-         identify v/w/sheet\nidentify v/w/sheet.alt\n";
+         identify v/w/sheet\nidentify v/w/sheet.alt\nlock to read v/w/sheet.alt\n";
     assert!(rt; opens_by(rt.alloc(), There::All, "v/w/sheet", found, read));
 }
 
@@ -107,7 +107,7 @@ fn a_second_file_that_is_missing(rt: HostRuntime) {
         "follow v/w/sheet\nlook for v/w/sheet\nopen v/w/sheet\nlock v/w/sheet\nidentify v/w/sheet\n\
          look for v/w/sheet.alt\nread v/w/sheet 0 3\nread v/w/sheet 3 3\nread v/w/sheet 6 3\n\
          read v/w/sheet 9 2\nmake v/w/sheet.alt\nidentify v/w/sheet\nidentify v/w/sheet.alt\n\
-         open to read v/w\nsync v/w\n";
+         lock v/w/sheet.alt\nmeasure v/w/sheet\nmeasure v/w/sheet.alt\nopen to read v/w\nsync v/w\n";
     assert!(rt; opens_by(rt.alloc(), There::First, "v/w/sheet", made, FIRST_READ));
 }
 
@@ -117,10 +117,10 @@ fn a_link_is_followed_to_both_files(rt: HostRuntime) {
     let far =
         "follow link\nlook for far/sheet\nopen far/sheet\nlock far/sheet\nidentify far/sheet\n\
          look for far/sheet.alt\nopen far/sheet.alt\nidentify far/sheet\nidentify far/sheet.alt\n\
-         open to read far\nsync far\n";
+         lock far/sheet.alt\nmeasure far/sheet\nmeasure far/sheet.alt\nopen to read far\nsync far\n";
     let read = "follow link\nlook for far/sheet\nopen to read far/sheet\nlock to read far/sheet\n\
          identify far/sheet\nlook for far/sheet.alt\nopen to read far/sheet.alt\n\
-         identify far/sheet\nidentify far/sheet.alt\n";
+         identify far/sheet\nidentify far/sheet.alt\nlock to read far/sheet.alt\n";
     assert!(rt; opens_by(rt.alloc(), There::Linked, "link", far, read));
 }
 
@@ -128,9 +128,10 @@ fn a_link_is_followed_to_both_files(rt: HostRuntime) {
 #[test]
 fn a_path_that_can_not_be_followed(rt: HostRuntime) {
     let here = "follow s\nlook for s\nopen s\nlock s\nidentify s\n\
-         look for s.alt\nopen s.alt\nidentify s\nidentify s.alt\nopen to read .\nsync .\n";
+         look for s.alt\nopen s.alt\nidentify s\nidentify s.alt\nlock s.alt\n\
+         measure s\nmeasure s.alt\nopen to read .\nsync .\n";
     let read = "follow s\nlook for s\nopen to read s\nlock to read s\nidentify s\n\
-         look for s.alt\nopen to read s.alt\nidentify s\nidentify s.alt\n";
+         look for s.alt\nopen to read s.alt\nidentify s\nidentify s.alt\nlock to read s.alt\n";
     assert!(rt; opens_by(rt.alloc(), There::Lost, "s", here, read));
     let link = "follow link\nlook for link\nfollow link\nlook for link\n";
     assert!(rt; is_refused_over(rt.alloc(), There::Lost, "link", link));
@@ -202,7 +203,7 @@ fn a_second_file_that_is_the_first_one_is_refused(rt: HostRuntime) {
 }
 
 // Whether each opening tells that another has the worksheet, and these are the calls.
-fn are_in_use(calls: &Calls, alloc: Global, lines: &str) -> bool {
+pub fn are_in_use(calls: &Calls, alloc: Global, lines: &str) -> bool {
     opens(calls, alloc, "s") == Err(FilesFault::InUse)
         && reads(calls, alloc, "s") == Err(FilesFault::InUse)
         && calls.are(lines)
@@ -236,9 +237,10 @@ fn a_worksheet_that_another_has_is_left_alone(rt: HostRuntime) {
 
 // The calls of two openings of both files that succeed.
 const WITHOUT_LOCKS: &str = "follow s\nlook for s\nopen s\nlock s\nidentify s\n\
-     look for s.alt\nopen s.alt\nidentify s\nidentify s.alt\nopen to read .\nsync .\n\
+     look for s.alt\nopen s.alt\nidentify s\nidentify s.alt\nlock s.alt\n\
+     measure s\nmeasure s.alt\nopen to read .\nsync .\n\
      follow s\nlook for s\nopen to read s\nlock to read s\nidentify s\n\
-     look for s.alt\nopen to read s.alt\nidentify s\nidentify s.alt\n";
+     look for s.alt\nopen to read s.alt\nidentify s\nidentify s.alt\nlock to read s.alt\n";
 
 // Whether worksheets are made and opened where the file system has no locks.
 fn goes_on_without_locks(alloc: Global) -> bool {

@@ -31,6 +31,8 @@ pub struct Calls {
     pub locks: Cell<Locks>,
     /// How many names the first file of a worksheet has, and how many the second.
     pub names: Cell<(u64, u64)>,
+    /// How long they are once they are open.
+    pub lengths: Cell<(u64, u64)>,
     /// The numbers of these files.
     pub numbers: Cell<(u64, u64)>,
     /// Whether what was opened is a plain file.
@@ -61,6 +63,8 @@ pub enum There {
 pub enum Locks {
     Free,
     Taken,
+    /// The second file of a worksheet is taken alone.
+    SecondTaken,
     /// The file system has none.
     None,
     /// It can't be had, for another reason.
@@ -80,6 +84,7 @@ impl Calls {
             stuck_once: Cell::new(0),
             locks: Cell::new(Locks::Free),
             names: Cell::new((1, 1)),
+            lengths: Cell::new((7, 7)),
             numbers: Cell::new((8, 9)),
             plain: Cell::new(true),
         }
@@ -169,6 +174,13 @@ pub struct MadeUpFile<'a> {
     calls: &'a Calls,
 }
 
+impl MadeUpFile<'_> {
+    // Whether it is the second file of a worksheet.
+    fn is_second(&self) -> bool {
+        self.path.as_str().ends_with(".alt")
+    }
+}
+
 // What an open asks for.
 fn verb(how: &OpenOptions) -> &'static str {
     if how.asks_create_new() {
@@ -250,7 +262,8 @@ impl<'a> Files for MadeUp<'a> {
 impl OpenFile for MadeUpFile<'_> {
     fn metadata(&self) -> io::Result<Metadata> {
         self.calls.note("measure", self.path.as_str());
-        Ok(Metadata::of_file(7))
+        let (first, second) = self.calls.lengths.get();
+        Ok(Metadata::of_file(if self.is_second() { second } else { first }))
     }
 
     fn set_len(&self, _size: u64) -> io::Result<()> {
@@ -277,7 +290,8 @@ impl SheetFile for MadeUpFile<'_> {
         self.calls.note(what, self.path.as_str());
         match self.calls.locks.get() {
             Locks::Free => Ok(()),
-            Locks::Taken => Err(TryLockError::WouldBlock),
+            Locks::SecondTaken if !self.is_second() => Ok(()),
+            Locks::Taken | Locks::SecondTaken => Err(TryLockError::WouldBlock),
             Locks::None => Err(TryLockError::Error(io::Error::from(ErrorKind::Unsupported))),
             Locks::Failed => Err(TryLockError::Error(io::Error::from(ErrorKind::Other))),
         }
@@ -285,7 +299,7 @@ impl SheetFile for MadeUpFile<'_> {
 
     fn identity(&self) -> io::Result<Identity> {
         self.calls.note("identify", self.path.as_str());
-        let second = self.path.as_str().ends_with(".alt");
+        let second = self.is_second();
         let (names, others) = self.calls.names.get();
         let (number, other) = self.calls.numbers.get();
         Ok(Identity {
