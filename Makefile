@@ -1,4 +1,8 @@
-# Builds and installs tmhost: make, make install PREFIX=/usr/local, make uninstall.
+# make proved         proves and builds tmhost: about an hour from nothing (so does make)
+# make install        proves it where that is needed, and installs it at PREFIX; with PROGRAM=.. a program that is there, as one that was given
+# make uninstall      removes what that installs
+# make dist           proves it where that is needed, and packs what is installed as one archive, in this folder
+# make check-quick    runs all stored cases over a build that is checked as it runs, and not proved
 # DESTDIR goes in front of each path, for packages.
 PREFIX ?= /usr/local
 DESTDIR ?=
@@ -10,12 +14,25 @@ HERE = $(SHARE)/tmhost
 ADAPTERS = gp python prompted.py
 CLIENTS = import typeset notebook repl suite weave
 
-.PHONY: all install uninstall
+.PHONY: all proved check-quick dist install uninstall
 
-all:
-	./tmhost --help >/dev/null
+all: proved
 
-install: all
+proved:
+	install/proved
+
+check-quick:
+	.ci/quick
+
+dist: proved
+	install/dist
+
+ifneq ($(origin PROGRAM),command line)
+install: proved
+endif
+
+install:
+	@! cmp -s $(PROGRAM) tmhost || { echo "$(PROGRAM) is the script that builds a program, and none" >&2; exit 1; }
 	python3 install/pages.py $(PROGRAM) $(PAGES)
 	install -D $(PROGRAM) $(DESTDIR)$(PREFIX)/bin/tmhost
 	install -Dm 644 $(PAGES)/tmhost.1 $(SHARE)/man/man1/tmhost.1
@@ -42,6 +59,7 @@ install: all
 	ln -sf ../share/tmhost/clients/import/tmhost-prose $(DESTDIR)$(PREFIX)/bin/tmhost-prose
 	install -d $(SHARE)/emacs/site-lisp/tmhost
 	install -m 644 clients/emacs/*.el $(SHARE)/emacs/site-lisp/tmhost
+	@echo "installed: $$($(PROGRAM) --version)"
 
 uninstall:
 	rm -f $(DESTDIR)$(PREFIX)/bin/tmhost $(SHARE)/man/man1/tmhost.1 $(SHARE)/bash-completion/completions/tmhost

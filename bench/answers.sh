@@ -11,7 +11,7 @@ work=$(mktemp -d "$(readlink -f "${FOLDER:-.}")/answers.XXXXXX")
 trap 'rm -rf "$work"' EXIT
 "${CC:-cc}" -O2 -o "$work/plain" "$root/bench/plain_answers.c"
 "${CC:-cc}" -O2 -o "$work/answering" "$root/bench/answering.c"
-[ -n "${TMHOST:-}" ] || "$root/tmhost" blocks </dev/null
+[ -n "${TMHOST:-}" ] || "$root/install/proved"
 [ $# -gt 0 ] || set -- 100 10000 1000000 10000000
 python3 - "${TMHOST:-$root/crates/tmhost/out/tmhost}" "$work" "${RUNS:-5}" "$@" <<'PYTHON'
 import os, statistics, subprocess, sys, time

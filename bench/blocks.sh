@@ -7,7 +7,7 @@ root=$(dirname "$(dirname "$(readlink -f "${BASH_SOURCE[0]}")")")
 work=$(mktemp -d)
 trap 'rm -rf "$work"' EXIT
 rustc -O -o "$work/plain" "$root/bench/plain_blocks.rs"
-[ -n "${TMHOST:-}" ] || "$root/tmhost" blocks </dev/null
+[ -n "${TMHOST:-}" ] || "$root/install/proved"
 python3 - "$root" "$work" "${RUNS:-5}" "${TMHOST:-$root/crates/tmhost/out/tmhost}" <<'PYTHON'
 import filecmp, os, subprocess, sys, time
 

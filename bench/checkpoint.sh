@@ -7,7 +7,7 @@ set -euo pipefail
 root=$(dirname "$(dirname "$(readlink -f "${BASH_SOURCE[0]}")")")
 work=$(mktemp -d "$(readlink -f "${FOLDER:-.}")/checkpoint.XXXXXX")
 trap 'rm -rf "$work"' EXIT
-[ -n "${TMHOST:-}" ] || "$root/tmhost" blocks </dev/null
+[ -n "${TMHOST:-}" ] || "$root/install/proved"
 python3 - "${TMHOST:-$root/crates/tmhost/out/tmhost}" "$work" "${RUNS:-5}" "${1:-40}" "${2:-8}" <<'PYTHON'
 import os
 import statistics

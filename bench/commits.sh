@@ -9,7 +9,7 @@ root=$(dirname "$(dirname "$(readlink -f "${BASH_SOURCE[0]}")")")
 work=$(mktemp -d "$folder/commits.XXXXXX")
 trap 'rm -rf "$work"' EXIT
 "${CC:-cc}" -O2 -o "$work/plain" "$root/bench/plain_commits.c"
-"$root/tmhost" blocks </dev/null
+"$root/install/proved"
 python3 - "$root/crates/tmhost/out/tmhost" "$work" "${RUNS:-9}" <<'PYTHON'
 import os, statistics, subprocess, sys, time
 

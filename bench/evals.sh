@@ -10,7 +10,7 @@ folder=$(readlink -f "${1:-.}")
 root=$(dirname "$(dirname "$(readlink -f "${BASH_SOURCE[0]}")")")
 work=$(mktemp -d "$folder/evals.XXXXXX")
 trap 'rm -rf "$work"' EXIT
-"$root/tmhost" blocks </dev/null
+"$root/install/proved"
 python3 - "$root" "$work" "${RUNS:-3}" <<'PYTHON'
 import os, subprocess, sys, time
 

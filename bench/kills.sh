@@ -7,7 +7,7 @@ folder=$(readlink -f "${1:-.}")
 root=$(dirname "$(dirname "$(readlink -f "${BASH_SOURCE[0]}")")")
 work=$(mktemp -d "$folder/kills.XXXXXX")
 trap 'rm -rf "$work"' EXIT
-"$root/tmhost" blocks </dev/null
+"$root/install/proved"
 python3 - "$root" "$work" "${ROUNDS:-200}" <<'PYTHON'
 import os, random, subprocess, sys, time
 

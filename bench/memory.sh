@@ -8,7 +8,7 @@ work=$(mktemp -d "$(readlink -f "${FOLDER:-.}")/memory.XXXXXX")
 trap 'rm -rf "$work"' EXIT
 program=${TMHOST:-}
 if [ -z "$program" ]; then
-    "$root/tmhost" blocks </dev/null
+    "$root/install/proved"
     program=$root/crates/tmhost/out/tmhost
 fi
 cat >"$work/interpreter.py" <<'PYTHON'

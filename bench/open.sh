@@ -9,7 +9,7 @@ set -euo pipefail
 root=$(dirname "$(dirname "$(readlink -f "${BASH_SOURCE[0]}")")")
 work=$(mktemp -d "$(readlink -f "${FOLDER:-.}")/open.XXXXXX")
 trap 'rm -rf "$work"' EXIT
-[ -n "${TMHOST:-}" ] || "$root/tmhost" blocks </dev/null
+[ -n "${TMHOST:-}" ] || "$root/install/proved"
 [ $# -gt 0 ] || set -- 100 1000
 cc -O2 -o "$work/plain_open" "$root/bench/plain_open.c"
 python3 - "${TMHOST:-$root/crates/tmhost/out/tmhost}" "$work" "${RUNS:-5}" "$@" <<'PYTHON'

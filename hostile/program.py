@@ -12,10 +12,10 @@ ROOT = os.path.dirname(os.path.dirname(os.path.realpath(__file__)))
 
 
 def built():
-    """The path of the program: that of this repository, built where that is needed, or the one that TMHOST names."""
+    """The path of the program: that of this repository, proved where that is needed, or the one that TMHOST names."""
     named = os.environ.get("TMHOST")
     if not named:
-        subprocess.run([f"{ROOT}/tmhost", "blocks"], stdin=subprocess.DEVNULL, stdout=subprocess.DEVNULL, check=True)
+        subprocess.run([f"{ROOT}/install/proved"], stdin=subprocess.DEVNULL, check=True)
     return named or f"{ROOT}/crates/tmhost/out/tmhost"
 
 

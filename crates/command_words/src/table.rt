@@ -34,10 +34,6 @@ pub(crate) struct Row {
     pub(crate) notes: &'static str,
 }
 
-/// What `--version` shows after the name of the program: its number, the format of the journals that it
-/// writes (the byte at offset 8 of each) and the kit that its proofs are checked by.
-pub(crate) const VERSION: &str = "0.1.0 (journal format 1, rattle-kit-13f)";
-
 /// What the help of the program says below its lists.
 pub(crate) const NOTES: &str = "Without a command it is `blocks`.\n\n\
 Status: 0 where the input came to its end, or help was shown; 1 at a fault, which\n\

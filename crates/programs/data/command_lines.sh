@@ -89,9 +89,10 @@ for task in blocks create run live eval show check rescue export faults; do
     whole_help "$task" "$task"
 done
 
-# The version: the name of the program, a number, the journals' format, which each header has, and the kit.
+# The version: the name of the program, a number, the journals' format, which each header has, the kit, and what built it. That is the prover, but where
+# BUILT has the words of another build.
 "$tmhost" --version >text 2>errors
-compare 'the version' "$? $(wc -c <errors) $(bytes text)" "0 0 $(printf 'tmhost 0.1.0 (journal format 1, rattle-kit-13f)\n' >wanted; bytes wanted)"
+compare 'the version' "$? $(wc -c <errors) $(bytes text)" "0 0 $(printf 'tmhost 0.1.0 (journal format 1, rattle-kit-13f, %s)\n' "${BUILT:-proved}" >wanted; bytes wanted)"
 "$tmhost" create versioned
 compare 'the format that it names' "$(od -An -tu1 -j8 -N1 versioned | tr -d ' ')" "$(sed 's/.*journal format \([0-9]*\),.*/\1/' text)"
 "$tmhost" -V >same 2>errors
