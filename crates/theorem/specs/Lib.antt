@@ -1,0 +1,4 @@
+pub mod Story
+pub mod Programs
+pub mod Acts
+pub mod RunVisits
