@@ -64,14 +64,14 @@ module _ (before : Image) (disk : DiskView) (ops : List Op) (end : ℕ) (now : D
     model_mid : IsTrue mid.keeps_model
     model_mid = subst IsTrue (sym c.same.keeps_model) model_now
 
-    -- all of the events were taken, and these outcomes were told, or none
+    -- all of the events were taken, and these outcomes were reported, or none
     all_told : (more : List Event) (i : Image) → IsSheetImage (sheet_in v) i → LeftByTurn disk.room before ops (record { events = events ++ more; told = told }) i
     all_told more i image = turned (events ++ more) events more refl told [] v (subst (λ (os : List Outcome). Runs first events os v) (sym (append-nil told)) c.runs) i image
 
     none_told : (more : List Event) (i : Image) → IsSheetImage (sheet_in v) i → LeftByTurn disk.room before ops (record { events = events ++ more; told = [] }) i
     none_told more i image = turned (events ++ more) events more refl [] told v c.runs i image
 
-    -- one event more was taken, of which nothing was told
+    -- one event more was taken, of which nothing was reported
     one_more : (e : Event) (d : Does) → MayDo v e d → (i : Image) → IsSheetImage (sheet_in (behind v d)) i
         → LeftByTurn disk.room before ops (record { events = events ++ e ∷ []; told = told }) i
     one_more e d may i image = turned (events ++ e ∷ []) (events ++ e ∷ []) [] (sym (append-nil (events ++ e ∷ []))) told (d.told ∷ []) (behind v d)
@@ -93,7 +93,7 @@ module _ (before : Image) (disk : DiskView) (ops : List Op) (end : ℕ) (now : D
     some_untold taken dropped untold leads runs i image = turned (events ++ (taken ++ dropped)) (events ++ taken) dropped (sym (append_assoc events taken dropped)) [] (told ++ untold) leads
         (runs_after first events told v taken untold leads c.runs runs) i image
 
-    -- at every moment of how it came to an end, where all is told
+    -- at every moment of how it came to an end, where all is reported
     ending : (more : List Event) (back : DiskView) → EndedAs v mid more back → LeavesOnly (LeftByTurn disk.room before ops (record { events = events ++ more; told = told })) mid.history back.history
     ending more back well = started (LeftByTurn disk.room before ops (record { events = events ++ []; told = told })) mid.history (λ i image. all_told [] i (c.holds model_mid i image))
     ending more back (at_event e faults.Closed last same cause) = absurd cause
@@ -112,7 +112,7 @@ module _ (before : Image) (disk : DiskView) (ops : List Op) (end : ℕ) (now : D
         weakens (IsSheetOf (sheet_in v) (sheet_in leads)) (LeftByTurn disk.room before ops (record { events = events ++ (taken ++ dropped); told = told })) mid.history last.history
         (λ i either. ⊎_elim (all_told (taken ++ dropped) i) (some_more taken dropped untold leads runs i) either) (moments model_mid)
 
-    -- what is told is one of the things that may be: less may be told, too
+    -- less may have been reported, too
     untold_turn : (es : List Event) (i : Image) → LeftByTurn disk.room before ops (record { events = es; told = told }) i → LeftByTurn disk.room before ops (record { events = es; told = [] }) i
     untold_turn es i t = (t.0, record {
       allowed = t.1.allowed;
@@ -138,7 +138,7 @@ module _ (before : Image) (disk : DiskView) (ops : List Op) (end : ℕ) (now : D
         (weakens (LeftByTurn disk.room before ops (record { events = events ++ more; told = told })) (LeftByTurn disk.room before ops (record { events = events ++ more; told = [] })) mid.history back.history
         (untold_turn (events ++ more)) (ending more back ends))
 
-    -- and at its end all that was told is there
+    -- and at its end all that was reported is there
     pub at_the_end : (more : List Event) (back : DiskView) → EndedAs v mid more back → Leaves (LeftByTurn disk.room before ops (record { events = events ++ more; told = told })) back.history.now
     at_the_end more back ends = at_end (LeftByTurn disk.room before ops (record { events = events ++ more; told = told })) mid.history back.history (ending more back ends)
 

@@ -18,7 +18,7 @@ use Rattle.sheet_check.specs.Kept.{IsAmong}
 use Rattle.theorem.specs.Story.{CrashedSince}
 use Rattle.theorem.specs.Programs.{Invocations}
 
--- What was done by one invocation or several: hosts had turns; or answers were put in, of which these were told.
+-- What was done by one invocation or several: hosts had turns; or answers were put in, of which these were reported.
 pub data Act : Type 0 where
   hosted : List HostTurn → Act
   filed : (put told : List Op) → Act
@@ -37,7 +37,7 @@ pub record Files (before : Image) (disk : DiskView) (ops more : List Op) (back :
   pub holds : InModel now (Leaves (IsSheetImage (sheet_of (ops ++ more))) back.history.now)
 
 -- Invocations of the program on the same files, one after another: those that have hosts or make reads alone, and acceptances between them. In
--- one that is cut off (A5), what it told by then isn't known.
+-- one that is cut off (A5), what it reported by then isn't known.
 pub data Uses (room : ℕ) : Image → List Act → Image → Type 0 where
   no_use : {at : Image} → Uses room at [] at
   turns_of : {before mid after : Image} {turns : List HostTurn} {acts : List Act} → Invocations room before turns mid → Uses room mid acts after
@@ -47,7 +47,7 @@ pub data Uses (room : ℕ) : Image → List Act → Image → Type 0 where
   has_filed : {before mid after : Image} {put : List Op} {acts : List Act} (disk back : DiskView) (ops : List Op) → Files before disk ops put back
       → CrashedSince back.history back.history mid → Uses room mid acts after → Uses room before (filed put put ∷ acts) after
 
--- Some of the first of these ops were put after a worksheet, all of them that were told.
+-- Some of the first of these ops were put after a worksheet, all of them that were reported.
 pub record PutAfter (before : Contents) (put told : List Op) (after : Contents) : Type 0 where
   pub ops : List Op
   pub is : before ≡ sheet_of ops

@@ -46,7 +46,7 @@ pub data EndedAs (w : World) (d : DiskView) : List Event → DiskView → Type 0
   in_group : (taken dropped : List Event) (untold : List Outcome) (leads : World) (back : DiskView) → Runs w taken untold leads → SameDisk d back
       → InModel d (LeavesOnly (IsSheetOf (sheet_in w) (sheet_in leads)) d.history back.history) → EndedAs w d (taken ++ dropped) back
 
--- An invocation that opened the worksheet, with these events, of which these outcomes are what its output tells where it came to an end.
+-- An invocation that opened the worksheet, with these events, of which these outcomes are what its output reports where it came to an end.
 pub record Visit (before : Image) (disk : DiskView) (turn : HostTurn) (back : DiskView) : Type 0 where
   pub ops : List Op
   pub end : ℕ
@@ -60,7 +60,7 @@ pub record Visit (before : Image) (disk : DiskView) (turn : HostTurn) (back : Di
   pub ended : EndedAs leads mid unreported back
   pub is : turn.events ≡ events ++ unreported
 
--- An image of the worksheet after some of the first of these events, with all those among them of which these outcomes tell.
+-- An image of the worksheet after some of the first of these events, with all those among them of which these are the outcomes.
 pub record HasTold (w : World) (events : List Event) (told : List Outcome) (i : Image) : Type 0 where
   pub taken : List Event
   pub lost : List Event
@@ -76,17 +76,17 @@ pub data Invocations (room : ℕ) : Image → List HostTurn → Image → Type 0
   -- it made reads alone, as one does that is cut off in its opening
   looked : {before mid after : Image} {turns : List HostTurn} (disk back : DiskView) → IsRestarted before disk → Looks disk.history back.history
       → CrashedSince disk.history back.history mid → Invocations room mid turns after → Invocations room before turns after
-  -- A crash came at a moment of it (A5), and what it had told by then isn't known.
+  -- A crash came at a moment of it (A5), and what it had reported by then isn't known.
   cut_off : {before mid after : Image} {turn : HostTurn} {turns : List HostTurn} (disk back : DiskView) → disk.room ≡ room → (v : Visit before disk turn back)
       → CrashedSince v.now.history back.history mid → Invocations room mid turns after
       → Invocations room before (record { events = turn.events; told = [] } ∷ turns) after
-  -- A crash came at or after a moment of the disk from which on each image has what these outcomes tell, and they were told no earlier (A6).
-  -- No contract of a program says today which moment that is.
+  -- A crash came at or after a moment of the disk from which on each image has what these outcomes say, and they were reported no earlier (A6).
+  -- Which moment that is no contract of a program says.
   cut_since : {before mid after : Image} {turn : HostTurn} {turns : List HostTurn} (disk back : DiskView) → disk.room ≡ room → (v : Visit before disk turn back)
       → (told : List Outcome) (at : History) → LeavesOnly (HasTold (world_at_opening v.ops disk.room v.end) turn.events told) at back.history
       → CrashedSince at back.history mid → Invocations room mid turns after
       → Invocations room before (record { events = turn.events; told = told } ∷ turns) after
-  -- it ended, with all told, and a crash came later or none at all
+  -- it ended, with all reported, and a crash came later or none at all
   ended : {before mid after : Image} {turn : HostTurn} {turns : List HostTurn} (disk back : DiskView) → disk.room ≡ room → Visit before disk turn back
       → CrashedSince back.history back.history mid → Invocations room mid turns after
       → Invocations room before (turn ∷ turns) after

@@ -56,7 +56,7 @@ has_fewer before done op c h = record {
   is = h.is ∙ ap (λ (l : List ℕ). l ++ h.rest) (sym (append_assoc before done (op ∷ []))) ∙ append_assoc (before ++ done) (op ∷ []) h.rest;
 }
 
--- What was told stays told, and durable, while the log goes on.
+-- What was reported stays so, and durable, while the log goes on.
 pub later : {W : Type 0} (tried : W → ℕ → LogHistory → Bool → W → Type 0) (before : List ℕ) (old new : LogHistory) (from : W) (done : List ℕ) (to : W)
     → ToldInOrder tried before old done from to → LeavesAlways (BeginsWith (before ++ done)) old new → ToldInOrder tried before new done from to
 later tried before old new from done to none goes = none
@@ -75,7 +75,7 @@ dropped (x ∷ xs) (suc i) less = dropped xs i (omega (arith, less))
 
 module _ {W : Type 0} (tried : W → ℕ → LogHistory → Bool → W → Type 0) (before xs : List ℕ) (i : ℕ) (from mid : W) (old new : LogHistory)
     (told : ToldInOrder tried before old (take i xs) from mid) (goes : LeavesAlways (BeginsWith (before ++ take i xs)) old new) where
-  -- what was told stays so
+  -- what was reported stays so
   abbrev Stays : Type 0
   Stays = ToldInOrder tried before new (take i xs) from mid
 
@@ -93,7 +93,7 @@ module _ {W : Type 0} (tried : W → ℕ → LogHistory → Bool → W → Type 
     kept : LeavesAlways (BeginsWith (before ++ (take i xs ++ get_or xs i 0 ∷ []))) new new
     kept = started (BeginsWith (before ++ (take i xs ++ get_or xs i 0 ∷ []))) new (of_settled (before ++ (take i xs ++ get_or xs i 0 ∷ [])) new.now is)
 
-    -- the next op couldn't be told
+    -- the next op couldn't be reported
     pub unsaid : {E : Type 0} (e : E) → tried mid (get_or xs i 0) new false to → ServedInOrder tried (added_to before xs) new from to (Err e)
     unsaid e went = record {
       done = take i xs;
@@ -104,7 +104,7 @@ module _ {W : Type 0} (tried : W → ℕ → LogHistory → Bool → W → Type 
       end = inr (record { op = get_or xs i 0; tail = drop (suc i) xs; split = dropped xs i less; at = new; went = went; kept = kept });
     }
 
-    -- it was told
+    -- it was reported
     pub grown : tried mid (get_or xs i 0) new true to → ToldInOrder tried before new (take (i + 1) xs) from to × (new.now ≡ all_durable (before ++ take (i + 1) xs))
     grown went =
         let e = (take_at_read xs i 0 less).1 in (
@@ -112,7 +112,7 @@ module _ {W : Type 0} (tried : W → ℕ → LogHistory → Bool → W → Type 
           is ∙ ap (λ (l : List ℕ). all_durable (before ++ l)) (sym e),
         )
 
--- all were told
+-- all were reported
 pub whole : {W E : Type 0} (tried : W → ℕ → LogHistory → Bool → W → Type 0) (before xs : List ℕ) (i : ℕ) (from to : W) (last : LogHistory) → length xs ≤ i
     → ToldInOrder tried before last (take i xs) from to → last.now ≡ all_durable (before ++ take i xs) → ServedInOrder {E = E} tried (added_to before xs) last from to (Ok tt)
 whole tried before xs i from to last all told now = record {

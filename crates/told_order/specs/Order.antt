@@ -1,4 +1,4 @@
--- Ops that are told when they are durable: the common order of a log's history and of what was told.
+-- Ops that are reported when they are durable: the common order of a log's history and of what was reported.
 use Rattle.std.specs.Prelude.{◌≡◌, ◌⊎◌, ℕ, List, [], ◌∷◌, ◌++◌, Bool, true, false, Result, MatchResult}
 use Rattle.told_order.specs.Log.{LogHistory, LeavesAlways, all_durable}
 
@@ -16,7 +16,7 @@ pub record Added : Type 0 where
 abbrev pub added_to : List ℕ → List ℕ → Added
 added_to before ops = record { before = before; ops = ops }
 
--- From one teller to another these ops were told, one after another. When one was told the log's history was `at`, which the teller's
+-- From one teller to another these ops were reported, one after another. When one was, the log's history was `at`, which the teller's
 -- relation names; and from that moment to the last one a crash leaves that op and all before it.
 pub data ToldInOrder {W : Type 0} (tried : W → ℕ → LogHistory → Bool → W → Type 0) (before : List ℕ) (last : LogHistory) : List ℕ → W → W → Type 0 where
   none : {w : W} → ToldInOrder tried before last [] w w
@@ -24,7 +24,7 @@ pub data ToldInOrder {W : Type 0} (tried : W → ℕ → LogHistory → Bool →
       → tried mid op at true new → LeavesAlways (BeginsWith (before ++ (done ++ op ∷ []))) at last
       → ToldInOrder tried before last (done ++ op ∷ []) w new
 
--- The first of the other ops couldn't be told whole; it was durable, too, before that was tried.
+-- The first of the other ops couldn't be reported whole; it was durable, too, before that was tried.
 pub record NextUntold {W : Type 0} (tried : W → ℕ → LogHistory → Bool → W → Type 0) (x : Added) (rest : List ℕ) (last : LogHistory) (mid new : W) : Type 0 where
   pub op : ℕ
   pub tail : List ℕ
@@ -33,8 +33,8 @@ pub record NextUntold {W : Type 0} (tried : W → ℕ → LogHistory → Bool �
   pub went : tried mid op at false new
   pub kept : LeavesAlways (BeginsWith (x.before ++ (x.ops ++ op ∷ []))) at last
 
--- Some of the first ops were put on the log and told: all, and the log has these and no more; or the log failed at the next one, of which
--- nothing was told; or that couldn't be told.
+-- Some of the first ops were put on the log and reported: all, and the log has these and no more; or the log failed at the next one, of which
+-- nothing was reported; or that couldn't be reported.
 pub record ServedInOrder {W E : Type 0} (tried : W → ℕ → LogHistory → Bool → W → Type 0) (x : Added) (last : LogHistory) (old new : W) (result : Result Unit E) : Type 0 where
   pub done : List ℕ
   pub rest : List ℕ

@@ -1,4 +1,4 @@
-//! One op with the clauses of the log and of the text apart, as they are where no relation ties them.
+//! The control: one op, with a clause of the log and one of the text, which no relation ties.
 ghost use Rattle.std.specs.Prelude.{◌≡◌, ◌++◌, ◌∷◌, [], List, ℕ, OnOk};
 ghost use Rattle.std.specs.Io.KnownBytes.{Appends};
 ghost use Rattle.told_order.specs.Log.{LeavesAlways, all_durable};
@@ -11,7 +11,7 @@ use crate::{Log, ServeFault};
 use std::io::Write;
 
 /// Puts an op on the log, and writes that it is done. **The text comes first here**, and each clause is met: what is on the log at Ok and
-/// at every moment, and what is written at Ok.
+/// at every moment, and what is written at Ok. So such clauses say nothing of the order of the two.
 pub fn serve_apart<L: Log, W: Write>(op: u32, log: &mut L, out: &mut W) -> Result<(), ServeFault>
     ensures puts { (ops : List ℕ) → (L.history log.old).now ≡ all_durable ops
         → OnOk result ((L.history log.new).now ≡ all_durable (ops ++ op ∷ [])) }

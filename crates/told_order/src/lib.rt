@@ -1,4 +1,5 @@
-//! Ops that are put on a log and then told: that each is durable before it is told is a clause.
+//! Ops that are put on a log and then reported: that each is durable before it is reported is a clause. It is a model of such a clause, and no
+//! part of the program.
 #![tactic(auto)]
 
 mod apart;

@@ -1,4 +1,4 @@
-//! The same over any writer of std.
+//! The same over any writer, which is stamped with the log before each text.
 ghost use Rattle.std.specs.Prelude.{◌≡◌, List, ℕ, true};
 ghost use Rattle.std.specs.Io.KnownBytes.{Appends};
 ghost use Rattle.told_order.specs.Log.{all_durable};

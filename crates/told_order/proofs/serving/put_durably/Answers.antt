@@ -1,7 +1,7 @@
-use Rattle.std.proofs.Common.{sym, subst, ap, ◌∙◌, append_assoc, List, ℕ, [], ◌∷◌, ◌++◌}
-use Rattle.told_order.specs.Log.{LogState, LeavesAlways, MayRemain, all_durable, with_op}
+use Rattle.std.proofs.Common.{ap, ◌∙◌}
+use Rattle.told_order.specs.Log.{LogState, MayRemain, with_op}
 use Rattle.told_order.specs.Order.{BeginsWith}
-use Rattle.told_order.proofs.Keeping.{weakens, joined, of_settled, of_put, of_synced}
+use Rattle.told_order.proofs.Keeping.{weakens, joined, of_put, of_synced}
 use Rattle.told_order.proofs.serving.put_durably.Goals as goal
 
 pub returns-in_err-put-clause-moments : goal.returns-in_err-put-clause-moments

@@ -1,4 +1,4 @@
-use Rattle.std.proofs.Common.{sym, subst, ap, ◌∙◌, append-nil, List, ℕ, [], ◌∷◌, ◌++◌, ◌≡◌, take, get_or, Bool}
+use Rattle.std.proofs.Common.{sym, subst, ap, ◌∙◌, append-nil, ◌++◌, take, get_or, Bool}
 use Rattle.told_order.specs.Log.{all_durable}
 use Rattle.told_order.specs.Order.{none}
 use Rattle.told_order.proofs.Keeping.{broke, grown, on_ok, unsaid, whole}

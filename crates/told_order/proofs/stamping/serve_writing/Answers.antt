@@ -1,4 +1,4 @@
-use Rattle.std.proofs.Common.{sym, ap, ◌∙◌, append-nil, List, ℕ, ◌++◌, ◌≡◌, take}
+use Rattle.std.proofs.Common.{sym, ap, ◌∙◌, append-nil, ◌++◌, take}
 use Rattle.told_order.specs.Log.{all_durable}
 use Rattle.told_order.specs.Stamps.{none}
 use Rattle.told_order.proofs.Keeping.{on_ok}
