@@ -12,11 +12,10 @@ use Rattle.worksheet.specs.Checks.{Allowed, AllowedFrom}
 use Rattle.worksheet.proofs.Existence.{allowed_goes_on}
 use Rattle.recovery.specs.Sheets.{IsSheetImage}
 use Rattle.recovery.specs.Laws.{OneSheet}
-use Rattle.sheet_check.specs.Kept.{IsAmong}
 use Rattle.host_laws.specs.Turns.{AnsweredIn, Has, HostTurn, HostsInTurn, LeftInTurn}
 use Rattle.theorem.specs.Story.{CrashedSince}
 use Rattle.theorem.specs.Programs.{Invocations}
-use Rattle.theorem.specs.Acts.{Act, CameIn, Did, Files, KeepFieldOn, PutAfter, StaysIn, Uses, WasPut, hosted, filed, no_use, turns_of, filing, has_filed, nothing_done, by_hosts, by_filing}
+use Rattle.theorem.specs.Acts.{Act, CameIn, Did, Files, HasFirst, KeepFieldOn, PutAfter, StaysIn, Uses, WasPut, hosted, filed, no_use, turns_of, filing, has_filed, nothing_done, by_hosts, by_filing}
 use Rattle.host_laws.proofs.FieldLaws.{by_op}
 use Rattle.theorem.proofs.Told.{at_crash}
 use Rattle.theorem.proofs.Visits.{invocations_left}
@@ -65,7 +64,7 @@ module _ (before : Image) (sheet : Contents) (image : IsSheetImage sheet before)
   model : IsTrue f.now.keeps_model
   model = subst IsTrue (sym f.same.keeps_model) f.keeps_model
 
-  some_put : IsAmong ops put mid → Filed []
+  some_put : HasFirst ops put mid → Filed []
   some_put among = (
     sheet_of (ops ++ among.done),
     record {
@@ -84,7 +83,7 @@ module _ (before : Image) (sheet : Contents) (image : IsSheetImage sheet before)
   )
 
   pub was_filing : CrashedSince f.now.history back.history mid → Filed []
-  was_filing crashed = some_put (at_crash (IsAmong ops put) f.now.history back.history mid (f.moments model) crashed)
+  was_filing crashed = some_put (at_crash (HasFirst ops put) f.now.history back.history mid (f.moments model) crashed)
 
   pub all_filed : CrashedSince back.history back.history mid → Filed put
   all_filed crashed = (

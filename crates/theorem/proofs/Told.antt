@@ -1,5 +1,5 @@
 -- A story is one of turns.
-use Rattle.std.proofs.Common.{◌≡◌, ◌≤◌, ℕ, List, [], ◌∷◌, ◌++◌, refl, ap, sym, ◌∙◌, subst, arith, length, length-append, IsTrue, Result}
+use Rattle.std.proofs.Common.{◌≡◌, ◌≤◌, ◌⊎◌, ⊎_elim, ℕ, List, [], ◌∷◌, ◌++◌, refl, ap, sym, ◌∙◌, subst, arith, length, length-append, IsTrue, Result}
 use Rattle.std.specs.declared.alloc.Global.{Global}
 use Rattle.std.specs.declared.vec.Vec.{Vec}
 use Rattle.std.specs.List.{AllByRecursion}
@@ -10,12 +10,13 @@ use Rattle.worksheet.specs.Checks.{Allowed}
 use Rattle.recovery.specs.Sheets.{IsSheetImage}
 use Rattle.host_events.specs.declared.event.Event.{Event}
 use Rattle.host_events.specs.declared.outcome.Outcome.{Outcome}
+use Rattle.session_engine.specs.declared.play.GroupFault.{GroupFault}
 use Rattle.session_engine.specs.Host.{HostView}
 use Rattle.host_laws.specs.Turns.{EachTurned, HostTurn, HostsInTurn, LeftByTurn, LeftInTurn}
 use Rattle.host_laws.specs.OneHost.{JustOpened}
 use Rattle.host_laws.specs.Together.{returned}
 use Rattle.host_laws.specs.Calls.{CallsLeavePrefixes, TookByCalls}
-use Rattle.theorem.specs.Story.{CrashedSince, Doing, HostLived, Story, nothing, a_step, a_group, a_group_up_to, a_stopped_group, a_stopped_group_up_to, ends, opening, host}
+use Rattle.theorem.specs.Story.{CrashedSince, Doing, HostLived, Story, PlaysGroup, nothing, a_step, a_group, after_group, ends, opening, host}
 
 -- the state at a moment since then is one of those of which something holds
 found_in : (P : Image → Type 0) (first : DiskState) (past : List DiskState) → Leaves P first → (more later earlier : List DiskState) (s : DiskState)
@@ -38,6 +39,16 @@ module _ (calls : CallsLeavePrefixes) (room : ℕ) (before : Image) (after : Ima
   kept : (new : HostView) → SameDisk old.store.disk new.store.disk → IsTrue new.store.disk.keeps_model
   kept new same = subst IsTrue (sym same.keeps_model) model
 
+  -- a crash within a group, and one after it
+  group_left : (group : List Event) (answer : Result (Vec Outcome Global) GroupFault) (new : HostView) → PlaysGroup group old answer new
+      → LeavesOnly (LeftByTurn room before found (record { events = events ++ group; told = told })) old.store.disk.history new.store.disk.history
+      × LeavesOnly (LeftByTurn room before found (record { events = events ++ group; told = told ++ returned answer })) new.store.disk.history new.store.disk.history
+  group_left group answer new plays =
+      ⊎_elim
+      (λ meets. let left = (calls room before found opened begun events told old took).2 group answer new meets in (left.0 model, left.1 (kept new meets.same)))
+      (λ meets. let left = (calls room before found opened begun events told old took).3 group answer new meets in (left.0 model, left.1 (kept new meets.same)))
+      plays
+
   by_doing : (t : HostTurn) (from to : DiskView) → Doing old events told t from to → CrashedSince from.history to.history after → LeftByTurn room before found t after
   by_doing t from to nothing crashed =
       at_crash (LeftByTurn room before found (record { events = events; told = told })) old.store.disk.history old.store.disk.history after
@@ -45,18 +56,12 @@ module _ (calls : CallsLeavePrefixes) (room : ℕ) (before : Image) (after : Ima
   by_doing t from to (a_step e answer new meets) crashed =
       at_crash (LeftByTurn room before found (record { events = events ++ e ∷ []; told = told })) old.store.disk.history new.store.disk.history after
       ((calls room before found opened begun events told old took).1 e answer new meets model) crashed
-  by_doing t from to (a_group group answer new meets) crashed =
+  by_doing t from to (a_group group answer new plays) crashed =
       at_crash (LeftByTurn room before found (record { events = events ++ group; told = told })) old.store.disk.history new.store.disk.history after
-      (((calls room before found opened begun events told old took).2 group answer new meets).0 model) crashed
-  by_doing t from to (a_group_up_to group answer new meets) crashed =
-      at_crash (LeftByTurn room before found (record { events = events ++ group; told = told })) old.store.disk.history new.store.disk.history after
-      (((calls room before found opened begun events told old took).3 group answer new meets).0 model) crashed
-  by_doing t from to (a_stopped_group group answer new meets) crashed =
+      (group_left group answer new plays).0 crashed
+  by_doing t from to (after_group group answer new plays) crashed =
       at_crash (LeftByTurn room before found (record { events = events ++ group; told = told ++ returned answer })) new.store.disk.history new.store.disk.history after
-      (((calls room before found opened begun events told old took).2 group answer new meets).1 (kept new meets.same)) crashed
-  by_doing t from to (a_stopped_group_up_to group answer new meets) crashed =
-      at_crash (LeftByTurn room before found (record { events = events ++ group; told = told ++ returned answer })) new.store.disk.history new.store.disk.history after
-      (((calls room before found opened begun events told old took).3 group answer new meets).1 (kept new meets.same)) crashed
+      (group_left group answer new plays).1 crashed
 
 pub host_turned : CallsLeavePrefixes → (room : ℕ) (before : Image) (turn : HostTurn) (after : Image) → (h : HostLived room before turn after)
     → LeftByTurn room before h.found turn after

@@ -114,20 +114,23 @@ module _ (before : Image) (disk : DiskView) (ops : List Op) (end : ℕ) (now : D
 
     -- less may have been reported, too
     untold_turn : (es : List Event) (i : Image) → LeftByTurn disk.room before ops (record { events = es; told = told }) i → LeftByTurn disk.room before ops (record { events = es; told = [] }) i
-    untold_turn es i t = (t.0, record {
-      allowed = t.1.allowed;
-      opens = t.1.opens;
-      end = t.1.end;
-      ends = t.1.ends;
-      taken = t.1.taken;
-      lost = t.1.lost;
-      split = t.1.split;
-      untold = told ++ t.1.untold;
-      leads = t.1.leads;
-      run = t.1.run;
-      ops = t.1.ops;
-      leaves = t.1.leaves;
-    })
+    untold_turn es i t = (
+      t.0,
+      record {
+        allowed = t.1.allowed;
+        opens = t.1.opens;
+        end = t.1.end;
+        ends = t.1.ends;
+        taken = t.1.taken;
+        lost = t.1.lost;
+        split = t.1.split;
+        untold = told ++ t.1.untold;
+        leads = t.1.leads;
+        run = t.1.run;
+        ops = t.1.ops;
+        leaves = t.1.leaves;
+      },
+    )
 
     -- at every moment from the opening to the end
     pub moments : (more : List Event) (back : DiskView) → EndedAs v mid more back

@@ -14,7 +14,6 @@ use Rattle.worksheet.specs.Checks.{Allowed, AllowedFrom}
 use Rattle.recovery.specs.Sheets.{IsSheetImage}
 use Rattle.session_engine.specs.Host.{HostGivesSheet, HostView}
 use Rattle.host_laws.specs.Turns.{AnsweredIn, Has, HostTurn, KeepField, LeftInTurn}
-use Rattle.sheet_check.specs.Kept.{IsAmong}
 use Rattle.theorem.specs.Story.{CrashedSince}
 use Rattle.theorem.specs.Programs.{Invocations}
 
@@ -22,6 +21,13 @@ use Rattle.theorem.specs.Programs.{Invocations}
 pub data Act : Type 0 where
   hosted : List HostTurn → Act
   filed : (put told : List Op) → Act
+
+-- An image of the worksheet of these ops and of some of the first of more.
+pub record HasFirst (ops more : List Op) (i : Image) : Type 0 where
+  pub done : List Op
+  pub rest : List Op
+  pub split : more ≡ done ++ rest
+  pub image : IsSheetImage (sheet_of (ops ++ done)) i
 
 -- A read of a disk, which keeps the model (A1), gives this image (A3), and it was opened to put answers after these ops; this is the disk then.
 -- At every moment each image was of the worksheet after some of the first of them, and at the end each is of that after all.
@@ -33,7 +39,7 @@ pub record Files (before : Image) (disk : DiskView) (ops more : List Op) (back :
   pub from : AllowedFrom ops more
   pub now : DiskView
   pub same : SameDisk disk now
-  pub moments : InModel now (LeavesOnly (IsAmong ops more) now.history back.history)
+  pub moments : InModel now (LeavesOnly (HasFirst ops more) now.history back.history)
   pub holds : InModel now (Leaves (IsSheetImage (sheet_of (ops ++ more))) back.history.now)
 
 -- Invocations of the program on the same files, one after another: those that have hosts or make reads alone, and acceptances between them. In

@@ -1,7 +1,7 @@
 -- What `run`, `live` and `eval` leave of a worksheet's disk, as their contracts say it: each invocation is a turn of a host.
 -- (docs/THEOREM.md; premises A1 to A6 in README.md.)
 use Rattle.std.specs.Prelude.{◌≡◌, ℕ, IsTrue, List, [], ◌∷◌, ◌++◌, Result}
-use Rattle.disk_model.specs.Disk.{DiskView, History, Image, InModel, IsRestarted, LeavesOnly, Looks, SameDisk, bytes_on}
+use Rattle.disk_model.specs.Disk.{DiskView, History, Image, InModel, IsRestarted, Leaves, LeavesOnly, Looks, SameDisk, bytes_on}
 use Rattle.journal.specs.declared.journal.OpenFault.{OpenFault}
 use Rattle.worksheet.specs.declared.op.Op.{Op}
 use Rattle.worksheet.specs.Ops.{sheet_of}
@@ -15,7 +15,6 @@ use Rattle.session_engine.specs.Does.{Runs}
 use Rattle.session_engine.specs.Crash.{Moments}
 use Rattle.session_engine.specs.Faults.{CauseOf}
 use Rattle.session_engine.specs.Host.{EndsAt, HostView}
-use Rattle.child_edge.specs.Kept.{HoldsSheet}
 use Rattle.host_laws.specs.Turns.{HostTurn}
 use Rattle.theorem.specs.Story.{CrashedSince, Opens}
 
@@ -36,7 +35,7 @@ pub record Course (w : World) (d : DiskView) (events : List Event) (outcomes : L
   pub runs : Runs w events outcomes v
   pub same : SameDisk d f
   pub moments : Moments w events outcomes d f
-  pub holds : HoldsSheet v f
+  pub holds : InModel f (Leaves (IsSheetImage (sheet_in v)) f.history.now)
 
 -- How it came to an end, from this world and disk: at once; at an event that had a fault; or in a group in which the disk failed. These events
 -- are those of which nothing was reported.

@@ -1,6 +1,6 @@
 -- What may become of a disk before it is opened: hosts one after another, each ended by a crash at any moment, and what is opened then.
 -- (docs/THEOREM.md.) Premises have names here: A1 to A6 (README.md, "Premises").
-use Rattle.std.specs.Prelude.{◌≡◌, ◌≤◌, ℕ, IsTrue, List, [], ◌∷◌, ◌++◌, length, Result}
+use Rattle.std.specs.Prelude.{◌≡◌, ◌≤◌, ◌⊎◌, ℕ, IsTrue, List, [], ◌∷◌, ◌++◌, length, Result}
 use Rattle.std.specs.declared.alloc.Global.{Global}
 use Rattle.std.specs.declared.vec.Vec.{Vec}
 use Rattle.disk_model.specs.Disk.{AtMoment, DiskState, DiskView, History, Image, InModel, IsImage, IsRestarted, Looks, bytes_on}
@@ -28,6 +28,10 @@ pub record CrashedSince (old new : History) (after : Image) : Type 0 where
   pub since : length old.past ≤ moment
   pub leaves : IsImage state after
 
+-- One call that plays a group of events, all of it or up to the first refusal, as its contract has it.
+abbrev pub PlaysGroup : List Event → HostView → Result (Vec Outcome Global) GroupFault → HostView → Type 0
+PlaysGroup group old answer new = GroupMeets group old answer new ⊎ UpToMeets group old answer new
+
 -- What a host did last, that had taken these events and returned these outcomes. With that call the events that it was given, and the
 -- outcomes that it returned, are those of the turn; and the crash came between this disk and that one. A call that was under way is one
 -- that would have returned so (A5).
@@ -37,15 +41,11 @@ pub data Doing (old : HostView) (events : List Event) (told : List Outcome) : Ho
   -- the crash came within a step, or after one that had a fault
   a_step : (e : Event) (answer : Result Outcome HostFault) (new : HostView) → StepMeets e old answer new
       → Doing old events told (record { events = events ++ e ∷ []; told = told }) old.store.disk new.store.disk
-  -- within a group, or after it, while nothing of its answer was seen
-  a_group : (group : List Event) (answer : Result (Vec Outcome Global) GroupFault) (new : HostView) → GroupMeets group old answer new
+  -- within a group
+  a_group : (group : List Event) (answer : Result (Vec Outcome Global) GroupFault) (new : HostView) → PlaysGroup group old answer new
       → Doing old events told (record { events = events ++ group; told = told }) old.store.disk new.store.disk
-  a_group_up_to : (group : List Event) (answer : Result (Vec Outcome Global) GroupFault) (new : HostView) → UpToMeets group old answer new
-      → Doing old events told (record { events = events ++ group; told = told }) old.store.disk new.store.disk
-  -- after a group that returned outcomes, though a fault or a refusal stopped it
-  a_stopped_group : (group : List Event) (answer : Result (Vec Outcome Global) GroupFault) (new : HostView) → GroupMeets group old answer new
-      → Doing old events told (record { events = events ++ group; told = told ++ returned answer }) new.store.disk new.store.disk
-  a_stopped_group_up_to : (group : List Event) (answer : Result (Vec Outcome Global) GroupFault) (new : HostView) → UpToMeets group old answer new
+  -- after a group, which a refusal or a fault may have stopped, and which returned these outcomes
+  after_group : (group : List Event) (answer : Result (Vec Outcome Global) GroupFault) (new : HostView) → PlaysGroup group old answer new
       → Doing old events told (record { events = events ++ group; told = told ++ returned answer }) new.store.disk new.store.disk
 
 -- A host was opened on this image, was given events by steps and by groups, returned the outcomes of those, and ended: a crash at any

@@ -15,7 +15,7 @@ use Rattle.sheet_programs.specs.Strict.{RunDone}
 use Rattle.sheet_programs.proofs.Courses.{Course}
 use Rattle.sheet_programs.proofs.Timelines.{lines-course, lines-so-far-course, lines-up-to-course, taken-course}
 use Rattle.theorem.specs.Programs.{EndedAs, Visit, at_event, in_group, well}
-use Rattle.theorem.specs.RunVisits.{BrokeIsVisit, DoneIsVisit, OpeningHas, SoFarIsVisit, StoppedIsVisit}
+use Rattle.program_visits.specs.Visits.{BrokeIsVisit, DoneIsVisit, OpeningHas, SoFarIsVisit, StoppedIsVisit}
 
 -- the disk after a course keeps the model, so the one before it did
 pub kept_before : (d f : DiskView) → SameDisk d f → IsTrue f.keeps_model → IsTrue d.keeps_model

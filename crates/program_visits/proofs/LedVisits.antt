@@ -20,10 +20,10 @@ use Rattle.evaluation.specs.Steps.{Setting, stands}
 use Rattle.evaluation.specs.Evaluation.{LedOf, SoFarOf, Uncounted, meaning, not_begun}
 use Rattle.evaluation.specs.Broken.{StepLed, TooMany, Unwatched}
 use Rattle.theorem.specs.Programs.{EndedAs, Visit, at_event, well}
-use Rattle.theorem.specs.RunVisits.{OpeningHas}
-use Rattle.theorem.proofs.RunVisits.{kept_before, visit_of}
-use Rattle.theorem.proofs.LiveCourses.{led-course}
-use Rattle.theorem.proofs.EvalCourses.{cut-goes, evaluated-goes, step-led-goes, too-many-goes, unwatched-goes}
+use Rattle.program_visits.specs.Visits.{OpeningHas}
+use Rattle.program_visits.proofs.RunVisits.{kept_before, visit_of}
+use Rattle.program_visits.proofs.LiveCourses.{led-course}
+use Rattle.program_visits.proofs.EvalCourses.{cut-goes, evaluated-goes, step-led-goes, too-many-goes, unwatched-goes}
 
 -- a visit with these entries, and at most one event more
 abbrev pub AVisit : DiskView → List Beat → DiskView → Type 0
@@ -35,9 +35,12 @@ anyhow disk back start now o has model kept beats v mid h is c left =
     ⊎_elim
     (λ goes. let there : mid ≡ back = goes.1 ∙ sym is in
     ([], visit_of disk back start now o has model beats v mid (subst (λ (d : DiskView). IsTrue d.keeps_model) (sym there) kept) c [] (subst (λ (d : DiskView). EndedAs v mid [] d) there well)))
-    (λ broke. (broke.0 ∷ [], visit_of disk back start now o has model beats v mid
-    (kept_before mid h.store.disk broke.2.same (subst (λ (d : DiskView). IsTrue d.keeps_model) is kept)) c (broke.0 ∷ [])
-    (subst (λ (d : DiskView). EndedAs v mid (broke.0 ∷ []) d) (sym is) (at_event broke.0 broke.1 h.store.disk broke.2.same broke.2.cause))))
+    (λ broke. (
+      broke.0 ∷ [],
+      visit_of disk back start now o has model beats v mid
+          (kept_before mid h.store.disk broke.2.same (subst (λ (d : DiskView). IsTrue d.keeps_model) is kept)) c (broke.0 ∷ [])
+          (subst (λ (d : DiskView). EndedAs v mid (broke.0 ∷ []) d) (sym is) (at_event broke.0 broke.1 h.store.disk broke.2.same broke.2.cause)),
+    ))
     left
 
 module _ {C : Type 0} (first last : Outside C) (model : IsTrue first.disk.keeps_model) (same : SameDisk first.disk last.disk) where
@@ -51,10 +54,13 @@ module _ {C : Type 0} (first last : Outside C) (model : IsTrue first.disk.keeps_
 
   pub run_unwritten_visit : (m : Manner C) (script : List ℕ) (it : RunUnwritten m.after script first last) → OpeningHas first.disk it.start it.now it.opened
       → AVisit first.disk (it.earlier.beats ++ it.beats) last.disk
-  run_unwritten_visit m script it has = ([], visit_of first.disk last.disk it.start it.now it.opened has model (it.earlier.beats ++ it.beats) it.leads.world it.leads.disk
-      (subst (λ (d : DiskView). IsTrue d.keeps_model) it.back_is last_keeps)
-      (course_on it.start it.now it.earlier.beats it.mid.world it.mid.disk it.beats it.leads.world it.leads.disk (lines-course m.after 1 it.before.ran) (group_course it.group it.mid it.beats it.leads it.done)) []
-      (subst (λ (d : DiskView). EndedAs it.leads.world it.leads.disk [] d) (sym it.back_is) well))
+  run_unwritten_visit m script it has = (
+    [],
+    visit_of first.disk last.disk it.start it.now it.opened has model (it.earlier.beats ++ it.beats) it.leads.world it.leads.disk
+        (subst (λ (d : DiskView). IsTrue d.keeps_model) it.back_is last_keeps)
+        (course_on it.start it.now it.earlier.beats it.mid.world it.mid.disk it.beats it.leads.world it.leads.disk (lines-course m.after 1 it.before.ran) (group_course it.group it.mid it.beats it.leads it.done)) []
+        (subst (λ (d : DiskView). EndedAs it.leads.world it.leads.disk [] d) (sym it.back_is) well),
+  )
 
   pub live_led_visit : (o : Edge C) (stream : Option (List ℕ)) (it : LiveLed o stream first last) → OpeningHas first.disk it.start it.now it.opened
       → AVisit first.disk (it.lived.earlier.beats ++ taken_beats it.lived.led) last.disk
@@ -69,24 +75,33 @@ module _ {C : Type 0} (first last : Outside C) (model : IsTrue first.disk.keeps_
 
   pub eval_uncounted_visit : (o : Setting C) (it : Uncounted o first.disk last.disk first.sources last.sources) → OpeningHas first.disk it.start it.now it.opened.0
       → AVisit first.disk it.beats last.disk
-  eval_uncounted_visit o it has = ([], visit_of first.disk last.disk it.start it.now it.opened.0 has model it.beats it.leads.run.world it.leads.run.disk
-      (subst (λ (d : DiskView). IsTrue d.keeps_model) it.back_is last_keeps)
-      (goes_course it.start it.now it.beats it.leads.run.world it.leads.run.disk
-      (evaluated-goes (meaning o it.start) (stands (at it.start first.sources it.now) not_begun) it.steps it.beats it.text it.leads it.evaluated)) []
-      (subst (λ (d : DiskView). EndedAs it.leads.run.world it.leads.run.disk [] d) (sym it.back_is) well))
+  eval_uncounted_visit o it has = (
+    [],
+    visit_of first.disk last.disk it.start it.now it.opened.0 has model it.beats it.leads.run.world it.leads.run.disk
+        (subst (λ (d : DiskView). IsTrue d.keeps_model) it.back_is last_keeps)
+        (goes_course it.start it.now it.beats it.leads.run.world it.leads.run.disk
+        (evaluated-goes (meaning o it.start) (stands (at it.start first.sources it.now) not_begun) it.steps it.beats it.text it.leads it.evaluated)) []
+        (subst (λ (d : DiskView). EndedAs it.leads.run.world it.leads.run.disk [] d) (sym it.back_is) well),
+  )
 
   pub eval_unwatched_visit : (o : Setting C) (it : SoFarOf o first last Unwatched) → OpeningHas first.disk it.start it.now it.opened.0
       → AVisit first.disk it.beats last.disk
-  eval_unwatched_visit o it has = ([], visit_of first.disk last.disk it.start it.now it.opened.0 has model it.beats it.leads.world it.leads.disk
-      (subst (λ (d : DiskView). IsTrue d.keeps_model) it.back_is last_keeps)
-      (goes_course it.start it.now it.beats it.leads.world it.leads.disk
-      (unwatched-goes (meaning o it.start) (stands (at it.start first.sources it.now) not_begun) it.beats it.text it.leads it.came)) []
-      (subst (λ (d : DiskView). EndedAs it.leads.world it.leads.disk [] d) (sym it.back_is) well))
+  eval_unwatched_visit o it has = (
+    [],
+    visit_of first.disk last.disk it.start it.now it.opened.0 has model it.beats it.leads.world it.leads.disk
+        (subst (λ (d : DiskView). IsTrue d.keeps_model) it.back_is last_keeps)
+        (goes_course it.start it.now it.beats it.leads.world it.leads.disk
+        (unwatched-goes (meaning o it.start) (stands (at it.start first.sources it.now) not_begun) it.beats it.text it.leads it.came)) []
+        (subst (λ (d : DiskView). EndedAs it.leads.world it.leads.disk [] d) (sym it.back_is) well),
+  )
 
   pub eval_too_many_visit : (o : Setting C) (it : SoFarOf o first last TooMany) → OpeningHas first.disk it.start it.now it.opened.0
       → AVisit first.disk it.beats last.disk
-  eval_too_many_visit o it has = ([], visit_of first.disk last.disk it.start it.now it.opened.0 has model it.beats it.leads.world it.leads.disk
-      (subst (λ (d : DiskView). IsTrue d.keeps_model) it.back_is last_keeps)
-      (goes_course it.start it.now it.beats it.leads.world it.leads.disk
-      (too-many-goes (meaning o it.start) (stands (at it.start first.sources it.now) not_begun) it.beats it.text it.leads it.came)) []
-      (subst (λ (d : DiskView). EndedAs it.leads.world it.leads.disk [] d) (sym it.back_is) well))
+  eval_too_many_visit o it has = (
+    [],
+    visit_of first.disk last.disk it.start it.now it.opened.0 has model it.beats it.leads.world it.leads.disk
+        (subst (λ (d : DiskView). IsTrue d.keeps_model) it.back_is last_keeps)
+        (goes_course it.start it.now it.beats it.leads.world it.leads.disk
+        (too-many-goes (meaning o it.start) (stands (at it.start first.sources it.now) not_begun) it.beats it.text it.leads it.came)) []
+        (subst (λ (d : DiskView). EndedAs it.leads.world it.leads.disk [] d) (sym it.back_is) well),
+  )

@@ -7,6 +7,7 @@ use Rattle.worksheet.specs.Contents.{Contents}
 use Rattle.worksheet.specs.Checks.{Allowed, AllowedFrom}
 use Rattle.recovery.specs.Sheets.{IsSheetImage}
 use Rattle.disk_model.specs.Disk.{Image, LeavesOnly}
+use Rattle.disk_model.specs.inside.Moments.{weakens}
 use Rattle.host_events.specs.declared.event.Event.{Event}
 use Rattle.host_events.specs.declared.outcome.HostFault.{HostFault}
 use Rattle.session_engine.specs.World.{World}
@@ -23,11 +24,11 @@ use Rattle.sheet_check.specs.Accept.{FoundOn}
 use Rattle.sheet_check.specs.Kept as kept
 use Rattle.tellings.specs.declared.note.Counts.{Counts}
 use Rattle.theorem.specs.Programs.{EndedAs, Visit, at_event, in_group, well}
-use Rattle.theorem.specs.Acts.{Files}
-use Rattle.theorem.specs.RunVisits.{OpeningHas}
-use Rattle.theorem.proofs.RunVisits.{kept_before, visit_of}
-use Rattle.theorem.proofs.LiveCourses.{lived-course, so-far-course, to-group, up-to-course}
-use Rattle.theorem.proofs.EvalCourses.{cut-goes, evaluated-goes, short-goes, step-up-to-goes, too-many-goes, unwatched-goes}
+use Rattle.theorem.specs.Acts.{Files, HasFirst}
+use Rattle.program_visits.specs.Visits.{OpeningHas}
+use Rattle.program_visits.proofs.RunVisits.{kept_before, visit_of}
+use Rattle.program_visits.proofs.LiveCourses.{lived-course, so-far-course, to-group, up-to-course}
+use Rattle.program_visits.proofs.EvalCourses.{cut-goes, evaluated-goes, short-goes, step-up-to-goes, too-many-goes, unwatched-goes}
 
 module _ {C : Type 0} (o : Edge C) (stream : Option (List ℕ)) (first last : Outside C) (model : IsTrue first.disk.keeps_model) (same : SameDisk first.disk last.disk) where
   last_keeps : IsTrue last.disk.keeps_model
@@ -108,6 +109,7 @@ accepted_files disk back sheet ops more now model found holds allowed from = rec
   from = from;
   now = now;
   same = found.same;
-  moments = holds.moments;
+  moments = λ keeps. weakens (kept.IsAmong ops more) (HasFirst ops more) now.history back.history
+      (λ i among. record { done = among.done; rest = among.rest; split = among.split; image = among.image }) (holds.moments keeps);
   holds = holds.holds;
 }

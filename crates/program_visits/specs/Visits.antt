@@ -1,4 +1,4 @@
--- That what `run`'s contract says of a disk is a visit. (docs/THEOREM.md.)
+-- That what the contract of `run` says of a disk is a visit. (crates/theorem.)
 use Rattle.std.specs.Prelude.{List, [], ◌∷◌, ◌++◌, ℕ, IsTrue, Option}
 use Rattle.disk_model.specs.Disk.{DiskView, SameDisk, bytes_on}
 use Rattle.worksheet.specs.Checks.{Allowed}
@@ -14,7 +14,8 @@ use Rattle.sheet_programs.specs.Lines.{led_beats}
 use Rattle.host_laws.specs.Turns.{HostTurn}
 use Rattle.theorem.specs.Programs.{Visit}
 
--- What `OpenedOn` lacks: the ops are allowed, and the opening made the worksheet durable. The host that was opened has both (`IsHost`).
+-- What `OpenedOn` doesn't say of an opening: the ops are allowed, and the worksheet was made durable. The host that was opened has both
+-- (`IsHost`).
 pub record OpeningHas (disk : DiskView) (start : World) (now : DiskView) (o : OpenedOn disk start now) : Type 0 where
   pub allowed : Allowed o.ops
   pub holds : HoldsSheet start now

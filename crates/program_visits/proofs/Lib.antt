@@ -1,0 +1,5 @@
+pub mod RunVisits
+pub mod LiveCourses
+pub mod EvalCourses
+pub mod LiveVisits
+pub mod LedVisits
