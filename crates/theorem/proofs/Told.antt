@@ -15,7 +15,7 @@ use Rattle.session_engine.specs.Host.{HostView}
 use Rattle.host_laws.specs.Turns.{EachTurned, HostTurn, HostsInTurn, LeftByTurn, LeftInTurn}
 use Rattle.host_laws.specs.OneHost.{JustOpened}
 use Rattle.host_laws.specs.Together.{returned}
-use Rattle.host_laws.specs.Calls.{CallsLeavePrefixes, TookByCalls}
+use Rattle.host_laws.specs.Calls.{CallsLeavePrefixes, TookByCalls, no_call}
 use Rattle.theorem.specs.Story.{CrashedSince, Doing, HostLived, Story, PlaysGroup, nothing, a_step, a_group, after_group, ends, opening, host}
 
 -- the state at a moment since then is one of those of which something holds
@@ -86,3 +86,21 @@ pub left : HostsInTurn → CallsLeavePrefixes → (room : ℕ) (first : List Op)
     → Allowed first → IsSheetImage (sheet_of first) before → Story room before turns after → LeftInTurn room first before after turns
 left hosts calls room first before after turns allowed image story =
     hosts room first before after turns allowed image (each_turned calls room before turns after story)
+
+-- a host that was opened and made one call
+pub one_call : (room : ℕ) (before : Image) (found : List Op) (opened : HostView) → JustOpened room before found opened → IsTrue opened.store.disk.keeps_model
+    → (turn : HostTurn) (from to : DiskView) → Doing opened [] [] turn from to → (after : Image) → CrashedSince from.history to.history after → HostLived room before turn after
+one_call room before found opened begun model turn from to doing after crashed = record {
+  found = found;
+  opened = opened;
+  begun = begun;
+  events = [];
+  told = [];
+  old = opened;
+  took = no_call;
+  keeps_model = model;
+  from = from;
+  to = to;
+  doing = doing;
+  crashed = crashed;
+}

@@ -1,19 +1,21 @@
 //! The theorem of docs/THEOREM.md as the contract of one function: what opens, after whatever was there before.
 #![tactic(auto)]
 
-ghost use Rattle.std.specs.Prelude.{◌∷◌, ◌++◌, [], IfOk, List};
+ghost use Rattle.std.specs.Prelude.{◌∷◌, [], IfOk, List};
 ghost use Rattle.disk_model.specs.Disk.{Image, InModel, Looks, SameDisk, bytes_on};
 ghost use Rattle.worksheet.specs.declared.op.Op.{Op};
 ghost use Rattle.session_engine.specs.Host.{HostView, disk_of_opening};
 ghost use Rattle.host_laws.specs.OneHost.{JustOpened};
+ghost use Rattle.host_laws.specs.Together.{returned};
 ghost use Rattle.theorem.specs.Story.{CrashedSince, HostLived, OpensAfterHosts};
 ghost use Rattle.theorem.specs.Programs.{OpensAfterPrograms};
 ghost use Rattle.theorem.specs.Acts.{OpensAfterActs};
 
 use disk_model::Disk;
 use host_events::{Event, HostFault, Outcome};
+use host_laws::played_group;
 use journal::OpenFault;
-use session_engine::Host;
+use session_engine::{GroupFault, Host};
 use std::alloc::Global;
 
 /// Opens what hosts and programs, one after another, have left on a disk. Three statements say what that is: after hosts that a caller gave
@@ -49,5 +51,23 @@ pub fn took_one<D: Disk>(
 {
     let mut host = opened_after(alloc, disk)?;
     let answer = host.step(event);
+    Ok((host, answer))
+}
+
+/// The same of a group of events, all of it or none: a crash within it, and one after what it returned.
+pub fn took_group<D: Disk>(
+    alloc: Global,
+    disk: D,
+    events: Vec<Event>,
+) -> Result<(Host<D>, Result<Vec<Outcome>, GroupFault>), OpenFault<D>>
+    ensures lived { InModel (D.view disk) (IfOk result (λ r. (opened : HostView) × SameDisk (D.view disk) opened.store.disk
+        × ((after : Image)
+        → (CrashedSince opened.store.disk.history r.0.store.disk.history after
+        → HostLived (D.view disk).room (bytes_on (D.view disk)) (record { events = events.items; told = [] }) after)
+        × (CrashedSince r.0.store.disk.history r.0.store.disk.history after
+        → HostLived (D.view disk).room (bytes_on (D.view disk)) (record { events = events.items; told = returned r.1 }) after)))) }
+{
+    let mut host = opened_after(alloc, disk)?;
+    let answer = played_group(&mut host, events);
     Ok((host, answer))
 }
