@@ -26,7 +26,7 @@ put_shown : (os taken : List Op) → Allowed os → AllowedFrom os taken → (f 
 put_shown os [] allowed from f a has some = inl (subst (λ (l : List Op). Has (sheet_of l) f) (append-nil os) has, tt)
 put_shown os (o ∷ rest) allowed from f a has some =
     ⊎_elim
-    (λ here. ⊎_elim (λ before. inl (before, here.0, here.1))
+    (λ here. ⊎_elim (λ before. inl (before, here))
     (λ by. inr (record {
       earlier = [];
       later = rest;
@@ -131,13 +131,13 @@ pub came : (room : ℕ) (before : Image) (s : Contents) (acts : List Act) (after
 came room before s acts after u nothing_done f a has some = inl (has, tt)
 came room before s acts after u (by_hosts {mid = mid} {t = t} {turns = turns} {acts = others} first is l now more) f a has some =
     ⊎_elim
-    (λ here. ⊎_elim (λ was. inl (subst (λ (c : Contents). Has c f) (sym is) was.0, was.1, here.1)) (λ answered. inr (inl (answered, here.1)))
+    (λ here. ⊎_elim (λ was. inl (subst (λ (c : Contents). Has c f) (sym is) was.0, (was.1, here.1))) (λ answered. inr (inl (answered, here.1)))
     (l.shows f a (subst (λ (c : Contents). Has c f) now here.0) some))
     (λ late. inr (inr late))
     (came room mid t others after u more f a has some)
 came room before s acts after u (by_filing {mid = mid} {t = t} {acts = others} p image more) f a has some =
     ⊎_elim
-    (λ here. ⊎_elim (λ was. inl (subst (λ (c : Contents). Has c f) (sym p.is) was.0, was.1, here.1)) (λ put. inr (inl (put, here.1)))
+    (λ here. ⊎_elim (λ was. inl (subst (λ (c : Contents). Has c f) (sym p.is) was.0, (was.1, here.1))) (λ put. inr (inl (put, here.1)))
     (put_shown p.ops p.taken p.allowed p.from f a (subst (λ (c : Contents). Has c f) p.now here.0) some))
     (λ late. inr (inr late))
     (came room mid t others after u more f a has some)
