@@ -1,7 +1,7 @@
 -- What all acts leave, and where an answer came from.
-use Rattle.std.proofs.Common.{◌≡◌, ◌⊎◌, inl, inr, ⊎_elim, ℕ, List, [], ◌∷◌, ◌++◌, refl, ap, sym, ◌∙◌, subst, append-nil, append_assoc, IsTrue, Some}
-use Rattle.disk_model.specs.Disk.{DiskView, Image, IsImage, Leaves, LeavesOnly}
-use Rattle.disk_model.specs.inside.Moments.{goes_on, started, weakens}
+use Rattle.std.proofs.Common.{◌≡◌, ◌⊎◌, inl, inr, ⊎_elim, ℕ, List, [], ◌∷◌, ◌++◌, refl, ap, sym, subst, append-nil, append_assoc, IsTrue, Some}
+use Rattle.disk_model.specs.Disk.{DiskView, Image}
+use Rattle.disk_model.specs.inside.Moments.{started}
 use Rattle.worksheet.specs.declared.op.Op.{Op}
 use Rattle.worksheet.specs.declared.op.Op.TheVariants as op
 use Rattle.worksheet.specs.declared.field.Field.{Field}
@@ -12,10 +12,9 @@ use Rattle.worksheet.specs.Checks.{Allowed, AllowedFrom}
 use Rattle.worksheet.proofs.Existence.{allowed_goes_on}
 use Rattle.recovery.specs.Sheets.{IsSheetImage}
 use Rattle.recovery.specs.Laws.{OneSheet}
-use Rattle.host_laws.specs.Turns.{AnsweredIn, Has, HostTurn, HostsInTurn, LeftInTurn}
+use Rattle.host_laws.specs.Turns.{Has, HostsInTurn}
 use Rattle.theorem.specs.Story.{CrashedSince}
-use Rattle.theorem.specs.Programs.{Invocations}
-use Rattle.theorem.specs.Acts.{Act, CameIn, Did, Files, HasFirst, KeepFieldOn, PutAfter, StaysIn, Uses, WasPut, hosted, filed, no_use, turns_of, filing, has_filed, nothing_done, by_hosts, by_filing}
+use Rattle.theorem.specs.Acts.{Act, CameIn, Did, Files, HasFirst, KeepFieldOn, PutAfter, StaysIn, Uses, WasPut, no_use, turns_of, filing, has_filed, nothing_done, by_hosts, by_filing}
 use Rattle.host_laws.proofs.FieldLaws.{by_op}
 use Rattle.theorem.proofs.Told.{at_crash}
 use Rattle.theorem.proofs.Visits.{invocations_left}

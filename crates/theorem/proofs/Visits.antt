@@ -1,22 +1,19 @@
 -- An invocation is a turn.
-use Rattle.std.proofs.Common.{◌≡◌, ◌⊎◌, ⊎_elim, ℕ, List, [], ◌∷◌, ◌++◌, refl, ap, sym, ◌∙◌, subst, append-nil, append_assoc, IsTrue, Some, None, true, false}
-use Rattle.disk_model.specs.Disk.{DiskState, DiskView, History, Image, InModel, IsImage, IsRestarted, Leaves, LeavesOnly, Looks}
+use Rattle.std.proofs.Common.{◌≡◌, ⊎_elim, ℕ, List, [], ◌∷◌, ◌++◌, refl, ap, sym, ◌∙◌, subst, append-nil, append_assoc, IsTrue}
+use Rattle.disk_model.specs.Disk.{DiskView, History, Image, Leaves, LeavesOnly}
 use Rattle.disk_model.specs.inside.Moments.{at_end, goes_on, started, weakens}
 use Rattle.worksheet.specs.declared.op.Op.{Op}
 use Rattle.worksheet.specs.Ops.{sheet_of}
 use Rattle.worksheet.specs.Checks.{Allowed}
 use Rattle.recovery.specs.Sheets.{IsSheetImage, IsSheetOf}
 use Rattle.host_events.specs.declared.event.Event.{Event}
-use Rattle.host_events.specs.declared.outcome.HostFault.{HostFault}
 use Rattle.host_events.specs.declared.outcome.HostFault.TheVariants as faults
 use Rattle.host_events.specs.declared.outcome.Outcome.{Outcome}
 use Rattle.session_engine.specs.World.{World, sheet_in, world_at_opening}
 use Rattle.session_engine.specs.Does.{Does, MayDo, Runs, behind}
 use Rattle.session_engine.specs.Crash.{LeftAmong}
-use Rattle.session_engine.specs.Host.{EndsAt}
-use Rattle.session_engine.specs.Faults.{CauseOf}
 use Rattle.session_engine.proofs.Playing.{EitherSheet, either_sheet, run_on}
-use Rattle.host_laws.specs.Turns.{EachTurned, HostTurn, HostsInTurn, LeftByTurn, LeftInTurn, Turned}
+use Rattle.host_laws.specs.Turns.{EachTurned, HostTurn, HostsInTurn, LeftByTurn, LeftInTurn}
 use Rattle.theorem.specs.Story.{CrashedSince}
 use Rattle.theorem.specs.Programs.{Begun, Course, EndedAs, HasTold, Visit, Invocations, well, at_event, in_group, no_more, looked, cut_off, cut_since, ended}
 use Rattle.theorem.proofs.Told.{at_crash, opening_leaves}
