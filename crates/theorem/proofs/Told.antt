@@ -33,20 +33,21 @@ pub at_crash : (P : Image → Type 0) (old new : History) (after : Image) → Le
 at_crash P old new after only c = found_in P old.now old.past only.start only.more c.at.later c.at.earlier c.state (sym only.states ∙ c.at.states)
     (subst (λ (n : ℕ). length old.past ≤ n) c.at.moment_is c.since) only.each after c.leaves
 
+-- a disk keeps the model after calls on it
+pub keeps_still : (old new : DiskView) → SameDisk old new → IsTrue old.keeps_model → IsTrue new.keeps_model
+keeps_still old new same model = subst IsTrue (sym same.keeps_model) model
+
 -- a host that lived was a turn
 module _ (calls : CallsLeavePrefixes) (room : ℕ) (before : Image) (after : Image) (found : List Op) (opened : HostView) (begun : JustOpened room before found opened)
     (events : List Event) (told : List Outcome) (old : HostView) (took : TookByCalls opened events told old) (model : IsTrue old.store.disk.keeps_model) where
-  kept : (new : HostView) → SameDisk old.store.disk new.store.disk → IsTrue new.store.disk.keeps_model
-  kept new same = subst IsTrue (sym same.keeps_model) model
-
   -- a crash within a group, and one after it
   group_left : (group : List Event) (answer : Result (Vec Outcome Global) GroupFault) (new : HostView) → PlaysGroup group old answer new
       → LeavesOnly (LeftByTurn room before found (record { events = events ++ group; told = told })) old.store.disk.history new.store.disk.history
       × LeavesOnly (LeftByTurn room before found (record { events = events ++ group; told = told ++ returned answer })) new.store.disk.history new.store.disk.history
   group_left group answer new plays =
       ⊎_elim
-      (λ meets. let left = (calls room before found opened begun events told old took).2 group answer new meets in (left.0 model, left.1 (kept new meets.same)))
-      (λ meets. let left = (calls room before found opened begun events told old took).3 group answer new meets in (left.0 model, left.1 (kept new meets.same)))
+      (λ meets. let left = (calls room before found opened begun events told old took).2 group answer new meets in (left.0 model, left.1 (keeps_still old.store.disk new.store.disk meets.same model)))
+      (λ meets. let left = (calls room before found opened begun events told old took).3 group answer new meets in (left.0 model, left.1 (keeps_still old.store.disk new.store.disk meets.same model)))
       plays
 
   by_doing : (t : HostTurn) (from to : DiskView) → Doing old events told t from to → CrashedSince from.history to.history after → LeftByTurn room before found t after
@@ -88,9 +89,9 @@ left hosts calls room first before after turns allowed image story =
     hosts room first before after turns allowed image (each_turned calls room before turns after story)
 
 -- a host that was opened and made one call
-pub one_call : (room : ℕ) (before : Image) (found : List Op) (opened : HostView) → JustOpened room before found opened → IsTrue opened.store.disk.keeps_model
+pub one_call : (room : ℕ) (before : Image) (found : List Op) (disk : DiskView) (opened : HostView) → JustOpened room before found opened → SameDisk disk opened.store.disk → IsTrue disk.keeps_model
     → (turn : HostTurn) (from to : DiskView) → Doing opened [] [] turn from to → (after : Image) → CrashedSince from.history to.history after → HostLived room before turn after
-one_call room before found opened begun model turn from to doing after crashed = record {
+one_call room before found disk opened begun same model turn from to doing after crashed = record {
   found = found;
   opened = opened;
   begun = begun;
@@ -98,7 +99,7 @@ one_call room before found opened begun model turn from to doing after crashed =
   told = [];
   old = opened;
   took = no_call;
-  keeps_model = model;
+  keeps_model = keeps_still disk opened.store.disk same model;
   from = from;
   to = to;
   doing = doing;
