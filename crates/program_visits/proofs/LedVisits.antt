@@ -11,19 +11,11 @@ use Rattle.sheet_programs.specs.Records.{Manner, Outside}
 use Rattle.sheet_programs.specs.Run.{OpenedOn, RunLed, RunUnwritten}
 use Rattle.sheet_programs.specs.Lines.{led_beats}
 use Rattle.sheet_programs.specs.Told.{LeavesFrontsAnyhow}
-use Rattle.sheet_programs.proofs.Courses.{Course, course_on, goes_course, group_course}
+use Rattle.sheet_programs.proofs.Courses.{Course, course_on, group_course}
 use Rattle.sheet_programs.proofs.Timelines.{lines-course, lines-led-course}
-use Rattle.live.specs.Records.{Edge}
-use Rattle.live.specs.Broken.{taken_beats}
-use Rattle.live.specs.Live.{LiveLed, begin_at}
-use Rattle.evaluation.specs.Steps.{Setting, stands}
-use Rattle.evaluation.specs.Evaluation.{LedOf, SoFarOf, Uncounted, meaning, not_begun}
-use Rattle.evaluation.specs.Broken.{StepLed, TooMany, Unwatched}
 use Rattle.theorem.specs.Programs.{EndedAs, Visit, at_event, well}
-use Rattle.program_visits.specs.Visits.{OpeningHas}
+use Rattle.program_visits.specs.Opening.{OpeningHas}
 use Rattle.program_visits.proofs.RunVisits.{kept_before, visit_of}
-use Rattle.program_visits.proofs.LiveCourses.{led-course}
-use Rattle.program_visits.proofs.EvalCourses.{cut-goes, evaluated-goes, step-led-goes, too-many-goes, unwatched-goes}
 
 -- a visit with these entries, and at most one event more
 abbrev pub AVisit : DiskView → List Beat → DiskView → Type 0
@@ -47,11 +39,13 @@ module _ {C : Type 0} (first last : Outside C) (model : IsTrue first.disk.keeps_
   last_keeps : IsTrue last.disk.keeps_model
   last_keeps = subst IsTrue (sym same.keeps_model) model
 
+  -- The writer failed at the text of a line.
   pub run_led_visit : (m : Manner C) (script : List ℕ) (it : RunLed m.after script first last) → OpeningHas first.disk it.start it.now it.opened
       → AVisit first.disk (it.lines.earlier.beats ++ led_beats it.lines.led) last.disk
   run_led_visit m script it has = anyhow first.disk last.disk it.start it.now it.opened has model last_keeps (it.lines.earlier.beats ++ led_beats it.lines.led) it.leads.world it.leads.disk it.host it.back_is
       (lines-led-course m.after (script_lines script) (at it.start first.sources it.now) it.leads it.lines) it.moments
 
+  -- It failed at the text of a group.
   pub run_unwritten_visit : (m : Manner C) (script : List ℕ) (it : RunUnwritten m.after script first last) → OpeningHas first.disk it.start it.now it.opened
       → AVisit first.disk (it.earlier.beats ++ it.beats) last.disk
   run_unwritten_visit m script it has = (
@@ -59,49 +53,5 @@ module _ {C : Type 0} (first last : Outside C) (model : IsTrue first.disk.keeps_
     visit_of first.disk last.disk it.start it.now it.opened has model (it.earlier.beats ++ it.beats) it.leads.world it.leads.disk
         (subst (λ (d : DiskView). IsTrue d.keeps_model) it.back_is last_keeps)
         (course_on it.start it.now it.earlier.beats it.mid.world it.mid.disk it.beats it.leads.world it.leads.disk (lines-course m.after 1 it.before.ran) (group_course it.group it.mid it.beats it.leads it.done)) []
-        (subst (λ (d : DiskView). EndedAs it.leads.world it.leads.disk [] d) (sym it.back_is) well),
-  )
-
-  pub live_led_visit : (o : Edge C) (stream : Option (List ℕ)) (it : LiveLed o stream first last) → OpeningHas first.disk it.start it.now it.opened
-      → AVisit first.disk (it.lived.earlier.beats ++ taken_beats it.lived.led) last.disk
-  live_led_visit o stream it has = anyhow first.disk last.disk it.start it.now it.opened has model last_keeps (it.lived.earlier.beats ++ taken_beats it.lived.led) it.leads.world it.leads.disk it.host it.back_is
-      (led-course o (begin_at it.start first.sources it.now) it.arrivals it.leads it.lived) it.moments
-
-  pub eval_led_visit : (o : Setting C) (it : LedOf o first.disk last.disk first.sources last.sources) → OpeningHas first.disk it.start it.now it.opened.0
-      → AVisit first.disk it.beats last.disk
-  eval_led_visit o it has = anyhow first.disk last.disk it.start it.now it.opened.0 has model last_keeps it.beats it.leads.world it.leads.disk it.host it.back_is
-      (goes_course it.start it.now it.beats it.leads.world it.leads.disk
-      (cut-goes (meaning o it.start) (stands (at it.start first.sources it.now) not_begun) (StepLed (meaning o it.start)) it.beats it.text it.leads (λ q s beats x. step-led-goes (meaning o it.start) q s beats it.leads x) it.led)) it.moments
-
-  pub eval_uncounted_visit : (o : Setting C) (it : Uncounted o first.disk last.disk first.sources last.sources) → OpeningHas first.disk it.start it.now it.opened.0
-      → AVisit first.disk it.beats last.disk
-  eval_uncounted_visit o it has = (
-    [],
-    visit_of first.disk last.disk it.start it.now it.opened.0 has model it.beats it.leads.run.world it.leads.run.disk
-        (subst (λ (d : DiskView). IsTrue d.keeps_model) it.back_is last_keeps)
-        (goes_course it.start it.now it.beats it.leads.run.world it.leads.run.disk
-        (evaluated-goes (meaning o it.start) (stands (at it.start first.sources it.now) not_begun) it.steps it.beats it.text it.leads it.evaluated)) []
-        (subst (λ (d : DiskView). EndedAs it.leads.run.world it.leads.run.disk [] d) (sym it.back_is) well),
-  )
-
-  pub eval_unwatched_visit : (o : Setting C) (it : SoFarOf o first last Unwatched) → OpeningHas first.disk it.start it.now it.opened.0
-      → AVisit first.disk it.beats last.disk
-  eval_unwatched_visit o it has = (
-    [],
-    visit_of first.disk last.disk it.start it.now it.opened.0 has model it.beats it.leads.world it.leads.disk
-        (subst (λ (d : DiskView). IsTrue d.keeps_model) it.back_is last_keeps)
-        (goes_course it.start it.now it.beats it.leads.world it.leads.disk
-        (unwatched-goes (meaning o it.start) (stands (at it.start first.sources it.now) not_begun) it.beats it.text it.leads it.came)) []
-        (subst (λ (d : DiskView). EndedAs it.leads.world it.leads.disk [] d) (sym it.back_is) well),
-  )
-
-  pub eval_too_many_visit : (o : Setting C) (it : SoFarOf o first last TooMany) → OpeningHas first.disk it.start it.now it.opened.0
-      → AVisit first.disk it.beats last.disk
-  eval_too_many_visit o it has = (
-    [],
-    visit_of first.disk last.disk it.start it.now it.opened.0 has model it.beats it.leads.world it.leads.disk
-        (subst (λ (d : DiskView). IsTrue d.keeps_model) it.back_is last_keeps)
-        (goes_course it.start it.now it.beats it.leads.world it.leads.disk
-        (too-many-goes (meaning o it.start) (stands (at it.start first.sources it.now) not_begun) it.beats it.text it.leads it.came)) []
         (subst (λ (d : DiskView). EndedAs it.leads.world it.leads.disk [] d) (sym it.back_is) well),
   )

@@ -15,7 +15,7 @@ use Rattle.sheet_programs.specs.Strict.{RunDone}
 use Rattle.sheet_programs.proofs.Courses.{Course}
 use Rattle.sheet_programs.proofs.Timelines.{lines-course, lines-so-far-course, lines-up-to-course, taken-course}
 use Rattle.theorem.specs.Programs.{EndedAs, Visit, at_event, in_group, well}
-use Rattle.program_visits.specs.Visits.{BrokeIsVisit, DoneIsVisit, OpeningHas, SoFarIsVisit, StoppedIsVisit}
+use Rattle.program_visits.specs.Opening.{OpeningHas}
 
 -- the disk after a course keeps the model, so the one before it did
 pub kept_before : (d f : DiskView) → SameDisk d f → IsTrue f.keeps_model → IsTrue d.keeps_model
@@ -47,25 +47,33 @@ module _ {C : Type 0} (m : Manner C) (script : List ℕ) (first last : Outside C
   last_keeps : IsTrue last.disk.keeps_model
   last_keeps = subst IsTrue (sym same.keeps_model) model
 
-  pub done_visit : DoneIsVisit m script first last
+  -- a run that had no fault
+  pub done_visit : (stopped : Option ℕ) (it : RunDone m script stopped first last) → OpeningHas first.disk it.start it.now it.opened
+      → Visit (bytes_on first.disk) first.disk (record { events = events_of it.all.beats ++ []; told = outcomes_of it.all.beats }) last.disk
   done_visit stopped it has = visit_of first.disk last.disk it.start it.now it.opened has model it.all.beats it.leads.world it.leads.disk
       (subst (λ (d : DiskView). IsTrue d.keeps_model) it.back_is last_keeps)
       (taken-course m (script_lines script) stopped (at it.start first.sources it.now) it.all it.leads it.lines) []
       (subst (λ (d : DiskView). EndedAs it.leads.world it.leads.disk [] d) (sym it.back_is) well)
 
-  pub so_far_visit : SoFarIsVisit m script first last
+  -- one in which memory was refused
+  pub so_far_visit : (it : RunSoFar m.after script first last) → OpeningHas first.disk it.start it.now it.opened
+      → Visit (bytes_on first.disk) first.disk (record { events = events_of it.all.beats ++ []; told = outcomes_of it.all.beats }) last.disk
   so_far_visit it has = visit_of first.disk last.disk it.start it.now it.opened has model it.all.beats it.leads.world it.leads.disk
       (subst (λ (d : DiskView). IsTrue d.keeps_model) it.back_is last_keeps)
       (lines-so-far-course m.after (script_lines script) (at it.start first.sources it.now) it.all it.leads it.lines) []
       (subst (λ (d : DiskView). EndedAs it.leads.world it.leads.disk [] d) (sym it.back_is) well)
 
-  pub stopped_visit : StoppedIsVisit m script first last
+  -- one in which the host had a fault
+  pub stopped_visit : (f : HostFault) (it : RunStopped m.after script first last f) → OpeningHas first.disk it.start it.now it.opened
+      → Visit (bytes_on first.disk) first.disk (record { events = events_of it.all.beats ++ it.failed ∷ []; told = outcomes_of it.all.beats }) last.disk
   stopped_visit f it has = visit_of first.disk last.disk it.start it.now it.opened has model it.all.beats it.leads.world it.leads.disk
       (kept_before it.leads.disk it.host.store.disk it.stopped.same (subst (λ (d : DiskView). IsTrue d.keeps_model) it.back_is last_keeps))
       (lines-up-to-course m.after (script_lines script) (at it.start first.sources it.now) it.all it.failed it.leads it.lines) (it.failed ∷ [])
       (subst (λ (d : DiskView). EndedAs it.leads.world it.leads.disk (it.failed ∷ []) d) (sym it.back_is) (at_event it.failed f it.host.store.disk it.stopped.same it.stopped.cause))
 
-  pub broke_visit : BrokeIsVisit m script first last
+  -- one in which the disk failed in a group
+  pub broke_visit : (it : RunBroke m.after script first last) → OpeningHas first.disk it.start it.now it.opened
+      → Visit (bytes_on first.disk) first.disk (record { events = events_of it.all.beats ++ (it.broke.taken ++ it.broke.dropped); told = outcomes_of it.all.beats }) last.disk
   broke_visit it has = visit_of first.disk last.disk it.start it.now it.opened has model it.all.beats it.leads.world it.leads.disk
       (kept_before it.leads.disk it.host.store.disk it.broke.same (subst (λ (d : DiskView). IsTrue d.keeps_model) it.back_is last_keeps))
       (lines-course m.after 1 it.before.ran) (it.broke.taken ++ it.broke.dropped)

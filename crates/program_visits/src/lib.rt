@@ -1,5 +1,4 @@
-//! That what programs leave of a disk is what the theorem takes (crate `theorem`). Of `run` it is a clause; the lemmas of `proofs` lead from
-//! the other contracts of `run`, `live`, `eval` and `check --accept`.
+//! That what `run` leaves of a worksheet's disk is what the theorem takes (crate `theorem`).
 #![tactic(auto)]
 
 ghost use Rattle.std.specs.Prelude.{[], ◌++◌, ◌≤◌, IfOk, length};
@@ -9,7 +8,7 @@ ghost use Rattle.offline_programs.specs.Input.{longest_standard_input};
 ghost use Rattle.sheet_programs.specs.Records.{manner, outside};
 ghost use Rattle.sheet_programs.specs.Strict.{RunDone};
 ghost use Rattle.theorem.specs.Programs.{Visit};
-ghost use Rattle.program_visits.specs.Visits.{OpeningHas};
+ghost use Rattle.program_visits.specs.Opening.{OpeningHas};
 
 use child_calls::Children;
 use disk_model::Disk;
