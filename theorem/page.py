@@ -24,7 +24,7 @@ from sources import ROOT, Definition, Key, Sources, files, line_of, read  # noqa
 HEAD = "theorem/head.md"
 PAGE = "docs/THEOREM.md"
 HOST = "crates/session_engine/src/host.rt"
-CALLS = "crates/host_laws/src/made.rt"  # laws that make the call that they speak of
+CALLS = ("crates/host_laws/src/made.rt", "crates/theorem/src/lib.rt")  # laws that make the call that they speak of
 PLACE = re.compile(r"\{(?:(?P<kind>clause \w+|law|mutant) (?P<word>\w+)|(?P<file>file )?(?P<module>\w+::|\w+(?:\.\w+)*\.)(?P<name>[\w']+))\}")
 
 # Definitions that the page links to in their files. What they say isn't needed: a definition that has them for words is followed by a law
@@ -104,7 +104,7 @@ LAWS_BESIDE: dict[Key, tuple[Key, str]] = {
 
 # The headings under which definitions stand, each with the modules that it takes.
 SECTIONS: list[tuple[str, tuple[str, ...]]] = [
-    ("The claims", ("host_laws.", "session_engine.Host.", "session_engine.Faults.", "session_engine.Crash.")),
+    ("The claims", ("theorem.", "host_laws.", "session_engine.Host.", "session_engine.Faults.", "session_engine.Crash.")),
     ("The disk, and what it stands for", ("disk_model.", "journal.", "recovery.")),
     ("A file, of which a disk is made", ("sheet_files.",)),
     ("What events do", ("session_engine.", "host_events.")),
@@ -232,7 +232,8 @@ class Page:
 
     def laws(self) -> dict[str, str]:
         """The functions that carry laws, those that make a call among them, with their places."""
-        calls = {found[1]: f"{CALLS}#L{line_of(read(CALLS), found.start())}" for found in re.finditer(r"^pub fn (\w+)", read(CALLS), re.M)}
+        found = [(file, text, law) for file in CALLS for text in [read(file)] for law in re.finditer(r"^pub fn (\w+)", text, re.M)]
+        calls = {law[1]: f"{file}#L{line_of(text, law.start())}" for file, text, law in found}
         return calls | {function: f"{file}#L{line}" for function, file, line in self.sources.laws.values()}
 
     # The whole.

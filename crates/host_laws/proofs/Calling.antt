@@ -44,12 +44,14 @@ module _ (room : ℕ) (before : Image) (found : List Op) (opened : HostView) (be
       let left = groups_up_to_are_turns room opened.store.end before found begun.allowed begun.image begun.ends events told w run group old new answer is meets in
       (left.0, left.1)
 
-  -- a crash within one group more
+  -- a crash within one group more, and one after it
   within_group : (events : List Event) (told : List Outcome) (old : HostView) (w : World) → Runs (world_at_opening found room opened.store.end) events told w → IsHost old w
       → (group : List Event) (answer : Result (Vec Outcome Global) GroupFault) (new : HostView) → GroupMeets group old answer new
       → CrashesAreTurns room before found (record { events = events ++ group; told = told }) old.store.disk new.store.disk
+      × CrashesAreTurns room before found (record { events = events ++ group; told = told ++ returned answer }) new.store.disk new.store.disk
   within_group events told old w run is group answer new meets =
-      (groups_are_turns room opened.store.end before found begun.allowed begun.image begun.ends events told w run group old new answer is meets).0
+      let left = groups_are_turns room opened.store.end before found begun.allowed begun.image begun.ends events told w run group old new answer is meets in
+      (left.0, left.1)
 
 pub calls_leave_prefixes : CallsLeavePrefixes
 calls_leave_prefixes room before found opened begun events told old calls =

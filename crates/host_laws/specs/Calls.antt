@@ -25,8 +25,8 @@ pub data TookByCalls : HostView → List Event → List Outcome → HostView →
       → TookByCalls h events told mid → UpToMeets group mid (Ok outcomes) new → length outcomes.items ≡ length group → TookByCalls h (events ++ group) (told ++ outcomes.items) new
 
 -- A host was opened, and given events by steps and groups. A crash after the last call leaves the worksheet after a prefix of the events that
--- has each of them, since each was acknowledged; and so does a crash at any moment of one step or one group more, whatever that answers, and one
--- after a group that stopped at a refusal.
+-- has each of them, since each was acknowledged; and so does a crash at any moment of one step or one group more, whatever that answers. One after a
+-- group, which a fault or a refusal may have stopped, leaves also each event whose outcome the group returned.
 abbrev pub CallsLeavePrefixes : Type 0
 CallsLeavePrefixes = (room : ℕ) (before : Image) (found : List Op) (opened : HostView) → JustOpened room before found opened
     → (events : List Event) (told : List Outcome) (old : HostView) → TookByCalls opened events told old
@@ -34,7 +34,8 @@ CallsLeavePrefixes = (room : ℕ) (before : Image) (found : List Op) (opened : H
     × ((e : Event) (answer : Result Outcome HostFault) (new : HostView) → StepMeets e old answer new
     → CrashesAreTurns room before found (record { events = events ++ e ∷ []; told = told }) old.store.disk new.store.disk)
     × ((group : List Event) (answer : Result (Vec Outcome Global) GroupFault) (new : HostView) → GroupMeets group old answer new
-    → CrashesAreTurns room before found (record { events = events ++ group; told = told }) old.store.disk new.store.disk)
+    → CrashesAreTurns room before found (record { events = events ++ group; told = told }) old.store.disk new.store.disk
+    × CrashesAreTurns room before found (record { events = events ++ group; told = told ++ returned answer }) new.store.disk new.store.disk)
     × ((group : List Event) (answer : Result (Vec Outcome Global) GroupFault) (new : HostView) → UpToMeets group old answer new
     → CrashesAreTurns room before found (record { events = events ++ group; told = told }) old.store.disk new.store.disk
     × CrashesAreTurns room before found (record { events = events ++ group; told = told ++ returned answer }) new.store.disk new.store.disk)

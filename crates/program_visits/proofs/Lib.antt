@@ -1,0 +1,2 @@
+pub mod RunVisits
+pub mod LedVisits

@@ -1,0 +1,142 @@
+-- What all acts leave, and where an answer came from.
+use Rattle.std.proofs.Common.{◌≡◌, ◌⊎◌, inl, inr, ⊎_elim, ℕ, List, [], ◌∷◌, ◌++◌, refl, ap, sym, subst, append-nil, append_assoc, IsTrue, Some}
+use Rattle.disk_model.specs.Disk.{DiskView, Image}
+use Rattle.disk_model.specs.inside.Moments.{started}
+use Rattle.worksheet.specs.declared.op.Op.{Op}
+use Rattle.worksheet.specs.declared.op.Op.TheVariants as op
+use Rattle.worksheet.specs.declared.field.Field.{Field}
+use Rattle.worksheet.specs.declared.field.Answer.{Answer}
+use Rattle.worksheet.specs.Contents.{Contents}
+use Rattle.worksheet.specs.Ops.{sheet_of}
+use Rattle.worksheet.specs.Checks.{Allowed, AllowedFrom}
+use Rattle.worksheet.proofs.Existence.{allowed_goes_on}
+use Rattle.recovery.specs.Sheets.{IsSheetImage}
+use Rattle.recovery.specs.Laws.{OneSheet}
+use Rattle.host_laws.specs.Turns.{Has, HostsInTurn}
+use Rattle.theorem.specs.Story.{CrashedSince}
+use Rattle.theorem.specs.Acts.{Act, CameIn, Did, Files, HasFirst, KeepFieldOn, PutAfter, StaysIn, Uses, WasPut, no_use, turns_of, filing, has_filed, nothing_done, by_hosts, by_filing}
+use Rattle.host_laws.proofs.FieldLaws.{by_op}
+use Rattle.theorem.proofs.Told.{at_crash}
+use Rattle.theorem.proofs.Visits.{invocations_left}
+
+-- an answer of a worksheet with ops more was there before and has stayed, or one of them put it in
+put_shown : (os taken : List Op) → Allowed os → AllowedFrom os taken → (f : Field) (a : Answer) → Has (sheet_of (os ++ taken)) f → f.answer ≡ Some a
+    → (Has (sheet_of os) f × KeepFieldOn os taken f) ⊎ WasPut os taken f
+put_shown os [] allowed from f a has some = inl (subst (λ (l : List Op). Has (sheet_of l) f) (append-nil os) has, tt)
+put_shown os (o ∷ rest) allowed from f a has some =
+    ⊎_elim
+    (λ here. ⊎_elim (λ before. inl (before, here))
+    (λ by. inr (record {
+      earlier = [];
+      later = rest;
+      prompt = by.prompt;
+      output = by.output;
+      split = ap (λ (p : Op). p ∷ rest) by.is;
+      shows = ap (λ (g : Field). g.answer) by.now;
+      stays = subst (λ (p : Op). KeepFieldOn (os ++ p ∷ []) rest f) by.is here.1;
+    }))
+    (by_op os f a allowed some o from.0 here.0))
+    (λ late. inr (record {
+      earlier = o ∷ late.earlier;
+      later = late.later;
+      prompt = late.prompt;
+      output = late.output;
+      split = ap (λ (l : List Op). o ∷ l) late.split;
+      shows = late.shows;
+      stays = subst (λ (l : List Op). KeepFieldOn l late.later f) (append_assoc os (o ∷ []) (late.earlier ++ op.Answer f.id late.prompt late.output ∷ [])) late.stays;
+    }))
+    (put_shown (os ++ o ∷ []) rest (allowed_goes_on os o allowed from.0) from.1 f a (subst (λ (l : List Op). Has (sheet_of l) f) (sym (append_assoc os (o ∷ []) rest)) has) some)
+
+-- the first of ops that are allowed one after another
+from_front : (os done rest : List Op) → AllowedFrom os (done ++ rest) → AllowedFrom os done
+from_front os [] rest from = tt
+from_front os (o ∷ done) rest from = (from.0, from_front (os ++ o ∷ []) done rest from.1)
+
+-- What a filing left.
+module _ (before : Image) (sheet : Contents) (image : IsSheetImage sheet before) (one : OneSheet) (mid : Image) (disk back : DiskView) (ops put : List Op) (f : Files before disk ops put back) where
+  abbrev Filed : List Op → Type 0
+  Filed told = (t : Contents) × PutAfter sheet put told t × IsSheetImage t mid
+
+  is : sheet ≡ sheet_of ops
+  is = one sheet (sheet_of ops) before image f.found
+
+  model : IsTrue f.now.keeps_model
+  model = subst IsTrue (sym f.same.keeps_model) f.keeps_model
+
+  some_put : HasFirst ops put mid → Filed []
+  some_put among = (
+    sheet_of (ops ++ among.done),
+    record {
+      ops = ops;
+      is = is;
+      allowed = f.allowed;
+      taken = among.done;
+      lost = among.rest;
+      split = among.split;
+      untold = among.done;
+      has = refl;
+      from = from_front ops among.done among.rest (subst (λ (l : List Op). AllowedFrom ops l) among.split f.from);
+      now = refl;
+    },
+    among.image,
+  )
+
+  pub was_filing : CrashedSince f.now.history back.history mid → Filed []
+  was_filing crashed = some_put (at_crash (HasFirst ops put) f.now.history back.history mid (f.moments model) crashed)
+
+  pub all_filed : CrashedSince back.history back.history mid → Filed put
+  all_filed crashed = (
+    sheet_of (ops ++ put),
+    record {
+      ops = ops;
+      is = is;
+      allowed = f.allowed;
+      taken = put;
+      lost = [];
+      split = sym (append-nil put);
+      untold = [];
+      has = sym (append-nil put);
+      from = f.from;
+      now = refl;
+    },
+    at_crash (IsSheetImage (sheet_of (ops ++ put))) back.history back.history mid (started (IsSheetImage (sheet_of (ops ++ put))) back.history (f.holds model)) crashed,
+  )
+
+-- What all acts left: from a worksheet, however it was made, to another.
+pub record AllDid (room : ℕ) (before : Image) (sheet : Contents) (acts : List Act) (after : Image) : Type 0 where
+  pub last : Contents
+  pub did : Did room before sheet acts after last
+  pub image : IsSheetImage last after
+
+pub all_did : HostsInTurn → OneSheet → (room : ℕ) (before : Image) (sheet : Contents) (acts : List Act) (after : Image) → IsSheetImage sheet before → Uses room before acts after
+    → AllDid room before sheet acts after
+all_did hosts one room before sheet acts after image no_use = record { last = sheet; did = nothing_done; image = image }
+all_did hosts one room before sheet acts after image (turns_of {mid = mid} {turns = turns} {acts = others} invocations more) =
+    let l = invocations_left hosts room image.ops before mid turns image.makes.allowed (subst (λ (s : Contents). IsSheetImage s before) image.makes.is image) invocations in
+    let rest = all_did hosts one room mid (sheet_of l.kept) others after l.image more in
+    record { last = rest.last; did = by_hosts image.ops image.makes.is l refl rest.did; image = rest.image }
+all_did hosts one room before sheet acts after image (filing {mid = mid} {put = put} {acts = others} disk back ops files crashed more) =
+    let left = was_filing before sheet image one mid disk back ops put files crashed in
+    let rest = all_did hosts one room mid left.0 others after left.2 more in
+    record { last = rest.last; did = by_filing left.1 left.2 rest.did; image = rest.image }
+all_did hosts one room before sheet acts after image (has_filed {mid = mid} {put = put} {acts = others} disk back ops files crashed more) =
+    let left = all_filed before sheet image one mid disk back ops put files crashed in
+    let rest = all_did hosts one room mid left.0 others after left.2 more in
+    record { last = rest.last; did = by_filing left.1 left.2 rest.did; image = rest.image }
+
+-- where an answer came from
+pub came : (room : ℕ) (before : Image) (s : Contents) (acts : List Act) (after : Image) (u : Contents) → (d : Did room before s acts after u)
+    → (f : Field) (a : Answer) → Has u f → f.answer ≡ Some a → (Has s f × StaysIn d f) ⊎ CameIn d f
+came room before s acts after u nothing_done f a has some = inl (has, tt)
+came room before s acts after u (by_hosts {mid = mid} {t = t} {turns = turns} {acts = others} first is l now more) f a has some =
+    ⊎_elim
+    (λ here. ⊎_elim (λ was. inl (subst (λ (c : Contents). Has c f) (sym is) was.0, (was.1, here.1))) (λ answered. inr (inl (answered, here.1)))
+    (l.shows f a (subst (λ (c : Contents). Has c f) now here.0) some))
+    (λ late. inr (inr late))
+    (came room mid t others after u more f a has some)
+came room before s acts after u (by_filing {mid = mid} {t = t} {acts = others} p image more) f a has some =
+    ⊎_elim
+    (λ here. ⊎_elim (λ was. inl (subst (λ (c : Contents). Has c f) (sym p.is) was.0, (was.1, here.1))) (λ put. inr (inl (put, here.1)))
+    (put_shown p.ops p.taken p.allowed p.from f a (subst (λ (c : Contents). Has c f) p.now here.0) some))
+    (λ late. inr (inr late))
+    (came room mid t others after u more f a has some)

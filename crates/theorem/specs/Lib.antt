@@ -1,0 +1,3 @@
+pub mod Story
+pub mod Programs
+pub mod Acts
