@@ -43,8 +43,9 @@ install:
 	install $(addprefix adapters/,$(ADAPTERS)) $(HERE)/adapters
 	install -m 644 adapters/blocks.py adapters/profiles.py adapters/python_lines.py $(HERE)/adapters
 	install -Dm 644 adapters/octave/@sym/display.m $(HERE)/adapters/octave/@sym/display.m
-	install -d $(HERE)/clients/python/tmhost $(HERE)/clients/typeset/lib $(HERE)/clients/notebook/page
+	install -d $(HERE)/clients/python/tmhost $(HERE)/clients/fences/tmhost_fences $(HERE)/clients/typeset/lib $(HERE)/clients/notebook/page
 	install -m 644 clients/python/tmhost/*.py clients/python/tmhost/py.typed $(HERE)/clients/python/tmhost
+	install -m 644 clients/fences/tmhost_fences/*.py $(HERE)/clients/fences/tmhost_fences
 	install -m 644 clients/typeset/lib/*.js $(HERE)/clients/typeset/lib
 	install -m 644 clients/notebook/page/* $(HERE)/clients/notebook/page
 	for client in import notebook repl suite weave; do \

@@ -1,1 +1,5 @@
 """Tests of tmhost-import: python3 -B -m unittest discover -s clients/import/tests -t clients/import"""
+import os
+import sys
+
+sys.path.insert(0, os.path.join(os.path.dirname(os.path.realpath(__file__)), "..", "..", "fences"))

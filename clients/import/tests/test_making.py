@@ -168,6 +168,7 @@ class Words(Case):
         """It finds its parts and the adapters beside itself, also through a link."""
         share, here = self.path("share/tmhost"), os.path.dirname(COMMAND)
         shutil.copytree(os.path.join(here, "tmhost_import"), os.path.join(share, "import/tmhost_import"))
+        shutil.copytree(os.path.join(here, "../fences/tmhost_fences"), os.path.join(share, "fences/tmhost_fences"))
         shutil.copy(COMMAND, os.path.join(share, "import"))
         shutil.copy(os.path.join(ROOT, "adapters/prompted.py"), share)
         os.symlink("share/tmhost/import/tmhost-import", self.path("link"))
@@ -185,9 +186,10 @@ class Words(Case):
             self.assertIn(f"it can't be read: {said}", self.status(path, "new").errors)
 
     def test_the_longest_document(self) -> None:
-        longest = b"```sh\nx\n```\n" + b" " * (67_108_864 - 12)
-        self.assertEqual(self.inputs(longest, form="markdown"), [("sh", "x")])
-        self.refused(longest + b" ", "it has more than 67,108,864 bytes", form="markdown")
+        document = notebook(code("x")).encode()
+        longest = document + b" " * (67_108_864 - len(document))
+        self.assertEqual(self.inputs(longest), [("python3", "x")])
+        self.refused(longest + b" ", "it has more than 67,108,864 bytes")
 
     def test_a_full_output(self) -> None:
         document = self.write("a.ipynb", notebook(code("x")))

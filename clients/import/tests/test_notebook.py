@@ -18,7 +18,7 @@ REFUSED: dict[str, tuple[str | bytes, str]] = {
     "a text as minor version": (notebook(code("x"), nbformat_minor="4"), "nbformat_minor is no number"),
     "a minor version that never was": (notebook(code("x"), nbformat_minor=-1), "no valid notebook"),
     "no cells": (notebook().replace('"cells": []', '"cells": {}'), "its cells are no array"),
-    "nothing to make a field of": (notebook(MARKDOWN), "nothing in it"),
+    "nothing to make a field of": (notebook(RAW), "nothing in it"),
     "a cell that is a number": (notebook(MARKDOWN, 7), "cell 2"),
     "an id that is an array": (notebook(code("x", id=[]), nbformat_minor=5), "cell 1"),
     "a source that is a number": (notebook(code("x"), code(7)), "cell 2: its source is no text"),
@@ -35,7 +35,7 @@ REFUSED: dict[str, tuple[str | bytes, str]] = {
     "a control character in a later line": (notebook(code("a\nb\x1bc")), "cell 1: no field can hold the control character U+001B in line 2 of 2"),
     "a carriage return alone": (notebook(code("a\rb")), "U+000D"),
     "half of a character": (notebook(code("x")).replace('"x"', r'"\ud800"'), "cell 1: U+D800 is half of a character"),
-    "an input of 4,096 bytes": (notebook(code("é" * 2048)), "cell 1: it has 4,096 bytes"),
+    "nothing but an input of 4,096 bytes": (notebook(code("é" * 2048)), "cell 1 is left out, since a statement of it is too long: it has 4,096 bytes"),
     "10,001 code cells": (notebook(*[code("x")] * 10_001), "cell 10001"),
     "a session with a space": (notebook(code("x", "a b")), "cell 1: in its metadata tmhost.session is 'a b'"),
     "a session of 4,000 bytes": (notebook(code("x", "a" * 4000)), "cell 1: in its metadata tmhost.session is 'aaaa"),
@@ -53,11 +53,23 @@ ALL_SESSIONS = [word for number in range(65) for word in ("--session", f"s{numbe
 class Notebooks(Case):
     def test_code_cells_become_fields_in_order(self) -> None:
         text = notebook(MARKDOWN, code(["def f(n):\n", "    return n\n", "\n"]), RAW, code(""), code("f(2)"), MARKDOWN)
-        self.assertEqual(self.inputs(text), [("python3", f"def f(n):{LINE_END}    return n"), ("python3", ""), ("python3", "f(2)")])
+        code_alone = [("python3", f"def f(n):{LINE_END}    return n"), ("python3", ""), ("python3", "f(2)")]
+        self.assertEqual(self.inputs(text, "--no-prose"), code_alone)
+        self.assertEqual(self.inputs(text), [("prose", "# Title"), *code_alone, ("prose", "# Title")])
 
     def test_what_is_left_out_is_counted(self) -> None:
-        done = self.do("--script", data=notebook(MARKDOWN, code("x"), RAW, MARKDOWN))
+        done = self.do("--script", "--no-prose", data=notebook(MARKDOWN, code("x"), RAW, MARKDOWN))
         self.assertEqual(done.errors, "tmhost-import: left out: markdown cells: 2; raw cells: 1\n")
+
+    def test_what_is_not_to_be_evaluated_is_prose(self) -> None:
+        off = [code("#| label: a\n#| eval: false\nx ``` y"), code("y", metadata={"active": "py"}), code("#| eval: true\nz"), code("u\n#| eval: false")]
+        kept = [("python3", f"#| eval: true{LINE_END}z"), ("python3", f"u{LINE_END}#| eval: false")]
+        shown = ["````python|#| label: a|#| eval: false|x ``` y|````", "```python|y|```"]
+        self.assertEqual(self.inputs(notebook(*off)), [*(("prose", one.replace("|", LINE_END).replace(f"#{LINE_END}", "#|")) for one in shown), *kept])
+        done = self.do("--script", "--no-prose", data=notebook(*off))
+        self.assertIn("left out: cells that aren't to be evaluated: 2\n", done.errors)
+        self.assertEqual(self.inputs(notebook(*off), "--no-prose"), kept)
+        self.assertEqual(self.inputs(notebook(code("#| eval: false", "python3"))), [("python3", "#| eval: false")])
 
     def test_the_kernel_says_which_interpreter(self) -> None:
         for name, language, words in (("ir", None, "R"), ("xeus", "Octave", "octave"), ("python3", "python", "python"), ("bash", "bash", "sh")):

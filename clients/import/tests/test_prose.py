@@ -90,10 +90,23 @@ class Imports(Case):
         self.assertIn("left out: raw cells: 1\n", done.errors)
         self.assertEqual(self.fields(document), [("prose", "# a||*b*"), ("python3", "x"), ("prose", "c||d"), ("prose", ""), ("python3", "y")])
 
-    def test_without_the_option_it_is_as_before(self) -> None:
-        self.assertEqual(self.inputs(notebook(text("a"), code("x"))), [("python3", "x")])
-        self.assertEqual(self.inputs("a\n\n```sh\nx\n```\n", form="markdown"), [("sh", "x")])
-        self.refused(notebook(text("a")), "nothing in it")
+    def test_it_is_taken_unless_it_is_not_wanted(self) -> None:
+        for document, form, name in ((notebook(text("a"), code("x")), "notebook", "python3"), ("a\n\n```sh\nx\n```\n", "markdown", "sh")):
+            self.assertEqual(self.inputs(document, form=form), [("prose", "a"), (name, "x")])
+            self.assertEqual(self.inputs(document, "--no-prose", form=form), [(name, "x")])
+        self.refused(notebook(text("a")), "nothing in it", "--no-prose")
+
+    def test_the_text_of_org(self) -> None:
+        """It is no Markdown, so what is asked for can't be, and what isn't asked for is left out with a word."""
+        done = self.do("--script", "--format", "org", data="* a\n#+begin_src sh\nx\n#+end_src\n")
+        self.assertEqual(done.out.split("\n")[1:], ["new 0 sh x", ""])
+        self.assertIn("its text is left out: the text of an Org file isn't: make Markdown of it first (pandoc", done.errors)
+        self.assertEqual(self.do("--script", "--no-prose", "--format", "org", data="#+begin_src sh\nx\n#+end_src\n").errors, "")
+
+    def test_a_text_without_code(self) -> None:
+        done = self.do("--script", "--format", "markdown", data="# Title\n\n```julia\n1\n```\n")
+        self.assertEqual(done.out, f"session prose plain true\nnew 0 prose {LINE_END.join(['# Title', '', '```julia', '1', '```'])}\n")
+        self.assertIn("no fence is of a language or a session that is known, so all of it is prose. Fences: julia\n", done.errors)
 
     def test_texts_in_markdown(self) -> None:
         for document, fields in MARKDOWN.items():
@@ -124,8 +137,10 @@ class Imports(Case):
         attached = text("![a](attachment:a.png)", attachments={"a.png": {"image/png": "AAAA"}})
         self.assertIn("left out: attachments of markdown cells: 1\n", self.do("--script", "--prose", data=notebook(attached)).errors)
         self.assertIn("a reference like [1]", self.do("--script", "--prose", "--format", "markdown", data="[a][1]\n\n```sh\nx\n```\n\n[1]: b\n").errors)
-        for document, said in ((notebook(text("a\fb")), "cell 1: no field can hold the control character U+000C"), (notebook(code("x"), text("a" * 4096)), "cell 2: it has 4,096 bytes as an input, and a field has at most 4,095 (prose is cut at empty lines and items of lists alone)")):
-            self.refused(document, said, "--prose")
+        self.refused(notebook(text("a\fb")), "cell 1: no field can hold the control character U+000C", "--prose")
+        long = self.do("--script", data=notebook(code("x"), text("a\n\n" + "b" * 4096 + "\n\nc")))
+        self.assertIn("cell 2 is left out: a paragraph, an item or a fence of it has 4,096 bytes as an input, and a field has at most 4,095\n", long.errors)
+        self.assertEqual(long.out.split("\n")[2:], ["new 0 python3 x", "new 1 prose a", "new 2 prose c", ""])
         self.refused("a\n\n```sh\nx\n```\n\nb\0\n", "the text from line 7 on: no field can hold", "--prose", form="markdown")
         self.refused("* a\n", "make Markdown of it first (pandoc --from org --to gfm)", "--prose", form="org")
         self.refused("```sh\nx\n```\n<!-- tmhost-answer -->\n\n$x$\n", "line 4 begins an answer that has no end", "--prose", form="markdown")
@@ -309,11 +324,11 @@ class RoundTrips(Case):
         self.assertEqual(self.host("export", "script", "two"), self.host("export", "script", "one"))
 
     def test_markdown_with_prose(self) -> None:
-        document = "# Title\n\n- a\n- b\n\n```python\nx = 2\nx + 1\n```\n\ntext $x$\n\n> quote\n\n```python\nx * 3\n```\n\nend\n"
+        document = "# Title\n\n- a\n- b\n\n```python {whole}\nx = 2\nx + 1\n```\n\ntext $x$\n\n> quote\n\n```python\nx * 3\n```\n\nend\n"
         self.assertEqual(self.do("--prose", "--format", "markdown", "one", data=document).status, 0)
         self.host("run", "one", data="eval 2\neval 4\nwait\n")
         made = self.prose(self.host("export", "markdown", "one"))
-        self.assertEqual(made.out, document.replace("x + 1\n```", "x + 1\n```\n\n```\n3\n```").replace("x * 3\n```", "x * 3\n```\n\n```\n6\n```"))
+        self.assertEqual(made.out, document.replace(" {whole}", "").replace("x + 1\n```", "x + 1\n```\n\n```\n3\n```").replace("x * 3\n```", "x * 3\n```\n\n```\n6\n```"))
         self.assertEqual(self.do("--prose", "--format", "markdown", "two", data=made.out).status, 0)
         self.assertEqual(self.host("export", "script", "two"), self.host("export", "script", "one"))
 

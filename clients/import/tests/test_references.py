@@ -6,8 +6,8 @@ import subprocess
 import unittest
 import xml.etree.ElementTree
 
+from tmhost_fences.troubles import Trouble
 from tmhost_import import fences, org
-from tmhost_import.cells import Trouble
 
 from .support import Case
 

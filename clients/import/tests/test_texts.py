@@ -90,13 +90,50 @@ class Fences(Case):
                 self.assertEqual([(fence.line, fence.info, fence.lines) for fence in fences.fences_of(text)], blocks)
 
     def test_languages(self) -> None:
-        self.assertEqual(self.inputs(MARKDOWN, form="markdown"), [("python", f"a{LINE_END}{LINE_END}  b"), ("R", "1"), ("python", "c")])
-        done = self.do("--script", "--format", "markdown", "--session", "json=sh x", data=MARKDOWN)
+        wanted = [("python", f"a{LINE_END}{LINE_END}  b"), ("R", "1"), ("python", "c")]
+        self.assertEqual(self.inputs(MARKDOWN, "--no-prose", form="markdown"), wanted)
+        self.assertEqual([field for field in self.inputs(MARKDOWN, form="markdown") if field[0] != "prose"], wanted)
+        done = self.do("--script", "--no-prose", "--format", "markdown", "--session", "json=sh x", data=MARKDOWN)
         self.assertIn("session json plain sh x\n", done.out)
         self.assertIn("left out: blocks without a language: 1\n", done.errors)
 
     def test_a_text_without_code(self) -> None:
-        self.refused("# Title\n\n```julia\n1\n```\n", "nothing in it to make a field of", form="markdown")
+        self.refused("# Title\n\n```julia\n1\n```\n", "nothing in it to make a field of", "--no-prose", form="markdown")
+
+    def test_fields_are_those_of_weave(self) -> None:
+        """A field for each statement, but where the fence says that it is one."""
+        gp = "f(n) =\n{\n  n + 1\n}\nm = [1,2;\n3,4]\n"
+        python = 'def f():\n    """a\n\nb"""\n    return 1\nx = """c\n\nd"""\nf()\n'
+        for info, text, wanted in (
+            ("gp", gp, ["f(n) =|{|  n + 1|}", "m = [1,2;|3,4]"]), ("python", python, ['def f():|    """a||b"""|    return 1', 'x = """c||d"""', "f()"]),
+            ("gp {whole}", gp, [gp[:-1].replace("\n", "|")]), ("{.python .pure}", python, [python[:-1].replace("\n", "|")]),
+        ):
+            document = f"```{info}\n{text}```\n"
+            self.assertEqual([given.replace(LINE_END, "|") for _, given in self.inputs(document, form="markdown")], wanted)
+            whole = [text[:-1].replace("\n", "|")]
+            self.assertEqual([given.replace(LINE_END, "|") for _, given in self.inputs(document, "--whole", form="markdown")], whole)
+
+    def test_what_is_not_to_be_evaluated(self) -> None:
+        """It stays in the text, as its author shows it; where no text is taken it is counted."""
+        off = ["{r, eval=FALSE}", "{r eval = F}", "r {eval=no}", 'python active="md"', '{python active="py,md"}', "{.python eval=false}"]
+        on = ["{r, eval=TRUE}", "{r, eval=run_it}", 'python active="ipynb,md"', "{r, echo=FALSE, include=FALSE}"]
+        for info in off:
+            document = f"```{info}\nx\n```\n"
+            self.assertEqual(self.inputs(document, form="markdown"), [("prose", document[:-1].replace("\n", LINE_END))])
+            done = self.do("--script", "--no-prose", "--format", "markdown", data=document + "```sh\ny\n```\n")
+            self.assertIn("left out: blocks that aren't to be evaluated: 1\n", done.errors)
+        for info in on:
+            self.assertEqual([given for _, given in self.inputs(f"```{info}\nx\n```\n", form="markdown")], ["x"], info)
+        quarto = "```{python}\n#| echo: false\n#| eval: false\nx\n```\n```{python}\n#| eval: true\ny\n```\n"
+        self.assertEqual([name for name, _ in self.inputs(quarto, form="markdown")], ["prose", "python", "python"])
+
+    def test_blocks_of_knitr_and_quarto(self) -> None:
+        """In a text of these only chunks are evaluated, and other blocks are shown."""
+        document = "```r\nx\n```\n\n```{r}\ny\n```\n"
+        for name in ("a.Rmd", "a.qmd"):
+            done = self.do("--script", self.write(name, document))
+            self.assertEqual(done.out.split("\n")[2:], [f"new 0 prose {LINE_END.join(['```r', 'x', '```'])}", "new 1 R y", ""], done.errors)
+        self.assertEqual(self.inputs(document, form="markdown"), [("R", "x"), ("R", "y")])
 
     def test_deep_containers(self) -> None:
         for text in (">" * 100_000 + "```x\n", "- " * 100_000 + "```x\n", " " * 100_000 + "```x\n"):
@@ -107,16 +144,23 @@ class Split(Case):
     def test_lines_and_those_that_go_on(self) -> None:
         source = "x = 1\n\ny = 2\nif x:\n    a\n\n    b\nelse:\n    c\n@d\ndef f():\n\treturn [\n\t1\n]\nendpoint = 3\nprint(\n  1\n)\nwhile y\n y--\nendwhile\n"
         wanted = ["x = 1", "y = 2", "if x:|    a||    b|else:|    c", "@d|def f():|\treturn [|\t1|]", "endpoint = 3", "print(|  1|)", "while y| y--|endwhile"]
-        text = f"```python\n{source}```\n"
-        self.assertEqual([given.replace(LINE_END, "|") for _, given in self.inputs(text, "--split", form="markdown")], wanted)
+        documents = {"markdown": f"```python\n{source}```\n", "org": f"#+begin_src python\n{source}#+end_src\n"}
+        for form, text in documents.items():
+            self.assertEqual([given.replace(LINE_END, "|") for _, given in self.inputs(text, "--split", form=form)], wanted)
+        self.assertEqual(len(self.inputs(documents["org"], form="org")), 1)
 
     def test_places(self) -> None:
         self.refused("```sh\na\n\nb\x01\n```\n", "the block in line 1, its line 3: no field can hold the control character U+0001", "--split", form="markdown")
 
     def test_a_long_block_of_short_lines(self) -> None:
         text = "```sh\n" + "echo a line\n" * 2000 + "```\n"
-        self.refused(text, "the block in line 1: it has 27,997 bytes as an input, and a field has at most 4,095", form="markdown")
+        self.assertEqual(len(self.inputs(text, form="markdown")), 2000)
         self.assertEqual(len(self.inputs(text, "--split", form="markdown")), 2000)
+        done = self.do("--script", "--whole", "--format", "markdown", data=text)
+        said = "the block in line 1 is cut between statements into 7 fields: it has 27,997 bytes as an input, and a field has at most 4,095\n"
+        self.assertIn(said, done.errors)
+        self.assertEqual(done.out.count("new "), 7)
+        self.assertEqual(done.out.count("echo a line"), 2000)
 
 
 class Front(Case):
@@ -124,15 +168,22 @@ class Front(Case):
         return self.script(f"{front}```mine {{fold}}\nx\n```\n\n```tmhost-answer\n1\n```\n\n```sh\ny\n```\n", *words, form="markdown")
 
     def test_sessions_of_a_woven_text(self) -> None:
+        """Its fences are those of its sessions, as tmhost-weave has it: another one is shown there and never evaluated."""
         for front in ("---\nsessions: {mine: [a, b]}\n---\n", "---\r\ntitle: x\r\nsessions:\r\n  mine: a  b\r\n...\r\n"):
-            lines = self.first(front)
-            self.assertEqual((lines[0], lines[2:]), ("session mine plain a b", ["new 0 mine x", "new 1 sh y"]))
+            self.assertEqual(self.first(front, "--no-prose"), ["session mine plain a b", "new 0 mine x"])
+            self.assertEqual(self.first(front)[1:], ["session prose plain true", "new 0 mine x", f"new 1 prose {LINE_END.join(['```sh', 'y', '```'])}"])
+            self.assertEqual(self.first(front, "--no-prose", "--session", "sh=c")[2:], ["new 0 mine x", "new 1 sh y"])
         self.assertEqual(self.first("---\nsessions: {mine: [a, b], sh: no}\n---\n", "--session", "mine=c")[:2], ["session mine plain c", "session sh plain no"])
+        chunk = "---\nsessions: {r: [a]}\n---\n```{r}\nx\n```\n\n```r\ny\n```\n"
+        self.assertEqual([field for field in self.inputs(chunk, form="markdown") if field[0] != "prose"], [("r", "y")])
 
     def test_other_front_matter(self) -> None:
-        for front in ("---\ntitle: sessions\n---\n", "---\nsessions:\n---\n", "---\nsessions: [a]\n---\n", "text\n\n---\nsessions: {mine: [a]}\n---\n", "---\nsessions: {mine: [a]}\n"):
-            self.assertEqual([line for line in self.first(front) if line.startswith("new")], ["new 0 sh y"], front)
+        for front in ("---\ntitle: sessions\n---\n", "---\nsessions:\n---\n", "text\n\n---\nsessions: {mine: [a]}\n---\n", "---\nsessions: {mine: [a]}\n"):
+            self.assertEqual([line for line in self.first(front, "--no-prose") if line.startswith("new")], ["new 0 sh y"], front)
 
     def test_front_matter_that_is_wrong(self) -> None:
-        for sessions, said in (("{", "no YAML"), ("{mine: {a: b}}", "no list of words"), ("{mine: []}", "1 to 16 words"), ("{mine: [a b]}", "a space")):
+        for sessions, said in (
+            ("{", "no YAML"), ("{mine: {a: b}}", "no list of words"), ("{mine: []}", "it must be 1 to 16"), ("{mine: [a b]}", "no space"), ("[a]", "no mapping of names"),
+            ("{a-b: [x]}", "can't have the name 'a-b'"),
+        ):
             self.refused(f"---\nsessions: {sessions}\n---\n```mine\nx\n```\n", said, form="markdown")

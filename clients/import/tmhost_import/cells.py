@@ -1,17 +1,11 @@
 """What a reader finds in a document: its cells, and what of it is left out."""
 import collections
 import dataclasses
+import re
 
 LONGEST_SHOWN = 100  # characters of a name from a document that a message shows
 TAB = 4  # columns, in Markdown
-
-
-class Trouble(Exception):
-    """Why no worksheet is made: one or more lines for the user, each with its place in the document."""
-
-    def __init__(self, *lines: str) -> None:
-        super().__init__("\n".join(lines))
-        self.lines = lines
+RUN = re.compile("`+")
 
 
 @dataclasses.dataclass(frozen=True)
@@ -26,6 +20,8 @@ class Cell:
     kind: str  # what it is called where it is left out
     is_prose: bool = False  # text between code: of the others only the place and the name of a session count
     is_answered: bool = False  # by an interpreter, as prose never is
+    is_own: bool = False  # an input of tmhost's, which comes back as it was
+    is_whole: bool = True  # evaluated as one, and so one field
 
 
 @dataclasses.dataclass
@@ -53,3 +49,9 @@ def prose_cell(place: str, text: str, session: str | None = None) -> Cell:
 def code_text(text: str) -> str:
     """The lines of a cell, without line ends behind the last."""
     return text.replace("\r\n", "\n").rstrip("\n")
+
+
+def fenced(code: str, language: str) -> str:
+    """A text of Markdown that shows code."""
+    mark = "`" * max(3, 1 + max((len(run) for run in RUN.findall(code)), default=0))
+    return f"{mark}{language}\n{code}\n{mark}"

@@ -4,20 +4,26 @@ import os
 import signal
 import sys
 
+from tmhost_fences.troubles import Trouble
+
 from . import markdown, notebook, org
-from .cells import Document, Trouble
-from .fields import Sheet
+from .cells import Document
+from .fields import Sheet, told
 from .making import make, refuse_taken
 from .sessions import LANGUAGES, given_session
 
 LONGEST_DOCUMENT = 67_108_864  # bytes, as of the standard input of tmhost
 MOST_KINDS = 10  # of what was left out, in a message
 FORMATS = ("notebook", "org", "markdown")
+CHUNKS = (".rmd", ".qmd")  # of texts in which code is in chunks, and other blocks are shown
 SUFFIXES = {".ipynb": "notebook", ".org": "org", ".md": "markdown", ".markdown": "markdown", ".rmd": "markdown", ".qmd": "markdown"}
+NO_MARKDOWN = "the text of an Org file isn't: make Markdown of it first (pandoc --from org --to gfm)"
 ABOUT = "Makes a new worksheet of tmhost from a Jupyter notebook, an Org file or a CommonMark text with fences."
 NOTES = f"""
-Each code cell or block becomes a field. Its lines are one input, with U+2028 between them; nothing is evaluated.
-With --prose the text between them becomes fields, too, of a session `prose` whose only word is `true`.
+Each code cell or block becomes a field, whose lines have U+2028 between them; a fence of Markdown is read as tmhost-weave
+reads it, and becomes a field for each of its statements. Nothing is evaluated. The text between them becomes fields of a
+session `prose` whose only word is `true`, but with --no-prose. What is not to be evaluated (`eval=FALSE`, `#| eval: false`,
+`active="md"`) is text.
 Languages with an interpreter: {", ".join(LANGUAGES)}.
 The program is the one that TMHOST names, or tmhost on PATH. The status is 0 where the worksheet is made, 1 where it
 isn't, which is told, and 2 where the words are refused.
@@ -31,8 +37,10 @@ def arguments(words: list[str]) -> argparse.Namespace:
     parser.add_argument("--format", choices=FORMATS, help="what the document is, where its name doesn't say it")
     parser.add_argument("--session", action="append", default=[], metavar="NAME=WORDS", help="the words that start the session or the language NAME")
     parser.add_argument("--kernel", metavar="NAME", help="the kernel of a notebook, in place of the one that it names")
-    parser.add_argument("--split", action="store_true", help="a field for each line, and those behind it that are indented")
-    parser.add_argument("--prose", action="store_true", help="take the text of a notebook or of Markdown, too")
+    split = parser.add_mutually_exclusive_group()
+    split.add_argument("--split", action="store_true", default=None, help="a field for each line with those that go on from it, also of cells and of Org")
+    split.add_argument("--whole", action="store_false", dest="split", help="a field for each fence, also of Markdown")
+    parser.add_argument("--prose", action=argparse.BooleanOptionalAction, help="take the text of a notebook or of Markdown, too (that is the default)")
     parser.add_argument("--script", action="store_true", help="write the script in place of making a worksheet")
     given = parser.parse_intermixed_args(words)
     if not (0 if given.script else 1) <= len(given.paths) <= (1 if given.script else 2):
@@ -76,13 +84,17 @@ def format_of(path: str, text: str) -> str:
 def read(given: argparse.Namespace, path: str) -> Document:
     text = text_of(read_bytes(path))
     chosen = given.format or format_of(path, text)
+    has_prose = given.prose is not False
     if chosen == "notebook":
-        return notebook.read(text, given.kernel, given.prose)
+        return notebook.read(text, given.kernel, has_prose)
     if chosen == "markdown":
-        return markdown.read(text, given.session, given.prose)
+        return markdown.read(text, given.session, has_prose, os.path.splitext(path)[1].lower() in CHUNKS)
     if given.prose:
-        raise Trouble("prose is Markdown, and the text of an Org file isn't: make Markdown of it first (pandoc --from org --to gfm)")
-    return org.read(text)
+        raise Trouble(f"prose is Markdown, and {NO_MARKDOWN}")
+    document = org.read(text)
+    if has_prose:
+        document.notes.append(f"its text is left out: {NO_MARKDOWN}")
+    return document
 
 
 def say_as(name: str, *lines: str) -> None:
@@ -100,7 +112,7 @@ def tell(document: Document, sheet: Sheet) -> None:
     more = [f"{len(kinds) - MOST_KINDS} kinds more"] if len(kinds) > MOST_KINDS else []
     if kinds:
         say("left out: " + "; ".join(kinds[:MOST_KINDS] + more))
-    say(*document.notes, *sheet.sessions.renamed())
+    say(*document.notes, *sheet.sessions.renamed(), *told(sheet.long))
     if sheet.cuts:
         say(f"texts that are several fields of prose, cut at empty lines: {sheet.cuts}")
     if count := sheet.count_of_many_lines():
@@ -125,7 +137,7 @@ def do(given: argparse.Namespace) -> None:
     if not given.script:
         refuse_taken(new)
     document = read(given, path)
-    sheet = Sheet(document, {**document.words, **given.session}, given.split, given.prose)
+    sheet = Sheet(document, {**document.words, **given.session}, given.split, given.prose is not False)
     tell(document, sheet)
     if not sheet.fields:
         raise Trouble("there is nothing in it to make a field of")

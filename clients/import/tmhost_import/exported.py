@@ -7,7 +7,8 @@ import json
 import re
 from collections.abc import Callable
 
-from .cells import Trouble
+from tmhost_fences.troubles import Trouble
+
 from .fences import fences_of
 from .prose import REFERENCE, open_end
 

@@ -1,23 +1,20 @@
 """The fields that cells become, and the script that makes them."""
 import dataclasses
-import re
+import os
+import sys
 from collections.abc import Iterator
 
-from .cells import Cell, Document, Trouble, plain
-from .prose import LINE_END, LONGEST_INPUT, WORDS, parts_of
-from .sessions import Sessions
+from tmhost_fences.fields import CONTROL, LINE_END, LONGEST_INPUT, SURROGATE, groups
+from tmhost_fences.troubles import Trouble
+
+from . import cutting, ipython
+from .cells import Cell, Document, fenced, plain, prose_cell
+from .prose import WORDS, parts_of, size_of
+from .sessions import Sessions, language_of
 
 MOST_FIELDS = 10_000
-MOST_TOLD = 10  # troubles
-TOO_LONG = f"bytes as an input, and a field has at most {LONGEST_INPUT:,}"
-CUT = " (prose is cut at empty lines and items of lists alone)"
-CONTROL = re.compile(r"[\x00-\x08\x0a-\x1f]")
-SURROGATE = re.compile(r"[\ud800-\udfff]")
-# Words of several languages that close what an earlier line began, or begin a further branch of it.
-CLOSING = "elif|else|elseif|except|finally|end|endif|endfor|endwhile|endfunction|endswitch|end_try_catch|end_unwind_protect|do|done|then|fi|esac|od"
-# How a line begins that goes on from the one before.
-GOES_ON = re.compile(rf"[ \t)\]}}]|(?:{CLOSING})\b")
-DECORATOR = re.compile(r"@\w")
+MOST_TOLD = 10  # troubles, and cells that were too long
+PYTHON = "python"
 
 
 @dataclasses.dataclass(frozen=True)
@@ -27,25 +24,16 @@ class Field:
     place: str
 
 
-def pieces(cell: Cell) -> Iterator[tuple[str, list[str]]]:
-    """The lines of a cell in groups, each with its place: a line, and those behind it that go on from it."""
-    group: list[str] = []
-    blanks: list[str] = []
-    begin = 0
-    for number, line in enumerate(cell.text.split("\n"), 1):
-        if not line.strip(" \t"):
-            blanks.append(line)
-        elif group and (GOES_ON.match(line) or DECORATOR.match(group[-1])):
-            group += [*blanks, line]
-            blanks = []
-        else:
-            yield from part(cell, begin, group)
-            group, blanks, begin = [line], [], number
-    yield from part(cell, begin, group)
+@dataclasses.dataclass(frozen=True)
+class Piece:
+    """What may become a field: its text, and its place in the document."""
+
+    place: str
+    text: str
 
 
-def part(cell: Cell, begin: int, group: list[str]) -> list[tuple[str, list[str]]]:
-    return [(f"{cell.place}, its line {begin}", group)] if group else []
+def too_long(text: str) -> str:
+    return f"{size_of(text):,} bytes as an input, and a field has at most {LONGEST_INPUT:,}"
 
 
 def misfit(lines: list[str]) -> str | None:
@@ -56,29 +44,30 @@ def misfit(lines: list[str]) -> str | None:
             return f"no field can hold the control character U+{ord(found[0]):04X}{where}"
         if found := SURROGATE.search(line):
             return f"U+{ord(found[0]):04X}{where} is half of a character"
-    length = len(LINE_END.join(lines).encode("utf-8"))
-    return f"it has {length:,} {TOO_LONG}" if length > LONGEST_INPUT else None
+    return None
 
 
-def told(troubles: list[str]) -> Trouble:
-    more = len(troubles) - MOST_TOLD
-    return Trouble(*troubles[:MOST_TOLD], *([f"and {more} more like these"] if more > 0 else []))
+def told(lines: list[str]) -> list[str]:
+    more = len(lines) - MOST_TOLD
+    return [*lines[:MOST_TOLD], *([f"and {more} more like these"] if more > 0 else [])]
 
 
 class Sheet:
-    """The worksheet that a document becomes. It is made whole or not at all."""
+    """The worksheet that a document becomes. It is made whole or not at all. `is_split` says whether a cell is one field or several, where it
+    isn't as its document has it."""
 
-    def __init__(self, document: Document, given: dict[str, tuple[str, ...]], is_split: bool, has_prose: bool = False) -> None:
-        self.sessions, self.is_split = Sessions(given, has_prose), is_split
+    def __init__(self, document: Document, given: dict[str, tuple[str, ...]], is_split: bool | None = None, has_prose: bool = False) -> None:
+        self.sessions, self.is_split, self.has_prose = Sessions(given, has_prose), is_split, has_prose
         self.fields: list[Field] = []
         self.cuts = 0  # texts of prose that became several fields
+        self.long: list[str] = []  # what is told of cells that no field could hold
         self.troubles: list[str] = []
         self.unknown: set[str] = set()  # sessions for which there is no interpreter
         self.left_out = document.left_out.copy()
         for cell in document.cells:
             self.add(cell)
         if self.troubles:
-            raise told(self.troubles)
+            raise Trouble(*told(self.troubles))
 
     def add(self, cell: Cell) -> None:
         """Adds the fields of a cell, or says why there is none."""
@@ -90,6 +79,8 @@ class Sheet:
             self.left_out[f"{cell.kind}, for which there is no session"] += 1
         elif session is None:
             self.miss(cell.place, plain(cell.session or cell.hints[0]))
+        elif self.language(session) == PYTHON and not cell.is_own:
+            self.add_python(cell, session)
         else:
             self.add_fields(cell, session)
 
@@ -99,22 +90,62 @@ class Sheet:
             self.unknown.add(session)
             self.troubles.append(f"{place}: no interpreter is known for its session: say --session '{session}=WORDS'")
 
-    def pieces_for(self, cell: Cell, session: str) -> Iterator[tuple[str, list[str]]]:
-        """The lines of each field that a cell becomes, with their places."""
-        if self.is_split and self.sessions.words[session] != WORDS:
-            yield from pieces(cell)
-            return
-        parts = parts_of(cell.text) if cell.is_prose else [cell.text]
-        self.cuts += len(parts) > 1
-        yield from ((cell.place, part.split("\n")) for part in parts)
+    def language(self, session: str) -> str:
+        """The language of a session's interpreter by its words, of which an adapter's last path, or a profile, says it; else the last one."""
+        names = [os.path.basename(word) for word in self.sessions.words[session]]
+        return next((found for name in names if (found := language_of(name)) == name), names[-1])
+
+    def add_python(self, cell: Cell, session: str) -> None:
+        """Adds a cell without what of it is IPython's: the adapter for Python isn't IPython, and would refuse all of the cell."""
+        made = ipython.plain_python(cell.text)
+        self.left_out.update(f"lines {plain(name)}" for name in made.left_out)
+        if made.other and self.has_prose:
+            self.add(prose_cell(cell.place, fenced(cell.text, PYTHON)))
+        elif made.other:
+            self.left_out[f"cells {plain(made.other)}"] += 1
+        elif made.code.strip() or not made.left_out:
+            self.add_fields(dataclasses.replace(cell, text=made.code), session)
+
+    def pieces_of(self, cell: Cell, session: str) -> Iterator[Piece]:
+        """What a cell becomes, where fields can hold that."""
+        is_split = not cell.is_whole if self.is_split is None else self.is_split
+        if cell.is_prose:
+            yield from (Piece(cell.place, part) for part in parts_of(cell.text))
+        elif is_split and not cell.is_own and self.sessions.words[session] != WORDS:
+            for group in groups(cell.text.split("\n"), self.language(session), sys.maxsize):
+                yield Piece(f"{cell.place}, its line {group.at + 1}", group.input.replace(LINE_END, "\n"))
+        else:
+            yield Piece(cell.place, cell.text)
+
+    def parts_of(self, cell: Cell, piece: Piece, session: str) -> list[str]:
+        """What fields can hold of a piece: all of it, cut between statements where it is too long, or nothing. Of the two latter it tells."""
+        if size_of(piece.text) <= LONGEST_INPUT:
+            return [piece.text]
+        if cell.is_prose:
+            self.long.append(f"{piece.place} is left out: a paragraph, an item or a fence of it has {too_long(piece.text)}")
+            return []
+        parts = cutting.cut(piece.text, self.language(session)) or []
+        done = f"cut between statements into {len(parts)} fields" if parts else "left out, since a statement of it is too long"
+        self.long.append(f"{piece.place} is {done}: it has {too_long(piece.text)}")
+        return parts
 
     def add_fields(self, cell: Cell, session: str) -> None:
-        for place, lines in self.pieces_for(cell, session):
-            if len(self.fields) == MOST_FIELDS:
-                raise Trouble(f"{place}: a worksheet has at most {MOST_FIELDS:,} fields, and this is one more")
-            if reason := misfit(lines):
-                self.troubles.append(f"{place}: {reason}{CUT if cell.is_prose and TOO_LONG in reason else ''}")
-            self.fields.append(Field(session, LINE_END.join(lines), place))
+        pieces = list(self.pieces_of(cell, session))
+        self.cuts += cell.is_prose and len(pieces) > 1
+        parts = [(piece.place, self.parts_of(cell, piece, session)) for piece in pieces]
+        # Of code all or nothing: what stands behind a statement may need it.
+        if cell.is_prose or all(found for _, found in parts):
+            for place, found in parts:
+                for part in found:
+                    self.add_field(session, part, place)
+
+    def add_field(self, session: str, text: str, place: str) -> None:
+        if len(self.fields) == MOST_FIELDS:
+            raise Trouble(f"{place}: a worksheet has at most {MOST_FIELDS:,} fields, and this is one more")
+        lines = text.split("\n")
+        if reason := misfit(lines):
+            self.troubles.append(f"{place}: {reason}")
+        self.fields.append(Field(session, LINE_END.join(lines), place))
 
     def count_of_many_lines(self) -> int:
         return sum(LINE_END in field.input for field in self.fields)

@@ -10,7 +10,8 @@ import signal
 import subprocess
 import tempfile
 
-from .cells import Trouble
+from tmhost_fences.troubles import Trouble
+
 from .fields import Sheet
 
 SUFFIX = ".alt"  # of a worksheet's second file

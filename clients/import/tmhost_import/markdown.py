@@ -2,28 +2,28 @@
 import dataclasses
 import re
 
-from .cells import Cell, Document, Trouble, plain, prose_cell
-from .fences import Fence, fences_of, lines_of
-from .front import MATTER, Words, sessions_of
+from tmhost_fences.blocks import Block, blocks_of
+from tmhost_fences.front import Sessions as Words
+from tmhost_fences.front import front_of, matter_end
+from tmhost_fences.troubles import Trouble
+
+from .cells import Cell, Document, plain, prose_cell
 from .prose import REFERENCE
 from .sessions import Sessions
 
-LANGUAGE = re.compile(r"\{?\.?([^\s,{}]+)")  # python, {python, echo=FALSE} and {.python}
 NO_LANGUAGE = "blocks without a language"
+SWITCHED_OFF = "blocks that aren't to be evaluated"
+WHOLE = ("whole", "pure")  # words of tmhost-weave at a fence that is one field
 ANSWERS = ("tmhost-answer", "tmhost-no-answer")  # blocks that tmhost-weave puts into a text
 # What it puts around a formula and, with more on the line, around answers that are folded.
 ANSWER_BEGINS, ANSWER_ENDS = "<!-- tmhost-answer -->", "<!-- /tmhost-answer -->"
 NO_ANSWER = re.compile(r"\*no answer(?:: \w+)?\*")
 FORMULA = re.compile(r"\$.*\$")
+MOST_NAMED = 5  # fences, in a message
 
 
-def cell_of(fence: Fence) -> Cell | None:
-    """The cell of a block of which the first word is a language or a session."""
-    found = LANGUAGE.match(fence.info)
-    if not found:
-        return None
-    code = "\n".join(fence.lines).rstrip("\n")
-    return Cell(f"the block in line {fence.line}", code, None, (found[1],), True, f"blocks of {plain(found[1])}")
+def lines_of(text: str) -> list[str]:
+    return text.replace("\r\n", "\n").replace("\r", "\n").removesuffix("\n").split("\n")
 
 
 def without_answers(lines: list[str], first: int) -> list[str]:
@@ -42,91 +42,123 @@ def without_answers(lines: list[str], first: int) -> list[str]:
 
 
 class Reader:
-    """Takes the fences of a text, and the lines between them. What is no field stays in the text where it stands."""
+    """Takes the fences of a text, and with prose the lines between them. What is no field stays in the text where it stands. Of a text for
+    tmhost-weave the fences of its own sessions are code, and of those that are given. Of one whose code is in chunks (`{r, echo=FALSE}`), as
+    in knitr and Quarto, no other block is."""
 
-    def __init__(self, text: str, document: Document, given: Words) -> None:
-        self.document, self.lines = document, lines_of(text)
-        self.sessions = Sessions({**document.words, **given}, True)
-        self.at = self.front(text)  # lines that are taken
+    def __init__(self, text: str, given: Words, has_prose: bool, has_chunks: bool) -> None:
+        self.lines, self.has_prose, self.has_chunks = lines_of(text), has_prose, has_chunks
+        front = front_of(self.lines)
+        self.document = Document(words=front.sessions)
+        self.sessions = Sessions({**front.sessions, **given}, True)
+        self.own = {*front.sessions, *given} if front.sessions else None
+        self.at = front.lines or self.other_matter()  # lines that are taken
+        self.blocks = blocks_of(self.lines, self.at)
+        if self.at and has_prose:
+            self.document.left_out["lines of front matter"] += self.at
+        self.answers = self.find_answers()
 
-    def front(self, text: str) -> int:
-        """The lines of the front matter."""
-        found = MATTER.match(text.replace("\r\n", "\n"))
-        count = found[0].count("\n") + 1 if found and found[1].split("\n")[0].strip() else 0
-        if count:
-            self.document.left_out["lines of front matter"] += count
-        return count
+    def other_matter(self) -> int:
+        end = matter_end(self.lines)
+        return end if self.lines[1:2] != [""] else 0
 
-    def take_text(self, end: int) -> None:
-        """Takes the lines up to this one, from 1."""
-        lines = without_answers(self.lines[self.at : end - 1], self.at + 1)
-        while lines and not lines[0].strip():
-            self.at += 1
-            del lines[0]
-        text = "\n".join(lines).rstrip()
-        if text:
-            self.document.cells.append(prose_cell(f"the text from line {self.at + 1} on", text))
+    def cell_of(self, block: Block) -> Cell | None:
+        """The cell of a block that is code by its first word, a language or a session."""
+        name, is_chunk = block.info.name, block.info.is_chunk
+        if not name or not block.is_evaluated or (self.has_chunks and not is_chunk):
+            return None
+        if self.own is not None and (is_chunk or name not in self.own):
+            return None
+        code = "\n".join(block.content).rstrip("\n")
+        is_whole = bool(block.info.flags(WHOLE))
+        return Cell(f"the block in line {block.begin + 1}", code, None, (name,), True, f"blocks of {plain(name)}", is_whole=is_whole)
 
-    def is_field(self, fence: Fence) -> bool:
-        cell = cell_of(fence)
-        return fence.line > self.at and cell is not None and bool(self.sessions.choices(cell))
+    def is_field(self, block: Block) -> bool:
+        cell = self.cell_of(block)
+        return cell is not None and bool(self.sessions.choices(cell))
+
+    # ---- answers of an export
 
     def one_line(self, number: int, form: re.Pattern[str]) -> bool:
         """Whether this line, from 1, has this form, and stands alone between empty lines."""
         line, *below = self.lines[number - 1 : number + 1] or [""]
         return form.fullmatch(line) is not None and not self.lines[number - 2] and not any(below)
 
-    def answer_end(self, fence: Fence, fences: dict[int, Fence]) -> int | None:
+    def answer_end(self, block: Block, blocks: dict[int, Block]) -> int | None:
         """The last line of the answer that stands after a field as `tmhost export markdown` writes it; none where there is no such answer."""
-        at = fence.end + 2
+        at = block.end + 2
         if self.one_line(at, NO_ANSWER) or self.one_line(at, FORMULA):
             return at
-        found = fences.get(at)
-        if not found or found.info or not found.is_closed or self.lines[at - 2]:
+        found = blocks.get(at - 1)
+        if not found or found.info_text or not found.is_closed or self.lines[at - 2]:
             return None
         return found.end + 2 if self.one_line(found.end + 2, FORMULA) else found.end
 
-    def answers(self, fences: list[Fence]) -> dict[int, int]:
-        """The last lines of the answers, by the lines of their fields. There are some where each field has one: then it is an export."""
-        by_line = {fence.line: fence for fence in fences}
-        ends = {fence.line: self.answer_end(fence, by_line) for fence in fences if self.is_field(fence)}
-        found = {line: end for line, end in ends.items() if end is not None}
+    def find_answers(self) -> dict[int, int]:
+        """The last lines of the answers, by where their fields begin. There are some where each field has one: then it is an export."""
+        by_line = {block.begin: block for block in self.blocks}
+        ends = {block.begin: self.answer_end(block, by_line) for block in self.blocks if self.is_field(block)}
+        found = {begin: end for begin, end in ends.items() if end is not None}
         if len(found) < len(ends) or not ends:
             return {}
         self.document.left_out["answers"] += len(found)
         return found
 
-    def take(self, fence: Fence, answers: dict[int, int]) -> None:
-        """Takes the text up to a fence that is a field or an answer, and that one. Others are text."""
-        is_field = self.is_field(fence)
-        if not is_field and (fence.info not in ANSWERS or fence.line <= self.at):
-            return
-        self.take_text(fence.line)
-        self.at = answers.get(fence.line, fence.end)
-        is_answered = fence.line in answers and not NO_ANSWER.fullmatch(self.lines[self.at - 1])
-        if cell := cell_of(fence):
-            self.document.cells.append(dataclasses.replace(cell, is_answered=is_answered))
+    # ---- cells
 
-    def read(self, fences: list[Fence]) -> None:
-        answers = self.answers(fences)
-        for fence in fences:
-            self.take(fence, answers)
-        self.take_text(len(self.lines) + 1)
+    def take_text(self, end: int) -> None:
+        """Takes the lines up to this one, from 0."""
+        lines = without_answers(self.lines[self.at : end], self.at + 1)
+        while lines and not lines[0].strip():
+            self.at += 1
+            del lines[0]
+        text = "\n".join(lines).rstrip()
+        if text and self.has_prose:
+            self.document.cells.append(prose_cell(f"the text from line {self.at + 1} on", text))
+
+    def count(self, block: Block, cell: Cell | None) -> None:
+        """Counts a block that is neither a field nor an answer where no text is taken."""
+        if cell:
+            self.document.cells.append(cell)
+        elif not block.info.name:
+            self.document.left_out[NO_LANGUAGE] += 1
+        elif not block.is_evaluated:
+            self.document.left_out[SWITCHED_OFF] += 1
+        else:
+            self.document.left_out[f"blocks of {plain(block.info.name)}"] += 1
+
+    def take(self, block: Block) -> None:
+        """Takes the text up to a fence that is a field or an answer, and that one. Others are text."""
+        if block.begin < self.at:
+            return
+        cell, is_field = self.cell_of(block), self.is_field(block)
+        if not is_field and block.info_text not in ANSWERS:
+            if not self.has_prose:
+                self.count(block, cell)
+            return
+        self.take_text(block.begin)
+        self.at = self.answers.get(block.begin, block.end)
+        if cell and is_field:
+            is_export = block.begin in self.answers
+            is_answered = is_export and not NO_ANSWER.fullmatch(self.lines[self.at - 1])
+            self.document.cells.append(dataclasses.replace(cell, is_answered=is_answered, is_own=is_export))
+
+    def read(self) -> Document:
+        for block in self.blocks:
+            self.take(block)
+        self.take_text(len(self.lines))
+        self.tell()
+        return self.document
+
+    def tell(self) -> None:
         texts = [cell.text for cell in self.document.cells if cell.is_prose]
         if len(texts) > 1 and any(REFERENCE.search(text) for text in texts):
             self.document.notes.append("a reference like [1] is known in the field of prose alone in which it is defined")
+        if len(texts) == len(self.document.cells) and self.blocks and texts:
+            names = ", ".join(dict.fromkeys(plain(block.info_text) or "without a word" for block in self.blocks[:MOST_NAMED]))
+            self.document.notes.append(f"no fence is of a language or a session that is known, so all of it is prose. Fences: {names}")
 
 
-def read(text: str, given: Words, has_prose: bool) -> Document:
+def read(text: str, given: Words, has_prose: bool, has_chunks: bool = False) -> Document:
     """The blocks, and with prose the text between them."""
-    document = Document(words=sessions_of(text))
-    fences = fences_of(text)
-    if has_prose:
-        Reader(text, document, given).read(fences)
-        return document
-    for fence in fences:
-        if cell := cell_of(fence):
-            document.cells.append(cell)
-        else:
-            document.left_out[NO_LANGUAGE] += 1
-    return document
+    return Reader(text, given, has_prose, has_chunks).read()

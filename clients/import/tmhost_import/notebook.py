@@ -5,12 +5,16 @@ import json
 import re
 import warnings
 
-from .cells import Cell, Document, Trouble, code_text, plain, prose_cell, shown
+from tmhost_fences.info import is_evaluated
+from tmhost_fences.troubles import Trouble
+
+from .cells import Cell, Document, code_text, fenced, plain, prose_cell, shown
 from .sessions import NAME
 
 VERSION = 4
 LONGEST_REASON = 300  # characters of what nbformat says
 DEEP = "its parts are nested too deep"
+SWITCHED_OFF = "cells that aren't to be evaluated"
 
 Object = dict[str, object]
 Path = tuple[str | int, ...]
@@ -152,7 +156,13 @@ def code_cell(cell: Object, place: str, kernel: Kernel) -> Cell:
     if own is None and kernel.name is None:
         raise Trouble(f"{place}: neither it nor the notebook names a kernel: give one by --kernel NAME")
     session, hints = (own, (own,)) if own else (kernel.name, kernel.hints)
-    return Cell(place, text, session, hints, False, "code cells", is_answered=bool(cell.get("outputs")))
+    return Cell(place, text, session, hints, False, "code cells", is_answered=bool(cell.get("outputs")), is_own=own is not None)
+
+
+def is_switched_off(cell: Object, code: Cell) -> bool:
+    """Whether its author wants a cell shown and not evaluated, as Quarto and jupytext write it."""
+    active = text_at(cell.get("metadata"), "active")
+    return not code.is_own and not is_evaluated({"active": active} if active else {}, code.text.split("\n"))
 
 
 def markdown_cell(cell: Object, place: str, document: Document) -> Cell:
@@ -173,7 +183,13 @@ def read(text: str, kernel: str | None, has_prose: bool = False) -> Document:
         if not isinstance(cell, dict) or not isinstance(kind, str) or not isinstance(cell.get("id", ""), str):
             raise Trouble(f"cell {number}: it is no object with a text cell_type, or its id is no text")
         if kind == "code":
-            document.cells.append(code_cell(cell, f"cell {number}", found))
+            code = code_cell(cell, f"cell {number}", found)
+            if not is_switched_off(cell, code):
+                document.cells.append(code)
+            elif has_prose:
+                document.cells.append(prose_cell(code.place, fenced(code.text, "".join(code.hints[:1]))))
+            else:
+                document.left_out[SWITCHED_OFF] += 1
         elif kind == "markdown" and has_prose:
             document.cells.append(markdown_cell(cell, f"cell {number}", document))
         else:

@@ -5,7 +5,9 @@ lines and of property drawers are not, and neither references (`<<name>>`) nor v
 """
 import re
 
-from .cells import Cell, Document, Trouble, plain
+from tmhost_fences.troubles import Trouble
+
+from .cells import Cell, Document, plain
 
 TAB = 8  # columns, as in Emacs
 NO_SESSION = ("", "none", "yes", None)  # what `:session` may be where it names none

@@ -1,7 +1,8 @@
 """The command line of tmhost-prose."""
 import argparse
 
-from .cells import Trouble
+from tmhost_fences.troubles import Trouble
+
 from .command import read_bytes, say_as, write_bytes
 from .exported import with_prose
 from .prose import is_prose

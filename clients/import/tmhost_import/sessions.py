@@ -2,8 +2,10 @@
 import os
 import re
 
+from tmhost_fences.troubles import Trouble
+
 from . import prose
-from .cells import Cell, Trouble, shown
+from .cells import Cell, shown
 
 NAME = re.compile(r"[A-Za-z0-9_-]{1,32}")
 LONGEST_NAME = 32

@@ -21,6 +21,7 @@ from tmhost import (
     Gone,
     InUse,
     Lost,
+    NoWorksheet,
     ProtocolError,
     Refused,
     TimedOut,
@@ -225,9 +226,12 @@ class Ends(AsyncCase):
         self.assertRaises(Closed, lambda: sheet.cells)
         self.assertIsInstance(sheet.error, Closed)
         await sheet.close()
-        with self.assertRaises(Died) as told:
+        with self.assertRaises(FileNotFoundError) as told:
             await sheet.open()
-        self.assertEqual(told.exception.number, 32)
+        assert isinstance(told.exception, NoWorksheet)
+        self.assertEqual((told.exception.number, told.exception.filename), (32, self.path))
+        with self.assertRaises(NoWorksheet):
+            await AsyncWorksheet(os.path.join(self.folder, "no", "folder"), create=True, program=PROGRAM).open()
 
 
 class Programs(AsyncCase):

@@ -10,7 +10,7 @@ from typing import Any, List
 
 from support import PROGRAM, ROOT, WORDS, Case, needs_program
 
-from tmhost import Block, Checked, Compared, Died, InUse, check
+from tmhost import Block, Checked, Compared, Died, InUse, NoWorksheet, check
 
 SCHEMA = os.path.join(ROOT, "docs/json.schema.json")
 TWICE = """import os, sys
@@ -68,8 +68,9 @@ class Checks(Case):
         self.assertRaises(Died, list, check(self.path, program=PROGRAM, jobs=65))
 
     def test_faults(self) -> None:
-        with self.assertRaises(Died) as told:
+        with self.assertRaises(NoWorksheet) as told:
             list(check(self.path, program=PROGRAM))
+        self.assertIsInstance(told.exception, FileNotFoundError)
         self.assertEqual((told.exception.fault, told.exception.number, told.exception.status), ("Disk", 32, 1))
         sheet = self.open()
         self.assertRaises(InUse, list, check(self.path, program=PROGRAM))

@@ -1,6 +1,8 @@
 """How a worksheet ends, and how it doesn't begin."""
 
 import concurrent.futures
+import copy
+import errno
 import os
 import signal
 import subprocess
@@ -12,7 +14,7 @@ from typing import List
 
 from support import PROGRAM, SECONDS, WORDS, Case, eventually, is_there, needs_program
 
-from tmhost import Closed, Died, InUse, ProtocolError, TimedOut, Worksheet, find_program
+from tmhost import Closed, Died, InUse, NoWorksheet, ProtocolError, TimedOut, Worksheet, find_program
 from tmhost.commands import Checkpoint
 
 
@@ -79,9 +81,37 @@ class Ends(Case):
                 Worksheet(path, program=PROGRAM)
             self.assertEqual((told.exception.number, told.exception.fault), (number, name))
             self.assertIn(f"fault {number} {name}", told.exception.told)
+
+    def test_worksheets_that_are_not_there(self) -> None:
+        """They raise what a file raises that isn't there, and what a worksheet raises that can't be opened."""
+        for path, is_made in ((self.path, False), (os.path.join(self.folder, "no", "folder"), True)):
+            with self.assertRaises(FileNotFoundError) as told:
+                Worksheet(path, create=is_made, program=PROGRAM)
+            error = told.exception
+            assert isinstance(error, NoWorksheet) and isinstance(error, Died)
+            self.assertEqual((error.errno, error.filename, error.fault, error.number, error.status, error.offset), (errno.ENOENT, path, "Disk", 32, 1, None))
+            self.assertIn("fault 32 Disk", error.told)
+            self.assertEqual(str(error), f"[Errno 2] No such file or directory: {path!r}")
+            again = copy.copy(error)
+            self.assertEqual((str(again), again.told, again.status), (str(error), error.told, 1))
+
+    def test_worksheets_that_are_there_and_cannot_be_opened(self) -> None:
+        """The fault is the same, and none of them is a FileNotFoundError."""
+        with self.open() as sheet:
+            sheet.session("a", WORDS)
+            sheet.checkpoint()
+        os.link(self.path, self.path + "2")
         with self.assertRaises(Died) as told:
-            Worksheet(os.path.join(self.folder, "no", "folder"), create=True, program=PROGRAM)
-        self.assertEqual(told.exception.number, 32)
+            Worksheet(self.path, program=PROGRAM)
+        self.assertEqual((type(told.exception), told.exception.number), (Died, 32))
+        os.unlink(self.path + "2")
+        os.unlink(self.path + ".alt")
+        with self.assertRaises(Died) as told:
+            Worksheet(self.path, program=PROGRAM)
+        self.assertEqual((type(told.exception), told.exception.number), (Died, 32))
+        with self.assertRaises(Died) as told:
+            Worksheet(os.path.join(self.path, "below"), create=True, program=PROGRAM)
+        self.assertEqual((type(told.exception), told.exception.number), (Died, 32))
 
     def test_a_close_while_a_line_waits(self) -> None:
         sheet = self.sheet()

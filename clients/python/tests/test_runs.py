@@ -6,7 +6,7 @@ from typing import List, Sequence
 
 from support import PROGRAM, WORDS, Case, is_there, needs_program
 
-from tmhost import Answered, Died, Ended, InUse, Made, OneField, Refusal, Reply, Sheet, Waited, Warned, run
+from tmhost import Answered, Ended, InUse, Made, NoWorksheet, OneField, Refusal, Reply, Sheet, Waited, Warned, run
 
 
 def kinds(told: Sequence[object]) -> List[str]:
@@ -52,8 +52,9 @@ class Runs(Case):
         self.assertEqual((warned.session, warned.life, warned.outcome), ("b", 1, "sent"))
 
     def test_faults(self) -> None:
-        with self.assertRaises(Died) as raised:
+        with self.assertRaises(FileNotFoundError) as raised:
             list(run(os.path.join(self.folder, "none"), "print\n", program=PROGRAM))
+        assert isinstance(raised.exception, NoWorksheet)
         self.assertEqual((raised.exception.number, raised.exception.fault), (32, "Disk"))
         with self.sheet(), self.assertRaises(InUse):
             list(run(self.path, "print\n", program=PROGRAM))

@@ -10,7 +10,7 @@ What a call returned is on the disk: a crash of this process, of the program or 
 from .aio import AsyncCell, AsyncCellLike, AsyncEvaluation, AsyncWorksheet
 from .blocking import Cell, CellLike, Evaluation, Worksheet
 from .checks import Checked, Compared, check
-from .errors import BadLine, Closed, Died, Gone, InUse, Lost, NoScript, ProtocolError, Refused, TimedOut, TmhostError
+from .errors import BadLine, Closed, Died, Gone, InUse, Lost, NoScript, NoWorksheet, ProtocolError, Refused, TimedOut, TmhostError
 from .events import Answered, Banner, Completed, Default, Done, Ended, Event, Finished, OfLife, Stopped, Warned
 from .program import find_program
 from .protocol import Protocol
@@ -52,6 +52,7 @@ __all__ = [
     "LostItem",
     "Made",
     "NoScript",
+    "NoWorksheet",
     "OfLife",
     "OneField",
     "Protocol",

@@ -99,8 +99,8 @@ class AsyncWorksheet:
         self._ordering: "Optional[asyncio.Future[Any]]" = None
 
     async def open(self) -> "AsyncWorksheet":
-        """Raises InUse where another program has the worksheet, Died where it can't be opened, FileNotFoundError where there is no
-        program."""
+        """Raises InUse where another program has the worksheet, FileNotFoundError where nothing is at the path (NoWorksheet, which is a
+        Died) or there is no program, and Died where it can't be opened."""
         words = words_of_program(self._program)
         if self._create and not os.path.lexists(self.path):
             await tasks.create(words, self.path)

@@ -104,8 +104,8 @@ class Worksheet:
     def __init__(
         self, path: "Union[str, os.PathLike[str]]", *, create: bool = False, program: Program = None, timeout: Optional[float] = None
     ) -> None:
-        """Raises InUse where another program has the worksheet, Died where it can't be opened, FileNotFoundError where there is no
-        program."""
+        """Raises InUse where another program has the worksheet, FileNotFoundError where nothing is at the path (NoWorksheet, which is a
+        Died) or there is no program, and Died where it can't be opened."""
         self.path = path_word(path)
         words = words_of_program(program)
         if create and not os.path.lexists(self.path):

@@ -18,7 +18,7 @@ from .commands import Command, R
 from .errors import Closed, ProtocolError, TimedOut, TmhostError
 from .events import Event, Finished
 from .mirror import Mirror
-from .program import GRACE, Child
+from .program import GRACE, Child, missing
 from .protocol import Lines, Protocol, Taken
 from .reading import Hello, read
 
@@ -196,7 +196,7 @@ class Connection:
     def _finish(self, status: int) -> None:
         told = self.child.said()
         with self.lock:
-            taken = self.protocol.finish(self._is_closed, status, told)
+            taken = self.protocol.finish(self._is_closed, status, told, missing(self.child.path))
             self._finished = taken.events[-1]
             self._pass_on(taken)
             self._unsent.put(None)

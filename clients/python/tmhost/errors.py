@@ -1,6 +1,11 @@
 """What the calls of the package raise."""
 
-from typing import Optional
+import errno
+import os
+from typing import Optional, Tuple, Type
+
+
+DISK = 32  # the fault of a file that can't be opened
 
 
 class TmhostError(Exception):
@@ -96,3 +101,17 @@ class Died(TmhostError):
 
 class InUse(Died):
     """Another program has the worksheet (fault 35)."""
+
+
+class NoWorksheet(Died, FileNotFoundError):
+    """Nothing is at the path (fault 32), or not even its folder. `filename` is the path."""
+
+    def __init__(self, path: str, told: str = "", status: Optional[int] = None) -> None:
+        FileNotFoundError.__init__(self, errno.ENOENT, os.strerror(errno.ENOENT), path)
+        self.fault, self.number, self.told, self.status, self.offset = "Disk", DISK, told, status, None
+
+    def __reduce__(self) -> "Tuple[Type[NoWorksheet], Tuple[str, str, Optional[int]]]":
+        return type(self), (str(self.filename), self.told, self.status)
+
+    def __str__(self) -> str:
+        return FileNotFoundError.__str__(self)

@@ -10,11 +10,11 @@ import tempfile
 import threading
 from typing import IO, List, Optional, Sequence, Union
 
-from .errors import Died
+from .errors import DISK, Died, InUse, NoWorksheet
 from .reading import Fault
 
 FAULT = re.compile(r"^fault (\d+) (\w+)(?: (\d+))?$", re.MULTILINE)
-NOT_EMPTY = 34
+NOT_EMPTY, IN_USE = 34, 35
 LONGEST_SAYING = 65_536  # bytes of standard error that are kept
 GRACE = 10.0  # seconds that it has for its end behind that of its output
 
@@ -47,13 +47,34 @@ def fault_in(told: str) -> Optional[Fault]:
     return Fault(int(found[1]), found[2], int(found[3]) if found[3] else None) if found else None
 
 
+def missing(path: str) -> Optional[str]:
+    """The path, where nothing is there that could be opened."""
+    try:
+        os.stat(path)
+    except FileNotFoundError:
+        return path
+    except OSError:
+        pass
+    return None
+
+
+def death(fault: Optional[Fault], told: str, status: Optional[int], lacks: Optional[str]) -> Died:
+    """Why the program ended by itself; `lacks` is the path of its worksheet where nothing is there."""
+    if fault is None:
+        return Died(None, None, told, status)
+    if fault.number == DISK and lacks is not None:
+        return NoWorksheet(lacks, told, status)
+    kind = InUse if fault.number == IN_USE else Died
+    return kind(fault.name, fault.number, told, status, fault.offset)
+
+
 def refuse_uncreated(path: str, status: Optional[int], errors: bytes) -> None:
     """Raises why a `create` made nothing, but where somebody else has made it meanwhile."""
     told = errors.decode("utf-8", "backslashreplace")
     fault = fault_in(told)
     if status == 0 or (fault and fault.number == NOT_EMPTY and os.path.exists(path)):
         return
-    raise Died(fault.name if fault else None, fault.number if fault else None, told, status)
+    raise death(fault, told, status, path if missing(os.path.dirname(path) or ".") else None)
 
 
 class Child:
@@ -61,7 +82,8 @@ class Child:
     program when it wants to."""
 
     def __init__(self, words: List[str], given: Optional[IO[bytes]] = None) -> None:
-        """Starts it, with a file as its input or a pipe."""
+        """Starts it, with a file as its input or a pipe. The last word is the path of a worksheet."""
+        self.path = words[-1]
         self._asking = threading.Lock()
         self._errors = tempfile.TemporaryFile()
         pipe = subprocess.PIPE

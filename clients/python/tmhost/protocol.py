@@ -7,15 +7,14 @@ import functools
 from typing import Any, Callable, Deque, List, Optional, Tuple
 
 from .commands import AnyCommand, Command, Look, R, bytes_of
-from .errors import BadLine, Closed, Died, InUse, Lost, ProtocolError, Refused, TmhostError
+from .errors import BadLine, Closed, Lost, ProtocolError, Refused, TmhostError
 from .events import Answered, Banner, Completed, Done, Ended, Event, Finished, Stopped
 from .mirror import Mirror, Settles, out_of_step
-from .program import fault_in
+from .program import death, fault_in
 from .reading import End, Fault, Hello, OneField, Refusal, Reply, StopReply, Told, read
 from .values import LostItem
 
 VERSION = 2  # of the protocol
-IN_USE = 35
 
 
 @dataclasses.dataclass
@@ -176,10 +175,11 @@ class Protocol:
         """Nothing that the program tells is taken from now on."""
         self.error = self.error or error
 
-    def finish(self, is_closed: bool, status: Optional[int], told: str) -> Taken:
-        """The output of the program has come to its end; `is_closed` says that its input was ended by us."""
+    def finish(self, is_closed: bool, status: Optional[int], told: str, lacks: Optional[str] = None) -> Taken:
+        """The output of the program has come to its end; `is_closed` says that its input was ended by us, and `lacks` is the path of the
+        worksheet where nothing is there."""
         if self.error is None:
-            self.error = Closed() if is_closed and self._has_end else self._death(status, told)
+            self.error = Closed() if is_closed and self._has_end else death(self._fault or fault_in(told), told, status, lacks)
         is_whole = isinstance(self.error, Closed)
         taken = Taken()
         items = self.mirror.close() if is_whole else self.mirror.drop_rows()
@@ -189,10 +189,3 @@ class Protocol:
         self._awaited.clear()
         taken.events.append(Finished(None if is_whole else self.error))
         return taken
-
-    def _death(self, status: Optional[int], told: str) -> Died:
-        fault = self._fault or fault_in(told)
-        if fault is None:
-            return Died(None, None, told, status)
-        kind = InUse if fault.number == IN_USE else Died
-        return kind(fault.name, fault.number, told, status, fault.offset)

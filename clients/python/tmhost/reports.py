@@ -4,9 +4,9 @@ import os
 import subprocess
 from typing import Callable, Iterator, Optional, TypeVar, Union
 
-from .errors import Died, InUse, ProtocolError
-from .program import GRACE, Child, fault_in
-from .protocol import IN_USE, VERSION, Lines
+from .errors import Died, ProtocolError
+from .program import GRACE, Child, death, fault_in, missing
+from .protocol import VERSION, Lines
 from .reading import End, Fault, Hello
 
 PIECE = 65_536
@@ -32,9 +32,7 @@ def died(child: Child, fault: Optional[Fault]) -> Died:
     except subprocess.TimeoutExpired:
         status = None
     said = child.said()
-    fault = fault or fault_in(said)
-    kind = InUse if fault and fault.number == IN_USE else Died
-    return kind(fault.name if fault else None, fault.number if fault else None, said, status, fault.offset if fault else None)
+    return death(fault or fault_in(said), said, status, missing(child.path))
 
 
 def told_by(child: Child, read: "Callable[[bytes], Union[Told, Hello, Fault, End, None]]") -> Iterator[Told]:

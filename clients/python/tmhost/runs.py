@@ -27,7 +27,7 @@ def run(
 
     Gives a `Reply` for each line, in their order and as soon as it is done, and an `Event` for what comes of an interpreter during a
     `wait`; what they say is on the disk. A `wait` may take `timeout` seconds; then interpreters are interrupted (each is a `Warned`), and
-    stopped two seconds later. Raises InUse, or Died for another fault or a death of the program. To stop early, close the iterator: the program is ended then.
+    stopped two seconds later. Raises InUse, NoWorksheet (a FileNotFoundError), or Died for another fault or a death of the program. To stop early, close the iterator: the program is ended then.
     """
     with tempfile.TemporaryFile() as given:
         given.write(script.encode("utf-8"))

@@ -13,7 +13,7 @@ from .commands import Command, R
 from .connection import PAUSE, PIECE
 from .errors import Closed, ProtocolError, TimedOut, TmhostError
 from .events import Event, Finished
-from .program import GRACE, Child, refuse_uncreated
+from .program import GRACE, Child, missing, refuse_uncreated
 from .protocol import Lines, Protocol, Taken
 from .reading import Hello, read
 
@@ -168,7 +168,7 @@ class AsyncConnection:
     def _finish(self, status: int) -> None:
         if self._pipe:
             self._pipe.close()
-        taken = self.protocol.finish(self._is_closed, status, self.child.said())
+        taken = self.protocol.finish(self._is_closed, status, self.child.said(), missing(self.child.path))
         self._finished = taken.events[-1]
         self._pass_on(taken)
 

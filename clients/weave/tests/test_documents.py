@@ -13,8 +13,8 @@ from .trees import CMARK, Tree, cmark_tree, codes, without_answers
 
 from tmhost_weave.answers import ANSWER, FORMULA, NO_ANSWER, Piece, Shown, longest_run  # noqa: E402
 from tmhost_weave.document import Document  # noqa: E402
-from tmhost_weave.fields import LINE_END  # noqa: E402
-from tmhost_weave.troubles import Trouble  # noqa: E402
+from tmhost_fences.fields import LINE_END  # noqa: E402
+from tmhost_fences.troubles import Trouble  # noqa: E402
 
 DOCUMENTS = int(os.environ.get("TMHOST_DOCUMENTS", "1000"))
 FRONT = "---\nsessions: {py: [adapters/python], sh: [adapters/prompted.py, sh], pari: [adapters/gp, --text]}\n---\n"

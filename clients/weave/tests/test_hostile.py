@@ -12,7 +12,7 @@ from .support import PROGRAM, Case, answers, fences
 from .trees import CMARK, PANDOC, body_of, cmark_tree, codes, first_code, kinds, pandoc_tree, without_answers
 
 from tmhost_weave.answers import FORMULA_BEGINS  # noqa: E402
-from tmhost_weave.troubles import needed  # noqa: E402
+from tmhost_fences.troubles import needed  # noqa: E402
 
 HOSTILE = [
     "```", "`````\n<script>alert(1)</script>", "~~~", "~~~\n# head\n~~~", "<b onclick=alert(1)>x</b>", "[a](javascript:alert(1))", "![a](b)", "\u202eabc",

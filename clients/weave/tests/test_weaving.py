@@ -188,12 +188,36 @@ class Weaving(Case):
     def test_what_has_no_sessions_stays(self) -> None:
         for text in ["", "# x\n```py\n1\n```\n", self.front("a") + "```c\nx\n```\n", "---\r\n\0\r\n---", "---\nsessions: {}\n---\n```a\n"]:
             self.assertEqual(self.weave(text), text)
-            self.assertEqual(self.run_weave("--check", self.text), (0, "", ""))
+            done = self.run_weave("--check", self.text)
+            self.assertEqual((done.status, done.output), (0, ""))
+            self.assertIn("no fence is of a session, so nothing is evaluated", done.errors)
             self.assertEqual(self.run_weave("--output", "-", self.text).output, text)
         with open(self.text, "wb") as file:
             file.write(b"\xff\xfe\n")
         self.assertEqual(self.run_weave().status, 0)
         self.assertEqual(os.listdir(self.folder), ["text.md"])
+
+    def test_a_text_without_code_of_a_session_is_told(self) -> None:
+        """With what it has, since a session may have another name than its fences."""
+        quarto = "```{python}\nx\n```\n```{r, echo=FALSE}\ny\n```\n```{python}\nz\n```\n"
+        for text, sessions, found in (
+            (quarto, "none, as `sessions: {py: [adapters/python]}`", "{python} (2), {r, echo=FALSE} (1)"),
+            (self.front("py", "r") + quarto, "py, r", "{python} (2), {r, echo=FALSE} (1)"),
+            (self.front("a") + "```\nx\n```\n", "a", "without a word (1)"),
+            ("text\n", "none, as `sessions: {py: [adapters/python]}`", "none"),
+            (self.front("a") + "".join(f"```x{number}\n```\n" for number in range(9)), "a", "x0 (1), x1 (1), x2 (1), x3 (1), x4 (1), .."),
+        ):
+            self.write(text)
+            said = f"{self.text}: no fence is of a session, so nothing is evaluated. Sessions in the front matter: {sessions}. Fences: {found}\n"
+            self.assertEqual(self.run_weave(self.text), (0, "", said))
+        self.assertEqual(self.weave(self.front("a") + "```a\nx\n```\n").count("tmhost-answer"), 1)
+        self.assertEqual(self.run_weave(self.text).errors, "")
+
+    def test_fences_that_are_not_to_be_evaluated(self) -> None:
+        shown = "```a {eval=FALSE}\nx\n```\n\n```a\n#| eval: false\ny\n```\n\n```{.a eval=no}\nz\n```\n\n"
+        woven = self.weave(self.front("a") + shown + "```a {eval=TRUE}\n#| echo: false\nw\n```\n")
+        self.assertTrue(woven.startswith(self.front("a") + shown))
+        self.assertEqual(self.logged("a"), ["#| echo: false", "w"])
 
     def test_bytes_stay(self) -> None:
         """Ends of lines, bytes that are no UTF-8, the mode of the file, and a link to it."""

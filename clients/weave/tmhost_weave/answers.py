@@ -3,7 +3,7 @@ import dataclasses
 import re
 from typing import Any, List, Optional, Sequence, Tuple
 
-from .troubles import Trouble
+from tmhost_fences.troubles import Trouble
 
 ANSWER, NO_ANSWER, FORMULA = "tmhost-answer", "tmhost-no-answer", "formula"
 FORMULA_BEGINS, FORMULA_ENDS = "<!-- tmhost-answer -->", "<!-- /tmhost-answer -->"

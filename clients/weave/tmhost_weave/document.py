@@ -1,16 +1,16 @@
 """A text with fences of sessions: what each has, where it ends, and what an earlier weave put behind it."""
+import collections
 import dataclasses
-import os
 import re
-from typing import Any, FrozenSet, List, Optional, Sequence, Tuple
+from typing import Counter, FrozenSet, List, Optional, Sequence, Tuple
+
+from tmhost_fences.blocks import FENCE, LINE, Block, block_of, cut, tokens_of
+from tmhost_fences.fields import Group, groups, language_in, whole
+from tmhost_fences.front import Sessions, front_of
+from tmhost_fences.troubles import Trouble
 
 from .answers import Finder, Shown, is_of_an_answer, lines_of
-from .fields import Group, groups, whole
-from .front import Sessions, front_of
-from .troubles import Trouble, needed
 
-LINE = re.compile(r"[^\r\n]*(?:\r\n|\r|\n)|[^\r\n]+\Z")
-ATTRIBUTES = re.compile(r"\{([^{}]*)\}")
 BARE_WORD = re.compile(r"[A-Za-z][A-Za-z-]*")
 TAB = 4  # columns
 HIDE, FOLD, PURE, WHOLE = "hide", "fold", "pure", "whole"
@@ -29,7 +29,7 @@ class Fence:
     until: int
     prefix: str  # of each line behind it: the marks of the quotes and lists in which it stands
     is_in_container: bool
-    is_of_gp: bool
+    language: str
     old: Shown
 
     @property
@@ -39,7 +39,7 @@ class Fence:
     @property
     def groups(self) -> List[Group]:
         lines = list(self.content)
-        return list(whole(lines) if self.flags & {PURE, WHOLE} else groups(lines, self.is_of_gp))
+        return list(whole(lines) if self.flags & {PURE, WHOLE} else groups(lines, self.language))
 
     @property
     def code(self) -> Tuple[str, FrozenSet[str], Tuple[str, ...]]:
@@ -47,24 +47,15 @@ class Fence:
         return self.session, self.flags, self.content
 
 
-def cut(line: str) -> Tuple[str, str]:
-    """A line and its end."""
-    content = line.rstrip("\r\n")
-    return content, line[len(content) :]
-
-
-def named_in(info: str, sessions: Sessions, line: int) -> Optional[Tuple[str, FrozenSet[str]]]:
-    """The session that an info string names, and the flags that it has: `py {hide}` or `{.py .hide}`."""
-    attributes = [word for found in ATTRIBUTES.findall(info) for word in found.split()]
-    first = (info.split() or [""])[0]
-    if first.startswith("{") and attributes:
-        first, attributes = attributes[0][1:] if attributes[0].startswith(".") else "", attributes[1:]
-    if first not in sessions:
+def named_in(block: Block, sessions: Sessions) -> Optional[Tuple[str, FrozenSet[str]]]:
+    """The session that a fence names, and the flags that it has: `py {hide}` or `{.py .hide}`. One with `eval=FALSE` is text."""
+    info = block.info
+    if info.is_chunk or info.name not in sessions or not block.is_evaluated:
         return None
-    for word in attributes:
+    for word in info.words:
         if BARE_WORD.fullmatch(word) and word not in FLAGS:
-            raise Trouble(f"line {line}: {ascii(word)} is none of the words that a fence can have: {', '.join(FLAGS)}")
-    return first, frozenset(word.lstrip(".") for word in attributes) & frozenset(FLAGS)
+            raise Trouble(f"line {block.begin + 1}: {ascii(word)} is none of the words that a fence can have: {', '.join(FLAGS)}")
+    return info.name, info.flags(FLAGS)
 
 
 class Document:
@@ -75,40 +66,36 @@ class Document:
         self.sessions = front.sessions
         self.fences: List[Fence] = []
         self.strays: List[int] = []  # lines, from 1, at which an answer begins that belongs to no fence
-        if self.sessions:
-            self._read(contents[front.lines :], front.lines)
+        self.others: Counter[str] = collections.Counter()  # fences of no session, by what stands at them
+        self._read(contents[front.lines :], front.lines)
 
     def _read(self, body: List[str], first: int) -> None:
-        parser = needed("markdown_it", "python3-markdown-it").MarkdownIt("commonmark").disable("inline")
-        # A parser makes another character of a NUL. Here it becomes a control character, which no field can hold either.
-        tokens = parser.parse("".join(line + "\n" for line in body).replace("\0", "\1"))
+        tokens = tokens_of(body)
         at = 0
         while at < len(tokens):
             token = tokens[at]
             at += 1
-            if token.type != "fence":
+            if token.type != FENCE:
                 continue
-            line = token.map[0] + first + 1
-            named = named_in(token.info, self.sessions, line)
+            block = block_of(token, body, first)
+            named = named_in(block, self.sessions)
             if named:
                 finder = Finder(tokens, at, token.map[1], body, first)
-                self.fences.append(self._fence(token, named, finder, first))
+                self.fences.append(self._fence(block, named, finder, first))
                 at = finder.at
-            elif is_of_an_answer(token.info):
-                self.strays.append(line)
+            elif is_of_an_answer(block.info_text):
+                self.strays.append(block.begin + 1)
+            else:
+                self.others[block.info_text] += 1
 
-    def _fence(self, token: Any, named: Tuple[str, FrozenSet[str]], finder: Finder, first: int) -> Fence:
-        begin, end = token.map[0] + first, token.map[1] + first
-        content = tuple(token.content.split("\n")[:-1])
-        closing = cut(self.lines[end - 1])[0].rstrip(" \t")
-        prefix = closing.rstrip(token.markup[0])
-        if end - begin != len(content) + 2 or prefix.strip(" \t>"):
-            raise Trouble(f"the fence in line {begin + 1} isn't closed")
+    def _fence(self, block: Block, named: Tuple[str, FrozenSet[str]], finder: Finder, first: int) -> Fence:
+        if not block.is_closed:
+            raise Trouble(f"the fence in line {block.begin + 1} isn't closed")
         old = finder.shown()
         # Readers differ in what they make of a part of a tab. The quote's optional space, since else it would take the first one of a line.
-        prefix = prefix.expandtabs(TAB) + (" " if prefix.endswith(">") else "")
-        is_of_gp = any(os.path.basename(word) == "gp" for word in self.sessions[named[0]])
-        return Fence(*named, content, begin, end, finder.end + first, prefix, token.level > 0, is_of_gp, old)
+        prefix = block.before_end.expandtabs(TAB) + (" " if block.before_end.endswith(">") else "")
+        language = language_in(self.sessions[named[0]])
+        return Fence(*named, block.content, block.begin, block.end, finder.end + first, prefix, block.is_in_container, language, old)
 
     def woven(self, shown: Sequence[Shown]) -> str:
         """The text with these answers behind its fences, in place of those that stand there."""

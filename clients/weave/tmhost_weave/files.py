@@ -6,7 +6,7 @@ import shutil
 from typing import Iterator
 
 from .sheets import sync
-from .troubles import Trouble
+from tmhost_fences.troubles import Trouble
 
 LONGEST = 67_108_864  # bytes, as of a script of tmhost
 

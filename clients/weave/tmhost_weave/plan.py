@@ -6,7 +6,7 @@ from typing import Dict, Iterable, List, Mapping, Optional, Sequence, Tuple
 from tmhost import Field, Session
 
 from .document import Document, Fence
-from .front import Sessions
+from tmhost_fences.front import Sessions
 
 # The session that says that a worksheet is that of a text. A field of it stands in front of those of a replay. It is never started.
 MARK = Session("tmhost-weave", ("true",), False)

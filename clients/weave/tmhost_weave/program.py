@@ -7,7 +7,7 @@ from typing import List
 from tmhost import TmhostError
 
 from .files import locked
-from .troubles import Trouble
+from tmhost_fences.troubles import Trouble
 from .weaving import Weave
 
 ABOUT = "Evaluates the code in a CommonMark text, and puts each answer behind its fence."

@@ -8,7 +8,7 @@ from typing import Dict, List
 from tmhost import Field, InUse, Refused, Worksheet, find_program
 
 from .plan import MARK, Plan, Wanted
-from .troubles import Trouble
+from tmhost_fences.troubles import Trouble
 
 SECOND = ".alt"  # of a worksheet's second file
 PATIENCE = 10.0  # seconds for which a worksheet may be in use, since a program whose weave was killed needs a moment to end

@@ -15,8 +15,10 @@ from .files import new_name, put, read
 from .formulas import parts_of
 from .plan import Plan
 from .sheets import LARGE, fit, largest_file, make, opened, sheet_path
-from .troubles import Trouble
+from tmhost_fences.troubles import Trouble
 
+MOST_TOLD = 5  # kinds of fences, in a message
+LONGEST_INFO = 40  # characters of what stands at one
 LONG_RUN = re.compile("`{255,}")  # cmark counts the backquotes of a fence up to 255, so a line of more would close any
 
 
@@ -48,6 +50,14 @@ def first_other_line(old: bytes, new: bytes) -> int:
     return 1 + sum(1 for _ in itertools.takewhile(lambda pair: pair[0] == pair[1], pairs))
 
 
+def why_nothing(document: Document) -> str:
+    """What is said of a text of which no fence is a session's: an author has most likely named a session otherwise than its fences."""
+    sessions = ", ".join(document.sessions) or "none, as `sessions: {py: [adapters/python]}`"
+    told = [f"{ascii(info[:LONGEST_INFO])[1:-1] or 'without a word'} ({count})" for info, count in document.others.most_common(MOST_TOLD + 1)]
+    fences = ", ".join([*told[:MOST_TOLD], *([".."] if len(told) > MOST_TOLD else [])]) or "none"
+    return f"no fence is of a session, so nothing is evaluated. Sessions in the front matter: {sessions}. Fences: {fences}"
+
+
 class Weave:
     """`output` is where the woven text goes: None for the text itself, "-" for standard output."""
 
@@ -62,6 +72,8 @@ class Weave:
         self.fields: Dict[int, Field] = {}
         for line in self.document.strays:
             self.say(f"line {line}: an answer that is behind no fence of a session stays as text")
+        if not self.document.fences:
+            self.say(why_nothing(self.document))
 
     def say(self, text: str) -> None:
         print(f"{self.name}: {text}", file=sys.stderr)

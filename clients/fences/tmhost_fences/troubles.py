@@ -1,10 +1,14 @@
-"""What keeps a text from being woven."""
+"""What keeps a text from being read, or woven, or imported."""
 import importlib
 from typing import Any
 
 
 class Trouble(Exception):
-    """It says in words what went wrong. Nothing was written to the text then."""
+    """It says in words what went wrong, in one line or several. Nothing was written then."""
+
+    def __init__(self, *lines: str) -> None:
+        super().__init__("\n".join(lines))
+        self.lines = lines
 
 
 def needed(module: str, package: str) -> Any:

@@ -1,7 +1,7 @@
 """The front matter of a text: YAML between two lines of `---`, in which the sessions stand."""
 import dataclasses
 import re
-from typing import Any, Dict, List, Tuple
+from typing import Any, Dict, List, Sequence, Tuple
 
 from .troubles import Trouble, needed
 
@@ -22,13 +22,18 @@ class Front:
     sessions: Sessions
 
 
-def front_of(lines: List[str]) -> Front:
-    """The front matter of a text of these lines, which have no ends. What names no sessions is a part of the text like any other."""
+def matter_end(lines: Sequence[str]) -> int:
+    """How many of a text's first lines, which have no ends, are front matter."""
     if not lines or lines[0].lstrip("\ufeff").rstrip(" \t") != "---":
-        return Front(0, {})
-    end = next((at for at, line in enumerate(lines) if at and line.rstrip(" \t") in ("---", "...")), 0)
-    text = "\n".join(lines[1:end])
-    return Front(end + 1, sessions_in(text)) if NAMES_SESSIONS.search(text) else Front(0, {})
+        return 0
+    return next((at + 1 for at, line in enumerate(lines) if at and line.rstrip(" \t") in ("---", "...")), 0)
+
+
+def front_of(lines: Sequence[str]) -> Front:
+    """The front matter of a text of these lines. What names no sessions is a part of the text like any other."""
+    end = matter_end(lines)
+    text = "\n".join(lines[1 : max(1, end - 1)])
+    return Front(end, sessions_in(text)) if NAMES_SESSIONS.search(text) else Front(0, {})
 
 
 def sessions_in(text: str) -> Sessions:

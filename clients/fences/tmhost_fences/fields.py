@@ -1,21 +1,27 @@
 """The fields of a fence: its lines, in groups of those that go on from one another."""
 import dataclasses
 import itertools
+import os
 import re
-from typing import Dict, Iterator, List, Optional, Tuple
+from typing import Dict, Iterator, List, Optional, Sequence, Tuple
 
 LINE_END = "\u2028"  # stands in an input for the end of a line, since an input has none
 LONGEST_INPUT = 4095  # bytes
 CONTROL = re.compile(r"[\x00-\x08\x0a-\x1f]")
 SURROGATE = re.compile(r"[\ud800-\udfff]")
-# Words of several languages that close what an earlier line began, or begin a further branch of it (as in clients/import).
+# Words of several languages that close what an earlier line began, or begin a further branch of it.
 CLOSING = "elif|else|elseif|except|finally|end|endif|endfor|endwhile|endfunction|endswitch|end_try_catch|end_unwind_protect|do|done|then|fi|esac|od"
 GOES_ON = re.compile(rf"[ \t)\]}}]|(?:{CLOSING})\b")
 DECORATOR = re.compile(r"@\w")
 # What has no brackets that count: texts, and remarks.
 TEXT = re.compile(r"""\"(?:\\.|[^\"\\])*\"|'[^']*'|(?:\A|(?<=\s))#\s.*""")
-# In gp, where remarks have one line or several, and ' begins no text.
-TEXT_OF_GP = re.compile(r'"(?:\\.|[^"\\\n])*"|/\*.*?(?:\*/|\Z)|\\\\[^\n]*', re.DOTALL)
+# The same where one may have several lines. In gp ' begins no text.
+TEXTS = {
+    "gp": re.compile(r'"(?:\\.|[^"\\\n])*"|/\*.*?(?:\*/|\Z)|\\\\[^\n]*', re.DOTALL),
+    "python": re.compile(
+        r'"""(?:\\.|[^\\])*?(?:"""|\Z)|\'\'\'(?:\\.|[^\\])*?(?:\'\'\'|\Z)|"(?:\\.|[^"\\\n])*"|\'(?:\\.|[^\'\\\n])*\'|#[^\n]*', re.DOTALL
+    ),
+}
 HOLDS = re.compile(r"[\\=]\s*\Z")  # at the end of a line
 
 
@@ -42,14 +48,20 @@ def group(at: int, lines: List[str]) -> Iterator[Group]:
         yield Group(at, LINE_END.join(lines))
 
 
-def without_text_of_gp(lines: List[str]) -> List[str]:
-    """The lines of a fence of gp without texts and remarks. Of a remark of several lines there are brackets, which hold these together."""
+def language_in(words: Sequence[str]) -> str:
+    """The language of which more is known here than of others, by the words of a session: that of an adapter, which has its name."""
+    names = [os.path.basename(word) for word in words]
+    return next((name for name in names if name in TEXTS), "")
+
+
+def without_texts(lines: List[str], language: str) -> List[str]:
+    """The lines without texts and remarks. Of one of several lines there are brackets, which hold these together."""
 
     def left(found: "re.Match[str]") -> str:
         line_ends = found[0].count("\n")
-        return "(" + "\n" * line_ends + ")" if line_ends else '""' if found[0].startswith('"') else ""
+        return "(" + "\n" * line_ends + ")" if line_ends else '""' if found[0][0] in "\"'" else ""
 
-    return TEXT_OF_GP.sub(left, "\n".join(lines)).split("\n")
+    return TEXTS[language].sub(left, "\n".join(lines)).split("\n")
 
 
 def opened(line: str) -> int:
@@ -71,26 +83,26 @@ def closings(lines: List[str]) -> Dict[int, int]:
     return closed
 
 
-def holds(lines: List[str], is_of_gp: bool) -> Iterator[int]:
-    """Of each line the last one that it holds: that which closes its brackets, where a field can have all of them; the next one after a
-    backslash or an equals sign at its end; else itself."""
+def holds(lines: List[str], language: str, most: int) -> Iterator[int]:
+    """Of each line the last one that it holds: that which closes its brackets, where these are at most so many characters; the next one after
+    a backslash or an equals sign at its end; else itself."""
     ends = list(itertools.accumulate((1 + len(line) for line in lines), initial=0))
-    bare = without_text_of_gp(lines) if is_of_gp else lines
-    closed = closings(bare if is_of_gp else [TEXT.sub("", line) for line in lines])
+    bare = without_texts(lines, language) if language in TEXTS else lines
+    closed = closings(bare if language in TEXTS else [TEXT.sub("", line) for line in lines])
     for at, line in enumerate(bare):
         last = closed.get(at, at)
-        if last > at and ends[last + 1] - ends[at] <= LONGEST_INPUT:
+        if last > at and ends[last + 1] - ends[at] <= most:
             yield last
         else:
             yield at + 1 if HOLDS.search(line) else at
 
 
-def groups(lines: List[str], is_of_gp: bool) -> Iterator[Group]:
+def groups(lines: List[str], language: str, most: int = LONGEST_INPUT) -> Iterator[Group]:
     """Each line with those that go on from it. Empty lines stand in a group only where it goes on after them."""
     taken: List[str] = []
     blanks: List[str] = []
     begin, held = 0, -1
-    for at, (line, last) in enumerate(zip(lines, holds(lines, is_of_gp))):
+    for at, (line, last) in enumerate(zip(lines, holds(lines, language, most))):
         if not line.strip(" \t"):
             blanks.append(line)
             continue

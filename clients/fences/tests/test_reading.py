@@ -1,0 +1,60 @@
+"""What stands at a fence, what its fields are, and what front matter says."""
+import unittest
+from typing import List, Tuple
+
+from tmhost_fences.fields import LINE_END, groups, language_in
+from tmhost_fences.front import front_of, matter_end
+from tmhost_fences.info import info_of, is_evaluated
+from tmhost_fences.troubles import Trouble
+
+
+class Infos(unittest.TestCase):
+    def test_names_and_words(self) -> None:
+        for text, name, words, is_chunk in (
+            ("py", "py", [], False), ("py {hide}", "py", ["hide"], False), ("py {.hide fold}", "py", [".hide", "fold"], False), ("{.py .hide}", "py", [".hide"], False),
+            ("py{hide}", "py{hide}", ["hide"], False), ("", "", [], False), ("{}", "", [], False), ("{hide=1}", "", [], False), ("{#py}", "", [], False),
+            ("{py}", "py", [], True), ("{r, echo=FALSE}", "r", [], True), ("{r setup, eval=F}", "r", [], True), ("{ python }", "python", [], True), ("{code-cell} ipython3", "code-cell", [], True),
+        ):
+            info = info_of(text)
+            self.assertEqual((info.name, list(info.words), info.is_chunk), (name, words, is_chunk), text)
+        self.assertEqual(info_of("{.py .hide hide x}").flags(["hide", "x"]), {"hide", "x"})
+
+    def test_what_is_to_be_evaluated(self) -> None:
+        asked: List[Tuple[str, List[str], bool]] = [
+            ("{r}", [], True), ("{r, eval=FALSE}", [], False), ("{r, eval = F}", [], False), ("{r eval='no'}", [], False), ("{r, eval=c(1, 3)}", [], True), ("{r, Eval=false}", [], False),
+            ("{r, evaluate=FALSE}", [], True), ('py active="md"', [], False), ('py active="ipynb,py"', [], True), ("py {eval=false}", [], False),
+            ("{r}", ["#| eval: false"], False), ("{js}", ["//| echo: true", "//| eval: no"], False), ("{r}", ["x", "#| eval: false"], True), ("{r, eval=FALSE}", ["#| eval: true"], True),
+        ]
+        for text, code, wanted in asked:
+            self.assertEqual(is_evaluated(info_of(text).options, code), wanted, (text, code))
+
+
+class Fields(unittest.TestCase):
+    def inputs(self, code: str, words: str) -> List[str]:
+        return [group.input.replace(LINE_END, "|") for group in groups(code.split("\n"), language_in(words.split()))]
+
+    def test_texts_of_python_over_several_lines(self) -> None:
+        """They hold their lines together, and brackets in them don't count."""
+        python = "adapters/python"
+        for code, wanted in (
+            ('x = """a\nb\n\nc"""\ny', ['x = """a|b||c"""', "y"]), ("f('''\nb)''')\ny", ["f('''|b)''')", "y"]), ('def f():\n  """a\n\nb"""\n  1\ny', ['def f():|  """a||b"""|  1', "y"]),
+            ("x = '(' # (\ny", ["x = '(' # (", "y"]), ('x = "it\'s ("\ny', ['x = "it\'s ("', "y"]), ('x = """a\\"""\nb"""\ny', ['x = """a\\"""|b"""', "y"]), ('x = """a\ny', ['x = """a|y']),
+            ("# it's '''\nx\ny", ["# it's '''", "x", "y"]), ("x = ''\ny = ''\nz", ["x = ''", "y = ''", "z"]), ("# x =\ny", ["# x =", "y"]),
+        ):
+            self.assertEqual(self.inputs(code, python), wanted, code)
+        self.assertEqual(self.inputs('x = """a\nb"""', "sh"), ['x = """a', 'b"""'])
+        self.assertEqual([language_in(words.split()) for words in ("python3 /a/python", "python3 a.py", "a/gp --text", "")], ["python", "", "gp", ""])
+
+
+class Front(unittest.TestCase):
+    def test_where_it_ends(self) -> None:
+        texts: List[Tuple[List[str], int]] = [(["---", "a", "---", "b"], 3), (["\ufeff--- ", "..."], 2), (["---", "a"], 0), (["a", "---", "---"], 0), ([], 0)]
+        for lines, end in texts:
+            self.assertEqual(matter_end(lines), end)
+
+    def test_sessions(self) -> None:
+        front = front_of(["---", "sessions: {a: b  c, d: [e]}", "...", "text"])
+        self.assertEqual((front.lines, front.sessions), (3, {"a": ("b", "c"), "d": ("e",)}))
+        self.assertEqual(front_of(["---", "title: sessions", "---"]).lines, 0)
+        with self.assertRaisesRegex(Trouble, "no mapping of names"):
+            front_of(["---", "sessions: [a]", "---"])
