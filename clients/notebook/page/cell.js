@@ -77,6 +77,7 @@ export class CellView {
     this.box.tabIndex = -1;
     this.box.setAttribute("role", "group");
     this.head.append(make("span", "number", `#${this.id}`), this.session, this.textState, this.answerState);
+    this.text.dir = "auto";
     this.text.spellcheck = false;
     this.text.tabIndex = -1; // Enter goes into it: Tab would not go on from there
     this.text.rows = 1;
@@ -214,6 +215,7 @@ export class CellView {
       return;
     }
     this.reading ??= this.box.appendChild(make("div", "reading"));
+    this.reading.dir = "auto";
     const text = this.text.value;
     if (this.read === text) return;
     this.read = text;

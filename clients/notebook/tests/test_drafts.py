@@ -12,10 +12,10 @@ from unittest import mock
 import chromium
 import harness
 from harness import PROGRAM, READY, Page, PageCase, needs_chromium, needs_program, opened
+from test_page import CONTRAST
 
 sys.path[:0] = [harness.NOTEBOOK]
 
-from tmhost_notebook import drafts  # noqa: E402
 from tmhost_notebook.drafts import Draft, Drafts, NotKept  # noqa: E402
 
 KEPT = "draft: kept, not yet the cell's text"
@@ -156,8 +156,11 @@ class DraftsOfThePage(PageCase):
         return tab
 
     def test_a_text_changed_elsewhere(self) -> None:
-        """Neither text goes before one is chosen: here the draft."""
+        """Neither text goes before one is chosen: here the draft. Both can be read, by day and by night."""
         tab = self.changed_elsewhere()
+        for scheme in ("light", "dark"):
+            tab.ask("Emulation.setEmulatedMedia", {"features": [{"name": "prefers-color-scheme", "value": scheme}]})
+            self.assertEqual([one for one in tab.value(CONTRAST) if one[1] < 4.5], [], scheme)
         tab.value("new Promise((done) => setTimeout(done, 1500))")
         self.assertEqual((self.page.cells()[1]["input"], self.kept()[1]["text"]), ("say theirs", "mine sleep 60"))
         tab.click("#cell-1 [data-do=keepMine]")
@@ -281,7 +284,7 @@ class DraftsOnTheDisk(unittest.TestCase):
                     return call(*words, **further)
 
                 with self.subTest(name=name, turn=turn):
-                    with mock.patch.object(drafts.os, name, ends):
+                    with mock.patch.object(os, name, ends):
                         try:
                             known = self.opened()
                             known.keep(1, new)
@@ -298,8 +301,11 @@ class DraftsOnTheDisk(unittest.TestCase):
             steps.append("sync " + os.path.relpath(os.readlink(f"/proc/self/fd/{descriptor}"), os.path.dirname(self.folder)))
             sync(descriptor)
 
-        with mock.patch.object(drafts.os, "fsync", noted), mock.patch.object(drafts.os, "replace",
-                lambda *words: (steps.append("replace"), replace(*words))):
+        def named(*words: Any) -> None:
+            steps.append("replace")
+            replace(*words)
+
+        with mock.patch.object(os, "fsync", noted), mock.patch.object(os, "replace", named):
             known = self.opened()
             known.keep(1, Draft("s", "a", "b"))
             known.keep(1, None)
