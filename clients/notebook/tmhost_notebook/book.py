@@ -7,9 +7,10 @@ import threading
 import time
 from typing import Any, Dict, Iterator, List, Optional, Set, Tuple
 
-from tmhost import BadLine, Done, Event, Field, Finished, Gone, InUse, Refused, Session, Worksheet, readable
+from tmhost import Answer, BadLine, Done, Event, Field, Finished, Gone, InUse, Refused, Session, Worksheet, readable
 
 from . import prose, shown
+from .drafts import Draft, Drafts, NotKept
 from .notes import Note, Notes, stale_cells
 
 Message = Dict[str, Any]
@@ -40,6 +41,11 @@ def session_of(sheet: Worksheet, id: Optional[int]) -> Optional[str]:
         return None
 
 
+def text_of(field: Field) -> str:
+    """The text of a cell, on its lines."""
+    return "\n".join(field.lines)
+
+
 class Watcher:
     """A page that is open, and what it was told last."""
 
@@ -61,6 +67,7 @@ class Book:
         self.lock, self.order = threading.Lock(), threading.Lock()
         self.watchers: Set[Watcher] = set()
         self.removed: List[Dict[str, Any]] = []
+        self.drafts = Drafts(path)
         self.ended: Optional[str] = None
         self.changes = 0  # that cells had by calls, counted by `order`; a message says how many of them it has seen
         self._removed_ever = 0
@@ -71,8 +78,20 @@ class Book:
         self.notes = Notes()
         self.in_doubt: Optional[int] = None  # the cell that a call changes, until it is known that it did or didn't
         self.ended = None
+        self._read_drafts()
         sheet = self.sheet
         sheet.listen(lambda event: self._heard(sheet, event))
+
+    def _read_drafts(self) -> None:
+        """Takes the drafts that were kept. Where the cell has the text by now there is none any more."""
+        self.drafts.read()
+        fields = {field.id: field for field in self.sheet.fields}
+        for id, draft in self.drafts.of.items():
+            if id not in fields:
+                self.bin_draft(id, len(fields))
+            elif text_of(fields[id]) == draft.text:
+                with contextlib.suppress(NotKept):
+                    self.drafts.keep(id, None)
 
     def reopen(self) -> None:
         """Opens the worksheet again behind a death of the program."""
@@ -130,15 +149,31 @@ class Book:
             for watcher in self.watchers:
                 watcher.wake.set()
 
+    def keep_draft(self, id: int, draft: Optional[Draft]) -> None:
+        """Keeps the draft of a cell, or none any more, with `order`. Raises NotKept."""
+        self.drafts.keep(id, draft)
+        self.changes += 1
+        with self.lock:
+            self.notes.tell(id)
+
     def bin(self, field: Field, place: int) -> None:
         """Keeps a cell that was removed."""
         with self.lock:
-            self._removed_ever += 1
             note = self.notes.of.get(field.id)
-            old = field.answer or (note.old if note else None)
-            self.removed.append({"number": self._removed_ever, "field": field, "old": old, "place": place})
-            del self.removed[:-MOST_REMOVED]
+            self._bin(field, field.answer or (note.old if note else None), place)
             self.notes.drop(field.id)
+
+    def bin_draft(self, id: int, place: int) -> None:
+        """Offers the draft of a cell that isn't there any more among the removed cells. It stays on the disk until it is brought back."""
+        draft = self.drafts.of.get(id)
+        with self.lock:
+            if draft and not any(one["is_draft"] and one["field"].id == id for one in self.removed):
+                self._bin(Field(id, draft.session, draft.text), None, place, is_draft=True)
+
+    def _bin(self, field: Field, old: Optional[Answer], place: int, is_draft: bool = False) -> None:
+        self._removed_ever += 1
+        self.removed.append({"number": self._removed_ever, "field": field, "old": old, "place": place, "is_draft": is_draft})
+        del self.removed[:-MOST_REMOVED]
 
     def unbin(self, number: Optional[int]) -> Optional[Dict[str, Any]]:
         """Takes a removed cell out, the last one for None."""
@@ -173,12 +208,12 @@ class Book:
         return self._message(watcher)
 
     def _message(self, watcher: Watcher) -> Message:
-        at, fields, sessions = self._moment()
+        at, fields, sessions, drafts = self._moment()
         with self.lock:
             others = self._others(fields, sessions)
             marks = self._marks(fields, sessions)
             cells = [(field, self._note_of(field)) for field in fields]
-            told = [self._cell(field, note) for field, note in cells if is_news(watcher, field, note)]
+            told = [self._cell(field, note, drafts.get(field.id)) for field, note in cells if is_news(watcher, field, note)]
             watcher.cells = {field.id: (field, note.version) for field, note in cells}
         message = {key: value for key, value in others.items() if watcher.others.get(key) != value}
         changed = {id: mark for id, mark in marks.items() if watcher.marks.get(id) != mark}
@@ -191,20 +226,20 @@ class Book:
             message["at"] = at
         return message
 
-    def _moment(self) -> Tuple[int, List[Field], Dict[str, Session]]:
-        """The worksheet, and how many changes it has seen. A page drops what was told of a cell before it changed that itself, so a cell may
-        have a later change in it than is said, but only if that one isn't counted yet: it is told again then."""
+    def _moment(self) -> Tuple[int, List[Field], Dict[str, Session], Dict[int, Draft]]:
+        """The worksheet and its drafts, and how many changes they have seen. A page drops what was told of a cell before it changed that
+        itself, so a cell may have a later change in it than is said, but only if that one isn't counted yet: it is told again then."""
         while True:
             at = self.changes
-            fields, sessions = self.sheet.fields, self.sheet.sessions
+            fields, sessions, drafts = self.sheet.fields, self.sheet.sessions, self.drafts.of
             if at == self.changes:
-                return at, fields, {name: ended(session) for name, session in sessions.items()} if self.ended else sessions
+                return at, fields, {name: ended(session) for name, session in sessions.items()} if self.ended else sessions, drafts
 
     def _note_of(self, field: Field) -> Note:
         return self.notes.of.get(field.id) or Note()
 
     def _others(self, fields: List[Field], sessions: Dict[str, Session]) -> Message:
-        removed = [{"number": one["number"], "session": one["field"].session, "input": one["field"].input[:80]} for one in self.removed]
+        removed = [{"number": one["number"], "session": one["field"].session, "input": text_of(one["field"])[:80]} for one in self.removed]
         return {
             "path": os.path.basename(self.path),
             "order": [field.id for field in fields],
@@ -223,7 +258,7 @@ class Book:
         life = sessions[field.session].life if field.session in sessions else None
         return field.state == "answered" and (life is None or self._note_of(field).life != life)
 
-    def _cell(self, field: Field, note: Note) -> Message:
+    def _cell(self, field: Field, note: Note, draft: Optional[Draft]) -> Message:
         answer = field.answer or (note.old if field.state in ("empty", "waiting") else None)
         state = field.state
         if self.ended and field.id == self.in_doubt:
@@ -233,7 +268,8 @@ class Book:
         return {
             "id": field.id,
             "session": field.session,
-            "input": "\n".join(field.lines),
+            "input": text_of(field),
+            "draft": {"base": draft.base, "text": draft.text} if draft and draft.text != text_of(field) else None,
             "state": state,
             "reason": field.reason,
             "since": None if note.since is None else int(note.since * 1000),
