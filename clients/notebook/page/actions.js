@@ -12,6 +12,9 @@ const EVALUATED = "to be evaluated";
 /** @type {Reply} */
 const NOT_SAVED = { refused: "NotSaved" };
 
+/** @type {(view: CellView) => string} */
+const unsaved = (view) => `cell ${view.id} ${view.isKept ? "has a draft" : "is not saved"}`;
+
 export class Actions {
   /**
    * @param {Cells} cells
@@ -58,7 +61,7 @@ export class Actions {
    */
   async isSaved(view) {
     const isSaved = await view.save();
-    if (!isSaved) this.note(`cell ${view.id} is not saved, so nothing is done with it`);
+    if (!isSaved) this.note(`${unsaved(view)}, so nothing is done with it`);
     return isSaved;
   }
 
@@ -69,7 +72,7 @@ export class Actions {
   async saveAll(views = this.cells.inOrder()) {
     for (const view of views) {
       if (!view.isDraft || (await view.save())) continue;
-      this.note(`cell ${view.id} is not saved, so nothing is evaluated`);
+      this.note(`${unsaved(view)}, so nothing is evaluated`);
       this.cells.select(view);
       return false;
     }
@@ -97,7 +100,7 @@ export class Actions {
     await this.evaluateEach(this.cells.inOrder().filter((view) => view.cell.session === session), "restart", { session });
   }
 
-  /** Before a restart: a cell that waits for its answer can't be saved, and its text is saved behind the stop. */
+  /** Before a restart: a cell that waits for its answer can't be saved, and has a draft. */
   saveIdle() {
     return this.saveAll(this.cells.inOrder().filter((view) => !view.waits));
   }

@@ -1,4 +1,5 @@
-// A cell in the page. `base` is the text that is known to be in the file: the page shows "saved" where its own text is the same.
+// A cell in the page. `base` is the text that is known to be in the file: the page shows "saved" where its own text is the same. `kept` is the
+// draft that is known to be on the disk beside it, while the cell can't have another text.
 
 import { ask } from "./talk.js";
 import { button, make, visible } from "./dom.js";
@@ -16,6 +17,7 @@ import { setInto } from "./setter.js";
  */
 
 const SAVED_BEHIND = 1_000; // milliseconds without a key
+const SAVED_WITHIN = 2_500; // milliseconds of the first key that isn't saved: half a second is for the disk, so that it is saved within three
 const FITS_ITSELF = CSS.supports("field-sizing", "content");
 const LETTERS_IN_LINE = 80; // a guess
 const UNKNOWN = ["Ended", "TimedOut", "Unreached"]; // refusals behind which a text may be saved or not
@@ -31,6 +33,8 @@ export class CellView {
     this.id = cell.id;
     this.cell = cell;
     this.base = cell.input;
+    /** @type {string | null} */
+    this.kept = null;
     this.changedAt = 0; // number of this page's last change of it
     this.toldAt = 0; // up to which change it was told last
     this.asked = 0; // calls without a reply by which the answer may go
@@ -45,6 +49,8 @@ export class CellView {
     this.saving = undefined;
     /** @type {ReturnType<typeof setTimeout> | undefined} */
     this.timer = undefined;
+    /** @type {number | undefined} */
+    this.typedAt = undefined; // when the first key came that isn't saved
     this.box = make("section", "cell");
     this.head = make("header");
     this.session = make("bdi", "session");
@@ -60,6 +66,7 @@ export class CellView {
     this.read = null; // the text that it says, null where that is to be set again
     /** @type {HTMLElement | undefined} */
     this.conflict = undefined;
+    this.other = make("pre");
     this.build();
     this.text.value = cell.input;
     this.update(cell, at);
@@ -83,9 +90,25 @@ export class CellView {
     return this.page.sessions.get(this.cell.session)?.isProse ?? false;
   }
 
-  /** Whether something stands here that is not in the file. */
+  /** Whether something stands here that is not in the file, or a draft is there that doesn't stand here. */
   get isDraft() {
-    return this.isElsewhere || this.text.value !== this.base;
+    return this.isElsewhere || this.text.value !== this.base || this.kept !== null;
+  }
+
+  /** Whether what stands here is kept as a draft. */
+  get isKept() {
+    return this.text.value === this.kept;
+  }
+
+  /** Whether what stands here is on no disk. */
+  get isUnsaved() {
+    return this.text.value !== (this.kept ?? this.base);
+  }
+
+  /** What the cell was given elsewhere. */
+  get theirs() {
+    const { input, draft } = this.cell;
+    return draft && draft.text !== this.kept ? draft.text : input;
   }
 
   get waits() {
@@ -121,7 +144,7 @@ export class CellView {
     const waited = this.waits;
     this.cell = cell;
     this.toldAt = at;
-    this.takeText(cell.input);
+    this.takeText(cell);
     this.session.textContent = this.isProse ? "prose" : cell.session;
     this.box.classList.toggle("prose", this.isProse);
     this.box.setAttribute("aria-label", this.isProse ? `Prose ${this.id}` : `Cell ${this.id}, ${cell.session}`);
@@ -130,21 +153,31 @@ export class CellView {
     this.showProse();
     this.fit();
     this.say();
-    if (this.isDraft && !this.waits && (waited || this.trouble)) this.saveLater();
+    if (this.isDraft && !this.waits && (waited || this.trouble || this.isKept)) this.saveLater();
   }
 
-  /** @param {string} text */
-  takeText(text) {
-    if (text === this.base && !this.isElsewhere) return;
-    if (!this.isDraft) this.text.value = text;
-    if (text === this.base || text === this.text.value || this.tried.has(text)) {
-      this.base = text;
-      this.isElsewhere = false;
+  /** @param {Cell} cell */
+  takeText({ input, draft }) {
+    const kept = draft?.text ?? null;
+    if (input === this.base && kept === this.kept && !this.isElsewhere) return;
+    const isNone = !this.isElsewhere && !this.isUnsaved; // of this page alone
+    if (isNone) this.text.value = kept ?? input;
+    const isKnown = isNone || (this.knows(input) && (kept === null || this.knows(kept)));
+    this.isElsewhere = !isKnown || (draft !== null && draft.base !== input);
+    if (isKnown) {
+      this.base = input;
+      this.kept = kept;
       this.tried.clear();
-    } else {
-      this.isElsewhere = true;
-      this.offerBoth();
     }
+    if (this.isElsewhere) this.offerBoth();
+  }
+
+  /**
+   * Whether it is no other page's text.
+   * @param {string} text
+   */
+  knows(text) {
+    return text === this.base || text === this.kept || text === this.text.value || this.tried.has(text);
   }
 
   /** @param {[boolean, boolean]} mark */
@@ -157,14 +190,15 @@ export class CellView {
 
   say() {
     const [isStale, hasEnded] = this.mark;
-    const { isDraft, isElsewhere, waits, trouble, page: { isThere } } = this;
-    const text = textState({ isDraft, isElsewhere, waits, trouble, isSaving: this.saving !== undefined, isThere });
+    const { isDraft, isKept, isElsewhere, trouble, page: { isThere } } = this;
+    const text = textState({ isDraft, isKept, isElsewhere, trouble, isSaving: this.saving !== undefined, isThere });
     const answer = this.isProse ? ["", ""] : answerState(this.cell, { isThere, asked: this.unsettled, isStale, hasEnded });
     for (const [place, [name, words]] of /** @type {const} */ ([[this.textState, text], [this.answerState, answer]])) {
       if (place.textContent !== words) place.textContent = words;
       place.dataset.state = name;
     }
     this.conflict?.toggleAttribute("hidden", !this.isElsewhere);
+    this.other.textContent = this.isElsewhere ? visible(this.theirs) : "";
     this.box.dataset.state = this.unsettled === undefined ? this.cell.state : "asked";
     this.box.dataset.text = text[0];
   }
@@ -200,9 +234,9 @@ export class CellView {
 
   offerBoth() {
     if (!this.conflict) {
-      this.conflict = make("p", "conflict", "Another page has given this cell another text. ");
-      this.conflict.append(button("keepMine", "Keep this text", "Save the text that stands here"), " ",
-        button("takeTheirs", "Take the other", "Show the text of the other page, and drop this one"));
+      this.conflict = make("div", "conflict", "This cell was given another text elsewhere: ");
+      this.conflict.append(button("keepMine", "Keep this text", "Save the text that stands in the cell"), " ",
+        button("takeTheirs", "Take the other", "Put the other text into the cell, and drop this one"), this.other);
       this.head.after(this.conflict);
     }
   }
@@ -217,43 +251,63 @@ export class CellView {
     this.saveLater();
   }
 
+  /** Saves when no key has come for a while, and then what was typed has waited long enough. */
   saveLater() {
     clearTimeout(this.timer);
-    this.timer = setTimeout(() => this.saveIfFit(), SAVED_BEHIND);
+    this.typedAt ??= performance.now();
+    const left = this.typedAt + SAVED_WITHIN - performance.now();
+    this.timer = setTimeout(() => this.saveIfFit(), Math.max(0, Math.min(SAVED_BEHIND, left)));
   }
 
   /** Saves where nobody has to be asked. */
   saveIfFit() {
-    if (this.isDraft && !this.isElsewhere && !this.waits) this.save();
+    if (this.isDraft && !this.isElsewhere) this.save();
   }
 
   /**
-   * Saves the text; true when what stands in the page is in the file.
+   * Saves the text; true when what stands in the page is in the file. While the cell waits for its answer it is kept as a draft.
    * @returns {Promise<boolean>}
    */
   async save() {
     clearTimeout(this.timer);
+    this.typedAt = undefined;
     while (this.saving) await this.saving;
     if (!this.isDraft) return true;
-    if (this.isElsewhere) return false;
-    this.saving = this.send(this.text.value);
+    if (this.isElsewhere || (this.waits && this.isKept)) return false;
+    const text = this.text.value;
+    this.saving = this.send(text);
     this.say();
-    const isSaved = await this.saving;
+    const isOver = await this.saving;
     this.saving = undefined;
     this.say();
-    return isSaved && (this.isDraft ? this.save() : true);
+    if (isOver && this.text.value !== text) return this.save();
+    return isOver && !this.isDraft;
   }
 
   /** @param {string} text */
   async send(text) {
     this.tried.add(text); // an event may tell of it before the reply
-    const told = await ask("set", { id: this.id, text, base: this.base });
+    const told = await ask("set", { id: this.id, text, base: this.base, draft: this.kept });
     this.trouble = told.refused ? told.says ?? "" : "";
-    if (told.refused && !UNKNOWN.includes(told.refused)) this.tried.delete(text);
+    const mayBeKept = this.kept !== null || UNKNOWN.includes(told.refused ?? "");
+    if (told.refused && !mayBeKept) this.tried.delete(text);
     if (told.refused) return false;
-    this.isSavedNow(text, told.at ?? 0);
+    if (told.isDraft) this.isKeptNow(text, told.at ?? 0);
+    else this.isSavedNow(text, told.at ?? 0);
     this.showProse();
     return true;
+  }
+
+  /**
+   * The text is on the disk as the draft of a cell that waits.
+   * @type {(text: string, at: number) => void}
+   */
+  isKeptNow(text, at) {
+    this.cell = { ...this.cell, draft: { base: this.base, text } };
+    this.changedAt = Math.max(this.changedAt, at);
+    this.kept = text;
+    this.isElsewhere = false;
+    this.tried.clear();
   }
 
   /**
@@ -262,6 +316,8 @@ export class CellView {
    */
   isSavedNow(text, at) {
     if (text !== this.base) this.cell = { ...this.cell, input: text, state: /** @type {const} */ ("empty"), reason: null, prompt: null, isOld: true };
+    this.cell = { ...this.cell, draft: null };
+    this.kept = null;
     this.changedAt = Math.max(this.changedAt, at);
     this.base = text;
     this.isElsewhere = false;
@@ -292,17 +348,22 @@ export class CellView {
 
   /** The text of this page goes over that of the other one. */
   keepMine() {
-    this.base = this.cell.input;
+    const { input, draft } = this.cell;
+    this.base = input;
+    this.kept = draft === null || this.isKept ? null : draft.text; // a draft that stands here is to be saved as it is
     this.isElsewhere = false;
     return this.save();
   }
 
   takeTheirs() {
-    this.text.value = this.cell.input;
-    this.base = this.cell.input;
-    this.isElsewhere = false;
+    const { input, draft } = this.cell;
+    this.text.value = this.theirs;
+    this.base = input;
+    this.kept = draft?.text ?? null;
+    this.isElsewhere = this.isKept && draft?.base !== input;
     this.fit();
     this.showProse();
     this.say();
+    this.saveIfFit(); // a draft that isn't wanted goes
   }
 }

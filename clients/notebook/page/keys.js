@@ -7,6 +7,7 @@
 
 const TWICE_WITHIN = 800; // milliseconds between the two presses of D D
 
+const INDENT = "    ";
 const STEPS = ["ArrowUp", "ArrowDown", "k", "j"]; // keys that do it again while they are held down
 
 /** What the keys do, for people. */
@@ -20,13 +21,14 @@ export const TABLE = [
   ["Home, End", "the first cell, the last one"],
   ["A, B", "new cell above, below"],
   ["D D", "remove the cell"],
-  ["Z", "bring back what was removed last"],
+  ["Z, Control-Z", "bring back what was removed last; in a text Control-Z takes back what was typed there"],
   ["M, Y", "make it prose, make it a cell of the session that is chosen below"],
   ["Alt-Up, Alt-Down", "move the cell"],
   ["I I", "interrupt its interpreter"],
   ["0 0", "restart its interpreter, and evaluate its cells"],
   ["T", "show the answer as text, or with its formulas"],
-  ["Tab (in the text)", "completions after a word, where the session has them; else four blanks"],
+  ["Tab (in the text)", "completions after a word, where the session has them; else four blanks; before each line that is chosen"],
+  ["Shift-Tab (in the text)", "take four blanks away at the start of the line, or of each that is chosen"],
   ["Control-S", "save now"],
   ["H", "these keys"],
 ];
@@ -52,6 +54,30 @@ function newLine(view) {
   return true;
 }
 
+/**
+ * Puts four blanks before each line that is chosen, or takes them away: one step for the browser's undo. What is chosen stays so.
+ * @type {(view: CellView, isBack: boolean) => void}
+ */
+function indent(view, isBack) {
+  const { value, selectionStart: start, selectionEnd: end, selectionDirection } = view.text;
+  const last = end > start && value[end - 1] === "\n" ? end - 1 : end; // of the line behind that nothing is chosen
+  const from = value.slice(0, start).lastIndexOf("\n") + 1;
+  const to = last + value.slice(last).split("\n", 1)[0].length;
+  const lines = value.slice(from, to).split("\n");
+  const changed = lines.map((line) => (isBack ? line.replace(/^(?:\t| {1,4})/, "") : INDENT + line));
+  const text = changed.join("\n");
+  if (text === value.slice(from, to)) return;
+  view.text.setSelectionRange(from, to);
+  insert(view, text);
+  const [first, rest] = [changed[0].length - lines[0].length, text.length - (to - from)];
+  const lastLine = from + text.length - (changed.at(-1) ?? "").length;
+  const newStart = start === from && end > start ? from : Math.max(from, start + first); // whole lines stay whole
+  view.text.setSelectionRange(newStart, Math.max(newStart, lastLine, end + rest), selectionDirection);
+}
+
+/** @type {(target: EventTarget | null) => boolean} */
+const isText = (target) => target instanceof Element && target.matches("textarea, input:not([type=checkbox])");
+
 export class Keys {
   /**
    * @param {Cells} cells
@@ -67,6 +93,10 @@ export class Keys {
     this.last = { key: "", time: 0 };
     this.commands = this.commandsOf();
     document.addEventListener("keydown", (event) => this.press(event));
+    // The browser has one undo for the whole page: it would take back what was typed last, wherever that is, and put the cursor there.
+    document.addEventListener("beforeinput", (event) => {
+      if (event.inputType.startsWith("history") && event.target !== document.activeElement) event.preventDefault();
+    });
   }
 
   /** @returns {Record<string, (view: CellView) => unknown>} */
@@ -88,6 +118,7 @@ export class Keys {
 
   /** @param {KeyboardEvent} event */
   press(event) {
+    if (this.isUndo(event)) return;
     const isNowhere = event.target === document.body; // where nothing has the focus the selected cell takes keys
     const view = isNowhere ? this.cells.selected : this.cells.of(event.target);
     if (!view || event.isComposing) return;
@@ -99,6 +130,19 @@ export class Keys {
     if (!isTaken) return;
     event.preventDefault();
     event.stopPropagation();
+  }
+
+  /**
+   * Outside of a text Control-Z does what Z does; true where it was for that.
+   * @param {KeyboardEvent} event
+   */
+  isUndo(event) {
+    const key = event.key?.toLowerCase(); // a browser that fills a form in tells none
+    if (!(event.ctrlKey || event.metaKey) || event.altKey || !["z", "y"].includes(key) || isText(event.target)) return false;
+    event.preventDefault();
+    this.last = { key: "", time: 0 };
+    if (key === "z" && !event.shiftKey && !event.repeat && !document.querySelector("dialog[open]")) this.actions.restore(null);
+    return true;
   }
 
   /**
@@ -132,20 +176,18 @@ export class Keys {
       this.cells.select(view);
       return true;
     }
-    if (event.key === "Tab" && !event.shiftKey && !event.ctrlKey && !event.altKey) return this.tab(view);
+    if (event.key === "Tab" && !event.ctrlKey && !event.altKey) return this.tab(view, event.shiftKey);
     if (event.key === "Enter") return newLine(view);
     return event.key.startsWith("Arrow") && this.atEdge(event, view);
   }
 
-  /** @param {CellView} view */
-  tab(view) {
+  /** @type {(view: CellView, isBack: boolean) => boolean} */
+  tab(view, isBack) {
     const { selectionStart: at, selectionEnd, value } = view.text;
-    const isBehindWord = at === selectionEnd && /\S/.test(value[at - 1] ?? "");
-    if (isBehindWord && view.page.sessions.get(view.cell.session)?.tab) {
-      this.completions.open(view);
-    } else {
-      insert(view, "    ");
-    }
+    const isBehindWord = /\S/.test(value[at - 1] ?? "");
+    if (isBack || at !== selectionEnd) indent(view, isBack);
+    else if (isBehindWord && view.page.sessions.get(view.cell.session)?.tab) this.completions.open(view);
+    else insert(view, INDENT);
     return true;
   }
 

@@ -164,5 +164,5 @@ cells.place.addEventListener("change", (event) => {
 document.addEventListener("visibilitychange", () => document.hidden && saveAll());
 
 addEventListener("beforeunload", (event) => {
-  if ([...cells.views.values()].some((view) => view.isDraft)) event.preventDefault();
+  if ([...cells.views.values()].some((view) => view.isUnsaved)) event.preventDefault();
 });

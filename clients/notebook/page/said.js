@@ -46,19 +46,23 @@ export function answerState(cell, { isThere, asked, isStale, hasEnded }) {
   if (cell.state === "lost") return ["lost", `lost: ${cell.reason} (${REASONS[cell.reason ?? ""] ?? "no answer"})`];
   if (cell.state === "empty") return cell.output ? ["stale", "stale: an earlier answer, no longer in the file"] : ["", ""];
   if (isStale) return ["stale", "stale: a cell above it was changed since"];
-  return hasEnded ? ["ended", "its interpreter has ended: variables are gone"] : ["", ""];
+  if (hasEnded) return ["ended", "its interpreter has ended: variables are gone"];
+  return cell.output?.length === 0 ? ["done", "evaluated: it has no output"] : ["", ""];
 }
+
+const KEPT = "draft: kept, not yet the cell's text";
 
 /**
  * The state of a cell's text.
- * @typedef {{isDraft: boolean, isSaving: boolean, isElsewhere: boolean, waits: boolean, isThere: boolean, trouble: string}} Text
+ * @typedef {{isDraft: boolean, isKept: boolean, isSaving: boolean, isElsewhere: boolean, isThere: boolean, trouble: string}} Text
  * @type {(text: Text) => [string, string]}
  */
 export function textState(text) {
   if (!text.isDraft) return ["saved", "saved"];
   if (text.isSaving) return ["saving", "saving"];
+  if (text.isKept && text.isElsewhere) return ["kept", `${KEPT}, which was changed elsewhere`];
+  if (text.isKept) return ["kept", text.trouble ? `${KEPT}: ${text.trouble}` : KEPT];
   if (text.isElsewhere) return ["unsaved", "not saved: it was changed elsewhere"];
   if (!text.isThere) return ["unsaved", "not saved: no connection"];
-  if (text.trouble) return ["unsaved", `not saved: ${text.trouble}`];
-  return text.waits ? ["unsaved", "not saved until it has its answer"] : ["unsaved", "not saved yet"];
+  return ["unsaved", text.trouble ? `not saved: ${text.trouble}` : "not saved yet"];
 }

@@ -4,10 +4,14 @@ export interface Part { text?: string; tex?: string }
 
 export interface Output { parts: Part[]; text: string; isCut: boolean; length: number }
 
+/** A text that is kept until its cell can have it, and the cell's text that it was typed over. */
+export interface Draft { base: string; text: string }
+
 export interface Cell {
   id: number;
   session: string;
   input: string;
+  draft: Draft | null;
   state: "empty" | "queued" | "running" | "answered" | "lost" | "doubtful";
   reason: string | null;
   since: number | null;
@@ -52,6 +56,7 @@ export interface Reply {
   warning?: string;
   dropped?: number;
   at?: number;
+  isDraft?: boolean;
   id?: number;
   count?: number;
   lost?: number;

@@ -125,7 +125,7 @@ class Stops(Lesson):
         self.assertEqual(self.tab.value("document.querySelector('#cell-40 .output').classList.contains('old')"), False)
         self.assertEqual(self.without(), {"s": 1, "t": 1})
         self.assertEqual(self.tab.value("[...document.querySelectorAll('#sessions span')].map((node) => node.textContent)"), ["18 to answer"] * 2)
-        for call in ("set", "remove", "clear", "change"):
+        for call in ("remove", "clear", "change"):
             told = self.page.call(call, id=40, text="other", base="say 40", session="t")
             self.assertEqual(told.get("refused"), "InFlight", call)
 

@@ -6,14 +6,15 @@ import threading
 import time
 from typing import Any, Callable, Dict, Iterable, Iterator, List, Optional, Set
 
-from tmhost import Answered, BadLine, Closed, Died, Done, Ended, Event, Field, Finished, Gone, InUse, ProtocolError, Refused, Stopped, TimedOut, Worksheet
+from tmhost import Answer, Answered, BadLine, Closed, Died, Done, Ended, Event, Field, Finished, Gone, InUse, ProtocolError, Refused, Stopped, TimedOut, Worksheet
 
 from . import prose, startable, telling
+from .drafts import Draft, Drafts, NotKept
 from .feed import Feed
 from .notes import Notes
 from .places import Places
 from .sayings import SAYINGS
-from .telling import Message, Watcher
+from .telling import Message, Watcher, text_of
 
 REPLY_WITHIN = 60.0  # seconds that a command may take
 OPENED_WITHIN = 3.0  # seconds that another program has to let go of the worksheet, as one whose server was just killed
@@ -45,6 +46,7 @@ class Book:
         self.heard = threading.Condition(self.lock)
         self.watchers: Set[Watcher] = set()
         self.removed: List[Dict[str, Any]] = []
+        self.drafts = Drafts(path)
         self.ended: Optional[str] = None
         self.changes = 0  # that cells had by calls, counted by `order`; a message says how many of them it has seen
         self._removed_ever = 0
@@ -60,7 +62,19 @@ class Book:
             self.notes, self.places, self.feed = Notes(), Places(sheet.fields), Feed()
             self.in_doubt: Optional[int] = None  # the cell that a call changes, until it is known that it did or didn't
             self.ended = None
+        self._read_drafts()
         sheet.listen(lambda event: self._heard(sheet, event))
+
+    def _read_drafts(self) -> None:
+        """Takes the drafts that were kept. Where the cell has the text by now there is none any more."""
+        self.drafts.read()
+        fields = {field.id: field for field in self.sheet.fields}
+        for id, draft in self.drafts.of.items():
+            if id not in fields:
+                self.bin_draft(id, len(fields))
+            elif text_of(fields[id]) == draft.text:
+                with contextlib.suppress(NotKept):
+                    self.drafts.keep(id, None)
 
     def reopen(self) -> None:
         """Opens the worksheet again behind a death of the program."""
@@ -127,6 +141,12 @@ class Book:
                 self._look(id)
             telling.touch(self.watchers, set(ids))
 
+    def keep_draft(self, id: int, draft: Optional[Draft]) -> None:
+        """Keeps the draft of a cell, or none any more, with `order`. Raises NotKept."""
+        self.drafts.keep(id, draft)
+        self.changes += 1
+        self.touch(id)
+
     def new(self, session: str, text: str, after: int) -> int:
         id = self.sheet.new(session, text, after=after).id
         self.settle(lambda: id in self.places)
@@ -139,12 +159,22 @@ class Book:
             self.sheet.remove(id)
         self.settle(lambda: id not in self.places)
         with self.lock:
-            self._removed_ever += 1
             note = self.notes.of.get(id)
-            old = field.answer or (note.old if note else None)
-            self.removed.append({"number": self._removed_ever, "field": field, "old": old, "place": place})
-            del self.removed[:-MOST_REMOVED]
+            self._bin(field, field.answer or (note.old if note else None), place)
             self.notes.drop(id)
+        self.bin_draft(id, place)
+
+    def bin_draft(self, id: int, place: int) -> None:
+        """Offers the draft of a cell that isn't there any more among the removed cells. It stays on the disk until it is brought back."""
+        draft = self.drafts.of.get(id)
+        with self.lock:
+            if draft and not any(one["is_draft"] and one["field"].id == id for one in self.removed):
+                self._bin(Field(id, draft.session, draft.text), None, place, is_draft=True)
+
+    def _bin(self, field: Field, old: Optional[Answer], place: int, is_draft: bool = False) -> None:
+        self._removed_ever += 1
+        self.removed.append({"number": self._removed_ever, "field": field, "old": old, "place": place, "is_draft": is_draft})
+        del self.removed[:-MOST_REMOVED]
 
     def unbin(self, number: Optional[int]) -> Optional[Dict[str, Any]]:
         """Takes a removed cell out, the last one for None."""

@@ -1,13 +1,16 @@
 """What a page may ask for: each call returns when what it did is on the disk."""
 
+import contextlib
 from typing import Any, Callable, Dict, Optional, Sequence, TypeVar
 
 from tmhost import BadLine, Closed, Completions, Died, Field, Gone, Lost, ProtocolError, Refused, TimedOut, readable
 
 from . import shown, startable
 from .book import Book
+from .drafts import Draft, NotKept
 from .prose import session_of_prose
 from .sayings import SAYINGS
+from .telling import text_of
 
 Facts = Dict[str, Any]
 T = TypeVar("T")
@@ -42,6 +45,10 @@ def text(asked: Facts, name: str) -> str:
     return member(asked, name, str, str)
 
 
+def text_or_none(asked: Facts, name: str) -> Optional[str]:
+    return None if asked.get(name) is None else text(asked, name)
+
+
 def field_of(book: Book, id: int) -> Field:
     return book.sheet.cell(id).field
 
@@ -57,27 +64,36 @@ def idle_field(book: Book, id: int) -> Field:
 # ---- cells
 
 
-def keep_text(book: Book, asked: Facts, id: int) -> int:
-    """Saves the text of a cell, and tells which change it was. `base` is the text that the page took for the cell's: where it is another
-    by now, nothing is done."""
-    given, field = text(asked, "text"), field_of(book, id)
-    saved = "\n".join(field.lines)
-    if saved == given:
-        book.touch(id)
-    elif saved != text(asked, "base"):
+def keep_text(book: Book, asked: Facts, id: int) -> bool:
+    """Saves the text of a cell, or, while that waits for its answer, keeps it as a draft: True. `base` is the text that the page took for the
+    cell's, and `draft` for its draft's: where one is another by now, nothing is done."""
+    given, field, draft = text(asked, "text"), field_of(book, id), book.drafts.of.get(id)
+    saved = text_of(field)
+    if saved not in (given, text(asked, "base")) or (draft and draft.text not in (given, text_or_none(asked, "draft"))):
         raise NotDone("Elsewhere", "the cell was changed in another page; it was not saved")
-    else:
-        idle_field(book, id)
-        with book.changing(id):
-            book.sheet.set(id, given)
-            with book.lock:
-                book.notes.keep(field)
-    return book.changes
+    if saved == given:
+        book.keep_draft(id, None)
+        return False
+    waits, new = book.waits(field), Draft(field.session, saved, given)
+    if waits or draft not in (None, new):  # what is to be saved now is a draft until it is
+        book.keep_draft(id, new)
+    if waits:
+        return True
+    with book.changing(id):
+        book.sheet.set(id, given)
+        with book.lock:
+            book.notes.keep(field)
+    if draft:
+        with contextlib.suppress(NotKept):  # it says the same as the cell then
+            book.keep_draft(id, None)
+    return False
 
 
 def call_set(book: Book, asked: Facts) -> Facts:
+    """Saves the text of a cell, and tells which change it was, and whether it is kept as a draft till then."""
     with book.order:
-        return {"at": keep_text(book, asked, number(asked, "id"))}
+        is_draft = keep_text(book, asked, number(asked, "id"))
+        return {"at": book.changes, "isDraft": is_draft}
 
 
 def call_new(book: Book, asked: Facts) -> Facts:
@@ -101,7 +117,7 @@ def call_restore(book: Book, asked: Facts) -> Facts:
             raise NotDone("NotThere", "there is no removed cell")
         field, before = found["field"], book.sheet.ids[: found["place"]]
         try:
-            id = book.new(field.session, "\n".join(field.lines), before[-1] if before else 0)
+            id = book.new(field.session, text_of(field), before[-1] if before else 0)
         except Exception:
             with book.lock:
                 book.removed.append(found)
@@ -109,6 +125,9 @@ def call_restore(book: Book, asked: Facts) -> Facts:
         with book.lock:
             book.notes.of[id].old = found["old"]
         book.touch(id)
+        if found["is_draft"]:
+            with contextlib.suppress(NotKept):  # it is offered again then, when the worksheet is opened
+                book.drafts.keep(field.id, None)
     return {"id": id}
 
 
@@ -120,7 +139,7 @@ def call_change(book: Book, asked: Facts) -> Facts:
         if field_of(book, id).session == session:
             return {"id": id}
         field = idle_field(book, id)
-        made = book.new(session, "\n".join(field.lines), id)
+        made = book.new(session, text_of(field), id)
         book.remove(id)
         return {"id": made}
 
@@ -272,6 +291,8 @@ def do(book: Book, asked: Any) -> Facts:
         raise NotDone("NoField", SAYINGS["NoField"]) from None
     except BadLine:
         raise NotDone("BadInput", SAYINGS["BadInput"]) from None
+    except NotKept as error:
+        raise NotDone("NotKept", f"{error}; no draft is kept") from None
     except Lost as lost:
         raise NotDone("Lost", f"the interpreter ended: {lost.reason}") from None
     except TimedOut as late:

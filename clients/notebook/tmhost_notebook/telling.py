@@ -19,6 +19,11 @@ MOST_PLACED = 50  # cells whose new places are told one by one; of more the whol
 NO_MARK = [False, False]
 
 
+def text_of(field: Field) -> str:
+    """The text of a cell, on its lines."""
+    return "\n".join(field.lines)
+
+
 class Watcher:
     """A page that is open, and what it has to be told."""
 
@@ -77,7 +82,7 @@ def news(watcher: Watcher, told: Message) -> Message:
 
 
 def others(book: "Book") -> Message:
-    removed = [{"number": one["number"], "session": one["field"].session, "input": one["field"].input[:80]} for one in book.removed]
+    removed = [{"number": one["number"], "session": one["field"].session, "input": text_of(one["field"])[:80]} for one in book.removed]
     sessions = book.sheet.sessions.values()
     return {
         "server": book.server,
@@ -112,12 +117,13 @@ def mark_of(book: "Book", id: int) -> List[bool]:
 
 
 def cell_facts(book: "Book", field: Field) -> Message:
-    note = book.notes.of.get(field.id) or Note()
+    note, draft = book.notes.of.get(field.id) or Note(), book.drafts.of.get(field.id)
     answer = field.answer or (note.old if field.state in ("empty", "waiting") else None)
     return {
         "id": field.id,
         "session": field.session,
-        "input": "\n".join(field.lines),
+        "input": text_of(field),
+        "draft": {"base": draft.base, "text": draft.text} if draft and draft.text != text_of(field) else None,
         "state": state_of(book, field, note),
         "reason": field.reason,
         "since": None if note.since is None else int(note.since * 1000),
