@@ -32,7 +32,7 @@ export class Actions {
    */
   async ask(call, members) {
     const told = await ask(call, members);
-    this.note(told.refused ? told.says ?? told.refused : "");
+    this.note(told.refused ? told.says ?? told.refused : told.warning ?? "");
     return told;
   }
 
@@ -115,6 +115,7 @@ export class Actions {
     const told = await this.ask("interrupt", { session });
     if (told.outcome === "idle") this.note(`${session} is at nothing`);
     if (told.outcome === "failed") this.note(`${session} could not be interrupted`);
+    if (told.dropped) this.note(`${told.dropped} of ${session} that waited ${told.dropped === 1 ? "was" : "were"} not asked`);
   }
 
   /** @param {string} session */

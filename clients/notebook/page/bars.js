@@ -52,12 +52,13 @@ export function showPath(path) {
   document.title = visible(path);
 }
 
-/** @param {boolean} isThere */
-export function showConnection(isThere) {
+/** @type {(isThere: boolean, hasEnded: boolean) => void} */
+export function showConnection(isThere, hasEnded) {
   const place = byId("connection", HTMLElement);
-  const lost = "no connection: what is typed now is not saved. If the server has ended, start it again, and open its new address";
-  place.textContent = isThere ? "connected: what is shown as saved is on the disk" : lost;
-  place.classList.toggle("bad", !isThere);
+  const lost = "no connection: what is typed now is not saved. If the server has ended, start it again: this page finds it, and keeps its texts till then";
+  const ended = "the program has ended: what is typed now is not saved";
+  place.textContent = !isThere ? lost : hasEnded ? ended : "connected: what is shown as saved is on the disk";
+  place.classList.toggle("bad", !isThere || hasEnded);
 }
 
 /**

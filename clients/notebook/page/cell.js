@@ -128,6 +128,15 @@ export class CellView {
   // ---- what the server tells
 
   /**
+   * All is told anew. Another server counts changes from its start on.
+   * @param {boolean} isOther
+   */
+  begin(isOther) {
+    this.mark = [false, false];
+    if (isOther) this.changedAt = this.toldAt = 0;
+  }
+
+  /**
    * Takes what the cell is now. What was told before this page changed it last is older than what the page knows.
    * @type {(cell: Cell, at: number) => void}
    */

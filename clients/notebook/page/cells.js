@@ -15,6 +15,7 @@ export class Cells {
     this.views = new Map();
     /** @type {number[]} */
     this.order = [];
+    this.server = "";
     this.toolbar = toolbarOf();
     /** @type {CellView | undefined} */
     this.selected = undefined;
@@ -26,18 +27,34 @@ export class Cells {
 
   /** @param {Message} message */
   hear(message) {
+    const isOther = message.server !== undefined && message.server !== this.server;
+    this.server = message.server ?? this.server;
+    if (message.isWhole) for (const view of this.views.values()) view.begin(isOther);
     for (const cell of message.cells ?? []) {
       const view = this.views.get(cell.id);
       if (view) view.update(cell, message.at);
       else this.views.set(cell.id, new CellView(this.page, cell, message.at));
     }
-    if (message.order) this.arrange(message.order);
+    const order = message.order ?? this.orderBehind(message);
+    if (order) this.arrange(order);
     for (const [id, mark] of Object.entries(message.marks ?? {})) this.views.get(Number(id))?.takeMark(mark);
     if (this.selected) this.toolbar.show(this.selected);
     for (const cell of message.cells ?? []) {
       this.awaited.get(cell.id)?.forEach((done) => done());
       this.awaited.delete(cell.id);
     }
+  }
+
+  /**
+   * The order of the cells behind some changes of it, if there are any.
+   * @type {(message: Message) => number[] | undefined}
+   */
+  orderBehind({ placed = [], gone = [] }) {
+    if (placed.length + gone.length === 0) return undefined;
+    const moved = new Set([...gone, ...placed.map(([id]) => id)]);
+    const order = this.order.filter((id) => !moved.has(id));
+    for (const [id, before] of placed) order.splice(before ? order.indexOf(before) + 1 : 0, 0, id);
+    return order;
   }
 
   /** @param {number[]} order */

@@ -8,27 +8,34 @@
  * @property {(isThere: boolean) => void} connect
  */
 
+const AGAIN_BEHIND = 1_000; // milliseconds; a browser gives up by itself where a server refuses once
+
 /**
  * Listens, as long as the page is seen: a browser has six connections to a server, and each page that listens has one. A page that is seen
- * again is told all anew.
+ * again is told all anew, and so is one whose server was started again: it is looked for until it answers.
  * @type {(hearer: Hearer) => void}
  */
 export function listen(hearer) {
   /** @type {EventSource | undefined} */
   let source;
+  /** @type {ReturnType<typeof setTimeout> | undefined} */
+  let again;
   const open = () => {
+    clearTimeout(again);
     source?.close();
     source = undefined;
     if (document.hidden) return;
     let isFirst = true;
     source = new EventSource("events");
-    source.addEventListener("open", () => {
-      isFirst = true;
-      hearer.connect(true);
+    source.addEventListener("error", () => {
+      source?.close();
+      hearer.connect(false);
+      clearTimeout(again);
+      again = setTimeout(open, AGAIN_BEHIND);
     });
-    source.addEventListener("error", () => hearer.connect(false));
     source.addEventListener("message", (event) => {
       hearer.hear(JSON.parse(event.data), isFirst);
+      if (isFirst) hearer.connect(true); // what the file has is known before what was typed meanwhile is saved
       isFirst = false;
     });
   };

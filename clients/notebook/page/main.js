@@ -13,6 +13,7 @@ import { Keys } from "./keys.js";
 
 /** @type {import("./cell").Page} */
 const page = { isThere: false, sessions: new Map(), note: bars.note };
+let hasEnded = false; // the program, while the server is there
 const cells = new Cells(page);
 const actions = new Actions(cells, bars.note);
 const completions = new Completions();
@@ -31,10 +32,15 @@ document.body.insertBefore(emptyLine(), cells.place.nextSibling);
 function hear(message, isFirst) {
   if (message.sessions) page.sessions = new Map(message.sessions.map((session) => [session.name, session]));
   if (message.path !== undefined) bars.showPath(message.path);
-  if (message.ended !== undefined) bars.showTrouble(message.ended);
+  if (message.ended !== undefined) {
+    hasEnded = message.ended !== null;
+    bars.showTrouble(message.ended);
+    if (page.isThere) bars.showConnection(true, hasEnded);
+  }
   if (message.removed) bars.showRemoved(message.removed);
   if (message.sessions) bars.showSessions(page.sessions, page.isThere);
   cells.hear(message);
+  if (message.says) bars.note(message.says.join("; "));
   if (message.ended === null) saveAll(); // what could not be saved while the program was gone
   if (isFirst) document.documentElement.dataset.ready = "true";
 }
@@ -42,7 +48,7 @@ function hear(message, isFirst) {
 /** @param {boolean} isThere */
 function connect(isThere) {
   page.isThere = isThere;
-  bars.showConnection(isThere);
+  bars.showConnection(isThere, hasEnded);
   bars.showSessions(page.sessions, isThere);
   for (const view of cells.views.values()) view.say();
   if (isThere) saveAll();

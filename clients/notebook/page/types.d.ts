@@ -33,6 +33,11 @@ export interface Removed { number: number; session: string; input: string }
 
 export interface Message {
   at: number;
+  isWhole?: boolean; // all is told: what isn't in it isn't there
+  server?: string; // another one begins to count changes anew
+  placed?: [number, number][]; // cells that were put behind others, 0 for the first place
+  gone?: number[];
+  says?: string[];
   cells?: Cell[];
   marks?: Record<string, [boolean, boolean]>;
   path?: string;
@@ -48,6 +53,8 @@ export interface Suggestion { name: string; words: string; tab: boolean }
 export interface Reply {
   refused?: string;
   says?: string;
+  warning?: string;
+  dropped?: number;
   at?: number;
   isDraft?: boolean;
   id?: number;

@@ -1,5 +1,6 @@
 """What the tests share: the program, a notebook's server, requests to it, and what stands in a worksheet's file."""
 
+import atexit
 import http.client
 import json
 import os
@@ -37,6 +38,8 @@ def find_program() -> Tuple[Optional[str], str]:
 
 
 PROGRAM, WHY_NOT = find_program()
+PLACE = tempfile.mkdtemp(prefix="notebook-addresses-")
+atexit.register(shutil.rmtree, PLACE, True)
 needs_program = unittest.skipIf(PROGRAM is None, WHY_NOT)
 needs_chromium = unittest.skipIf(chromium.find_chromium() is None, "there is no Chromium: install the package chromium, or name it by CHROMIUM")
 
@@ -48,7 +51,7 @@ class Server:
         self.sheet = sheet
         self.process = subprocess.Popen(
             [os.path.join(NOTEBOOK, "tmhost-notebook"), "--no-browser", *words, sheet],
-            stdin=subprocess.DEVNULL, stdout=subprocess.PIPE, stderr=subprocess.PIPE, text=True, env={**os.environ, "TMHOST": program or PROGRAM or ""},
+            stdin=subprocess.DEVNULL, stdout=subprocess.PIPE, stderr=subprocess.PIPE, text=True, env=environment(program),
         )
         assert self.process.stdout and self.process.stderr
         self.address = self.process.stdout.readline().strip()
@@ -77,6 +80,11 @@ class Server:
         for stream in (self.process.stdout, self.process.stderr):
             if stream:
                 stream.close()
+
+
+def environment(program: Optional[str] = None) -> Dict[str, str]:
+    """Of a server: the program, and a place for addresses that is the tests' own."""
+    return {**os.environ, "TMHOST": program or PROGRAM or "", "XDG_RUNTIME_DIR": PLACE}
 
 
 def children_of(parent: int) -> List[int]:
@@ -239,7 +247,8 @@ AS_SHOWN = """
   const find = (selector) => cell.querySelector(selector);
   const isProse = cell.classList.contains("prose");
   const lost = /^lost: (\\w+)/.exec(find(".answer-state").textContent);
-  const isAnswered = cell.dataset.state === "answered";
+  const isAsked = cell.dataset.state !== "queued" || find(".output").classList.contains("old"); // who waits to be asked has its old answer
+  const isAnswered = cell.dataset.state === "answered" || (!isAsked && find(".output pre").hasChildNodes());
   const said = (node) => node.dataset?.tex === undefined ? node.textContent : `{latex:${node.dataset.tex}}`;
   const text = isAnswered ? [...find(".output pre").childNodes].map(said).join("") : lost ? "? " + lost[1] : "?";
   const name = find(".session").textContent;

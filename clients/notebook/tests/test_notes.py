@@ -1,8 +1,10 @@
 """What is known beside the worksheet: which answers are stale, which cell is evaluated; and how answers are cut for a page."""
 
+import os
+import random
 import sys
 import unittest
-from typing import List, Optional, Set, Union
+from typing import Dict, List, Optional, Set, Tuple, Union
 
 import harness
 
@@ -10,8 +12,9 @@ sys.path[:0] = [harness.NOTEBOOK, harness.REPOSITORY + "/clients/python"]
 
 from tmhost import Answer, Answered, Block, Completed, Done, Ended, Field, LostItem  # noqa: E402
 
-from tmhost_notebook import prose, shown  # noqa: E402
-from tmhost_notebook.notes import Notes, chains_of, next_cells, stale_cells  # noqa: E402
+from tmhost_notebook import places, prose, shown  # noqa: E402
+from tmhost_notebook.notes import Notes  # noqa: E402
+from tmhost_notebook.places import Places  # noqa: E402
 
 ANSWER = Answer("> ", Block("verbatim", "format", ("x",)), "x")
 
@@ -23,58 +26,171 @@ def cell(id: int, input: str, session: str = "a", state: str = "answered") -> Fi
 class Stale(unittest.TestCase):
     def setUp(self) -> None:
         self.fields = [cell(1, "x"), cell(2, "y"), cell(3, "z", "b"), cell(4, "w")]
-        self.notes = Notes()
-        for field in self.fields:
-            self.evaluated(field.id, self.fields)
+        self.places = Places(self.fields)
 
-    def evaluated(self, id: int, fields: List[Field]) -> None:
-        session = next(field.session for field in fields if field.id == id)
-        self.notes.ask(id, chains_of(fields)[id])
-        self.notes.take(Done("eval", id, None), session)
-        self.notes.take(Answered(session, 1, id, ANSWER), None)
+    def stale(self) -> Set[int]:
+        return {id for id in self.places.ids if self.places.is_stale(id)}
 
-    def stale(self, *fields: Field, prose: Optional[Set[str]] = None) -> Set[int]:
-        return stale_cells(list(fields), self.notes.of, prose or set())
+    def edited(self, id: int, input: str, session: str = "a") -> Set[int]:
+        """A cell gets another text, which takes its answer away."""
+        return self.places.know(cell(id, input, session, "empty"), None)
+
+    def evaluated(self, id: int, input: str, session: str = "a") -> Set[int]:
+        chain = self.places.chain(id)
+        return self.places.know(cell(id, input, session, "waiting"), None) | self.places.know(cell(id, input, session), chain)
 
     def test_nothing_changed(self) -> None:
-        self.assertEqual(self.stale(*self.fields), set())
+        self.assertEqual(self.stale(), set())
 
     def test_a_change_above_in_its_session_alone(self) -> None:
-        one, two, three, four = self.fields
-        self.assertEqual(self.stale(cell(1, "x", state="empty"), two, three, four), set())
-        self.assertEqual(self.stale(cell(1, "changed", state="empty"), two, three, four), {2, 4})
-        self.assertEqual(self.stale(one, cell(2, "changed"), three, four), {2, 4})
-        self.assertEqual(self.stale(one, two, cell(3, "changed", "b", "empty"), four), set())
+        self.assertEqual((self.edited(1, "x"), self.stale()), ({1}, set()))
+        self.assertEqual((self.edited(1, "changed"), self.stale()), ({2, 4}, {2, 4}))
+        self.assertEqual((self.edited(3, "changed", "b"), self.stale()), ({3}, {2, 4}))
 
     def test_moved_made_and_removed(self) -> None:
-        one, two, three, four = self.fields
-        self.assertEqual(self.stale(two, one, three, four), {1, 2, 4})
-        self.assertEqual(self.stale(one, three, two, four), set())
-        self.assertEqual(self.stale(one, three, four), {4})
-        self.assertEqual(self.stale(one, two, three, cell(5, "new", state="empty"), four), {4})
-        self.assertEqual(self.stale(*self.fields, cell(5, "new", state="empty")), set())
+        self.places.move(2, 0)
+        self.assertEqual((self.places.ids, self.stale()), ([2, 1, 3, 4], {1, 2, 4}))
+        self.places.move(2, 3)
+        self.assertEqual((self.places.ids, self.stale()), ([1, 3, 2, 4], set()))
+        self.places.put(cell(5, "new", state="empty"), 4)
+        self.assertEqual(self.stale(), set())
+        self.places.put(cell(6, "new", state="empty"), 1)
+        self.assertEqual((self.places.ids, self.stale()), ([1, 6, 3, 2, 4, 5], {2, 4}))
+        self.places.drop(6)
+        self.assertEqual(self.stale(), set())
+        self.places.drop(2)
+        self.assertEqual(self.stale(), {4})
 
     def test_a_change_that_is_taken_back_or_evaluated(self) -> None:
-        changed = [cell(1, "changed"), *self.fields[1:]]
-        self.evaluated(1, changed)
-        self.assertEqual(self.stale(*changed), {2, 4})
-        self.evaluated(2, changed)
-        self.evaluated(4, changed)
-        self.assertEqual(self.stale(*changed), set())
-        self.assertEqual(self.stale(cell(1, "x", state="empty"), *self.fields[1:]), {2, 4})
+        self.edited(1, "changed")
+        self.evaluated(1, "changed")
+        self.assertEqual(self.stale(), {2, 4})
+        self.evaluated(2, "y")
+        self.evaluated(4, "w")
+        self.assertEqual(self.stale(), set())
+        self.edited(1, "x")
+        self.assertEqual(self.stale(), {2, 4})
+        self.edited(1, "changed")
+        self.assertEqual(self.stale(), set())
 
     def test_answers_that_were_there_at_the_opening(self) -> None:
-        self.notes = Notes()
         one, two, three, four = self.fields
-        self.assertEqual(self.stale(*self.fields), set())
-        self.assertEqual(self.stale(one, cell(2, "y", state="lost"), three, four), {4})
-        self.assertEqual(self.stale(cell(1, "  ", state="empty"), two, three, four), set())
-        self.assertEqual(self.stale(cell(1, "x", "prose", "empty"), two, three, four, prose={"prose"}), set())
+        for fields, stale in (
+            ([one, cell(2, "y", state="lost"), three, four], {4}),
+            ([cell(1, "  ", state="empty"), two, three, four], set()),
+            ([cell(1, "x", "prose", "empty"), two, three, four], set()),
+        ):
+            self.places = Places(fields)
+            self.assertEqual(self.stale(), stale)
 
-    def test_which_cells_are_evaluated(self) -> None:
-        fields = [cell(1, "x"), cell(2, "# head", "prose", "empty"), cell(3, "y", state="waiting"), cell(4, "z")]
-        self.assertEqual(next_cells(fields, None, {"prose"}), [1, 4])
-        self.assertEqual(next_cells(fields, 2, {"prose"}), [4])
+    def test_it_stays_so_when_the_cell_above_is_evaluated(self) -> None:
+        self.places = Places([self.fields[0], cell(2, "y", state="lost"), *self.fields[2:]])
+        self.evaluated(2, "y")
+        self.assertEqual(self.stale(), {4})
+        self.evaluated(4, "w")
+        self.assertEqual(self.stale(), set())
+
+
+class Model:
+    """The same by comparing whole rows of inputs."""
+
+    def __init__(self, fields: List[Field]) -> None:
+        self.fields = fields
+        self.asked: Dict[int, Optional[Tuple[str, ...]]] = {}
+        unanswered: Set[str] = set()
+        for field in fields:
+            if field.state != "answered" and field.input.strip():
+                unanswered.add(field.session)
+            self.asked[field.id] = None if field.session in unanswered else self.row(field.id)
+
+    def row(self, id: int) -> Tuple[str, ...]:
+        place = self.ids.index(id)
+        return tuple(field.input for field in self.fields[: place + 1] if field.session == self.fields[place].session)
+
+    @property
+    def ids(self) -> List[int]:
+        return [field.id for field in self.fields]
+
+    @property
+    def stale(self) -> Set[int]:
+        return {field.id for field in self.fields if field.state == "answered" and self.asked[field.id] != self.row(field.id)}
+
+
+class ManyPlaces(unittest.TestCase):
+    """Random changes of worksheets of some blocks: order and stale answers are those of the model, and who became stale or fresh is told."""
+
+    def setUp(self) -> None:
+        self.seed = int(os.environ.get("TMHOST_SEED", str(random.randrange(10**6))))
+        self.random = random.Random(self.seed)
+        kept, places.LONGEST = places.LONGEST, 8
+        self.addCleanup(setattr, places, "LONGEST", kept)
+
+    def field(self, id: int, is_answered: bool) -> Field:
+        return cell(id, self.random.choice(["x", "y", "z", ""]), self.random.choice("ab"), "answered" if is_answered else "empty")
+
+    def begin(self) -> None:
+        self.count = self.random.randrange(40)
+        self.model = Model([self.field(id, self.random.random() < 0.7) for id in range(1, self.count + 1)])
+        self.places = Places(self.model.fields)
+
+    def test_they_agree_with_the_model(self) -> None:
+        for _ in range(60):
+            self.begin()
+            known = self.model.stale
+            for _ in range(50):
+                id, touched = self.change()
+                now = self.model.stale
+                said = f"seed {self.seed}"
+                self.assertEqual((self.places.ids, {one for one in self.places.ids if self.places.is_stale(one)}), (self.model.ids, now), said)
+                self.assertLessEqual((now ^ known) & set(self.model.ids) - {id}, touched, said)
+                self.assertEqual([self.places.before(one) for one in self.model.ids], [0, *self.model.ids][: len(self.model.ids)], said)
+                known = now
+
+    def change(self) -> Tuple[int, Set[int]]:
+        """A random change of one cell. Gives its number, and what was told of it."""
+        does = self.random.choice([self.put, self.edit, self.evaluate, self.evaluate, self.move, self.drop])
+        return does() if self.model.fields else self.put()
+
+    def put(self) -> Tuple[int, Set[int]]:
+        self.count += 1
+        field, after = self.field(self.count, False), self.some_place()
+        self.model.fields.insert(after, field)
+        self.model.asked[field.id] = None
+        return field.id, self.places.put(field, self.in_front(after))
+
+    def some_place(self) -> int:
+        return self.random.randrange(len(self.model.fields) + 1)
+
+    def in_front(self, place: int) -> int:
+        return self.model.ids[place - 1] if place else 0
+
+    def some(self) -> Tuple[int, Field]:
+        place = self.random.randrange(len(self.model.fields))
+        return place, self.model.fields[place]
+
+    def edit(self) -> Tuple[int, Set[int]]:
+        place, field = self.some()
+        self.model.fields[place] = cell(field.id, self.random.choice(["x", "y", "z"]), field.session, "empty")
+        return field.id, self.places.know(self.model.fields[place], None)
+
+    def evaluate(self) -> Tuple[int, Set[int]]:
+        place, field = self.some()
+        self.model.fields[place] = cell(field.id, field.input, field.session)
+        self.model.asked[field.id] = self.model.row(field.id)
+        return field.id, self.places.know(self.model.fields[place], self.places.chain(field.id))
+
+    def move(self) -> Tuple[int, Set[int]]:
+        place, field = self.some()
+        del self.model.fields[place]
+        to = self.some_place()
+        after = self.in_front(to)
+        self.model.fields.insert(to, field)
+        return field.id, self.places.move(field.id, after)
+
+    def drop(self) -> Tuple[int, Set[int]]:
+        place, field = self.some()
+        del self.model.fields[place]
+        return field.id, self.places.drop(field.id)
 
 
 class Running(unittest.TestCase):

@@ -171,7 +171,7 @@ class Requests(Case):
 class Starting(Case):
     def run_server(self, *words: str) -> "subprocess.CompletedProcess[str]":
         command = [os.path.join(harness.NOTEBOOK, "tmhost-notebook"), "--no-browser", *words]
-        return subprocess.run(command, capture_output=True, text=True, timeout=120, env={**os.environ, "TMHOST": harness.PROGRAM or ""})
+        return subprocess.run(command, capture_output=True, text=True, timeout=120, env=harness.environment())
 
     def test_a_second_server_says_in_use(self) -> None:
         self.serve()
@@ -209,7 +209,7 @@ class Starting(Case):
             file.write(f"#!/bin/sh\nfile=${{1#file://}}\n{tell} >{seen}.new\nmv {seen}.new {seen}\n")
         os.chmod(opener, os.stat(opener).st_mode | stat.S_IXUSR)
         command = [os.path.join(harness.NOTEBOOK, "tmhost-notebook"), self.sheet]
-        process = subprocess.Popen(command, stdout=subprocess.PIPE, text=True, env={**os.environ, "TMHOST": harness.PROGRAM or "", "BROWSER": opener})
+        process = subprocess.Popen(command, stdout=subprocess.PIPE, text=True, env={**harness.environment(), "BROWSER": opener})
         self.addCleanup(process.wait)
         self.addCleanup(process.terminate)
         assert process.stdout

@@ -166,7 +166,7 @@ class Session(Case):
         self.do("interrupt", lambda: self.interrupt(lambda: self.at(2, "i", "i")), OUTPUT % 2, "interrupted", OUTPUT % 3, "8")
         self.do("a loop again", lambda: self.keys("Control+Enter"), STATE % 2, "running")
         self.do("stop it", lambda: self.tab.click("[data-do=stop]"), SAYS % 2, "lost: Stopped (its interpreter was stopped)",
-                SAYS % 3, "its interpreter has ended: variables are gone")
+                SAYS % 3, "stale: a cell above it was changed since")
         self.do("a line without an end", lambda: self.replace("slowly 60", "Control+Enter"), STATE % 2, "running")
         self.do("interrupt one that ends by it",
                 lambda: self.interrupt(lambda: self.tab.click("[data-session=a] [data-do=interruptSession]")), SAYS % 2,
@@ -269,17 +269,17 @@ class Session(Case):
         self.tab.until(SAVED % 1, begins("not saved"))
         self.assertEqual(self.show(), expected)
         self.server = self.serve()
+        self.do("start it again, which the page finds", lambda: None, SAVED % 1, "saved", TEXT % 1, "say after")
         before, self.tab = self.tab, opened(self.browser, self.server)
         before.close()
-        self.do("open it again", lambda: None, TEXT % 1, "say before", ORDER + ".length", lambda count: count >= 6)
-        self.assertEqual(self.tab.value(AS_SHOWN), expected)
+        self.do("open it again", lambda: None, TEXT % 1, "say after", ORDER + ".length", lambda count: count >= 6)
 
     def go_on(self) -> None:
         self.do("answers of an earlier process", lambda: None, SAYS % 3, is_there)
-        self.do("evaluate again", lambda: self.at(1, "Control+Enter"), OUTPUT % 1, "before")
+        self.do("evaluate again", lambda: self.at(1, "Control+Enter"), OUTPUT % 1, "after")
         self.do("a session that can't start", lambda: self.make_session("c", "/nothing/there"), "document.querySelectorAll('#sessions li').length", 3)
-        self.do("a cell of it", self.cell_of_c,
-                "document.querySelector('.cell:last-child .answer-state').textContent", "lost: StartRefused (its interpreter can't be started)")
+        self.do("a cell of it", self.cell_of_c, NOTE, begins("session c can't be started: there is no program /nothing/there. Its words are: /nothing/there"),
+                "document.querySelector('.cell:last-child').dataset.state", "empty")
         self.do("remove it", lambda: self.keys("d", "d"), NOTE, "")
 
     def cell_of_c(self) -> None:

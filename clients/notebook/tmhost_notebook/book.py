@@ -1,22 +1,24 @@
-"""The worksheet as pages see it: the client's mirror with the notes, and messages to pages of what has changed."""
+"""The worksheet as pages see it: the client's mirror with the notes, the cells that wait to be asked, and who has to be told of what."""
 
 import contextlib
-import dataclasses
-import os
+import secrets
 import threading
 import time
-from typing import Any, Dict, Iterator, List, Optional, Set, Tuple
+from typing import Any, Callable, Dict, Iterable, Iterator, List, Optional, Set
 
-from tmhost import Answer, BadLine, Done, Event, Field, Finished, Gone, InUse, Refused, Session, Worksheet, readable
+from tmhost import Answer, Answered, BadLine, Closed, Died, Done, Ended, Event, Field, Finished, Gone, InUse, ProtocolError, Refused, Stopped, TimedOut, Worksheet
 
-from . import prose, shown
+from . import prose, startable, telling
 from .drafts import Draft, Drafts, NotKept
-from .notes import Note, Notes, stale_cells
-
-Message = Dict[str, Any]
+from .feed import Feed
+from .notes import Notes
+from .places import Places
+from .sayings import SAYINGS
+from .telling import Message, Watcher, text_of
 
 REPLY_WITHIN = 60.0  # seconds that a command may take
 OPENED_WITHIN = 3.0  # seconds that another program has to let go of the worksheet, as one whose server was just killed
+HEARD_WITHIN = 10.0  # seconds until what was done is heard of
 MOST_REMOVED = 200  # removed cells that can be brought back
 SILENCE = 15.0  # seconds behind which a page is told that the server is there
 
@@ -33,53 +35,34 @@ def opened(path: str, program: Optional[str], create: bool) -> Worksheet:
             time.sleep(0.1)
 
 
-def session_of(sheet: Worksheet, id: Optional[int]) -> Optional[str]:
-    """The session of a cell; None where it is gone, or there is none."""
-    try:
-        return None if id is None else sheet.cell(id).session
-    except Gone:
-        return None
-
-
-def text_of(field: Field) -> str:
-    """The text of a cell, on its lines."""
-    return "\n".join(field.lines)
-
-
-class Watcher:
-    """A page that is open, and what it was told last."""
-
-    def __init__(self) -> None:
-        self.wake = threading.Event()
-        self.wake.set()
-        self.is_over = False
-        self.cells: Dict[int, Tuple[Field, int]] = {}
-        self.marks: Dict[int, List[Any]] = {}
-        self.others: Message = {}
-
-
 class Book:
-    """`lock` guards notes, watchers and removed cells, and is held for moments alone. `order` is held by the calls that depend on what a
-    cell has, one after another."""
+    """`lock` guards notes, places, feed, watchers and removed cells, and is held for moments alone. `order` is held by the calls that depend on
+    what a cell has, and by the feeder, one after another."""
 
     def __init__(self, path: str, program: Optional[str]) -> None:
         self.path, self.program = path, program
+        self.server = secrets.token_urlsafe(8)  # a page whose server was started again sees that by it
         self.lock, self.order = threading.Lock(), threading.Lock()
+        self.heard = threading.Condition(self.lock)
         self.watchers: Set[Watcher] = set()
         self.removed: List[Dict[str, Any]] = []
         self.drafts = Drafts(path)
         self.ended: Optional[str] = None
         self.changes = 0  # that cells had by calls, counted by `order`; a message says how many of them it has seen
         self._removed_ever = 0
+        self._is_closed = False
+        self._can_feed = threading.Event()
         self._open(create=True)
+        threading.Thread(target=self._feed_on, name="feeder", daemon=True).start()
 
     def _open(self, create: bool) -> None:
-        self.sheet = opened(self.path, self.program, create)
-        self.notes = Notes()
-        self.in_doubt: Optional[int] = None  # the cell that a call changes, until it is known that it did or didn't
-        self.ended = None
+        sheet = opened(self.path, self.program, create)
+        with self.lock:
+            self.sheet = sheet
+            self.notes, self.places, self.feed = Notes(), Places(sheet.fields), Feed()
+            self.in_doubt: Optional[int] = None  # the cell that a call changes, until it is known that it did or didn't
+            self.ended = None
         self._read_drafts()
-        sheet = self.sheet
         sheet.listen(lambda event: self._heard(sheet, event))
 
     def _read_drafts(self) -> None:
@@ -99,21 +82,38 @@ class Book:
             if self.ended is None:
                 return
             self._open(create=False)
-            self._tell_all()  # the notes begin anew, so their versions say nothing any more
+            self._tell_all()
 
     def _tell_all(self) -> None:
         """Has each page told all cells again."""
         with self.lock:
             for watcher in self.watchers:
-                watcher.cells.clear()
-        self.wake()
+                watcher.begin()
 
     def close(self) -> None:
+        self._is_closed = True
+        self._can_feed.set()
         self.sheet.close()
         with self.lock:
             for watcher in self.watchers:
                 watcher.is_over = True
         self.wake()
+
+    # ---- cells
+
+    def field(self, id: int) -> Optional[Field]:
+        try:
+            return self.sheet.cell(id).field
+        except Gone:
+            return None
+
+    def waits(self, field: Field) -> bool:
+        """Whether a cell waits for an answer, or to be asked."""
+        return field.state == "waiting" or field.id in self.feed
+
+    @property
+    def prose(self) -> Set[str]:
+        return {name for name, session in self.sheet.sessions.items() if prose.is_prose(session)}
 
     @contextlib.contextmanager
     def changing(self, id: int) -> Iterator[None]:
@@ -127,41 +127,42 @@ class Book:
             raise
         self.in_doubt = None
         self.changes += 1
-        with self.lock:
-            self.notes.tell(id)
+        self.touch(id)
 
-    # ---- what happens
+    def settle(self, is_so: Callable[[], bool]) -> None:
+        """Waits until what a call did to the order of the cells is heard of."""
+        with self.heard:
+            self.heard.wait_for(lambda: self.ended is not None or is_so(), HEARD_WITHIN)
 
-    def _heard(self, sheet: Worksheet, event: Event) -> None:
-        if sheet is not self.sheet:
-            return
-        if isinstance(event, Finished):
-            self.ended = "the worksheet was closed" if event.error is None else str(event.error)
-            self._tell_all()
-            return
-        session = session_of(sheet, event.id) if isinstance(event, Done) else None
+    def touch(self, *ids: int) -> None:
+        """Has pages told these cells again."""
         with self.lock:
-            self.notes.take(event, session)
-        self.wake()
-
-    def wake(self) -> None:
-        with self.lock:
-            for watcher in self.watchers:
-                watcher.wake.set()
+            for id in ids:
+                self._look(id)
+            telling.touch(self.watchers, set(ids))
 
     def keep_draft(self, id: int, draft: Optional[Draft]) -> None:
         """Keeps the draft of a cell, or none any more, with `order`. Raises NotKept."""
         self.drafts.keep(id, draft)
         self.changes += 1
-        with self.lock:
-            self.notes.tell(id)
+        self.touch(id)
 
-    def bin(self, field: Field, place: int) -> None:
-        """Keeps a cell that was removed."""
+    def new(self, session: str, text: str, after: int) -> int:
+        id = self.sheet.new(session, text, after=after).id
+        self.settle(lambda: id in self.places)
+        return id
+
+    def remove(self, id: int) -> None:
+        """Removes a cell, and keeps it to be brought back."""
+        field, place = self.sheet.cell(id).field, self.sheet.ids.index(id)
+        with self.changing(id):
+            self.sheet.remove(id)
+        self.settle(lambda: id not in self.places)
         with self.lock:
-            note = self.notes.of.get(field.id)
+            note = self.notes.of.get(id)
             self._bin(field, field.answer or (note.old if note else None), place)
-            self.notes.drop(field.id)
+            self.notes.drop(id)
+        self.bin_draft(id, place)
 
     def bin_draft(self, id: int, place: int) -> None:
         """Offers the draft of a cell that isn't there any more among the removed cells. It stays on the disk until it is brought back."""
@@ -183,11 +184,174 @@ class Book:
                 self.removed.remove(found)
             return found
 
-    @property
-    def prose(self) -> Set[str]:
-        return {name for name, session in self.sheet.sessions.items() if prose.is_prose(session)}
+    # ---- evaluations
 
-    # ---- messages
+    def evaluate(self, id: int) -> None:
+        """Has a cell evaluated, with `order`: now, or behind those of its session that wait. Not one of prose, nor one that waits already."""
+        field = self.sheet.cell(id).field
+        with self.lock:
+            is_asked = field.session in self.prose or self.waits(field)
+            is_free = not is_asked and self.feed.is_free(field.session) and not self.feed.count(field.session)
+            if not is_asked and not is_free:
+                self.feed.add(id, field.session)
+                self.changes += 1
+        if is_free:
+            self._ask(field)
+        else:
+            self.touch(id)
+
+    def evaluate_each(self, fields: Iterable[Field]) -> int:
+        """Has these cells evaluated, one of each session at a time."""
+        with self.lock:
+            fed = {field.id: field.session for field in fields if not self.waits(field)}
+            for id, session in fed.items():
+                self.feed.add(id, session)
+            telling.touch(self.watchers, set(fed))
+        self._can_feed.set()
+        return len(fed)
+
+    def drop_fed(self, session: str, says: str = "") -> int:
+        """What waits to be asked of a session isn't asked any more, and keeps its answers."""
+        with self.lock:
+            dropped = self.feed.drop(session)
+            telling.touch(self.watchers, set(dropped))
+            for watcher in self.watchers if says and dropped else ():
+                watcher.says.append(f"{says}: {cells(len(dropped))} of session {session} {'was' if len(dropped) == 1 else 'were'} not asked")
+        self.wake()
+        return len(dropped)
+
+    def stop(self, session: str) -> int:
+        """Stops an interpreter, with `order`. Gives how many lines it had."""
+        self.drop_fed(session)
+        lost = len(self.sheet.stop(session))
+        with self.lock:
+            self.feed.forget(session)
+        return lost
+
+    def why_not(self, session: str) -> Optional[str]:
+        """Why nothing can be asked of a session: it doesn't run, and can't be started."""
+        found = self.sheet.sessions.get(session)
+        return startable.why_not(found) if found and found.life is None else None
+
+    def _ask(self, field: Field) -> None:
+        with self.lock:
+            self.notes.keep(field)
+            self.notes.ask(field.id, self.places.chain(field.id))
+        with self.changing(field.id):
+            evaluation = self.sheet.eval(field.id)
+        with self.lock:
+            self.feed.asked(field.session, evaluation)
+        evaluation.add_done_callback(lambda _: self._can_feed.set())
+
+    def _feed_on(self) -> None:
+        """Asks the next cell of each session when the one before has its answer."""
+        while not self._is_closed:
+            self._can_feed.wait()
+            self._can_feed.clear()
+            with self.lock:
+                lost = self.feed.lost()
+            for session in lost:
+                self.drop_fed(session, "its interpreter ended")
+            while self._feed_one():
+                pass
+
+    def _feed_one(self) -> bool:
+        """Asks one cell, if one can be asked."""
+        with self.order:
+            with self.lock:
+                id = self.feed.next() if self.ended is None else None
+                field = None if id is None else self.field(id)
+                if id is not None:
+                    self.feed.take(id)
+            if field is None:
+                return id is not None
+            try:
+                why = self.why_not(field.session)
+                if why is None:
+                    self._ask(field)
+            except Refused as refused:
+                why = SAYINGS.get(refused.name, str(refused))
+            except (BadLine, Gone, TimedOut, Died, Closed, ProtocolError, OSError) as error:
+                why = str(error)
+        if why is not None:
+            self.touch(field.id)
+            self.drop_fed(field.session, why)
+        return True
+
+    # ---- what happens
+
+    def _heard(self, sheet: Worksheet, event: Event) -> None:
+        if sheet is not self.sheet:
+            return
+        with self.heard:
+            if isinstance(event, Finished):
+                self.ended = "the worksheet was closed" if event.error is None else str(event.error)
+                self.feed.drop_all()
+                for watcher in self.watchers:
+                    watcher.begin()
+            else:
+                self._take(event)
+            self.heard.notify_all()
+        self.wake()
+
+    def _take(self, event: Event) -> None:
+        """Changes notes and places by an event."""
+        name = self._session_of(event)
+        cells, marked = set(), set()
+        if name is not None:
+            session = self.sheet.sessions.get(name)
+            marked |= self.notes.lives(name, session.life if session else None)
+        cells |= self.notes.take(event, name)
+        if isinstance(event, Done) and event.id is not None:
+            cells.add(event.id)
+            marked |= self._place(event, event.id)
+        elif isinstance(event, Answered):
+            cells.add(event.id)
+        elif isinstance(event, (Ended, Stopped)):
+            cells |= {item.id for item in event.lost}
+        for id in cells:
+            marked |= self._look(id)
+        telling.touch(self.watchers, cells, marked)
+
+    def _session_of(self, event: Event) -> Optional[str]:
+        if isinstance(event, Done) and event.id is not None and event.session is None:
+            field = self.field(event.id)
+            return field.session if field else None
+        found: Optional[str] = getattr(event, "session", None)
+        return found
+
+    def _place(self, done: Done, id: int) -> Set[int]:
+        """The order of the cells behind a command."""
+        if done.command == "new" and done.session is not None:
+            for watcher in self.watchers:
+                watcher.put(id)
+            return self.places.put(self.field(id) or Field(id, done.session, ""), done.after or 0)
+        if done.command == "move":
+            for watcher in self.watchers:
+                watcher.put(id)
+            return self.places.move(id, done.after or 0)
+        if done.command == "remove":
+            for watcher in self.watchers:
+                watcher.drop(id)
+            return self.places.drop(id)
+        return set()
+
+    def _look(self, id: int) -> Set[int]:
+        """What a cell has now. Gives the cells that are stale by it, or are so no more, and has pages told their marks."""
+        field = self.field(id)
+        if field is None or id not in self.places:
+            return set()
+        note = self.notes.of.get(id)
+        marked = self.places.know(field, note.asked if note else None)
+        telling.touch(self.watchers, set(), marked)
+        return marked
+
+    def wake(self) -> None:
+        with self.lock:
+            for watcher in self.watchers:
+                watcher.wake.set()
+
+    # ---- pages
 
     def watch(self) -> Watcher:
         watcher = Watcher()
@@ -205,97 +369,9 @@ class Book:
             return None
         watcher.wake.wait(SILENCE)
         watcher.wake.clear()
-        return self._message(watcher)
-
-    def _message(self, watcher: Watcher) -> Message:
-        at, fields, sessions, drafts = self._moment()
         with self.lock:
-            others = self._others(fields, sessions)
-            marks = self._marks(fields, sessions)
-            cells = [(field, self._note_of(field)) for field in fields]
-            told = [self._cell(field, note, drafts.get(field.id)) for field, note in cells if is_news(watcher, field, note)]
-            watcher.cells = {field.id: (field, note.version) for field, note in cells}
-        message = {key: value for key, value in others.items() if watcher.others.get(key) != value}
-        changed = {id: mark for id, mark in marks.items() if watcher.marks.get(id) != mark}
-        watcher.others, watcher.marks = others, marks
-        if told:
-            message["cells"] = told
-        if changed:
-            message["marks"] = changed
-        if message:
-            message["at"] = at
-        return message
-
-    def _moment(self) -> Tuple[int, List[Field], Dict[str, Session], Dict[int, Draft]]:
-        """The worksheet and its drafts, and how many changes they have seen. A page drops what was told of a cell before it changed that
-        itself, so a cell may have a later change in it than is said, but only if that one isn't counted yet: it is told again then."""
-        while True:
-            at = self.changes
-            fields, sessions, drafts = self.sheet.fields, self.sheet.sessions, self.drafts.of
-            if at == self.changes:
-                return at, fields, {name: ended(session) for name, session in sessions.items()} if self.ended else sessions, drafts
-
-    def _note_of(self, field: Field) -> Note:
-        return self.notes.of.get(field.id) or Note()
-
-    def _others(self, fields: List[Field], sessions: Dict[str, Session]) -> Message:
-        removed = [{"number": one["number"], "session": one["field"].session, "input": text_of(one["field"])[:80]} for one in self.removed]
-        return {
-            "path": os.path.basename(self.path),
-            "order": [field.id for field in fields],
-            "sessions": [session_facts(session) for session in sessions.values()],
-            "removed": removed,
-            "ended": self.ended,
-        }
-
-    def _marks(self, fields: List[Field], sessions: Dict[str, Session]) -> Dict[int, List[Any]]:
-        """Of each cell whether its answer is stale, and whether the process that answered has ended."""
-        words = {name for name, session in sessions.items() if prose.is_prose(session)}
-        stale = stale_cells(fields, self.notes.of, words)
-        return {field.id: [field.id in stale, self._has_ended(field, sessions)] for field in fields}
-
-    def _has_ended(self, field: Field, sessions: Dict[str, Session]) -> bool:
-        life = sessions[field.session].life if field.session in sessions else None
-        return field.state == "answered" and (life is None or self._note_of(field).life != life)
-
-    def _cell(self, field: Field, note: Note, draft: Optional[Draft]) -> Message:
-        answer = field.answer or (note.old if field.state in ("empty", "waiting") else None)
-        state = field.state
-        if self.ended and field.id == self.in_doubt:
-            state = "doubtful"
-        elif state == "waiting":
-            state = "empty" if self.ended else "queued" if note.since is None else "running"
-        return {
-            "id": field.id,
-            "session": field.session,
-            "input": text_of(field),
-            "draft": {"base": draft.base, "text": draft.text} if draft and draft.text != text_of(field) else None,
-            "state": state,
-            "reason": field.reason,
-            "since": None if note.since is None else int(note.since * 1000),
-            "prompt": readable(field.answer.prompt) if field.answer else None,
-            "output": shown.facts_of(answer) if answer else None,
-            "isOld": field.answer is None,
-        }
+            return telling.message_for(self, watcher)
 
 
-def is_news(watcher: Watcher, field: Field, note: Note) -> bool:
-    """Fields are never changed, only replaced, so one that is the same object tells nothing new."""
-    known = watcher.cells.get(field.id)
-    return known is None or known[0] is not field or known[1] != note.version
-
-
-def ended(session: Session) -> Session:
-    """A session whose interpreter has ended, with the program or before."""
-    return dataclasses.replace(session, life=None, waiting=0)
-
-
-def session_facts(session: Session) -> Message:
-    return {
-        "name": session.name,
-        "words": " ".join(session.words),
-        "tab": session.tab,
-        "runs": session.life is not None,
-        "waiting": session.waiting,
-        "isProse": prose.is_prose(session),
-    }
+def cells(count: int) -> str:
+    return "one cell that waited" if count == 1 else f"{count:,} cells that waited"

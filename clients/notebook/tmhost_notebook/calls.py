@@ -1,39 +1,22 @@
 """What a page may ask for: each call returns when what it did is on the disk."""
 
 import contextlib
-from typing import Any, Callable, Dict, List, Optional, TypeVar
+from typing import Any, Callable, Dict, Optional, Sequence, TypeVar
 
 from tmhost import BadLine, Closed, Completions, Died, Field, Gone, Lost, ProtocolError, Refused, TimedOut, readable
 
-from . import shown
-from .book import Book, text_of
+from . import shown, startable
+from .book import Book
 from .drafts import Draft, NotKept
-from .notes import Chain, chains_of, next_cells
 from .prose import session_of_prose
+from .sayings import SAYINGS
+from .telling import text_of
 
 Facts = Dict[str, Any]
 T = TypeVar("T")
 
 COMPLETED_WITHIN = 10.0  # seconds that an interpreter has for completions
 MOST_COMPLETIONS = 500
-
-# In words of a user, what refusals say.
-SAYINGS = {
-    "InFlight": "the cell waits for its answer",
-    "BadInput": "a cell has at most 4,095 bytes, and no control characters but tabs and ends of lines",
-    "BadName": "a name has 1 to 32 letters, digits, _ and -",
-    "BadWords": "1 to 16 words, each of at most 1,024 bytes, with one space between them",
-    "SessionExists": "there is a session with this name already",
-    "NoSession": "there is no session with this name",
-    "NoField": "the cell isn't there any more",
-    "NoTab": "its interpreter answers no completions",
-    "QueueFull": "1,024 lines wait in this session already",
-    "TooManyFields": "there are 10,000 cells",
-    "TooManySessions": "there are 64 sessions",
-    "JournalFull": "the worksheet's file is full",
-    "OutOfMemory": "there is no memory for it",
-}
-
 
 class NotDone(Exception):
     """A call that did nothing, or of which it isn't known. `name` is for the page, `says` for people."""
@@ -70,6 +53,14 @@ def field_of(book: Book, id: int) -> Field:
     return book.sheet.cell(id).field
 
 
+def idle_field(book: Book, id: int) -> Field:
+    """A cell that neither waits for its answer nor to be asked."""
+    field = field_of(book, id)
+    if book.waits(field):
+        raise NotDone("InFlight", SAYINGS["InFlight"])
+    return field
+
+
 # ---- cells
 
 
@@ -83,7 +74,7 @@ def keep_text(book: Book, asked: Facts, id: int) -> bool:
     if saved == given:
         book.keep_draft(id, None)
         return False
-    waits, new = field.state == "waiting", Draft(field.session, saved, given)
+    waits, new = book.waits(field), Draft(field.session, saved, given)
     if waits or draft not in (None, new):  # what is to be saved now is a draft until it is
         book.keep_draft(id, new)
     if waits:
@@ -108,21 +99,12 @@ def call_set(book: Book, asked: Facts) -> Facts:
 def call_new(book: Book, asked: Facts) -> Facts:
     with book.order:
         session = session_of_prose(book.sheet) if asked.get("session") is None else text(asked, "session")
-        return {"id": book.sheet.new(session, text(asked, "text"), after=number(asked, "after")).id}
-
-
-def remove(book: Book, id: int) -> None:
-    ids = [field.id for field in book.sheet.fields]
-    field = field_of(book, id)
-    with book.changing(id):
-        book.sheet.remove(id)
-    book.bin(field, ids.index(id))
-    book.bin_draft(id, ids.index(id))
+        return {"id": book.new(session, text(asked, "text"), number(asked, "after"))}
 
 
 def call_remove(book: Book, asked: Facts) -> Facts:
     with book.order:
-        remove(book, number(asked, "id"))
+        book.remove(idle_field(book, number(asked, "id")).id)
     return {}
 
 
@@ -133,17 +115,16 @@ def call_restore(book: Book, asked: Facts) -> Facts:
         found = book.unbin(wanted)
         if found is None:
             raise NotDone("NotThere", "there is no removed cell")
-        field, ids = found["field"], [field.id for field in book.sheet.fields]
-        before = ids[: found["place"]]
+        field, before = found["field"], book.sheet.ids[: found["place"]]
         try:
-            id = book.sheet.new(field.session, text_of(field), after=before[-1] if before else 0).id
+            id = book.new(field.session, text_of(field), before[-1] if before else 0)
         except Exception:
             with book.lock:
                 book.removed.append(found)
             raise
         with book.lock:
             book.notes.of[id].old = found["old"]
-            book.notes.of[id].version += 1
+        book.touch(id)
         if found["is_draft"]:
             with contextlib.suppress(NotKept):  # it is offered again then, when the worksheet is opened
                 book.drafts.keep(field.id, None)
@@ -155,13 +136,11 @@ def call_change(book: Book, asked: Facts) -> Facts:
     with book.order:
         id = number(asked, "id")
         session = session_of_prose(book.sheet) if asked.get("session") is None else text(asked, "session")
-        field = field_of(book, id)
-        if field.session == session:
+        if field_of(book, id).session == session:
             return {"id": id}
-        if field.state == "waiting":
-            raise NotDone("InFlight", SAYINGS["InFlight"])
-        made = book.sheet.new(session, text_of(field), after=id).id
-        remove(book, id)
+        field = idle_field(book, id)
+        made = book.new(session, text_of(field), id)
+        book.remove(id)
         return {"id": made}
 
 
@@ -170,19 +149,22 @@ def call_move(book: Book, asked: Facts) -> Facts:
     by = member(asked, "by", int, int)
     with book.order:
         id = number(asked, "id")
-        ids = [field.id for field in book.sheet.fields if field.id != id]
-        old = next((place for place, field in enumerate(book.sheet.fields) if field.id == id), None)
-        if old is None:
+        ids = book.sheet.ids
+        if id not in ids:
             raise Gone(id)
+        old = ids.index(id)
+        del ids[old]
         new = max(0, min(len(ids), old + by))
         if new != old:
-            book.sheet.move(id, ids[new - 1] if new else 0)
+            after = ids[new - 1] if new else 0
+            book.sheet.move(id, after)
+            book.settle(lambda: book.places.before(id) == after)
     return {}
 
 
 def call_clear(book: Book, asked: Facts) -> Facts:
     with book.order:
-        field = field_of(book, number(asked, "id"))
+        field = idle_field(book, number(asked, "id"))
         with book.changing(field.id):
             if field.state != "empty":
                 book.sheet.clear(field.id)
@@ -194,64 +176,59 @@ def call_clear(book: Book, asked: Facts) -> Facts:
 # ---- evaluations
 
 
-def evaluate(book: Book, id: int, chain: Optional[Chain]) -> bool:
-    """Has a cell evaluated, if it isn't prose and doesn't wait already."""
-    field = field_of(book, id)
-    if field.session in book.prose or field.state == "waiting":
-        with book.lock:
-            book.notes.tell(id)
-        return False
-    with book.lock:
-        book.notes.keep(field)
-        book.notes.ask(id, chain)
-    with book.changing(id):
-        book.sheet.eval(id)
-    return True
-
-
-def evaluate_each(book: Book, ids: List[int]) -> Facts:
-    """Has these cells evaluated, one behind the other. A cell that is gone by now is passed over. What is changed meanwhile above one of
-    them makes its answer stale, since what it is asked under is looked at before."""
-    count, chains = 0, chains_of(book.sheet.fields)
-    for id in ids:
-        with book.order:
-            try:
-                count += evaluate(book, id, chains.get(id))
-            except Gone:
-                pass
-    return {"count": count}
-
-
 def call_eval(book: Book, asked: Facts) -> Facts:
     """Evaluates a cell, and tells which change it was. One that waits already goes on."""
     id = number(asked, "id")
     with book.order:
-        evaluate(book, id, chains_of(book.sheet.fields).get(id))
+        why = book.why_not(field_of(book, id).session)
+        if why is not None:
+            raise NotDone("NoProgram", f"{why}. Nothing was asked, and no answer is lost")
+        book.evaluate(id)
         return {"at": book.changes}
+
+
+def evaluate_each(book: Book, fields: Sequence[Field], missing: Dict[str, str]) -> Facts:
+    """Has these cells evaluated, but those of prose and of sessions that can't be started: `missing` says why, and so does a warning."""
+    named = {field.session for field in fields} - book.prose
+    missing = {**{name: why for name, why in ((name, book.why_not(name)) for name in named) if why}, **missing}
+    count = book.evaluate_each(field for field in fields if field.session in named and field.session not in missing)
+    told = "; ".join(missing[name] for name in sorted(missing))
+    return {"count": count, **({"warning": f"{told}. Nothing was asked there, and no answer is lost"} if missing else {})}
 
 
 def call_eval_from(book: Book, asked: Facts) -> Facts:
     """Evaluates all cells, or those from one on."""
     start = None if asked.get("id") is None else number(asked, "id")
-    return evaluate_each(book, next_cells(book.sheet.fields, start, book.prose))
+    fields = book.sheet.fields
+    first = next((place for place, field in enumerate(fields) if field.id == start), 0)
+    return evaluate_each(book, fields[first:], {})
 
 
 def call_restart(book: Book, asked: Facts) -> Facts:
-    """Stops the interpreter of a session, or all of them, and evaluates their cells."""
+    """Stops the interpreter of a session, or all of them, and evaluates their cells. One that can't be started again isn't stopped."""
     wanted = None if asked.get("session") is None else text(asked, "session")
+    missing: Dict[str, str] = {}
     for name, session in book.sheet.sessions.items():
         if name == wanted or (wanted is None and session.life is not None):
-            book.sheet.stop(name)
-    fields = [field for field in book.sheet.fields if wanted in (None, field.session)]
-    return evaluate_each(book, next_cells(fields, None, book.prose))
+            why = startable.why_not(session)
+            if why is not None:
+                missing[name] = why
+                continue
+            with book.order:
+                book.stop(name)
+    return evaluate_each(book, [field for field in book.sheet.fields if wanted in (None, field.session)], missing)
 
 
 def call_stop(book: Book, asked: Facts) -> Facts:
-    return {"lost": len(book.sheet.stop(text(asked, "session")))}
+    with book.order:
+        return {"lost": book.stop(text(asked, "session"))}
 
 
 def call_interrupt(book: Book, asked: Facts) -> Facts:
-    return {"outcome": book.sheet.interrupt(text(asked, "session"))}
+    """Interrupts the line of a session. What waits behind it isn't asked any more."""
+    session = text(asked, "session")
+    with book.order:
+        return {"dropped": book.drop_fed(session), "outcome": book.sheet.interrupt(session)}
 
 
 def call_session(book: Book, asked: Facts) -> Facts:

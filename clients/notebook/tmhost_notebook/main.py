@@ -15,7 +15,7 @@ from tmhost import Died, InUse, ProtocolError, TimedOut
 
 from .book import Book
 from .files import Files
-from .server import Server
+from .server import Server, served
 
 
 def words() -> argparse.ArgumentParser:
@@ -27,7 +27,8 @@ def words() -> argparse.ArgumentParser:
     )
     parser.add_argument("sheet", metavar="SHEET", help="the worksheet")
     parser.add_argument("--no-browser", action="store_true", help="print the address alone")
-    parser.add_argument("--port", type=int, default=0, metavar="N", help="the port on 127.0.0.1; one that is free if it isn't given")
+    parser.add_argument("--port", type=int, default=0, metavar="N", help="the port on 127.0.0.1; if it isn't given the one that the worksheet had "
+                        "last, or one that is free")
     parser.add_argument("--libraries", default="/usr/share", metavar="FOLDER", help="where KaTeX and markdown-it are looked for (/usr/share)")
     return parser
 
@@ -76,7 +77,7 @@ def main(given: Optional[List[str]] = None) -> int:
     except (Died, ProtocolError, TimedOut, OSError) as error:
         return tell(f"{asked.sheet} can't be opened: {error}")
     try:
-        server = Server(book, asked.port, Files(asked.libraries))
+        server = served(book, asked.port, Files(asked.libraries))
     except (OSError, OverflowError) as error:
         book.close()
         return tell(f"port {asked.port} can't be taken: {error}")

@@ -5,18 +5,20 @@ cookie goes to that path alone, which can't be guessed: a browser sends cookies 
 ask for it else. A page of another origin can neither read nor ask anything: `Host`, `Origin` and `Sec-Fetch-Site` are looked at.
 """
 
+import contextlib
+import dataclasses
 import hmac
 import html
 import http.server
 import json
 import os
-import secrets
 import socket
 import sys
 import urllib.parse
 from typing import Any, Dict, Optional, Tuple
 
-from . import calls
+from . import address, calls
+from .address import Address
 from .book import Book
 from .exported import FORMATS, NotExported, exported
 from .files import Files
@@ -53,10 +55,11 @@ class Server(http.server.ThreadingHTTPServer):
     daemon_threads = True
     request_queue_size = 64
 
-    def __init__(self, book: Book, port: int, files: Files) -> None:
-        super().__init__((ADDRESS, port), Handler)
+    def __init__(self, book: Book, own: Address, files: Files) -> None:
+        super().__init__((ADDRESS, own.port), Handler)
         self.book, self.files = book, files
-        self.token, self.cookie, self.path = (secrets.token_urlsafe(16) for _ in range(3))
+        self.own = dataclasses.replace(own, port=self.server_port)
+        self.token, self.cookie, self.path = own.token, own.cookie, own.path
         self.host = f"{ADDRESS}:{self.server_port}"
 
     @property
@@ -68,6 +71,19 @@ class Server(http.server.ThreadingHTTPServer):
         """A page that has gone is no error."""
         if not isinstance(sys.exc_info()[1], (ConnectionError, socket.timeout)):
             super().handle_error(request, client_address)
+
+
+def served(book: Book, port: int, files: Files) -> Server:
+    """The server, at the address that it had before where that is free; `port` is 0 where none is wanted."""
+    kept = address.read(book.path)
+    server = None
+    if kept is not None and port in (0, kept.port):
+        with contextlib.suppress(OSError):
+            server = Server(book, kept, files)
+    if server is None:
+        server = Server(book, Address(port), files)
+    address.keep(book.path, server.own)
+    return server
 
 
 class Handler(http.server.BaseHTTPRequestHandler):
@@ -83,9 +99,13 @@ class Handler(http.server.BaseHTTPRequestHandler):
 
     # ---- who asks
 
+    def setup(self) -> None:
+        super().setup()
+        self.is_ours = address.is_of_this_user(self.connection)
+
     def is_for_us(self) -> bool:
-        """Whether the request names this server, and not another one's name that leads here."""
-        return self.headers.get_all("Host") == [self.server.host]
+        """Whether a process of this user asks, and names this server, and not another one's name that leads here."""
+        return self.is_ours and self.headers.get_all("Host") == [self.server.host]
 
     def has_cookie(self) -> bool:
         """Whether the cookie is ours. Other servers on this machine may have set others beside it."""

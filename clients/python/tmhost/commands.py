@@ -11,6 +11,7 @@ from .values import LINE_END, Answer, Completions, Field, LostItem, Session, Tex
 
 R = TypeVar("R")
 K = TypeVar("K", bound=Reply)
+About = Tuple[Optional[int], Optional[str], Optional[int]]
 
 NAME = re.compile(r"[A-Za-z0-9_-]{1,32}")
 FORMATS = ("script", "markdown", "html", "notebook", "json")
@@ -68,14 +69,15 @@ def expect_done(reply: Reply) -> None:
 
 @dataclasses.dataclass
 class Command(Generic[R]):
-    """`word` is the first word of its line, `id` and `session` what it is about, for those who listen."""
+    """`word` is the first word of its line; `about` is what those who listen are told: its cell, its session, and behind which cell it put
+    its own."""
 
     word = ""
     is_told = True  # to those who listen
 
     @property
-    def about(self) -> Tuple[Optional[int], Optional[str]]:
-        return None, None
+    def about(self) -> About:
+        return None, None, None
 
     @property
     def line(self) -> str:
@@ -97,8 +99,8 @@ class MakeSession(Command[Session]):
         checked_name(self.name, "BadName", 5)
 
     @property
-    def about(self) -> Tuple[Optional[int], Optional[str]]:
-        return None, self.name
+    def about(self) -> About:
+        return None, self.name, None
 
     @property
     def line(self) -> str:
@@ -123,8 +125,8 @@ class New(Command[int]):
         checked_name(self.session, "NoSession", 1)
 
     @property
-    def about(self) -> Tuple[Optional[int], Optional[str]]:
-        return self.id, self.session
+    def about(self) -> About:
+        return self.id, self.session, self.after
 
     @property
     def line(self) -> str:
@@ -141,8 +143,8 @@ class OfCell(Command[R]):
     id: int
 
     @property
-    def about(self) -> Tuple[Optional[int], Optional[str]]:
-        return self.id, None
+    def about(self) -> About:
+        return self.id, None, None
 
     @property
     def line(self) -> str:
@@ -176,6 +178,10 @@ class Remove(OfCell[None]):
 class Move(OfCell[None]):
     after: int
     word = "move"
+
+    @property
+    def about(self) -> About:
+        return self.id, None, self.after
 
     @property
     def line(self) -> str:
@@ -234,8 +240,8 @@ class OfSession(Command[R]):
         checked_name(self.session, "NoSession", 1)
 
     @property
-    def about(self) -> Tuple[Optional[int], Optional[str]]:
-        return None, self.session
+    def about(self) -> About:
+        return None, self.session, None
 
     @property
     def line(self) -> str:

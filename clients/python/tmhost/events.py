@@ -79,12 +79,14 @@ class Done(Event):
     """A command of this worksheet was done, and the mirror has it.
 
     `command` is the first word of its line: "session", "new", "set", "remove", "move", "clear", "eval", "complete", "stop" (one that had
-    nothing to end), "checkpoint". Behind "print" any cell may be another one than was thought. `id` is its cell, `session` its session.
+    nothing to end), "checkpoint". Behind "print" any cell may be another one than was thought. `id` is its cell, `session` its session;
+    of "new" and "move" `after` is the cell behind which it was put, 0 for the first place.
     """
 
     command: str
     id: Optional[int] = None
     session: Optional[str] = None
+    after: Optional[int] = None
 
 
 @dataclasses.dataclass(frozen=True)

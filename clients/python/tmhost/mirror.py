@@ -79,7 +79,10 @@ class Mirror:
         self.next_id = field.id + 1
 
     def _place(self, id: int, after: int) -> None:
-        self.order.insert(self.order.index(after) + 1 if after else 0, id)
+        if self.order and self.order[-1] == after:
+            self.order.append(id)
+        else:
+            self.order.insert(self.order.index(after) + 1 if after else 0, id)
 
     def renew(self, id: int, input: Optional[str] = None, state: str = "empty", reason: Optional[str] = None) -> None:
         """Takes a cell's answer away, and gives it what is said."""

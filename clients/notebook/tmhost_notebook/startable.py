@@ -1,0 +1,28 @@
+"""Whether the interpreter of a session can be started, which is looked at before a cell of it is asked: its old answer would go for an evaluation that
+never begins."""
+
+import os
+from typing import Optional
+
+from tmhost import Session
+
+DEFAULT_PATH = "/bin:/usr/bin"  # where there is no PATH
+
+
+def can_be_run(path: str) -> bool:
+    return os.path.isfile(path) and os.access(path, os.X_OK)
+
+
+def is_found(word: str) -> bool:
+    """As `execvp` looks for a program: a word with a slash is a path, seen from the folder in which the host runs, which is this program's own."""
+    if "/" in word:
+        return can_be_run(word)
+    return any(can_be_run(os.path.join(folder or ".", word)) for folder in os.environ.get("PATH", DEFAULT_PATH).split(":"))
+
+
+def why_not(session: Session) -> Optional[str]:
+    """Why a session can't be started; None where it can."""
+    word = session.words[0] if session.words else ""
+    if is_found(word):
+        return None
+    return f"session {session.name} can't be started: there is no program {word}. Its words are: {' '.join(session.words)}"

@@ -1,0 +1,164 @@
+"""Messages to pages: all at first, and then what has changed since the last one. They cost no time for cells that nothing has happened to."""
+
+import dataclasses
+import os
+import threading
+from typing import TYPE_CHECKING, Any, Dict, Iterable, List, Optional, Set
+
+from tmhost import Field, Session, readable
+
+from . import prose, shown
+from .notes import Note
+
+if TYPE_CHECKING:
+    from .book import Book
+
+Message = Dict[str, Any]
+
+MOST_PLACED = 50  # cells whose new places are told one by one; of more the whole order is told
+NO_MARK = [False, False]
+
+
+def text_of(field: Field) -> str:
+    """The text of a cell, on its lines."""
+    return "\n".join(field.lines)
+
+
+class Watcher:
+    """A page that is open, and what it has to be told."""
+
+    def __init__(self) -> None:
+        self.wake = threading.Event()
+        self.says: List[str] = []
+        self.is_over = False
+        self.begin()
+
+    def begin(self) -> None:
+        """It is told all."""
+        self.is_new = True
+        self.cells: Set[int] = set()
+        self.marked: Set[int] = set()
+        self.placed: Set[int] = set()
+        self.gone: Set[int] = set()
+        self.marks: Dict[int, List[bool]] = {}
+        self.others: Message = {}
+        self.wake.set()
+
+    def put(self, id: int) -> None:
+        self.placed.add(id)
+        self.cells.add(id)
+
+    def drop(self, id: int) -> None:
+        for ids in (self.placed, self.cells, self.marked):
+            ids.discard(id)
+        self.marks.pop(id, None)
+        self.gone.add(id)
+
+
+def message_for(book: "Book", watcher: Watcher) -> Message:
+    """To be used with the book's lock. `at` says how many changes it has seen: a page drops what was told of a cell before it changed that itself.
+    A cell may have a later change in it than is said, but only if that one isn't counted yet: it is told again then."""
+    at = book.changes
+    message = news(watcher, others(book))
+    if watcher.is_new:
+        fields = [field for field in book.sheet.fields if field.id in book.places]
+        message.update(isWhole=True, order=book.places.ids)
+        watcher.marked = set(book.places.ids)
+    else:
+        fields = [field for field in (book.field(id) for id in sorted(watcher.cells)) if field is not None and field.id in book.places]
+        message.update(places(book, watcher))
+    cells = [cell_facts(book, field) for field in fields]
+    message.update({name: value for name, value in (("cells", cells), ("marks", marks(book, watcher)), ("says", watcher.says)) if value})
+    watcher.is_new, watcher.says = False, []
+    for told in (watcher.cells, watcher.marked, watcher.placed, watcher.gone):
+        told.clear()
+    return {**message, "at": at} if message else message
+
+
+def news(watcher: Watcher, told: Message) -> Message:
+    message = {name: value for name, value in told.items() if watcher.others.get(name, ...) != value}
+    watcher.others = told
+    return message
+
+
+def others(book: "Book") -> Message:
+    removed = [{"number": one["number"], "session": one["field"].session, "input": text_of(one["field"])[:80]} for one in book.removed]
+    sessions = book.sheet.sessions.values()
+    return {
+        "server": book.server,
+        "path": os.path.basename(book.path),
+        "sessions": [session_facts(ended(session) if book.ended else session, book.feed.count(session.name)) for session in sessions],
+        "removed": removed,
+        "ended": book.ended,
+    }
+
+
+def places(book: "Book", watcher: Watcher) -> Message:
+    """The cells that are gone, and behind which ones others were put, from the first one on. Of many the whole order."""
+    if len(watcher.placed) + len(watcher.gone) > MOST_PLACED:
+        return {"order": book.places.ids}
+    placed = [[id, book.places.before(id)] for id in book.places.in_order(watcher.placed)]
+    return {name: value for name, value in (("placed", placed), ("gone", sorted(watcher.gone))) if value}
+
+
+def marks(book: "Book", watcher: Watcher) -> Dict[int, List[bool]]:
+    """Of each cell whether its answer is stale, and whether the process that answered has ended."""
+    changed: Dict[int, List[bool]] = {}
+    for id in watcher.marked | watcher.cells:
+        mark = mark_of(book, id) if id in book.places else NO_MARK
+        if mark != watcher.marks.get(id, NO_MARK):
+            watcher.marks[id] = changed[id] = mark
+    return changed
+
+
+def mark_of(book: "Book", id: int) -> List[bool]:
+    session = book.places.answered_by(id)
+    return NO_MARK if session is None else [book.places.is_stale(id), book.ended is not None or book.notes.has_ended(id, session)]
+
+
+def cell_facts(book: "Book", field: Field) -> Message:
+    note, draft = book.notes.of.get(field.id) or Note(), book.drafts.of.get(field.id)
+    answer = field.answer or (note.old if field.state in ("empty", "waiting") else None)
+    return {
+        "id": field.id,
+        "session": field.session,
+        "input": text_of(field),
+        "draft": {"base": draft.base, "text": draft.text} if draft and draft.text != text_of(field) else None,
+        "state": state_of(book, field, note),
+        "reason": field.reason,
+        "since": None if note.since is None else int(note.since * 1000),
+        "prompt": readable(field.answer.prompt) if field.answer else None,
+        "output": shown.facts_of(answer) if answer else None,
+        "isOld": field.answer is None,
+    }
+
+
+def state_of(book: "Book", field: Field, note: Note) -> str:
+    """A cell that isn't asked yet waits for its turn, and has its old answer in the file."""
+    if book.ended:
+        return "doubtful" if field.id == book.in_doubt else "empty" if field.state == "waiting" else field.state
+    if field.state == "waiting":
+        return "queued" if note.since is None else "running"
+    return "queued" if field.id in book.feed else field.state
+
+
+def ended(session: Session) -> Session:
+    """A session whose interpreter has ended, with the program or before."""
+    return dataclasses.replace(session, life=None, waiting=0)
+
+
+def session_facts(session: Session, fed: int) -> Message:
+    return {
+        "name": session.name,
+        "words": " ".join(session.words),
+        "tab": session.tab,
+        "runs": session.life is not None,
+        "waiting": session.waiting + fed,
+        "isProse": prose.is_prose(session),
+    }
+
+
+def touch(watchers: Iterable[Watcher], cells: Set[int], marked: Optional[Set[int]] = None) -> None:
+    for watcher in watchers:
+        watcher.cells |= cells
+        watcher.marked |= marked or set()
