@@ -16,7 +16,7 @@ PROGRAM = os.environ.get("TMHOST") or shutil.which("tmhost") or os.path.join(ROO
 # It answers a line by a value that depends on all lines that it has got; `say TEXT`, `die`, `stuck`, `sleep N` and the like are its words.
 INTERPRETER = os.path.join(ROOT, "clients/weave/tests/interpreter.py")
 
-sys.path[:0] = [os.path.dirname(HERE), os.path.join(ROOT, "clients/python"), os.path.join(ROOT, "clients/weave")]
+sys.path[:0] = [os.path.dirname(HERE), *(os.path.join(ROOT, "clients", name) for name in ("python", "fences", "weave"))]
 
 
 def missing() -> str:

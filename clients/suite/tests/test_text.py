@@ -4,7 +4,7 @@ import unittest
 
 from .support import Case, case
 from tmhost_suite.text import Text
-from tmhost_weave.troubles import Trouble
+from tmhost_fences.troubles import Trouble
 
 FRONT = "---\nsessions: {a: [x], b: [x]}\n---\n"
 

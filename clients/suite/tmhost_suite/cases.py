@@ -4,7 +4,7 @@ import hashlib
 import json
 from typing import Dict, FrozenSet, List, Optional, Tuple
 
-from tmhost_weave.fields import Group
+from tmhost_fences.fields import Group
 
 from .rules import Rules
 

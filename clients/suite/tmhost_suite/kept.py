@@ -8,7 +8,7 @@ import time
 from typing import Dict, List, Optional
 
 from tmhost import Answer, Cell, InUse, Refused, Worksheet, find_program
-from tmhost_weave.troubles import Trouble
+from tmhost_fences.troubles import Trouble
 
 from .cases import Suite
 

@@ -3,7 +3,7 @@ import re
 import shlex
 from typing import Callable, Dict, Iterator, Optional, Tuple
 
-from tmhost_weave.troubles import Trouble
+from tmhost_fences.troubles import Trouble
 
 from .cases import Marks
 

@@ -12,7 +12,7 @@ from typing import Callable, Dict, FrozenSet, List, Optional, Tuple
 
 from tmhost import TmhostError
 from tmhost_weave.files import put
-from tmhost_weave.troubles import Trouble
+from tmhost_fences.troubles import Trouble
 
 from . import kept as worksheets
 from .cases import Case, Suite

@@ -6,8 +6,8 @@ import os
 import re
 from typing import Any, Callable, Dict, Iterator, List, Optional, Tuple
 
-from tmhost_weave.fields import LINE_END, Group, groups, whole
-from tmhost_weave.troubles import Trouble
+from tmhost_fences.fields import LINE_END, Group, groups, whole
+from tmhost_fences.troubles import Trouble
 
 from .cases import Case, Marks, Suite
 from .rules import ANY_LINES, BY_GLOB, BY_PATTERN, Rules
@@ -129,7 +129,7 @@ def read_notebook(path: str, text: str) -> Suite:
     cases: List[Case] = []
     for number, cell in enumerate(cells, 1):
         lines = text_in(cell.get("source")).split("\n")
-        fields = tuple(groups(lines, False))
+        fields = tuple(groups(lines, "python"))
         if cell.get("cell_type") == "code" and fields:
             wanted = "\n".join(part for part in map(output_of, cell.get("outputs", [])) if part)
             cases.append(Case("py", Marks(), tuple(lines), fields, number, wanted))

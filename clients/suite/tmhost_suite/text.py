@@ -1,16 +1,15 @@
 """The text form of a suite: CommonMark, whose fences of sessions are cases, each with a fence `answer` behind it for what is wanted."""
 import dataclasses
-import os
 import re
 from decimal import Decimal, InvalidOperation
 from typing import Any, Dict, List, Optional, Sequence, Tuple
 
-from tmhost_weave.document import LINE, cut
-from tmhost_weave.fields import groups, whole
-from tmhost_weave.front import NAMES_SESSIONS, sessions_in
-from tmhost_weave.troubles import Trouble, needed
+from tmhost_fences.blocks import LINE, Block, blocks_of, cut
+from tmhost_fences.fields import groups, language_in, whole
+from tmhost_fences.front import front_of, matter_end
+from tmhost_fences.troubles import Trouble, needed
 
-from .cases import Case, Marks, Suite
+from .cases import Case, Suite
 from .marks import read_marks, seconds, session_in
 from .rules import Normal, Rules
 
@@ -27,14 +26,6 @@ class Span:
     begin: int
     end: int
     prefix: str
-
-
-def front_lines(contents: Sequence[str]) -> int:
-    """How many lines the front matter has."""
-    if not contents or contents[0].lstrip("\ufeff").rstrip(" \t") != "---":
-        return 0
-    end = next((at for at, line in enumerate(contents) if at and line.rstrip(" \t") in ("---", "...")), 0)
-    return end + 1 if end else 0
 
 
 def decimal_in(word: str) -> Decimal:
@@ -80,10 +71,14 @@ def timeout_in(front: Dict[str, Any]) -> Optional[float]:
         raise Trouble("`timeout` is no number of seconds") from None
 
 
+def is_answer_to(block: Block, other: Block, lines: Sequence[str]) -> bool:
+    """Whether the other fence is an answer, with nothing but empty lines between them."""
+    return session_in(other.info_text) == ANSWER and not any(line.strip(" \t>") for line in lines[block.end : other.begin])
+
+
 def names_sessions(text: str) -> bool:
     """Whether the front matter of a text names sessions."""
-    contents = [cut(line)[0] for line in LINE.findall(text)]
-    return bool(NAMES_SESSIONS.search("\n".join(contents[1 : max(0, front_lines(contents) - 1)])))
+    return bool(front_of([cut(line)[0] for line in LINE.findall(text)]).sessions)
 
 
 class Text:
@@ -92,63 +87,45 @@ class Text:
     def __init__(self, path: str, text: str) -> None:
         self.lines: List[str] = LINE.findall(text)
         contents = [cut(line)[0] for line in self.lines]
-        first = front_lines(contents)
-        matter = "\n".join(contents[1 : first - 1])
-        self.sessions = sessions_in(matter) if first and NAMES_SESSIONS.search(matter) else {}
+        self.sessions = front_of(contents).sessions
         if not self.sessions:
             raise Trouble("the text names no sessions: its first lines must be as `---`, `sessions: {py: [adapters/python]}`, `---`")
+        first = matter_end(contents)
         yaml = needed("yaml", "python3-yaml")
-        front = yaml.load(matter, Loader=yaml.BaseLoader)
+        front = yaml.load("\n".join(contents[1 : first - 1]), Loader=yaml.BaseLoader)
         self.cases: List[Case] = []
         self.spans: List[Span] = []
-        self._read(contents[first:], first)
+        self._read(contents, blocks_of(contents, first))
         self.suite = Suite(path, self.sessions, rules_in(front), timeout_in(front), tuple(self.cases))
 
-    def _read(self, body: List[str], first: int) -> None:
-        parser = needed("markdown_it", "python3-markdown-it").MarkdownIt("commonmark").disable("inline")
-        tokens = parser.parse("".join(line + "\n" for line in body).replace("\0", "\1"))
-        fences = [token for token in tokens if token.type == "fence"]
+    def _read(self, lines: List[str], blocks: List[Block]) -> None:
         at = 0
-        while at < len(fences):
-            token = fences[at]
+        while at < len(blocks):
+            block = blocks[at]
             at += 1
-            name = session_in(token.info)
+            name = session_in(block.info_text)
             if name == ANSWER:
-                raise Trouble(f"line {token.map[0] + first + 1}: an answer stands behind no case")
-            if name not in self.sessions:
+                raise Trouble(f"line {block.begin + 1}: an answer stands behind no case")
+            if name is None or name not in self.sessions:
                 continue
-            follows = at < len(fences) and session_in(fences[at].info) == ANSWER and self._is_next(body, token, fences[at])
-            answer = fences[at] if follows else None
-            at += follows
-            self._add(name, token, answer, first)
+            answer = blocks[at] if at < len(blocks) and is_answer_to(block, blocks[at], lines) else None
+            at += answer is not None
+            self._add(name, block, answer)
 
-    def _is_next(self, body: List[str], token: Any, answer: Any) -> bool:
-        return not any(line.strip(" \t>") for line in body[token.map[1] : answer.map[0]])
-
-    def _add(self, session: str, token: Any, answer: Optional[Any], first: int) -> None:
-        line = token.map[0] + first + 1
-        marks = read_marks(token.info, line)
-        lines = tuple(token.content.split("\n")[:-1])
-        prefix = self._prefix(token, len(lines), first)
-        is_of_gp = any(os.path.basename(word) == "gp" for word in self.sessions[session])
-        fields = tuple(whole(list(lines)) if marks.is_whole else groups(list(lines), is_of_gp))
+    def _add(self, session: str, block: Block, answer: Optional[Block]) -> None:
+        line = block.begin + 1
+        marks = read_marks(block.info_text, line)
+        for one in (block, answer):
+            if one is not None and not one.is_closed:
+                raise Trouble(f"the fence in line {one.begin + 1} isn't closed")
+        lines = list(block.content)
+        fields = tuple(whole(lines) if marks.is_whole else groups(lines, language_in(self.sessions[session])))
         if not fields:
             raise Trouble(f"line {line}: the case has no code")
-        wanted, span = None, Span(token.map[1] + first, token.map[1] + first, prefix)
-        if answer is not None:
-            content = answer.content.split("\n")[:-1]
-            self._prefix(answer, len(content), first)
-            wanted, span = "\n".join(content), Span(answer.map[0] + first, answer.map[1] + first, prefix)
-        self.cases.append(Case(session, marks, lines, fields, line, wanted))
-        self.spans.append(span)
-
-    def _prefix(self, token: Any, lines: int, first: int) -> str:
-        """What stands in front of each line of a fence: the marks of the quotes and lists in which it is."""
-        closing = cut(self.lines[token.map[1] + first - 1])[0].rstrip(" \t")
-        prefix = closing.rstrip(token.markup[0])
-        if token.map[1] - token.map[0] != lines + 2 or prefix.strip(" \t>"):
-            raise Trouble(f"the fence in line {token.map[0] + first + 1} isn't closed")
-        return prefix
+        wanted = None if answer is None else "\n".join(answer.content)
+        begin, end = (block.end, block.end) if answer is None else (answer.begin, answer.end)
+        self.cases.append(Case(session, marks, block.content, fields, line, wanted))
+        self.spans.append(Span(begin, end, block.before_end))
 
     def accepted(self, answers: Dict[int, str]) -> str:
         """The text with these answers, by the place of their case, in place of those that stand there."""

@@ -2,12 +2,11 @@
 //! Into a pipe or a file nothing of it goes.
 use crate::startup::words;
 use command_words::{Task, read_words};
-use std::fs;
 use std::fs::OpenOptions;
-use std::io;
 use std::io::{IsTerminal, Write};
 use std::os::unix::fs::MetadataExt;
 use std::rt::Files;
+use std::{fs, io};
 
 /// What a task does with the worksheet at a path.
 #[derive(Clone, Copy, Debug, PartialEq, Eq)]
@@ -26,7 +25,11 @@ fn paths_of<'a>(task: &Task<'a>) -> [Option<(&'a str, Use)>; 2] {
             [Some((*path, Use::Writes)), None]
         }
         Task::Check(path, asked) => {
-            let use_of = if asked.accept { Use::Writes } else { Use::Reads };
+            let use_of = if asked.accept {
+                Use::Writes
+            } else {
+                Use::Reads
+            };
             [Some((*path, use_of)), None]
         }
         Task::Show(path) | Task::ShowJson(path) | Task::Export(path, _) => {
@@ -113,7 +116,10 @@ fn explain_file(rt: &HostRuntime, path: &str, writes: bool) {
             if !found.is_file() {
                 let _ = writeln!(rt.stderr(), "tmhost: {path}: it is no plain file");
             } else if found.nlink() > 1 {
-                let _ = writeln!(rt.stderr(), "tmhost: {path}: it has another name (a hard link)");
+                let _ = writeln!(
+                    rt.stderr(),
+                    "tmhost: {path}: it has another name (a hard link)"
+                );
             } else if let Some(error) = opening_error(rt, path, writes) {
                 let _ = writeln!(rt.stderr(), "tmhost: {path}: {error}");
             }
