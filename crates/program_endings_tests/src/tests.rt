@@ -14,4 +14,5 @@ mod places;
 mod programs;
 mod running;
 mod scripts;
+mod second_files;
 mod streams;

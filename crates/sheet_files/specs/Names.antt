@@ -45,8 +45,8 @@ SecondLocked {F} {N} calls first second lock old new =
     (a : N) × calls.are_two old first second (Ok tt) a × calls.locks a second lock (Ok false) new
 
 -- a file is at most as long as an area may be
-abbrev pub Fits : {F N : Type 0} → names.Ghosts N F → F → N → N → Type 0
-Fits {F} {N} calls file old new =
+abbrev pub WithinRoom : {F N : Type 0} → names.Ghosts N F → F → N → N → Type 0
+WithinRoom {F} {N} calls file old new =
     (bytes : ℕ) × bytes ≤ greatest_room × calls.measures old file (Ok bytes) new
 
 -- both files were opened to be written, and locked so that nobody else has them; neither is too long, and
@@ -56,8 +56,8 @@ Opened {F} {N} calls path alt files old new =
     (a : N) × FirstOpened calls path Exclusive files.0 old a
     × ((b : N) × SecondOpened calls alt files.0 files.1 a b
     × ((c : N) × SecondLocked calls files.0 files.1 Exclusive b c
-    × ((d : N) × Fits calls files.0 c d
-    × ((e : N) × Fits calls files.1 d e
+    × ((d : N) × WithinRoom calls files.0 c d
+    × ((e : N) × WithinRoom calls files.1 d e
     × calls.syncs_folder e path (Ok tt) new))))
 
 -- a second file that is only read was opened, and locked so that others may read it; or there was none, as

@@ -1,6 +1,6 @@
 //! How a worksheet's two files are made and opened, in any place.
 ghost use Rattle.std.specs.Prelude.{IfOk, Ok, OnOk, false};
-ghost use Rattle.sheet_files.specs.Names.{Created, FirstOpened, Fits, Opened, OpenedToRead, SecondLocked, SecondOpened, SecondRead};
+ghost use Rattle.sheet_files.specs.Names.{Created, FirstOpened, WithinRoom, Opened, OpenedToRead, SecondLocked, SecondOpened, SecondRead};
 
 use crate::names::Names;
 use crate::{FilesFault, Lock, MakeFault};
@@ -93,7 +93,7 @@ fn lock_second<F: Drop, N: Names<F>>(
 
 /// Sees to it that a file isn't longer than an area may be.
 fn fit<F: Drop, N: Names<F>>(names: &mut N, file: &F) -> io::Result<()>
-    ensures { OnOk result (Fits N.Names file.now names.old names.new) }
+    ensures { OnOk result (WithinRoom N.Names file.now names.old names.new) }
 {
     if names.length(file)? > GREATEST_ROOM {
         return Err(io::Error::from(ErrorKind::FileTooLarge));

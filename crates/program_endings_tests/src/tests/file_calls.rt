@@ -6,7 +6,7 @@ use std::alloc::Global;
 use std::io::ErrorKind;
 
 // What comes of a worksheet that is made at a path.
-fn creates(calls: &Calls, alloc: Global, path: &str) -> Result<(), MakeFault> {
+pub fn creates(calls: &Calls, alloc: Global, path: &str) -> Result<(), MakeFault> {
     match FileDisk::create(&MadeUp { alloc, calls }, alloc, path) {
         Ok(_) => Ok(()),
         Err(why) => Err(why),
@@ -14,7 +14,7 @@ fn creates(calls: &Calls, alloc: Global, path: &str) -> Result<(), MakeFault> {
 }
 
 // The same of one that is opened.
-fn opens(calls: &Calls, alloc: Global, path: &str) -> Result<(), FilesFault> {
+pub fn opens(calls: &Calls, alloc: Global, path: &str) -> Result<(), FilesFault> {
     match FileDisk::open(&MadeUp { alloc, calls }, alloc, path) {
         Ok(_) => Ok(()),
         Err(why) => Err(why),
@@ -22,7 +22,7 @@ fn opens(calls: &Calls, alloc: Global, path: &str) -> Result<(), FilesFault> {
 }
 
 // The same of one that is opened to read.
-fn reads(calls: &Calls, alloc: Global, path: &str) -> Result<(), FilesFault> {
+pub fn reads(calls: &Calls, alloc: Global, path: &str) -> Result<(), FilesFault> {
     match FileDisk::open_to_read(&MadeUp { alloc, calls }, alloc, path) {
         Ok(_) => Ok(()),
         Err(why) => Err(why),
@@ -203,7 +203,7 @@ fn a_second_file_that_is_the_first_one_is_refused(rt: HostRuntime) {
 }
 
 // Whether each opening tells that another has the worksheet, and these are the calls.
-fn are_in_use(calls: &Calls, alloc: Global, lines: &str) -> bool {
+pub fn are_in_use(calls: &Calls, alloc: Global, lines: &str) -> bool {
     opens(calls, alloc, "s") == Err(FilesFault::InUse)
         && reads(calls, alloc, "s") == Err(FilesFault::InUse)
         && calls.are(lines)
@@ -233,53 +233,6 @@ fn is_not_made(alloc: Global) -> bool {
 fn a_worksheet_that_another_has_is_left_alone(rt: HostRuntime) {
     assert!(rt; is_left_alone(rt.alloc()));
     assert!(rt; is_not_made(rt.alloc()));
-}
-
-// Whether a worksheet is left to one who has its second file alone.
-fn second_is_left_alone(alloc: Global) -> bool {
-    let calls = over(alloc, There::All);
-    calls.locks.set(Locks::SecondTaken);
-    are_in_use(
-        &calls,
-        alloc,
-        "follow s\nlook for s\nopen s\nlock s\nidentify s\n\
-         look for s.alt\nopen s.alt\nidentify s\nidentify s.alt\nlock s.alt\n\
-         follow s\nlook for s\nopen to read s\nlock to read s\nidentify s\n\
-         look for s.alt\nopen to read s.alt\nidentify s\nidentify s.alt\nlock to read s.alt\n",
-    )
-}
-
-// The same of one that is made.
-fn second_is_not_made(alloc: Global) -> bool {
-    let calls = Calls::new(alloc);
-    calls.locks.set(Locks::SecondTaken);
-    creates(&calls, alloc, "s") == Err(MakeFault::InUse)
-        && calls.end_in("lock s\nmake s.alt\nlock s.alt\n")
-}
-
-#[test]
-fn a_worksheet_whose_second_file_another_has_is_left_alone(rt: HostRuntime) {
-    assert!(rt; second_is_left_alone(rt.alloc()));
-    assert!(rt; second_is_not_made(rt.alloc()));
-}
-
-// What comes of worksheets that are opened to be written, and to be read, whose files have these lengths.
-fn of_lengths(
-    alloc: Global,
-    lengths: (u64, u64),
-) -> (Result<(), FilesFault>, Result<(), FilesFault>) {
-    let calls = over(alloc, There::All);
-    calls.lengths.set(lengths);
-    (opens(&calls, alloc, "s"), reads(&calls, alloc, "s"))
-}
-
-#[test]
-fn no_file_is_written_that_is_too_long(rt: HostRuntime) {
-    let room = 2_147_483_648;
-    assert!(rt; of_lengths(rt.alloc(), (room, room)) == (Ok(()), Ok(())));
-    let refused = (Err(FilesFault::Disk), Ok(()));
-    assert!(rt; of_lengths(rt.alloc(), (room + 1, 0)) == refused);
-    assert!(rt; of_lengths(rt.alloc(), (11, room + 1)) == refused);
 }
 
 // The calls of two openings of both files that succeed.
