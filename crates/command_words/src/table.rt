@@ -240,6 +240,8 @@ const FAULTS_NOTES: &str =
 \x20                nothing was written: export it in another format\n\
 37 NoField ID    no field has this number, which was given to `eval`; nothing was\n\
 \x20                evaluated: `show` has the numbers\n\
+38 SecondFile    PATH is the second file of a worksheet; nothing was done: give PATH\n\
+\x20                without .alt\n\
 40 Input         standard input can't be read, or interpreters not watched; all\n\
 \x20                that was printed is kept: give the rest again\n\
 41 InputTooLong  more than 67,108,864 bytes; nothing was done: cut it into parts\n\

@@ -59,6 +59,7 @@ pub(crate) fn wait_fault(fault: RunFault) -> RunFault
         RunFault::Host(why) => RunFault::Host(why),
         RunFault::Open(why) => RunFault::Open(why),
         RunFault::InUse => RunFault::InUse,
+        RunFault::SecondFile => RunFault::SecondFile,
     }
 }
 

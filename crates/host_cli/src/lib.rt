@@ -13,9 +13,11 @@ mod runs;
 pub mod startup;
 mod tasks;
 pub mod terminal;
+mod waiting;
 
 pub use outlet::Outlet;
 pub use outside::{Outside, System};
 pub use plans::PlanFault;
 pub use refusing::{refuse_unread_words, refuse_words};
 pub use tasks::{do_task, perform};
+pub use waiting::{PatientInput, PatientOutput};

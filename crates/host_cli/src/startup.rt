@@ -1,13 +1,13 @@
 //! The program's words, and the system's streams, files and children, over which the rest of the crate does what
 //! the words ask for. `tmhost` and `programs` both begin with it.
-use crate::{Outside, System};
+use crate::{Outside, PatientInput, PatientOutput, System};
 use arrivals::Polled;
 use child_calls::Processes;
 use sheet_check::ProgressLine;
 use sheet_files::{Closed, FileDisk, FilePlaces};
 use std::alloc::AllocError;
 use std::fs::File;
-use std::io::{BufWriter, ErrorKind, IsTerminal, Stderr, Stdin, Stdout};
+use std::io::{BufWriter, ErrorKind, IsTerminal, Stderr};
 use std::marker::PhantomData;
 use std::os::fd::AsRawFd;
 
@@ -29,9 +29,9 @@ impl<'a> System for Real<'a> {
 
     type Sources = Polled<Processes<&'a HostRuntime>, &'a HostRuntime>;
 
-    type Input = Stdin;
+    type Input = PatientInput;
 
-    type Output = BufWriter<Stdout>;
+    type Output = BufWriter<PatientOutput>;
 
     type Errors = Stderr;
 
@@ -63,7 +63,8 @@ fn progress(rt: &HostRuntime) -> ProgressLine<BufWriter<Stderr>> {
 /// `AllocError`: there was no memory for them.
 pub fn outside<'a>(rt: &'a HostRuntime) -> Result<Outside<Real<'a>>, AllocError> {
     let closed = Closed::find(&rt.stdin(), &rt.stdout(), &rt.stderr());
-    let Ok(output) = BufWriter::with_capacity(rt.alloc(), BUFFER, rt.stdout()) else {
+    let output = PatientOutput::new(rt.stdout());
+    let Ok(output) = BufWriter::with_capacity(rt.alloc(), BUFFER, output) else {
         return Err(AllocError);
     };
     let children = Processes::new(rt, rt.alloc());
@@ -71,7 +72,7 @@ pub fn outside<'a>(rt: &'a HostRuntime) -> Result<Outside<Real<'a>>, AllocError>
     Ok(Outside {
         places: FilePlaces::new(rt, rt.alloc(), closed),
         sources,
-        input: rt.stdin(),
+        input: PatientInput::new(rt.stdin()),
         output,
         errors: rt.stderr(),
         progress: progress(rt),

@@ -31,6 +31,7 @@ fault_text fault.OutOfMemory = codes "fault 43 OutOfMemory\n"
 fault_text (fault.Host why) = host_fault_text why
 fault_text (fault.Open why) = open_fault_text why
 fault_text fault.InUse = codes "fault 35 InUse\n"
+fault_text fault.SecondFile = codes "fault 38 SecondFile\n"
 
 -- What a fault of `show` tells: the damage of the disk, where nothing was written, or that the writer failed.
 pub data TellsShow (disk : DiskView) (nothing : Type 0) : RunFault → Type 0 where

@@ -33,6 +33,9 @@ pub enum RunFault {
     /// 35: another program has the worksheet. Nothing was done.
     #[error("the worksheet is in use")]
     InUse,
+    /// 38: the path is that of a worksheet's second file. Nothing was done.
+    #[error("this is the second file of a worksheet")]
+    SecondFile,
 }
 
 fn host_fault_text<W: Write>(fault: HostFault, out: &mut W) -> Result<(), WriteFault>
@@ -79,5 +82,8 @@ pub fn fault_text<W: Write>(fault: RunFault, out: &mut W) -> Result<(), WriteFau
         RunFault::Host(why) => host_fault_text(why, out),
         RunFault::Open(why) => open_fault_text(why, out),
         RunFault::InUse => out.write_all(b"fault 35 InUse\n").map_err(|_| WriteFault),
+        RunFault::SecondFile => out
+            .write_all(b"fault 38 SecondFile\n")
+            .map_err(|_| WriteFault),
     }
 }

@@ -16,10 +16,12 @@ abbrev pub create_fault_text : MakeFault → List ℕ
 create_fault_text (makes.Create creates.NotEmpty) = codes "fault 34 NotEmpty\n"
 create_fault_text (makes.Create creates.Disk) = codes "fault 32 Disk\n"
 create_fault_text makes.InUse = codes "fault 35 InUse\n"
+create_fault_text makes.SecondFile = codes "fault 38 SecondFile\n"
 
 -- the fault of a program that has no files of a worksheet
 abbrev pub no_files : FilesFault → RunFault
 no_files files.InUse = fault.InUse
+no_files files.SecondFile = fault.SecondFile
 no_files files.Disk = fault.Open opens.Disk
 
 -- and of one that can't hold the place of a closed stream

@@ -91,3 +91,4 @@ is_unwritten (Err fault.OutOfMemory) = false
 is_unwritten (Err (fault.Host why)) = false
 is_unwritten (Err (fault.Open why)) = false
 is_unwritten (Err fault.InUse) = false
+is_unwritten (Err fault.SecondFile) = false

@@ -139,6 +139,7 @@ pub fn is_unwritten(end: CheckEnding) -> bool
             | RunFault::OutOfMemory
             | RunFault::Host(_)
             | RunFault::Open(_)
+            | RunFault::SecondFile
             | RunFault::InUse,
         ) => false,
     }

@@ -18,6 +18,7 @@ pub(crate) fn no_files(why: FilesFault) -> RunFault
 {
     match why {
         FilesFault::InUse => RunFault::InUse,
+        FilesFault::SecondFile => RunFault::SecondFile,
         FilesFault::Disk => RunFault::Open(OpenCause::Disk),
     }
 }
@@ -49,6 +50,7 @@ pub fn create_fault_text<W: Write>(why: MakeFault, out: &mut W) -> Result<(), Wr
         MakeFault::Create(CreateCause::NotEmpty) => out.write_all(b"fault 34 NotEmpty\n"),
         MakeFault::Create(CreateCause::Disk) => out.write_all(b"fault 32 Disk\n"),
         MakeFault::InUse => out.write_all(b"fault 35 InUse\n"),
+        MakeFault::SecondFile => out.write_all(b"fault 38 SecondFile\n"),
     }
     .map_err(|_| WriteFault)
 }

@@ -192,7 +192,42 @@ without_memory 'a notebook' 'fault 43 OutOfMemory\n' export notebook big
 for program in show 'export html' live run 'run --strict'; do
     without_memory "$program" 'fault 33 OutOfMemory\n' $program big
 done
-rm -f big big.alt saved saved.alt many page.awk
+# Streams that don't block, as one may be that another program has too: they are waited for. in SCRIPT WORDS: the script comes a line at a
+# time over such an input. out SCRIPT WORDS: the output is such a one, and is read late.
+cat >patient.py <<'END_OF_PATIENT'
+import os, subprocess, sys, time
+
+way, script, *words = sys.argv[1:]
+given, kept = os.pipe()
+taken, put = os.pipe()
+os.set_blocking(given if way == "in" else put, False)
+child = subprocess.Popen(words, stdin=given, stdout=put, stderr=subprocess.STDOUT)
+os.close(given)
+os.close(put)
+with open(script, "rb") as lines:
+    for line in lines:
+        time.sleep(0.2 if way == "in" else 0)
+        os.write(kept, line)
+os.close(kept)
+time.sleep(0.5 if way == "out" else 0)
+with open(taken, "rb") as text:
+    sys.stdout.buffer.write(text.read())
+sys.stdout.buffer.write(b"status %d\n" % child.wait())
+END_OF_PATIENT
+printf 'session b plain true\nnew 0 b y\nremove 1\n' >given
+for program in run 'run --strict' 'run --timeout 5' live; do
+    rm -f sheet sheet.alt
+    "$tmhost" create sheet
+    compare "$program of an input that doesn't block" "$(python3 patient.py in given "$tmhost" $program sheet)" "$(ending 'ok\nfield 1\nok\n' 0)"
+done
+printf '\002verbatim:A\005\nnoise\n\002verbatim:B\005' >given
+compare "blocks of an input that doesn't block" "$(python3 patient.py in given "$tmhost" blocks)" "$(answer blocks <given)"
+printf 'print\n' >given
+for program in show 'export html' 'export json' run live 'live --json'; do
+    compare "$program into an output that doesn't block" "$(python3 patient.py out given "$tmhost" $program big | cksum)" \
+        "$({ "$tmhost" $program big <given; echo 'status 0'; } | cksum)"
+done
+rm -f big big.alt saved saved.alt many page.awk patient.py
 
 # Calls on real files that fail each time: NAME CALL ERROR STATUS TEXT WORDS. Where the system has no filter of calls the case counts so.
 python3 failing.py fsync EIO true

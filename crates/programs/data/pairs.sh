@@ -1,4 +1,8 @@
-# Worksheets as pairs of files: a second file that somebody else has, and one that is too long.
+# Worksheets as pairs of files: what each program does at the path of the second one, alone and beside another that has the worksheet; a
+# second file that somebody else has, and one that is too long.
+
+second='fault 38 SecondFile\n'
+programs='create run:--strict run:--timeout:5 run live eval eval:--timeout:5 show check check:--accept check:--jobs:2 export:html export:script'
 
 # A program as words: its parts stand between colons.
 parts() {
@@ -16,6 +20,78 @@ laid() {
 as_laid() {
     compare "$1, its files" "$(bytes w; bytes w.alt; ls w.alt.alt saved saved.alt 2>/dev/null)" "$(cat laid)"
 }
+
+# Alone.
+laid
+for program in $programs; do
+    words "$program at a second file" 1 "$second" $(parts $program) w.alt
+    as_laid "$program at a second file"
+done
+words 'rescue of a second file' 1 "$second" rescue w.alt saved
+as_laid 'rescue of a second file'
+words 'rescue to a second file' 1 "$second" rescue w w.alt
+as_laid 'rescue to a second file'
+for program in live:--json run:--json eval:--json; do
+    words "$program at a second file" 1 '{"name":"SecondFile","number":38,"type":"fault"}\n'"$second" $(parts $program) w.alt
+done
+words 'a check of both files' 1 'worksheet w.alt\nworksheet w\nsame 0 differ 0 unanswered 0\ntotal of 2 worksheets: same 0 differ 0 unanswered 0 faults 1\nfault 38 SecondFile\n' check w.alt w
+
+# By other names.
+ln -s w.alt by_link
+words 'a link to a second file' 1 "$second" show by_link
+words 'a whole path' 1 "$second" run "$PWD/w.alt"
+words 'a path with a dot' 1 "$second" run ./w.alt
+rm by_link
+words 'the second file of a second file' 1 "$second" create w.alt.alt
+
+# One that is missing isn't made by that name.
+rm w.alt
+for program in create run live show; do
+    words "$program at a second file that is missing" 1 "$second" $(parts $program) w.alt
+done
+words 'rescue to a second file that is missing' 1 "$second" rescue w w.alt
+compare 'it is still missing' "$(ls w.alt w.alt.alt 2>/dev/null)" ''
+words 'the worksheet itself' 0 '#1 a\n> one\n?\n#2 a\n> two\n?\n' show w
+
+# What stands at the path without the ending is no first file: NAME, after it was made at `other`.
+is_none() {
+    rm -f other.alt other.alt.alt
+    words "$1" 0 '' create other.alt
+    words "$1, written" 0 '' run other.alt
+    words "$1, shown" 0 '' show other.alt
+    rm -rf other other.alt other.alt.alt
+}
+is_none 'nothing beside it'
+mkdir other
+is_none 'a folder beside it'
+mkfifo other
+is_none 'a pipe beside it'
+: >other
+is_none 'an empty file beside it'
+echo a text that is longer than a header >other
+is_none 'a text beside it'
+printf TMWSHEET >other
+is_none 'a header that is cut'
+printf 'TMWSHEET\002A\000' >other
+is_none 'another version'
+ln -s w other
+is_none 'a link to a worksheet'
+ln -s nowhere other
+is_none 'a link that leads nowhere'
+
+# And it is one: by the nine bytes that each begins with, whatever stands after them.
+for bytes in 'TMWSHEET\001' 'TMWSHEET\001A' 'TMWSHEET\001B\000' 'TMWSHEET\001?R\377'; do
+    printf "$bytes" >other
+    words "create beside $bytes" 1 "$second" create other.alt
+done
+rm other
+cp w other
+chmod 200 other
+words 'create beside a file that may not be read' 1 'fault 32 Disk\n' create other.alt
+chmod 600 other
+words 'create beside it when it may be read' 1 "$second" create other.alt
+rm other
+compare 'none was made' "$(ls other.alt other.alt.alt 2>/dev/null)" ''
 
 # Begins a talk with a `live` that has this worksheet.
 has() {
@@ -36,6 +112,41 @@ had() {
     compare "$1, at the end" "$rest$(cat talk.errors; echo "status $status")" 'status 0'
     words "$1, shown" 0 "$3" show "$2"
 }
+
+# One has the worksheet, and the others come to both paths.
+laid
+has w
+say 'set 1 uno\n'
+hears 'one that has the worksheet' 'ok\n'
+for program in $programs; do
+    words "$program at the second file meanwhile" 1 "$second" $(parts $program) w.alt
+done
+for program in run live eval show check export:html; do
+    words "$program at the first file meanwhile" 1 'fault 35 InUse\n' $(parts $program) w
+done
+say 'checkpoint\nnew 2 a three\n'
+hears 'it goes on' 'ok\nfield 3\n'
+words 'run at the second file in which the worksheet lies' 1 "$second" run w.alt
+say 'new 3 a four\n'
+hears 'it goes on again' 'field 4\n'
+had 'one that has the worksheet' w '#1 a\n> uno\n?\n#2 a\n> two\n?\n#3 a\n> three\n?\n#4 a\n> four\n?\n'
+
+# The other order: somebody has a worksheet of that name, and then a first file comes beside it.
+rm -f other other.alt other.alt.alt
+"$tmhost" create other.alt
+has other.alt
+say 'session a plain true\n'
+hears 'one that has a worksheet of that name' 'ok\n'
+words 'create beside it' 1 'fault 34 NotEmpty\n' create other
+cp w other
+for program in run live eval show check export:html; do
+    words "$program at the first file of what another has" 1 'fault 35 InUse\n' $(parts $program) other
+done
+rm other
+say 'new 0 a one\n'
+hears 'it goes on' 'field 1\n'
+had 'one that has a worksheet of that name' other.alt '#1 a\n> one\n?\n'
+rm other.alt other.alt.alt
 
 # Somebody else has a lock on the second file, which others may have too (SH) or not (EX): LOCK WORDS.
 cat >lock.py <<'END_OF_LOCK'

@@ -136,3 +136,4 @@ fault_on_copy fault.InputTooLong = fault.InputTooLong
 fault_on_copy fault.Output = fault.Output
 fault_on_copy (fault.Open why) = fault.Open why
 fault_on_copy fault.InUse = fault.InUse
+fault_on_copy fault.SecondFile = fault.SecondFile

@@ -45,6 +45,7 @@ pub(crate) fn wait_fault(fault: RunFault) -> RunFault
         RunFault::Output => RunFault::Output,
         RunFault::Open(why) => RunFault::Open(why),
         RunFault::InUse => RunFault::InUse,
+        RunFault::SecondFile => RunFault::SecondFile,
     }
 }
 

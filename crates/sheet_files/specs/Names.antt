@@ -9,11 +9,13 @@ use Rattle.sheet_files.specs.declared.names.Names as names
 use Rattle.sheet_files.specs.declared.sheet_file.Lock.{Lock}
 use Rattle.sheet_files.specs.declared.sheet_file.Lock.TheVariants.{Shared, Exclusive}
 
--- neither path had anything. Then the first file was made, and locked before the other was made, and that
--- one too; and then both files and the names of their folder were brought onto the disk
+-- the path isn't that of a worksheet's second file, and neither path had anything. Then the first file was
+-- made, and locked before the other was made, and that one too; and then both files and the names of their
+-- folder were brought onto the disk
 abbrev pub Created : {F N : Type 0} → names.Ghosts N F → List ℕ → List ℕ → F × F → N → N → Type 0
 Created {F} {N} calls path alt files old new =
-    (a : N) × calls.looks old path (Ok false) a
+    (own : N) × calls.is_second_file old path (Ok false) own
+    × ((a : N) × calls.looks own path (Ok false) a
     × ((b : N) × calls.looks a alt (Ok false) b
     × ((c : N) × calls.makes b path (Ok files.0) c
     × ((d : N) × calls.locks c files.0 Exclusive (Ok false) d
@@ -21,14 +23,16 @@ Created {F} {N} calls path alt files old new =
     × ((f : N) × calls.locks e files.1 Exclusive (Ok false) f
     × ((g : N) × calls.syncs f files.0 (Ok tt) g
     × ((h : N) × calls.syncs g files.1 (Ok tt) h
-    × calls.syncs_folder h path (Ok tt) new)))))))
+    × calls.syncs_folder h path (Ok tt) new))))))))
 
--- a first file was opened, and then locked before anything was read of it, and it has one name
+-- the path isn't that of a worksheet's second file. A first file was opened, and then locked before
+-- anything was read of it, and it has one name
 abbrev pub FirstOpened : {F N : Type 0} → names.Ghosts N F → List ℕ → Lock → F → N → N → Type 0
 FirstOpened {F} {N} calls path lock first old new =
-    (a : N) × calls.opens old path lock (Ok first) a
+    (own : N) × calls.is_second_file old path (Ok false) own
+    × ((a : N) × calls.opens own path lock (Ok first) a
     × ((b : N) × calls.locks a first lock (Ok false) b
-    × calls.is_single b first (Ok tt) new)
+    × calls.is_single b first (Ok tt) new))
 
 -- a second file was opened; or there was none, as the error of its opening said, the first one doesn't
 -- say that the worksheet lies in it, and one was made

@@ -71,7 +71,8 @@ fn sync_failed() -> io::Error {
 impl<F: SheetFile + Drop> FileDisk<F> {
     /// Makes both files, empty, first the one at `path`, which is locked before the other is made.
     /// They and their names are durable once it answers. `NotEmpty` where either exists, a folder and a
-    /// link that leads nowhere included, and nothing was made. `InUse` where another program took a
+    /// link that leads nowhere included, and nothing was made. `SecondFile` where the other file of a
+    /// worksheet lies at `path`, or would lie there. `InUse` where another program took a
     /// new file before it was locked. `Disk` where a file can't be made, an empty path and lack of
     /// memory for a path included; a file that was made stays.
     pub fn create<R: Files<File = F>>(
@@ -87,8 +88,8 @@ impl<F: SheetFile + Drop> FileDisk<F> {
     /// Opens both files, first the one that `path` leads to, which is locked before anything is read
     /// and before the other is opened, as that one is then; a missing second one is made, unless the
     /// worksheet lies in it. Their names are durable once it answers, also those of files that were copied,
-    /// or whose program was killed before it flushed their names to the disk. `InUse` where another program
-    /// has the worksheet, or one of its files. `Disk` where a file can't be opened or made: a missing file at
+    /// or whose program was killed before it flushed their names to the disk. `SecondFile` where `path` leads
+    /// to the second file of a worksheet. `InUse` where another program has the worksheet, or one of its files. `Disk` where a file can't be opened or made: a missing file at
     /// `path`, a missing second one in which the worksheet lies, a folder or what else is no plain file, a
     /// file that has another name, a second file that is a link or the first one, one that may not be read
     /// and written, one that is longer than an area may be, also where the worksheet lies in the other, a

@@ -6,6 +6,9 @@ use thiserror::Error;
 /// Why a program has no files of a worksheet. Nothing was written there.
 #[derive(Clone, Copy, Debug, PartialEq, Eq, Error)]
 pub enum FilesFault {
+    /// 38: the path is that of a worksheet's second file. No file was made, locked or written.
+    #[error("this is the second file of a worksheet")]
+    SecondFile,
     /// 35: another program has the worksheet.
     #[error("the worksheet is in use")]
     InUse,
@@ -23,6 +26,9 @@ impl From<io::Error> for FilesFault {
 /// Why no worksheet was made.
 #[derive(Clone, Copy, Debug, PartialEq, Eq, Error)]
 pub enum MakeFault {
+    /// 38: the path is that of a worksheet's second file. No file was made, locked or written.
+    #[error("this is the second file of a worksheet")]
+    SecondFile,
     /// 34 or 32: something is there already, or the disk failed.
     #[error("the worksheet was not made")]
     Create(CreateCause),

@@ -12,6 +12,8 @@ use std::io;
 /// Who opens files over any place has nothing else to do with a file: it can be neither read nor
 /// written, synced or locked but by these calls.
 pub trait Names<F> {
+    ghost is_second_file: { Self → List ℕ → Result Bool Error → Self → Type 0 };
+
     ghost looks: { Self → List ℕ → Result Bool Error → Self → Type 0 };
 
     ghost makes: { Self → List ℕ → Result F Error → Self → Type 0 };
@@ -31,6 +33,11 @@ pub trait Names<F> {
     ghost syncs: { Self → F → Result (Unit {0}) Error → Self → Type 0 };
 
     ghost syncs_folder: { Self → List ℕ → Result (Unit {0}) Error → Self → Type 0 };
+
+    /// Whether this is the path of a worksheet's second file: it ends in `.alt`, and at the path without
+    /// that ending lies a worksheet's first file.
+    fn is_second(&mut self, path: &str) -> io::Result<bool>
+        ensures { is_second_file self.old path.now result self.new };
 
     /// Whether something has this name, a link that leads nowhere too.
     fn look(&mut self, path: &str) -> io::Result<bool>

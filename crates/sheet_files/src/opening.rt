@@ -22,7 +22,7 @@ fn look_for<F, N: Names<F>>(names: &mut N, path: &str, alt: &str) -> Result<(), 
 }
 
 /// Makes both files, empty, each locked before anything else is done. They and their names are durable
-/// once it answers.
+/// once it answers. Where a worksheet's second file would lie none is made.
 pub(crate) fn create<F: Drop, N: Names<F>>(
     names: &mut N,
     path: &str,
@@ -30,6 +30,9 @@ pub(crate) fn create<F: Drop, N: Names<F>>(
 ) -> Result<(F, F), MakeFault>
     ensures { IfOk result (λ files. Created N.Names path.now alt.now files names.old names.new) }
 {
+    if names.is_second(path)? {
+        return Err(MakeFault::SecondFile);
+    }
     look_for(names, path, alt)?;
     let first = names.make(path)?;
     if names.lock(&first, Lock::Exclusive)? {
@@ -45,11 +48,15 @@ pub(crate) fn create<F: Drop, N: Names<F>>(
     Ok((first, second))
 }
 
-/// Opens the first file of a worksheet, and locks it. One that has another name is refused, since what
-/// is opened by that name has another second file.
+/// Opens the first file of a worksheet, and locks it. A path at which a worksheet's second file lies is
+/// refused before that, and then a file that has another name, since what is opened by that name has
+/// another second file.
 fn open_first<F: Drop, N: Names<F>>(names: &mut N, path: &str, lock: Lock) -> Result<F, FilesFault>
     ensures { IfOk result (λ first. FirstOpened N.Names path.now lock first names.old names.new) }
 {
+    if names.is_second(path)? {
+        return Err(FilesFault::SecondFile);
+    }
     let first = names.open(path, lock)?;
     if names.lock(&first, lock)? {
         return Err(FilesFault::InUse);

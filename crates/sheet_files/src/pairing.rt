@@ -9,10 +9,16 @@ use std::os::unix::fs::FileExt;
 use std::rt::Files;
 use std::{fs, io};
 
+/// What the path of the second file ends in, after that of the first one.
+const ENDING: &str = ".alt";
+
+/// How many bytes each first file of this version begins with: its header without the selector.
+const MAGIC: usize = 9;
+
 /// The path of area Second.
 pub(crate) fn second_path(alloc: Global, path: &str) -> io::Result<String> {
     let mut second = String::from_str(alloc, path)?;
-    second.push_str(".alt")?;
+    second.push_str(ENDING)?;
     Ok(second)
 }
 
@@ -82,6 +88,28 @@ fn open_plain<R: Files>(rt: &R, path: &str, lock: Lock) -> io::Result<R::File> {
         .open(rt, path)
 }
 
+/// Whether a file begins as each first file of this version does.
+fn begins_sheet<F: FileExt>(file: &F) -> io::Result<bool> {
+    let mut magic = [0; MAGIC];
+    match file.read_exact_at(&mut magic, 0) {
+        Ok(()) => Ok(FIRST_OF_SECOND.starts_with(&magic)),
+        Err(error) if error.kind() == ErrorKind::UnexpectedEof => Ok(false),
+        Err(error) => Err(error),
+    }
+}
+
+/// Whether a worksheet's first file lies at a path. What is no plain file is none, nor is a link: the second
+/// file stands beside what it leads to.
+fn has_first<F: FileExt, R: Files<File = F>>(rt: &R, path: &str) -> io::Result<bool> {
+    match open_plain(rt, path, Lock::Shared) {
+        Ok(file) => begins_sheet(&file),
+        Err(error) if matches!(error.kind(), ErrorKind::NotFound | ErrorKind::InvalidInput) => Ok(
+            false,
+        ),
+        Err(error) => Err(error),
+    }
+}
+
 /// Which file this is, where it is a plain one that has one name.
 fn single<F: SheetFile>(file: &F) -> io::Result<Identity> {
     let identity = file.identity()?;
@@ -110,6 +138,8 @@ pub(crate) struct FileNames<'a, R: Files> {
 }
 
 impl<F: SheetFile, R: Files<File = F>> Names<F> for FileNames<'_, R> {
+    ghost is_second_file = { λ _ _ _ _. Unit {0} };
+
     ghost looks = { λ _ _ _ _. Unit {0} };
 
     ghost makes = { λ _ _ _ _. Unit {0} };
@@ -129,6 +159,13 @@ impl<F: SheetFile, R: Files<File = F>> Names<F> for FileNames<'_, R> {
     ghost syncs = { λ _ _ _ _. Unit {0} };
 
     ghost syncs_folder = { λ _ _ _ _. Unit {0} };
+
+    fn is_second(&mut self, path: &str) -> io::Result<bool> {
+        match path.strip_suffix(ENDING) {
+            Some(first) => has_first(self.rt, first),
+            None => Ok(false),
+        }
+    }
 
     fn look(&mut self, path: &str) -> io::Result<bool> {
         is_there(self.rt, path)

@@ -45,6 +45,7 @@ fault_number fault.OutOfMemory = 43
 fault_number (fault.Host why) = host_fault_number why
 fault_number (fault.Open why) = open_fault_number why
 fault_number fault.InUse = 35
+fault_number fault.SecondFile = 38
 
 abbrev pub fault_name : RunFault → List ℕ
 fault_name fault.Input = codes "Input"
@@ -54,6 +55,7 @@ fault_name fault.OutOfMemory = codes "OutOfMemory"
 fault_name (fault.Host why) = host_fault_name why
 fault_name (fault.Open why) = open_fault_name why
 fault_name fault.InUse = codes "InUse"
+fault_name fault.SecondFile = codes "SecondFile"
 
 abbrev pub fault_offset : RunFault → Option ℕ
 fault_offset fault.Input = None
@@ -63,3 +65,4 @@ fault_offset fault.OutOfMemory = None
 fault_offset (fault.Host why) = None
 fault_offset (fault.Open why) = damage_offset why
 fault_offset fault.InUse = None
+fault_offset fault.SecondFile = None

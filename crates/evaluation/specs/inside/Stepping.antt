@@ -123,3 +123,4 @@ fault_of_wait fault.InputTooLong = fault.InputTooLong
 fault_of_wait (fault.Host f) = fault.Host f
 fault_of_wait (fault.Open why) = fault.Open why
 fault_of_wait fault.InUse = fault.InUse
+fault_of_wait fault.SecondFile = fault.SecondFile

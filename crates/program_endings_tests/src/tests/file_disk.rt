@@ -324,6 +324,26 @@ fn a_file_that_is_shared_is_not_opened(rt: HostRuntime) {
     assert!(rt; is_done(fs::remove_dir_all(&rt, "shared")));
 }
 
+// Whether nothing is made, opened or read at this path, since a worksheet's second file has it.
+fn is_second(rt: &HostRuntime, path: &str) -> bool {
+    creates(rt, path) == Err(MakeFault::SecondFile)
+        && opens(rt, path) == Err(FilesFault::SecondFile)
+        && reads(rt, path) == Err(FilesFault::SecondFile)
+}
+
+#[test]
+fn a_second_file_is_no_worksheet(rt: HostRuntime) {
+    assert!(rt; is_done(folder(&rt, "second")));
+    assert!(rt; creates(&rt, "second/sheet") == Ok(()));
+    assert!(rt; is_second(&rt, "second/sheet.alt"));
+    assert!(rt; is_done(fs::remove_file(&rt, "second/sheet.alt")));
+    assert!(rt; is_second(&rt, "second/sheet.alt"));
+    assert!(rt; !is_there(&rt, "second/sheet.alt") && !is_there(&rt, "second/sheet.alt.alt"));
+    assert!(rt; is_done(fs::write(&rt, "second/sheet", b"TMWSHEET\x02A\x00")));
+    assert!(rt; creates(&rt, "second/sheet.alt") == Ok(()));
+    assert!(rt; is_done(fs::remove_dir_all(&rt, "second")));
+}
+
 // Links in two folders to one worksheet.
 fn make_links(rt: &HostRuntime) -> io::Result<()> {
     folder(rt, "links")?;

@@ -23,7 +23,7 @@ fn ending(status: u8, told: bool) -> Ending {
 }
 
 // Each fault that a program can end by, and the line that tells it.
-const TOLD: [(RunFault, &[u8]); 13] = [
+const TOLD: [(RunFault, &[u8]); 14] = [
     (RunFault::Host(HostFault::Closed), b"fault 20 Closed\n"),
     (RunFault::Host(HostFault::Disk), b"fault 21 Disk\n"),
     (
@@ -48,6 +48,7 @@ const TOLD: [(RunFault, &[u8]); 13] = [
         b"fault 33 OutOfMemory\n",
     ),
     (RunFault::InUse, b"fault 35 InUse\n"),
+    (RunFault::SecondFile, b"fault 38 SecondFile\n"),
     (RunFault::Input, b"fault 40 Input\n"),
     (RunFault::InputTooLong, b"fault 41 InputTooLong\n"),
     (RunFault::Output, b"fault 42 Output\n"),
@@ -119,6 +120,7 @@ fn create_without_files(rt: HostRuntime) {
     assert!(rt; creates_without_files(alloc, disk, b"fault 32 Disk\n"));
     assert!(rt; creates_without_files(alloc, there, b"fault 34 NotEmpty\n"));
     assert!(rt; creates_without_files(alloc, MakeFault::InUse, b"fault 35 InUse\n"));
+    assert!(rt; creates_without_files(alloc, MakeFault::SecondFile, b"fault 38 SecondFile\n"));
     let none: Result<MemoryDisk, MakeFault> = Err(there);
     assert!(rt; run_create(none, &mut Deaf) == ending(1, false));
 }
@@ -151,6 +153,8 @@ fn show_without_files(rt: HostRuntime) {
     assert!(rt; shows_files(rt.alloc(), none, 1, (b"", b"fault 32 Disk\n")));
     let used: Result<MemoryDisk, FilesFault> = Err(FilesFault::InUse);
     assert!(rt; shows_files(rt.alloc(), used, 1, (b"", b"fault 35 InUse\n")));
+    let second: Result<MemoryDisk, FilesFault> = Err(FilesFault::SecondFile);
+    assert!(rt; shows_files(rt.alloc(), second, 1, (b"", b"fault 38 SecondFile\n")));
 }
 
 // Whether `show` over this output tells that it could not be written.

@@ -1,8 +1,27 @@
-//! The second file of a worksheet: its lock and its length.
+//! The second file of a worksheet: its path, its lock and its length.
 use super::file_calls::{are_in_use, creates, opens, over, reads};
 use super::made_up::{Calls, Locks, There};
+use journal::CreateCause;
 use sheet_files::{FilesFault, MakeFault};
 use std::alloc::Global;
+
+// Whether nothing is done at a path like that of a second file where it can't be read whether a worksheet's
+// first file lies beside it.
+fn is_looked_at_first(alloc: Global) -> bool {
+    let calls = over(alloc, There::All);
+    calls.unreadable.set(true);
+    let beside = "look for s\nopen to read s\nread s 0 3\n";
+    creates(&calls, alloc, "s.alt") == Err(MakeFault::Create(CreateCause::Disk))
+        && calls.are(beside)
+        && opens(&calls, alloc, "s.alt") == Err(FilesFault::Disk)
+        && reads(&calls, alloc, "s.alt") == Err(FilesFault::Disk)
+        && calls.end_in(beside)
+}
+
+#[test]
+fn a_path_like_that_of_a_second_file(rt: HostRuntime) {
+    assert!(rt; is_looked_at_first(rt.alloc()));
+}
 
 // Whether a worksheet is left to one who has its second file alone.
 fn second_is_left_alone(alloc: Global) -> bool {
