@@ -3,8 +3,9 @@
 # 1,000 and 10,000 fields, and how long such a worksheet takes to open: the best of RUNS runs (3 where it isn't set). 500 fields, spread
 # over the worksheet, are evaluated, each with a `wait` after it. Beside it `tmhost live` does the same, and the ratio of their rates is
 # printed. Then it prints how many times as many evaluations `live` does with eight interpreters that take 50 ms a line each as with one, and
-# with 8 and 64 that answer at once (the best of as many runs), and the processor time that it takes while nothing comes; and how long `check` and `eval` take with eight of them beside one. The files lie in
-# FOLDER, or where none is given in the current one.
+# with 8 and 64 that answer at once (the best of as many runs), and the processor time that it takes while nothing comes; and how long `check` and `eval` take with eight of them beside one.
+# Last it prints how many times the processor time of 1,000 fields of one session `eval` takes for a field of 10,000, and how many times that
+# without a limit of time with one; its interpreter's isn't counted. The files lie in FOLDER, or where none is given in the current one.
 set -euo pipefail
 folder=$(readlink -f "${1:-.}")
 root=$(dirname "$(dirname "$(readlink -f "${BASH_SOURCE[0]}")")")
@@ -115,4 +116,20 @@ for verb, last in (("eval", "answered {} unanswered 0"), ("check", "same {} diff
     one, eight = [min(took(last.format(fields), verb, sheet) for _ in range(runs)) for sheet, fields in suites]
     in_turn = took(last.format(suites[1][1]), verb, "--jobs", "1", suites[1][0])
     print(f"{verb}, sessions of 20 fields of 50 ms: one {one:.2f} s, eight {eight:.2f} s, {eight / one:.2f} times as long; eight with --jobs 1 {in_turn:.2f} s")
+
+def a_field(fields, *flags):
+    """The least processor time of `eval` for a field of the worksheet of so many, without its interpreter's."""
+    least = None
+    for _ in range(runs):
+        evaluating = subprocess.Popen([program, "eval", *flags, f"{work}/{fields}"], stdout=subprocess.DEVNULL)
+        os.waitid(os.P_PID, evaluating.pid, os.WEXITED | os.WNOWAIT)
+        with open(f"/proc/{evaluating.pid}/schedstat") as file:
+            taken = int(file.read().split()[0])
+        assert evaluating.wait() == 0
+        least = taken if least is None else min(least, taken)
+    return least / fields
+
+plain, limited = [[a_field(fields, *flags) for fields in (1000, 10000)] for flags in ((), ("--timeout", "100"))]
+print(f"eval, processor time of a field of one session: {plain[0] / 1000:.1f} us of 1,000, {plain[1] / plain[0]:.2f} times of 10,000; "
+      f"with --timeout {limited[0] / plain[0]:.2f} and {limited[1] / plain[1]:.2f} times without")
 PYTHON

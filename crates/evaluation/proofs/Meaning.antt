@@ -134,20 +134,3 @@ passed_asks_none plan fields meant stand at next end = record {
 }
 
 pub ruleset none_asked_steps = (stopped_asks_none, passed_asks_none)
-
-not-before : (plan : Plan) (fields : List Field) (meant : List ℕ) (stand : Stand) (k id j jd : ℕ) → IsAsked plan fields meant stand k id → IsAsked plan fields meant stand j jd → k < j → ⊥
-not-before plan fields meant stand k id j jd one other low = let wrong : false ≡ true = sym one.asked ∙ other.next.1 k one.next.0 low in absurd cc
-
--- no two fields are the next
-pub one_asked : (plan : Plan) (fields : List Field) (meant : List ℕ) (stand : Stand) (k id j jd : ℕ) → IsAsked plan fields meant stand k id → IsAsked plan fields meant stand j jd → (k ≡ j) × (id ≡ jd)
-one_asked plan fields meant stand k id j jd one other = by (cases_lt k j) (cases_lt j k)
-  where
-    some_same : (x y : ℕ) → Some x ≡ Some y → x ≡ y
-    some_same x y e = cc
-
-    by : (k < j) ⊎ (j ≤ k) → (j < k) ⊎ (k ≤ j) → (k ≡ j) × (id ≡ jd)
-    by (inl low) _ = absurd (not-before plan fields meant stand k id j jd one other low)
-    by (inr x) (inl low) = absurd (not-before plan fields meant stand j jd k id other one low)
-    by (inr x) (inr y) =
-        let e : k ≡ j = omega (arith, x, y) in
-        (e, some_same id jd (sym one.there ∙ ap (slice_get meant) e ∙ other.there))

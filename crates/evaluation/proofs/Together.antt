@@ -1,7 +1,9 @@
 -- Fields that wait side by side.
 use Rattle.std.proofs.Common.{◌≡◌, ◌⊎◌, inl, inr, ◌+◌, ◌-◌, ◌≤◌, ◌<◌, ℕ, Bool, true, false, List, [], ◌∷◌, Option, Some, None, refl, ap, sym, ◌∙◌, subst, length, arith, slice_get, nat_lt}
-use Rattle.std.specs.Prelude.{cond, option_map}
-use Rattle.std.proofs.lemmas.Bool.{cases_lt, lt-ltb, ltb-true}
+use Rattle.std.specs.Prelude.{◌==◌, ◌&&◌, ◌≢◌, cond, eqb, is_some, not, option_map}
+use Rattle.std.proofs.lemmas.Bool.{and_parts, cases_lt, lt-ltb, ltb-true}
+use Rattle.std.proofs.lemmas.Bool.Decides.{eqb_tells}
+use Rattle.std.proofs.lemmas.Option.{slice_get_within}
 use Rattle.std.proofs.lemmas.List.{length-append}
 use Rattle.worksheet.specs.declared.field.Field.{Field}
 use Rattle.worksheet.specs.declared.field.Session.{Session}
@@ -12,10 +14,10 @@ use Rattle.child_edge.specs.Seats.{life_view, seat, seat_of, seats_of, waits}
 use Rattle.live.specs.declared.holding.Hold.TheVariants as hold
 use Rattle.evaluation.specs.declared.plan.Plan.{Plan}
 use Rattle.evaluation.specs.declared.plan.Stand.{Stand}
-use Rattle.evaluation.specs.Meant.{IsAsked}
-use Rattle.evaluation.specs.Beside.{IsFirstWaiting, IsWatchDue, NoneJoins, NoneWaits, is_busy, is_waiting_one, joins}
-use Rattle.evaluation.specs.inside.Beside.{AsksNone, NoneBetween, SeatsLeft, one_if}
-use Rattle.evaluation.proofs.Meaning.{one_asked}
+use Rattle.evaluation.specs.Meant.{IsAsked, is_passed, stop_line}
+use Rattle.evaluation.specs.Beside.{IsFirstWaiting, IsWatchDue, NoneJoins, NoneWaits, has_room_beside, is_busy, is_waiting_one, joins}
+use Rattle.evaluation.specs.inside.Beside.{NoneBetween, SeatsLeft, is_due, one_if}
+use Rattle.evaluation.proofs.Meaning.{next_here}
 
 -- In how many sessions items wait.
 
@@ -89,20 +91,69 @@ late_none w meant stand at end so = record { each = λ k a b. so.each k a (omega
 
 -- Which field joins them.
 
-pub none_next : (plan : Plan) (w : World) (fields : List Field) (meant : List ℕ) (stand : Stand) → fields ≡ (sheet_in w).fields → AsksNone plan fields meant stand → NoneJoins plan w meant stand
-none_next plan w fields meant stand e none =
-    let here = subst (λ (x : List Field). AsksNone plan x meant stand) e none in
-    record { each = λ k id asked. absurd (here.each k id asked) }
+none_is : (o : Option ℕ) → not (is_some o) ≡ true → o ≡ None
+none_is None h = refl
+none_is (Some n) h = cc
 
-pub not_joining : (plan : Plan) (w : World) (fields : List Field) (meant : List ℕ) (stand : Stand) (at id : ℕ) → fields ≡ (sheet_in w).fields → IsAsked plan fields meant stand at id → joins plan w stand at id ≡ false
-    → NoneJoins plan w meant stand
-not_joining plan w fields meant stand at id e asked fails =
-    let here = subst (λ (x : List Field). IsAsked plan x meant stand at id) e asked in
+is_not : (b : Bool) → not b ≡ true → b ≡ false
+is_not true h = cc
+is_not false h = refl
+
+-- the first field that wasn't taken is the next where it is due
+pub due_asked : (plan : Plan) (fields : List Field) (meant : List ℕ) (stand : Stand) (id : ℕ) → slice_get meant stand.taken ≡ Some id → is_due plan fields meant stand ≡ true → IsAsked plan fields meant stand stand.taken id
+due_asked plan fields meant stand id there due =
+    let both = and_parts (not (is_some (stop_line plan.strict fields stand))) (not (is_passed plan fields meant stand.taken)) due in
     record {
-      each = λ k jd other.
-          let same = one_asked plan (sheet_in w).fields meant stand at id k jd here other in
-          subst (λ n. joins plan w stand n jd ≡ false) same.0 (subst (λ n. joins plan w stand at n ≡ false) same.1 fails);
+      goes_on = none_is (stop_line plan.strict fields stand) both.0;
+      next = next_here plan fields meant stand.taken;
+      there = there;
+      asked = is_not (is_passed plan fields meant stand.taken) both.1;
     }
+
+asked_due : (plan : Plan) (fields : List Field) (meant : List ℕ) (stand : Stand) (id : ℕ) → IsAsked plan fields meant stand stand.taken id → is_due plan fields meant stand ≡ true
+asked_due plan fields meant stand id asked = ap (λ (o : Option ℕ). not (is_some o) && not (is_passed plan fields meant stand.taken)) asked.goes_on ∙ ap (λ (b : Bool). not b) asked.asked
+
+taken_joins : (plan : Plan) (w : World) (stand : Stand) (k id : ℕ) → joins plan w stand k id ≡ true → k ≡ stand.taken
+taken_joins plan w stand k id h = by (eqb_tells k stand.taken) (and_parts (k == stand.taken) (not stand.warned && has_room_beside plan w id) h).0
+  where
+    by : ((eqb k stand.taken ≡ true) × (k ≡ stand.taken)) ⊎ ((eqb k stand.taken ≡ false) × (k ≢ stand.taken)) → (k == stand.taken) ≡ true → k ≡ stand.taken
+    by (inl e) is = e.1
+    by (inr e) is = let wrong : true ≡ false = sym is ∙ e.0 in cc
+
+same_number : (x y : ℕ) (o : Option ℕ) → o ≡ Some x → o ≡ Some y → x ≡ y
+same_number x y o a b = let e : Some x ≡ Some y = sym a ∙ b in cc
+
+-- where it is due and joins it is the next, and is asked
+pub joined : (plan : Plan) (w : World) (meant : List ℕ) (stand : Stand) (id other : ℕ) → slice_get meant stand.taken ≡ Some id → (joins plan w stand stand.taken id && is_due plan (sheet_in w).fields meant stand) ≡ true
+    → slice_get meant stand.taken ≡ Some other → IsAsked plan (sheet_in w).fields meant stand stand.taken other × (joins plan w stand stand.taken other ≡ true)
+joined plan w meant stand id other there is again =
+    let both = and_parts (joins plan w stand stand.taken id) (is_due plan (sheet_in w).fields meant stand) is in
+    (due_asked plan (sheet_in w).fields meant stand other again both.1, subst (λ n. joins plan w stand stand.taken n ≡ true) (same_number id other (slice_get meant stand.taken) there again) both.0)
+
+-- where it doesn't, no field joins
+pub none_joins : (plan : Plan) (w : World) (meant : List ℕ) (stand : Stand) (id : ℕ) → slice_get meant stand.taken ≡ Some id → (joins plan w stand stand.taken id && is_due plan (sheet_in w).fields meant stand) ≡ false
+    → NoneJoins plan w meant stand
+none_joins plan w meant stand id there fails = record { each = λ k other asked. by k other asked (joins plan w stand k other) refl }
+  where
+    here : (k other : ℕ) → IsAsked plan (sheet_in w).fields meant stand k other → joins plan w stand k other ≡ true → k ≡ stand.taken → true ≡ false
+    here k other asked is e =
+        let it : IsAsked plan (sheet_in w).fields meant stand stand.taken other = subst (λ n. IsAsked plan (sheet_in w).fields meant stand n other) e asked in
+        let so : joins plan w stand stand.taken other ≡ true = subst (λ n. joins plan w stand n other ≡ true) e is in
+        let one : joins plan w stand stand.taken id ≡ true = subst (λ n. joins plan w stand stand.taken n ≡ true) (same_number other id (slice_get meant stand.taken) it.there there) so in
+        sym (ap (λ (b : Bool). b && is_due plan (sheet_in w).fields meant stand) one ∙ asked_due plan (sheet_in w).fields meant stand other it) ∙ fails
+
+    by : (k other : ℕ) → IsAsked plan (sheet_in w).fields meant stand k other → (b : Bool) → joins plan w stand k other ≡ b → joins plan w stand k other ≡ false
+    by k other asked false e = e
+    by k other asked true e = let wrong = here k other asked e (taken_joins plan w stand k other e) in absurd cc
+
+-- nor where all were taken
+pub none_left_joins : (plan : Plan) (w : World) (meant : List ℕ) (stand : Stand) → length meant ≤ stand.taken → NoneJoins plan w meant stand
+none_left_joins plan w meant stand end = record {
+  each = λ k id asked.
+      let low : stand.taken ≤ k = asked.next.0 in
+      let within : k < length meant = slice_get_within meant k id asked.there in
+      absurd (omega (arith, low, within, end));
+}
 
 pub watch_due : (plan : Plan) (w : World) (meant : List ℕ) (stand : Stand) → (stand.held ≡ hold.Free → ⊥) → NoneJoins plan w meant stand → (stand.warned ≡ true → NoneWaits w meant stand) → IsWatchDue plan w meant stand
 watch_due plan w meant stand held none late = record { waits_on = held; none_joins = none; none_late = late }

@@ -30,6 +30,10 @@ abbrev pub with_rounds : List Field → List ℕ → List ℕ → List Placed
 with_rounds fields front [] = []
 with_rounds fields front (id ∷ ids) = record { round = round_of fields front id; id = id } ∷ with_rounds fields (front ++ id ∷ []) ids
 
+-- their numbers
+abbrev pub placed_ids : List Placed → List ℕ
+placed_ids all = map (λ p. p.id) all
+
 -- those of one round
 abbrev pub in_round : List Placed → ℕ → List ℕ
 in_round all round = map (λ p. p.id) (filter (λ p. p.round == round) all)

@@ -3,7 +3,7 @@ ghost use Rattle.std.specs.Prelude.{◌≡◌, ◌<◌, ◌≤◌, ◌^◌, ℕ,
 ghost use Rattle.std.specs.List.{list_any};
 ghost use Rattle.std.specs.Option.{option_copied};
 ghost use Rattle.evaluation.specs.Meant as meant;
-ghost use Rattle.evaluation.specs.inside.Beside.{AsksNone};
+ghost use Rattle.evaluation.specs.inside.Beside as inside;
 
 use crate::choosing::is_answered;
 use crate::plan::{Plan, Stand};
@@ -108,6 +108,15 @@ pub(crate) fn stop_line(plan: &Plan, sheet: &Sheet, stand: Stand) -> Option<u64>
     }
 }
 
+/// Whether the first field that was neither asked nor passed over is the next one.
+pub(crate) fn is_due(plan: &Plan, sheet: &Sheet, ids: &[u32], stand: Stand) -> bool
+    requires few { length ids.now < 2 ^ 32 }
+    requires there { stand.taken < length ids.now }
+    ensures { result ≡ inside.is_due plan.now sheet.now.contents.fields ids.now stand }
+{
+    stop_line(plan, sheet, stand).is_none() && !is_passed(plan, sheet, ids, stand.taken)
+}
+
 /// The number at this place.
 pub(crate) fn id_at(ids: &[u32], place: usize) -> u32
     requires { place < length ids.now }
@@ -126,7 +135,7 @@ pub(crate) fn next_place(plan: &Plan, sheet: &Sheet, ids: &[u32], stand: Stand) 
         → meant.IsAsked plan.now sheet.now.contents.fields ids.now stand at id) }
     ensures ends { result ≡ None → (stopped : Option ℕ)
         × meant.EndsHere plan.now sheet.now.contents.fields ids.now stand stopped }
-    ensures none { result ≡ None → AsksNone plan.now sheet.now.contents.fields ids.now stand }
+    ensures none { result ≡ None → inside.AsksNone plan.now sheet.now.contents.fields ids.now stand }
 {
     if stop_line(plan, sheet, stand).is_some() {
         return None;

@@ -8,7 +8,7 @@ ghost use Rattle.evaluation.specs.Meant.{IsAsked};
 ghost use Rattle.evaluation.specs.Beside as beside;
 ghost use Rattle.evaluation.specs.inside.Beside as inside;
 
-use crate::asking::{id_at, next_place};
+use crate::asking::{id_at, is_due};
 use crate::plan::{Plan, Stand};
 use disk_model::Disk;
 use session_engine::Host;
@@ -90,6 +90,17 @@ fn joins<D: Disk>(host: &Host<D>, plan: &Plan, stand: Stand, at: usize, id: u32)
     at == stand.taken && may_join(host, plan, stand, id)
 }
 
+/// Whether the field with this number, the first that was neither asked nor passed over, is the next one and
+/// is asked although others wait.
+fn joins_next<D: Disk>(host: &Host<D>, plan: &Plan, ids: &[u32], stand: Stand, id: u32) -> bool
+    requires few { length ids.now < 2 ^ 32 }
+    requires there { stand.taken < length ids.now }
+    ensures { (w : World) → IsHost host.now w → result ≡ (beside.joins plan.now w stand stand.taken id
+        && inside.is_due plan.now (sheet_in w).fields ids.now stand) }
+{
+    joins(host, plan, stand, stand.taken, id) && is_due(plan, host.sheet(), ids, stand)
+}
+
 /// The place of the field that is asked although others wait, where there is one.
 pub(crate) fn joining<D: Disk>(
     host: &Host<D>,
@@ -105,16 +116,14 @@ pub(crate) fn joining<D: Disk>(
     ensures none { (w : World) → IsHost host.now w → result ≡ None
         → beside.NoneJoins plan.now w ids.now stand }
 {
-    match next_place(plan, host.sheet(), ids, stand) {
-        None => None,
-        Some(at) => {
-            let id = id_at(ids, at);
-            if joins(host, plan, stand, at, id) {
-                Some(at)
-            } else {
-                None
-            }
-        }
+    let at = stand.taken;
+    if at == ids.len() {
+        return None;
+    }
+    if joins_next(host, plan, ids, stand, id_at(ids, at)) {
+        Some(at)
+    } else {
+        None
     }
 }
 

@@ -1,5 +1,5 @@
 //! The order in which fields are asked.
-ghost use Rattle.std.specs.Prelude.{◌≡◌, ◌++◌, ◌∷◌, ◌<◌, [], IfOk, OnOk, Some, length, slice_get, take};
+ghost use Rattle.std.specs.Prelude.{◌≡◌, ◌<◌, [], IfOk, Some, length, slice_get};
 ghost use Rattle.std.specs.Option.{option_copied};
 ghost use Rattle.evaluation.specs.Rounds as rounds;
 
@@ -27,79 +27,70 @@ fn is_field_of(session: Name, field: Option<&Field>) -> bool
     }
 }
 
-/// How many of these numbers are those of fields of this session.
-fn count_of(sheet: &Sheet, ids: &[u32], session: Name) -> usize
-    ensures { result ≡ rounds.count_of sheet.now.contents.fields session ids.now }
+/// The one of these at this place.
+fn placed_at(all: &[Placed], at: usize) -> Placed
+    requires { at < length all.now }
+    ensures { slice_get all.now at ≡ Some result }
 {
-    ids.iter()
-        .filter(|id| is_field_of(session, sheet.field(**id)))
-        .count()
+    all[at]
 }
 
-/// The round of a field, where those stand in front of it.
-fn round_of(sheet: &Sheet, front: &[u32], field: Option<&Field>) -> usize
-    ensures { result ≡ rounds.of_its_session sheet.now.contents.fields front.now (option_copied field.entry) }
+/// The round of the next field of this session, where these are placed: one more than that of its last one.
+fn next_round(sheet: &Sheet, all: &[Placed], session: Name) -> usize
+    requires { all.now ≡ rounds.with_rounds sheet.now.contents.fields [] (rounds.placed_ids all.now) }
+    ensures { result ≡ rounds.count_of sheet.now.contents.fields session (rounds.placed_ids all.now) }
+{
+    for at in (0..all.len()).rev() {
+        let last = placed_at(all, at);
+        if is_field_of(session, sheet.field(last.id)) {
+            return last.round + 1;
+        }
+    }
+    0
+}
+
+/// The round of a field, where these are placed.
+fn round_of(sheet: &Sheet, all: &[Placed], field: Option<&Field>) -> usize
+    requires { all.now ≡ rounds.with_rounds sheet.now.contents.fields [] (rounds.placed_ids all.now) }
+    ensures { result ≡ rounds.of_its_session sheet.now.contents.fields (rounds.placed_ids all.now) (option_copied field.entry) }
 {
     match field {
         None => 0,
-        Some(field) => count_of(sheet, front, field.session),
+        Some(field) => next_round(sheet, all, field.session),
     }
 }
 
-/// The field at this place of those that are to be evaluated, with its round.
-fn placed_at(sheet: &Sheet, ids: &[u32], at: usize) -> Placed
-    requires { at < length ids.now }
-    ensures there { slice_get ids.now at ≡ Some result.id }
-    ensures round { result.round ≡ rounds.round_of sheet.now.contents.fields (take at ids.now) result.id }
+/// The field with this number, with its round, where these are placed.
+fn placed_after(sheet: &Sheet, all: &[Placed], id: u32) -> Placed
+    requires { all.now ≡ rounds.with_rounds sheet.now.contents.fields [] (rounds.placed_ids all.now) }
+    ensures there { result.id ≡ id }
+    ensures round { result.round ≡ rounds.round_of sheet.now.contents.fields (rounds.placed_ids all.now) id }
 {
-    let id = ids[at];
     Placed {
-        round: round_of(sheet, &ids[..at], sheet.field(id)),
+        round: round_of(sheet, all, sheet.field(id)),
         id,
     }
 }
 
 /// These fields, each with its round.
-#[tactic(auto, using(crate::proofs::InRounds::placing_steps))]
 fn with_rounds(alloc: Global, sheet: &Sheet, ids: &[u32]) -> Result<Vec<Placed>, AllocError>
     ensures { IfOk result (λ all. all.items ≡ rounds.with_rounds sheet.now.contents.fields [] ids.now) }
 {
     let mut all = Vec::new(alloc);
-    for at in 0..ids.len() {
-        all.push(placed_at(sheet, ids, at))?;
+    for id in ids {
+        let placed = placed_after(sheet, all.as_slice(), *id);
+        all.push(placed)?;
     }
     Ok(all)
 }
 
-/// Puts the number of a field after these, where it is of this round.
-fn put_if_of(ids: &mut Vec<u32>, field: Placed, round: usize) -> Result<(), AllocError>
-    ensures { OnOk result (ids.new.items ≡ ids.old.items ++ rounds.in_round (field ∷ []) round) }
-{
-    if field.round == round {
-        ids.push(field.id)?;
-    }
-    Ok(())
-}
-
-/// Puts the fields of a round after these.
-#[tactic(auto, using(crate::proofs::InRounds::round_steps))]
-fn put_round(ids: &mut Vec<u32>, all: &[Placed], round: usize) -> Result<(), AllocError>
-    ensures { OnOk result (ids.new.items ≡ ids.old.items ++ rounds.in_round all.now round) }
-{
-    for field in all {
-        put_if_of(ids, *field, round)?;
-    }
-    Ok(())
-}
-
-/// The fields of all rounds, one round after the other.
-#[tactic(auto, using(crate::proofs::InRounds::rounds_more))]
-fn all_rounds(alloc: Global, all: &[Placed]) -> Result<Vec<u32>, AllocError>
-    ensures { IfOk result (λ ids. ids.items ≡ rounds.all_rounds all.now) }
+/// The numbers of these fields.
+fn placed_ids(alloc: Global, all: &[Placed]) -> Result<Vec<u32>, AllocError>
+    ensures { IfOk result (λ ids. ids.items ≡ rounds.placed_ids all.now) }
 {
     let mut ids = Vec::new(alloc);
-    for round in 0..all.len() {
-        put_round(&mut ids, all, round)?;
+    for field in all {
+        ids.push(field.id)?;
     }
     Ok(ids)
 }
@@ -108,8 +99,10 @@ fn all_rounds(alloc: Global, all: &[Placed]) -> Result<Vec<u32>, AllocError>
 fn by_rounds(alloc: Global, sheet: &Sheet, ids: &[u32]) -> Result<Vec<u32>, AllocError>
     ensures { IfOk result (λ order. order.items ≡ rounds.by_rounds sheet.now.contents.fields ids.now) }
 {
-    let all = with_rounds(alloc, sheet, ids)?;
-    all_rounds(alloc, all.as_slice())
+    let mut all = with_rounds(alloc, sheet, ids)?;
+    // Fields of one round keep their order.
+    all.sort_by_key(|field| field.round)?;
+    placed_ids(alloc, all.as_slice())
 }
 
 /// These fields in the order in which they are asked.

@@ -1,9 +1,12 @@
-use Rattle.std.proofs.Common.{ap, sym, ◌∙◌}
-use Rattle.worksheet.specs.Contents.{Contents}
-use Rattle.evaluation.proofs.Together.{not_joining}
+use Rattle.std.proofs.Common.{sym, ◌∙◌, arith}
+use Rattle.evaluation.proofs.Together.{joined, none_joins, none_left_joins}
 use Rattle.evaluation.proofs.beside.joining.Goals as goal
 
-pub returns-else-joins-clause-none : goal.returns-else-joins-clause-none
-returns-else-joins-clause-none g c = λ w h e.
-    not_joining c.args.plan.now w c.sheet.result.now.contents.fields c.args.ids.now c.args.stand c.in-Some.at c.id_at-id.result (ap (λ (s : Contents). s.fields) (c.sheet.ensures.stands w h))
-    (c.in-Some.ensures.next c.id_at-id.result c.id_at-id.ensures) (sym (c.joins.ensures w h) ∙ c.if-joins.false)
+pub returns-then-at-ids-clause-none : goal.returns-then-at-ids-clause-none
+returns-then-at-ids-clause-none g c = λ w h e. none_left_joins c.args.plan.now w c.args.ids.now c.args.stand (grind (arith))
+
+pub returns-then-joins_next-clause-next : goal.returns-then-joins_next-clause-next
+returns-then-joins_next-clause-next g c = λ w id h there. joined c.args.plan.now w c.args.ids.now c.args.stand c.id_at.result id c.id_at.ensures (sym (c.joins_next.ensures w h) ∙ c.if-joins_next.true) there
+
+pub returns-else-joins_next-clause-none : goal.returns-else-joins_next-clause-none
+returns-else-joins_next-clause-none g c = λ w h e. none_joins c.args.plan.now w c.args.ids.now c.args.stand c.id_at.result c.id_at.ensures (sym (c.joins_next.ensures w h) ∙ c.if-joins_next.false)
