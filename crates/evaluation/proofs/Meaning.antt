@@ -1,6 +1,6 @@
 -- The fields that are to be evaluated.
 use Rattle.std.proofs.Common.{◌≡◌, ◌⊎◌, inl, inr, ◌+◌, ◌≤◌, ◌<◌, ◌==◌, ◌&&◌, ℕ, subst, Bool, true, false, List, [], ◌∷◌, ◌++◌, refl, ap, sym, ◌∙◌, append_assoc, append-nil, length, arith, map}
-use Rattle.std.specs.Prelude.{cond, Some, is_some, slice_get}
+use Rattle.std.specs.Prelude.{cond, is_some}
 use Rattle.std.specs.List.{filter}
 use Rattle.std.proofs.lemmas.Bool.{cases_lt}
 use Rattle.std.proofs.lemmas.Option.{slice_get_within}
@@ -12,7 +12,7 @@ use Rattle.evaluation.specs.declared.plan.Stand.{Stand}
 use Rattle.evaluation.specs.declared.plan.Which.{Which}
 use Rattle.evaluation.specs.declared.plan.Which.TheVariants as which
 use Rattle.evaluation.specs.inside.Beside.{AsksNone}
-use Rattle.evaluation.specs.Meant.{IsAsked, IsNext, stop_line, asked_for, fields_from, is_meant, is_one_of, is_passed, meant_in}
+use Rattle.evaluation.specs.Meant.{IsNext, stop_line, asked_for, fields_from, is_meant, is_one_of, is_passed, meant_in}
 use Rattle.evaluation.specs.inside.Choosing.{id_if, is_asked_for}
 
 -- Those that are asked for of the fields that are to come, where the one before them is asked for or isn't.
