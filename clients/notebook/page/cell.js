@@ -66,7 +66,6 @@ export class CellView {
     this.read = null; // the text that it says, null where that is to be set again
     /** @type {HTMLElement | undefined} */
     this.conflict = undefined;
-    this.other = make("pre");
     this.build();
     this.text.value = cell.input;
     this.update(cell, at);
@@ -199,7 +198,7 @@ export class CellView {
       place.dataset.state = name;
     }
     this.conflict?.toggleAttribute("hidden", !this.isElsewhere);
-    this.other.textContent = this.isElsewhere ? visible(this.theirs) : "";
+    this.conflict?.querySelector("pre")?.replaceChildren(visible(this.isElsewhere ? this.theirs : ""));
     this.box.dataset.state = this.unsettled === undefined ? this.cell.state : "asked";
     this.box.dataset.text = text[0];
   }
@@ -238,7 +237,7 @@ export class CellView {
     if (!this.conflict) {
       this.conflict = make("div", "conflict", "This cell was given another text elsewhere: ");
       this.conflict.append(button("keepMine", "Keep this text", "Save the text that stands in the cell"), " ",
-        button("takeTheirs", "Take the other", "Put the other text into the cell, and drop this one"), this.other);
+        button("takeTheirs", "Take the other", "Put the other text into the cell, and drop this one"), make("pre"));
       this.head.after(this.conflict);
     }
   }
@@ -294,8 +293,10 @@ export class CellView {
     const mayBeKept = this.kept !== null || UNKNOWN.includes(told.refused ?? "");
     if (told.refused && !mayBeKept) this.tried.delete(text);
     if (told.refused) return false;
-    if (told.isDraft) this.isKeptNow(text, told.at ?? 0);
-    else this.isSavedNow(text, told.at ?? 0);
+    const at = told.at ?? 0;
+    if (at <= this.toldAt) return true; // an event was quicker, and may tell of more
+    if (told.isDraft) this.isKeptNow(text, at);
+    else this.isSavedNow(text, at);
     this.showProse();
     return true;
   }

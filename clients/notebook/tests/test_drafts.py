@@ -1,5 +1,6 @@
 """What is typed into a cell that is evaluated or waits: it is kept as a draft, through reloads and kills, and becomes the cell's text."""
 
+import ctypes
 import json
 import os
 import subprocess
@@ -13,6 +14,7 @@ import chromium
 import harness
 from harness import PROGRAM, READY, Page, PageCase, needs_chromium, needs_program, opened
 from test_page import CONTRAST
+from test_page_keys import IS_SLOW
 
 sys.path[:0] = [harness.NOTEBOOK]
 
@@ -200,6 +202,21 @@ class DraftsOfThePage(PageCase):
         tab.until(SAYS % 1, KEPT)
         self.assertEqual(self.kept()[1]["text"], "theirs asleep 60")
 
+    def test_a_late_reply(self) -> None:
+        """A reply that comes after an event tells nothing new: what another page has typed meanwhile stays in sight."""
+        tab = self.start("sleep 60", evaluated=1)
+        other = opened(self.browser, self.server, in_window=True)
+        tab.value(IS_SLOW)
+        self.write(tab, 1, "a")
+        other.until(TEXT % 1, "asleep 60")
+        tab.type("mine")
+        self.write(other, 1, "theirs ")
+        other.until(SAYS % 1, KEPT)
+        tab.until(OTHER % 1, "theirs asleep 60")
+        tab.value("window.go(), 0")
+        tab.until(SAYS % 1, "not saved: it was changed elsewhere")
+        self.assertEqual((tab.value(OTHER % 1), tab.value(TEXT % 1)), ("theirs asleep 60", "aminesleep 60"))
+
     def test_a_draft_that_is_too_long(self) -> None:
         """It stays a draft, and the page says why."""
         tab = self.start("sleep 60", evaluated=1)
@@ -364,13 +381,18 @@ class DraftsOnTheDisk(unittest.TestCase):
         known = self.opened()
         self.assertEqual(known.of, {1: two})
 
-    def as_user(self, id: int = 12345) -> None:
-        """Root may write everywhere."""
-        if os.getuid() == 0:
-            for place in (self.folder, self.sheet, os.path.dirname(self.folder)):
-                os.chown(place, id, -1)
-            os.seteuid(id)
-            self.addCleanup(os.seteuid, 0)
+    def as_user(self) -> None:
+        """Root may write everywhere: as root this gives up what lets it, till the test is over."""
+        libc, head, caps = ctypes.CDLL(None), (ctypes.c_uint32 * 2)(0x20080522, 0), (ctypes.c_uint32 * 6)()
+        self.assertEqual(libc.capget(head, caps), 0)
+        had, caps[0] = caps[0], caps[0] & ~0b110  # CAP_DAC_OVERRIDE and CAP_DAC_READ_SEARCH
+        self.assertEqual(libc.capset(head, caps), 0)
+
+        def back() -> None:
+            caps[0] = had
+            libc.capset(head, caps)
+
+        self.addCleanup(back)
 
 
 if __name__ == "__main__":
