@@ -37,7 +37,7 @@ class Cutting(unittest.TestCase):
                     parts = cutting.cut(whole, language)
                     assert parts
                     self.assertEqual("\n".join(parts), whole)
-                    self.assertEqual(len(parts), 3 if len(block) > 480 else 2)
+                    self.assertEqual(len(parts), 2)
                     self.assertEqual([block in part for part in parts].count(True), 1, parts)
 
     def test_a_cut_is_made_at_an_empty_line_where_one_is_near(self) -> None:

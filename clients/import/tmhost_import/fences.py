@@ -1,7 +1,8 @@
-"""The fenced blocks of a CommonMark text, also those in block quotes and in items of lists.
+"""A CommonMark text line by line: what is open behind each line, which a parser of whole texts doesn't tell. Prose is cut and closed by it.
 
-Blocks are found as CommonMark 0.31.2 says, line by line: which containers go on, which begin, and what a line is then. What is no fence is
-told apart only as far as it decides where one begins. References are paragraphs here: a line of `=` or `-` behind one is taken for a heading.
+The fences of documents are found by tmhost_fences. Blocks are found as CommonMark 0.31.2 says: which containers go on, which begin, and what a
+line is then. What is no fence is told apart only as far as it decides where one begins. References are paragraphs here: a line of `=` or `-`
+behind one is taken for a heading.
 """
 import dataclasses
 import re
