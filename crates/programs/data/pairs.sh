@@ -61,6 +61,7 @@ is_none() {
     words "$1, shown" 0 '' show other.alt
     rm -rf other other.alt other.alt.alt
 }
+rm -rf other other.alt other.alt.alt
 is_none 'nothing beside it'
 mkdir other
 is_none 'a folder beside it'
