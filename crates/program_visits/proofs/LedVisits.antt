@@ -1,10 +1,10 @@
 -- Runs whose writer failed are visits, too: the disk knows nothing of that.
-use Rattle.std.proofs.Common.{◌≡◌, ⊎_elim, ℕ, List, [], ◌∷◌, ◌++◌, sym, ◌∙◌, subst, IsTrue, Option}
+use Rattle.std.proofs.Common.{◌≡◌, ⊎_elim, ℕ, List, [], ◌∷◌, ◌++◌, sym, ◌∙◌, subst, IsTrue}
 use Rattle.disk_model.specs.Disk.{DiskView, SameDisk, bytes_on}
 use Rattle.host_events.specs.declared.event.Event.{Event}
 use Rattle.session_engine.specs.World.{World}
 use Rattle.session_engine.specs.Host.{HostView}
-use Rattle.child_edge.specs.Faithful.{At, Beat, at}
+use Rattle.child_edge.specs.Faithful.{Beat, at}
 use Rattle.child_edge.specs.Moments.{events_of, outcomes_of}
 use Rattle.offline_programs.specs.Memory.{script_lines}
 use Rattle.sheet_programs.specs.Records.{Manner, Outside}

@@ -1,12 +1,12 @@
 -- The contract of `run` gives visits.
-use Rattle.std.proofs.Common.{◌≡◌, ℕ, List, [], ◌∷◌, ◌++◌, refl, ap, sym, subst, append-nil, IsTrue, Option}
+use Rattle.std.proofs.Common.{ℕ, List, [], ◌∷◌, ◌++◌, refl, sym, subst, IsTrue, Option}
 use Rattle.disk_model.specs.Disk.{DiskView, SameDisk, bytes_on}
 use Rattle.host_events.specs.declared.event.Event.{Event}
 use Rattle.host_events.specs.declared.outcome.HostFault.{HostFault}
-use Rattle.session_engine.specs.World.{World, world_at_opening}
+use Rattle.session_engine.specs.World.{World}
 use Rattle.session_engine.specs.Does.{Runs}
 use Rattle.session_engine.specs.Crash.{Moments}
-use Rattle.child_edge.specs.Faithful.{At, Beat, Relation, at}
+use Rattle.child_edge.specs.Faithful.{Beat, at}
 use Rattle.child_edge.specs.Moments.{events_of, outcomes_of}
 use Rattle.offline_programs.specs.Memory.{script_lines}
 use Rattle.sheet_programs.specs.Records.{Manner, Outside}
