@@ -41,8 +41,10 @@ install:
 	install -Dm 644 $(PAGES)/tmhost.fish $(SHARE)/fish/vendor_completions.d/tmhost.fish
 	install -d $(HERE)/adapters
 	install $(addprefix adapters/,$(ADAPTERS)) $(HERE)/adapters
-	install -m 644 adapters/blocks.py adapters/profiles.py adapters/python_lines.py $(HERE)/adapters
-	install -Dm 644 adapters/octave/@sym/display.m $(HERE)/adapters/octave/@sym/display.m
+	install -m 644 adapters/blocks.py adapters/profiles.py adapters/python_lines.py adapters/waiting.py $(HERE)/adapters
+	install -d $(HERE)/adapters/octave/lines $(HERE)/adapters/octave/formulas/@sym
+	install -m 644 adapters/octave/lines/*.m $(HERE)/adapters/octave/lines
+	install -m 644 adapters/octave/formulas/@sym/*.m $(HERE)/adapters/octave/formulas/@sym
 	install -d $(HERE)/clients/python/tmhost $(HERE)/clients/fences/tmhost_fences $(HERE)/clients/typeset/lib $(HERE)/clients/notebook/page
 	install -m 644 clients/python/tmhost/*.py clients/python/tmhost/py.typed $(HERE)/clients/python/tmhost
 	install -m 644 clients/fences/tmhost_fences/*.py $(HERE)/clients/fences/tmhost_fences

@@ -157,8 +157,8 @@ def before_it_runs() -> None:
 class Child:
     """An interpreter that runs, in a group of processes of its own, so that a signal reaches what a line has started, too."""
 
-    def __init__(self, words: List[str], output: Optional[int] = None, **streams: Any) -> None:
-        """`output` is where it is heard, if not by a pipe; `streams` are words of Popen."""
+    def __init__(self, words: List[str], output: Optional[int] = None, signals: Optional[Signals] = None, **streams: Any) -> None:
+        """`output` is where it is heard, if not by a pipe, `signals` are those of the one before it, and `streams` are words of Popen."""
         self.process: "subprocess.Popen[bytes]" = subprocess.Popen(
             words, preexec_fn=before_it_runs, start_new_session=True, **streams)
         if output is None:
@@ -166,7 +166,7 @@ class Child:
             output = self.process.stdout.fileno()
         self.output = output
         self.its_end = os.pidfd_open(self.process.pid)
-        self.signals = Signals()
+        self.signals = signals or Signals()
         self.interrupts = 0  # how many it was sent
         self.due: Optional[float] = None  # when it is sent the one that has come for it
         self.spared_until = 0.0
@@ -198,8 +198,11 @@ class Child:
         if self.due is not None and now >= self.due:
             self.due, self.spared_until = None, now + SPARED
             self.interrupts += 1
-            with contextlib.suppress(ProcessLookupError):
-                os.killpg(self.process.pid, signal.SIGINT)
+            self.interrupt()
+
+    def interrupt(self) -> None:
+        with contextlib.suppress(ProcessLookupError):
+            os.killpg(self.process.pid, signal.SIGINT)
 
     def said(self, seconds: float = NEVER) -> Optional[bytes]:
         """What it says next: nothing where it has ended, or nobody reads our own output; None where nothing comes in time."""
@@ -231,6 +234,14 @@ class Child:
 
     def end(self) -> None:
         self.process.kill()
+
+    def leave(self) -> None:
+        """Ends it with what it has started, for another one in its place."""
+        with contextlib.suppress(ProcessLookupError):
+            os.killpg(self.process.pid, signal.SIGKILL)
+        self.process.wait()
+        for descriptor in (self.output, self.its_end):
+            os.close(descriptor)
 
 
 def run(program: Callable[[], None]) -> None:

@@ -3,10 +3,11 @@
 Of an output that begins with `..` it is what the output has somewhere. A line with True behind it is interrupted behind a while.
 """
 import dataclasses
-from typing import List
+from typing import Dict, List, Sequence, Tuple
 
 import gp_lines
-from gp_lines import MESSAGE, Line as Case, ones
+from gp_lines import MESSAGE, NO_INPUT, Line as Case, ones
+from odd_lines import ODD_LINES
 
 
 @dataclasses.dataclass(frozen=True)
@@ -18,6 +19,9 @@ class Trial:
     leaving: str  # a line that ends it; empty where none does
     busy: str  # a line without an end
     cases: List[Case]
+    odd_lines: Sequence[str] = ()  # what stands between numbered lines, with the cases
+    number: str = ""  # a numbered line
+    numbered: str = "n%d"  # its answer
 
 
 # From the manual of gp: 2.1 (errors), 2.5 (lines), 2.7 (metacommands), 2.12 (defaults), 3 (functions).
@@ -121,7 +125,7 @@ GP_TEXT_NO_NUMBERS: List[Case] = [
 M2: List[Case] = [
     ("2 + 2", "4"), ("oo + 1", "5"), ("1 / 3 + x", "..no method for binary operator +"), ("oo", "5"), ("R = QQ[x, y]; ideal(x^2, y)", "        2\nideal (x , y)"),
     ("z = 7;", ""), ("z", "7"), ("1 / 0", "..division by zero"), ("(1 +", "..syntax error"), ('"a  b"', "a  b"), ("print 3", "3"), ("null", ""), ("", ""), ("-- a remark", ""),
-    ("1\u20282", "2"), ("while true do 0", "..interrupted", True), ("z", "7"),
+    ("1\u20282", "2"), ("while true do 0", "..interrupted", True), ("z", "7"), ('read "x"', NO_INPUT), ('run "cat"', ".." + NO_INPUT), ("z", "7"), ("restart", ""), ("z", "z"),
 ]
 
 M2_LATEX: List[Case] = [
@@ -132,7 +136,7 @@ M2_LATEX: List[Case] = [
 
 GIAC: List[Case] = [
     ("x^2 / 3 + 1", "x^2/3+1"), ("a := 5", "5"), ("a + 1", "6"), ("2 - 2", "0"), ('"a b"', '"a b"'), ("1 /", "..syntax error"), ("", ""), ("print(3)", "3\n0"),
-    ("[[1, 2], [3, a]]", "[[1,2],[3,5]]"), ("while (true) { a := 1 }", "..", True), ("1 + 1", "2"),
+    ("[[1, 2], [3, a]]", "[[1,2],[3,5]]"), ("while (true) { a := 1 }", "..", True), ("1 + 1", "2"), ("input(x)", NO_INPUT), ("a := 5", "5"), ("restart", ""), ("a", "a"),
 ]
 
 GIAC_LATEX: List[Case] = [
@@ -190,52 +194,60 @@ PYTHON: List[Case] = [
 PROMPTED_PYTHON: List[Case] = [
     ("1 + 1", "2"), ("for i in range(2): print(i)", "0\n1"), ("", ""), ("1 / 0", "..ZeroDivisionError"), ("print(", "..SyntaxError"), ("x = 'a'", ""),
     ("x", "'a'"), ("input()", "..EOFError"), ("print('\\x02\\x05')", "\\x02\\x05"), ("len('x' * 9000000)", "9000000"), ("_ + 1", "9000001"),
-    ("x = 1; x", "1"), ("for i in range(2):\u2028    print(i)\u2028x + 1", "0\n1\n2"), ("while True: pass", "..KeyboardInterrupt", True), ("x + _", "3"),
+    ("x = 1; x", "1"), ("for i in range(2):\u2028    print(i)\u2028x + 1", "0\n1\n2"), ("while True: pass", "..KeyboardInterrupt", True), ("x + _", "3"), ("import os; os.system('cat')", "0"), ("y = os.fork()", ""), ("os.close(1)", ""), ("x", "1"),
 ]
 
 SH: List[Case] = [
     ("echo a; echo b", "a\nb"), ("x=5", ""), ("echo $x", "5"), ("", ""), ('echo "a', "..unexpected EOF"), ("cat", ""), ("ls /nowhere", "..No such file"),
     ("printf a", "a"), ("echo 'it'", "it"), ("(exit 7)", ""), ("echo $?", "7"), ("for i in 1 2\u2028do echo $i\u2028done", "1\n2"),
-    ("head -c 9000000 /dev/zero | tr '\\0' a", "..[1000000 bytes more]"), ("while :; do :; done", "", True), ("sleep 100", "", True), ("echo $x", "5"),
+    ("head -c 9000000 /dev/zero | tr '\\0' a", "..[1000000 bytes more]"), ("while :; do :; done", "", True), ("sleep 100", "", True), ("echo $x", "5"), ("set -x", ""), ("echo 5", "+ eval 'echo 5'\n++ echo 5\n5"), ("set +x", "+ eval 'set +x'\n++ set +x"),
+    ("read y; echo \"<$y>\"", "<>"), ("cat <&10", NO_INPUT), ("exec >/dev/null", ""), ("echo a", ""), ("exec >&199", ""), ("echo b", "b"),
 ]
 
-BC: List[Case] = [("2 ^ 10", "1024"), ("a = 5", ""), ("a", "5"), ("1 / 0", "..Divide by zero"), ("1 +", "..syntax error"), ("", ""), ("1; 2", "1\n2"), ("last", "2")]
+BC: List[Case] = [("2 ^ 10", "1024"), ("a = 5", ""), ("a", "5"), ("1 / 0", "..Divide by zero"), ("1 +", "..syntax error"), ("", ""), ("1; 2", "1\n2"), ("last", "2"),
+                  ("read()", NO_INPUT), ("x = read()", NO_INPUT), ("{ 1; 2", "1\n2"), ('"a', "a"), ("/* a", ""), ("1 + \\", "..syntax error"), ("if (0)", ""), ("last", "2")]
 
 OCTAVE: List[Case] = [
     ("1 + 1", "ans = 2"), ("ans", "ans = 2"), ("x = [1 2; 3 4]", "..   3   4"), ("x(5, 5)", "..out of bound"), ("disp('a')", "a"), ('disp("a\\tb")', "a\tb"),
     ("1 +", "..parse error"), ("", ""), ("y = 3;", ""), ("y", "y = 3"), ("for i = 1:2\u2028  disp(i)\u2028end", "1\n2"), ("while true, end", "", True), ("ans + y", "ans = 5"),
+    ('x = input("v? ")', f"error: {NO_INPUT}"), ("ans", "ans = 5"), ("keyboard", f"error: {NO_INPUT}"), ("pause", f"error: {NO_INPUT}"), ('system("cat")', "ans = 0"), ("disp = 5", "disp = 5"), ("2 + 2", "ans = 4"),
 ]
 
 R: List[Case] = [
     ("1 + 1", "[1] 2"), (".Last.value", "[1] 2"), ("x <- c(1, 2)", ""), (".Last.value", "[1] 1 2"), ("", ""), ("# a remark", ""), (".Last.value", "[1] 1 2"),
-    ("x; x", "[1] 1 2\n[1] 1 2"), ("5; .Last.value + 1", "[1] 5\n[1] 6"), ('stop("no")', "..: no"), ("1 +", "..unexpected end"), (".Last.value", "[1] 6"), ('cat("a\\n")', "a"),
+    ("x; x", "[1] 1 2\n[1] 1 2"), ("5; .Last.value + 1", "[1] 5\n[1] 6"), ('stop("no")', "Error: no"), ("1 +", "..unexpected end"), (".Last.value", "[1] 6"), ('cat("a\\n")', "a"),
     ("f <- function(n) {\u2028  n + 1\u2028}\u2028f(2)", "[1] 3"), ("while (TRUE) 0", "", True), (".Last.value", "[1] 3"),
+    ("readline()", f"Error: {NO_INPUT}"), ("scan()", f"Error: {NO_INPUT}"), ("readLines(n = 1)", f"Error: {NO_INPUT}"), ('scan(text = "1 2", quiet = TRUE)', "[1] 1 2"), ('system("cat")', ""), ("help(sin)", "..sin(x)"), ("?mean", "..mean(x"),
+    ('sink("/dev/null")', ""), ("1 + 1", ""), ("sink()", ""), ("1 + 1", "[1] 2"), ('g <- function() stop("in g")', ""), ("g()", "Error in g() : in g"), ('warning("w")', "Warning message:\nw "), ("sqrt(-1)", "[1] NaN\nWarning message:\nIn sqrt(-1) : NaNs produced"),
+    ("g", 'function() stop("in g")'), ("options(error = NULL)", ""), ('stop("no")', "Error: no"), ("f(3)", "[1] 4"),
 ]
 
 GAP: List[Case] = [
     ("1 + 1", "2"), ("x := Factors(100);", "[ 2, 2, 5, 5 ]"), ("last", "[ 2, 2, 5, 5 ]"), ("1 / 0;", "..must not be zero"), ('Print("a\\nb")', "a\nb"),
     ("1 +;", "..Syntax error"), ("", ""), ("x", "[ 2, 2, 5, 5 ]"), ("while true do od;", "..user interrupt", True), ("last", "[ 2, 2, 5, 5 ]"),
+    ("ReadLine(InputTextUser());", f"Error, {NO_INPUT}"), ('InputFromUser("x? ");', f"x? Error, {NO_INPUT}"), ('Exec("cat");', ""), ('Exec("echo a");', "a"), ("7;; 8; 9", "8\n9"), ("last2", "8"), ("if true then", "..Syntax error"), ('"a', "..Syntax error"), ("5 # a remark", "5"),
 ]
 
 MAXIMA: List[Case] = [
     ("diff(x^2, x);", "2*x"), ("%", "2*x"), ("a: 5$", ""), ("%", "5"), ("a", "5"), ("1 / 0", "..undefined"), ("%", "5"), ("1 +", "..incorrect syntax"), ("", ""), ("%", "5"), ("%o1", "2*x"),
     ("%th(2)", "5"), ('sconcat("a", "b")', '"ab"'), ("1; 2", "1\n2"), ("while true do 0", "..interrupt", True), ("%", "2"), ("f(", "..incorrect syntax"), ('"a', "..end of file"),
-    ("integrate(y^n, y)", "..a line has no input of its own"), ('read("a")', "..false"), ("%", "false"), ("g(n) := block([s: 0],\u2028  for i thru n do s: s + i,\u2028  s)$\u2028g(10)", "55"),
+    ("integrate(y^n, y)", "..a line has no input of its own"), ('read("a")', ".." + NO_INPUT), ('readonly("a")', ".." + NO_INPUT), ('system("cat")', "0"), ("ibase: 36.", "36"), ("11", "37"), ("ibase: 10.", "10"), ("%", "10"), ("g(n) := block([s: 0],\u2028  for i thru n do s: s + i,\u2028  s)$\u2028g(10)", "55"),
     ('"a\\"b\\\\"', '"a\\"b\\\\"'),
 ]
 
 SINGULAR: List[Case] = [
     ("1 + 1", "2"), ("_ + 1", "3"), ("ring r = 0, (x, y), dp", ""), ("ideal i = x2, y; i", "i[1]=x2\ni[2]=y"), ("foo", "..`foo` is undefined"), ("1 +;", "..error"), ("", ""),
-    ("std(i);", "_[1]=y\n_[2]=x2"),
+    ("std(i);", "_[1]=y\n_[2]=x2"), ('read("")', ".." + NO_INPUT), ('string s = read("")', ".." + NO_INPUT), ('system("sh", "cat")', ".." + NO_INPUT), ("3 + 4 // a remark", "7"), ('"a', "a"), ("/* a", ""), ("if (1) { 5;", "5"), ("int m = 6", ""),
+    ("while (1) { int j = 1; kill j; }", "..Interrupt at", True), ("m", "6"),
 ]
 
 GNUPLOT: List[Case] = [
     ("print 1 + 1", "2"), ("x = 3", ""), ("print x", "3"), ("foo", "..invalid command"), ('print "a\\"b"', 'a"b'), ("", ""), ("y = 4\u2028print x + y", "7"),
-    ("while (1) { z = 1 }", "", True), ("print x", "3"),
+    ("while (1) { z = 1 }", "", True), ("print x", "3"), ("pause -1", NO_INPUT), ('print system("cat")', ".." + NO_INPUT), ("print x", "3"), ('set print "/dev/null"', ""), ("print x", ""), ("set print", ""), ("print x", "3"),
 ]
 
 YACAS: List[Case] = [
-    ("1 + 1", "2"), ("D(x) x^2", "2*x"), ("foo(", "..closing bracket"), ("a := 3", "3"), ("a", "3"), ("", ""), ("While(True) b := 1;", "..interrupted", True), ("a", "3"),
+    ("1 + 1", "2"), ("D(x) x^2", "2*x"), ("foo(", "..closing bracket"), ("a := 3", "3"), ("a", "3"), ("", ""), ("While(True) b := 1;", "..interrupted", True), ("a", "3"), ("IsPrime(7)", "True"), ("IsPrime(8)", "False"), ("2 = 2", "True"), ("b := True", "True"), ("Read()", NO_INPUT), ('WriteString("a b")', "a b True"), ("2 + 2 // a remark", "4"), ("// a remark", ""),
 ]
 
 # A function of ten lines or more, whose value at 10 is the sum 1 - 2 + 3 - .. - 10.
@@ -260,19 +272,31 @@ def ten_lines(name: str, call: str = "k(10)", said: str = "", told: str = "-5") 
     return [(TEN_LINES[name].replace("\n", "\u2028"), said), (call, told)]
 
 
+# For each interpreter a line that has a number, and its answer.
+NUMBERS: Dict[str, Tuple[str, str]] = {
+    "gp": ('print("n%d")', "n%d"), "python": ("'n%d'", "'n%d'"), "sh": ("echo n%d", "n%d"), "bc": ('print "n%d"', "n%d"), "octave": ('printf("n%d\\n")', "n%d"), "R": ('"n%d"', '[1] "n%d"'), "gap": ('Print("n%d\\n");', "n%d"),
+    "maxima": ('"n%d"', '"n%d"'), "M2": ('"n%d"', "n%d"), "giac": ('"n%d"', '"n%d"'), "singular": ('print("n%d")', "n%d"), "gnuplot": ('print "n%d"', "n%d"), "yacas": ('"n%d"', '"n%d"'),
+}
+
+
+def trial(words: str, program: str, leaving: str, busy: str, cases: List[Case]) -> Trial:
+    name = words.split()[1 if words.startswith("prompted.py") else 0]
+    return Trial(words, program, leaving, busy, cases, ODD_LINES[name], *NUMBERS[name])
+
+
 def by_prompted(profile: str, program: str, leaving: str, busy: str, cases: List[Case]) -> Trial:
-    return Trial(f"prompted.py {profile}", program, leaving, busy, cases)
+    return trial(f"prompted.py {profile}", program, leaving, busy, cases)
 
 
 TRIALS = {
-    "gp": Trial("gp", "gp", "quit", "while (1, )", GP),
-    "gp_lines": Trial("gp", "gp", "\\q", "while (1, )", gp_lines.LINES),
-    "gp_text": Trial("gp --text", "gp", "\\q", "while (1, )", GP_TEXT),
-    "gp_no_numbers": Trial("gp --no-numbers", "gp", "\\q", "while (1, )", GP_NO_NUMBERS),
-    "gp_text_no_numbers": Trial("gp --text --no-numbers", "gp", "\\q", "while (1, )", GP_TEXT_NO_NUMBERS),
-    "gp_seconds": Trial("gp --seconds 5", "gp", "\\q", "while (1, )", GP_SECONDS),
-    "python_seconds": Trial("python --seconds 5", "python3", "os._exit(0)", "while True: pass", [("import os", ""), *PYTHON_SECONDS]),
-    "python": Trial("python", "python3", "os._exit(0)", "while True: pass", PYTHON + ten_lines("python")),
+    "gp": trial("gp", "gp", "quit", "while (1, )", GP),
+    "gp_lines": trial("gp", "gp", "\\q", "while (1, )", gp_lines.LINES),
+    "gp_text": trial("gp --text", "gp", "\\q", "while (1, )", GP_TEXT),
+    "gp_no_numbers": trial("gp --no-numbers", "gp", "\\q", "while (1, )", GP_NO_NUMBERS),
+    "gp_text_no_numbers": trial("gp --text --no-numbers", "gp", "\\q", "while (1, )", GP_TEXT_NO_NUMBERS),
+    "gp_seconds": trial("gp --seconds 5", "gp", "\\q", "while (1, )", GP_SECONDS),
+    "python_seconds": trial("python --seconds 5", "python3", "os._exit(0)", "while True: pass", [("import os", ""), *PYTHON_SECONDS]),
+    "python": trial("python", "python3", "os._exit(0)", "while True: pass", PYTHON + ten_lines("python")),
     "prompted_python": by_prompted("python", "python3", "quit()", "while True: pass", PROMPTED_PYTHON + ten_lines("python")),
     "sh": by_prompted("sh", "bash", "exit", "while :; do :; done", SH + ten_lines("sh", "k 10")),
     "bc": by_prompted("bc", "bc", "quit", "while (1) a = a + 1", BC + ten_lines("bc")),
@@ -288,5 +312,5 @@ TRIALS = {
     "giac_latex": by_prompted("giac --latex", "giac", "", "while (true) { a := 1 }", GIAC_LATEX),
     "singular": by_prompted("singular", "Singular", "quit;", "while (1) { int k = 1; kill k; }", SINGULAR + ten_lines("singular")),
     "gnuplot": by_prompted("gnuplot", "gnuplot", "quit", "while (1) { x = 1 }", GNUPLOT + ten_lines("gnuplot", "print k")),
-    "yacas": by_prompted("yacas", "yacas", "quit", "While(True) a := 1;", YACAS + ten_lines("yacas")),
+    "yacas": by_prompted("yacas", "yacas", "quit", "While(True) a := 1;", YACAS + ten_lines("yacas", said="True")),
 }

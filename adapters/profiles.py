@@ -4,6 +4,7 @@ import os
 import re
 from typing import Callable, List, Tuple
 
+COMMANDS = "COMMANDS"  # in words: the file of the commands, where the interpreter doesn't read them from its standard input
 HERE = os.path.dirname(os.path.abspath(__file__))
 
 
@@ -21,6 +22,24 @@ def closed_by(*ends: bytes) -> Callable[[bytes], bytes]:
     return lambda line: line if line.rstrip().endswith(ends) or not line.strip() else line + ends[0]
 
 
+CLOSES = {b"(": b")", b"[": b"]", b"{": b"}"}
+
+
+def closing(text: bytes, strings: bytes, comments: bytes) -> bytes:
+    """What closes the string, the comment and the brackets that a text leaves open, by patterns of strings and of comments up to the end of
+    their line, behind which it stands."""
+    token = rb"(?s:%b)|/\*(?s:.*?)\*/|(?:%b)[^\n]*|/\*|[][(){}\"]" % (strings, comments)
+    ends = [b""]
+    for found in re.findall(token, text):
+        if found in (b'"', b"/*"):
+            return (b'"' if found == b'"' else b"*/") + b"".join(reversed(ends))
+        if found in CLOSES:
+            ends.append(CLOSES[found])
+        elif found == ends[-1]:
+            ends.pop()
+    return (b"\n" if any(ends) else b"") + b"".join(reversed(ends))
+
+
 def in_python(line: bytes) -> bytes:
     return line and b"tmhost_line(%r)" % line
 
@@ -29,8 +48,13 @@ def in_sh(line: bytes) -> bytes:
     return b"eval '" + line.replace(b"'", b"'\\''") + b"' </dev/null"
 
 
+def in_bc(line: bytes) -> bytes:
+    """An empty text stands behind it, for what a condition without its statement takes."""
+    return line and line + (b"\n" if line.endswith(b"\\") else b"") + closing(line, rb'"[^"]*"', b"#") + b'\n""'
+
+
 def in_octave(line: bytes) -> bytes:
-    return b"eval(" + quoted(line) + b")"
+    return b"unwind_protect, tmhost_input (false); eval (" + quoted(line) + b"); unwind_protect_cleanup, tmhost_input (true); end_unwind_protect"
 
 
 def in_r(line: bytes) -> bytes:
@@ -39,7 +63,7 @@ def in_r(line: bytes) -> bytes:
 
 def in_maxima(line: bytes) -> bytes:
     lines = closed_by(b";", b"$")(line).split(b"\n")
-    return line and b":lisp (tmhost-line " + b" ".join(quoted(one) for one in lines) + b")"
+    return line and b":lisp (|TMHOST-LINE| " + b" ".join(quoted(one) for one in lines) + b")"
 
 
 def in_m2(line: bytes) -> bytes:
@@ -53,7 +77,7 @@ def in_giac(line: bytes) -> bytes:
 def in_yacas(text: bytes) -> bytes:
     """Each statement on a line, as yacas reads them: lines between brackets are joined."""
     statements, depth = [b""], 0
-    for line in text.split(b"\n"):
+    for line in re.sub(rb'("(?:\\.|[^"\\])*")|//.*', rb"\1", text).split(b"\n"):
         statements[-1] += line + b" "
         depth += len(re.findall(rb"[\[({]", line)) - len(re.findall(rb"[\])}]", line))
         if depth <= 0:
@@ -61,26 +85,106 @@ def in_yacas(text: bytes) -> bytes:
     return b"\n".join(closed_by(b";")(one.strip()) for one in statements if one.strip())
 
 
+def in_gap(line: bytes) -> bytes:
+    if re.fullmatch(rb"(?i:quit)\s*;*", line.strip()):
+        return b"QUIT_GAP();"
+    return b"tmhostLine(" + quoted(line + b"\n;") + b");;"
+
+
 def in_gnuplot(line: bytes) -> bytes:
-    return b"eval " + quoted(line.replace(b"\n", b"; "))
+    return b"eval " + quoted(line.replace(b"\n", b"; ") + closing(line, rb""" "(?:\\.|[^"\\])*"|'[^']*' """.strip(), b"#").strip(b'\n"'))
 
 
-# Each statement is shown as at Python's own prompt.
-PYTHON_LINE = """import sys, ast; sys.stdin = open('/dev/null'); sys.ps1 = sys.ps2 = ''
-def tmhost_line(text):
-    for one in ast.parse(text, '<line>').body:
-        exec(compile(ast.Interactive([one]), '<line>', 'single'), globals())
+def in_singular(line: bytes) -> bytes:
+    return line and line + closing(line, rb'"(?:\\.|[^"\\])*"', b"//") + b"\n;"
+
+
+# Each statement is shown as at Python's own prompt. A line has an empty input, and what it does to the streams ends with it.
+PYTHON_LINE = """import sys, os, ast, builtins; sys.ps1 = sys.ps2 = ''
+def tmhost_streams(names=globals(), sys=sys, os=os, ast=ast, process=os.getpid(), own=[os.dup(one) for one in range(3)]):
+    def line(text):
+        try:
+            nothing = os.open(os.devnull, os.O_RDONLY)
+            os.dup2(nothing, 0)
+            os.close(nothing)
+            sys.stdin = open(0, closefd=False)
+            for one in ast.parse(text, '<line>').body:
+                exec(compile(ast.Interactive([one]), '<line>', 'single'), names)
+        finally:
+            if os.getpid() != process: os._exit(0)
+            os.dup2(own[0], 0)
+    def mark(first, second):
+        sys.ps1 = sys.ps2 = ''
+        for stream in (1, 2):
+            os.dup2(own[stream], stream)
+        os.write(1, (first + second + '\\n').encode())
+    return line, mark
+
+builtins.tmhost_line, builtins.tmhost_mark = tmhost_streams(); del tmhost_streams
 """
 
-# Prints the value of each expression, and leaves the last as R's own `.Last.value`, whose binding is locked.
-R_LINE = """options(error = expression(NULL), showErrorCalls = FALSE, tmhost.line = function(text) {
-    for (one in parse(text = text)) {
-        told <- withVisible(eval(one, globalenv()))
-        assign(".Last.value", told$value, envir = baseenv())
-        if (told$visible) print(told$value)
+# Where a line has sent the output elsewhere, the markers come yet. `$?` stays what it was.
+SH_MARKS = "exec 199>&1; tmhost_marks() { local status=$?; PS1= PS2=; builtin printf '%s%s\\n' \"$@\" >&199; return $status; }"
+
+# Prints the value of each expression, and leaves the last as R's own `.Last.value`, whose binding is locked. Errors and warnings of an
+# expression are those of no call, as at R's own prompt. A marker goes where no `sink` takes it.
+R_LINE = r"""local({
+    no_input <- function(...) stop("a line has no input of its own", call. = FALSE)
+    put <- function(name, value, place) {
+        unlockBinding(name, place)
+        assign(name, value, envir = place)
+        lockBinding(name, place)
     }
-    invisible(.Last.value)
-})"""
+    own_scan <- scan
+    without_file <- function(file = "", what = double(), nmax = -1L, n = -1L, sep = "", ..., text) {
+        if (missing(text) && is.character(file) && identical(file, "")) no_input()
+        call <- sys.call()
+        call[[1L]] <- own_scan
+        eval(call, parent.frame())
+    }
+    own_stdin <- stdin
+    no_stdin <- function() if (identical(sys.function(-1L), parse)) own_stdin() else no_input()
+    put("readline", no_input, baseenv())
+    put("stdin", no_stdin, baseenv())
+    put("scan", without_file, baseenv())
+    unlockBinding(".Last.value", baseenv())
+    is_own <- function(told) identical(conditionCall(told), quote(eval(one, globalenv())))
+    without_call <- function(told) {
+        told["call"] <- list(NULL)
+        told
+    }
+    parsed <- function(text) tryCatch(parse(text = text, keep.source = TRUE), error = function(told) {
+        words <- sub("^<text>:[0-9]+:[0-9]+: ", "", conditionMessage(told))
+        stop(words, call. = FALSE)
+    })
+    line <- function(text) {
+        on.exit(options(echo = FALSE, error = if (is.null(getOption("error"))) expression(NULL) else getOption("error")))
+        for (one in parsed(text)) {
+            told <- withCallingHandlers(
+                withVisible(eval(one, globalenv())),
+                error = function(told) if (is_own(told)) stop(without_call(told)),
+                warning = function(told) if (is_own(told)) {
+                    warning(without_call(told))
+                    invokeRestart("muffleWarning")
+                })
+            assign(".Last.value", told$value, envir = baseenv())
+            if (told$visible) print(told$value)
+        }
+        invisible(.Last.value)
+    }
+    mark <- function(first, second) {
+        last <- .Last.value
+        number <- sink.number("message")
+        if (number != 2L) {
+            sink(type = "message")
+            on.exit(sink(getConnection(number), type = "message"))
+        }
+        cat(first, second, "\n", sep = "", file = stderr())
+        invisible(last)
+    }
+    tools::Rd2txt_options(underline_titles = FALSE)
+    options(error = expression(NULL), showErrorCalls = FALSE, keep.source = TRUE, tmhost.line = line, tmhost.mark = mark)
+}, envir = new.env(parent = baseenv()))"""
 
 
 # Evaluates what Maxima reads from a text as if it were typed. A question of Maxima's own is an error.
@@ -89,6 +193,10 @@ MAXIMA_LINE = """:lisp (progn
         (let* ((*standard-input* (make-concatenated-stream)) (*query-io* (make-two-way-stream *standard-input* *standard-output*)))
             (with-input-from-string (text (format nil "~{~a~%~}" lines)) (continue :stream text)))
         'tmhost-done)
+    (defun tmhost-mark (&rest halves) (format t "~{~a~}~%" halves) nil)
+    (defun tmhost-no-input (&rest words) (declare (ignore words)) (merror "a line has no input of its own"))
+    (dolist (name '($read $readonly $break)) (remprop name 'mfexpr*) (setf (symbol-function name) #'tmhost-no-input))
+    (let ((own #'$system)) (defun $system (&rest words) (funcall own (format nil "{ ~{~a~}~%} </dev/null" words))))
     (defun retrieve (question flag) (declare (ignore flag)) (if question (displa question)) (merror "a line has no input of its own")))"""
 
 
@@ -112,7 +220,7 @@ MAXIMA_LATEX = r""":lisp (progn
 
 # A line of Macaulay2 is evaluated as a text; only its value is shown, and it stays what `oo` is.
 M2_BEGINS = (
-    "clearEcho stdio; tmhostLine = text -> value text; tmhostMode = symbol tmhostMode;",
+    "clearEcho stdio; tmhostLine = text -> value text; protect symbol tmhostLine; tmhostMode = symbol tmhostMode;",
     'ZZ#{tmhostMode,InputPrompt} = ZZ#{tmhostMode,InputContinuationPrompt} = number -> "";',
     "Thing#{tmhostMode,BeforePrint} = Thing#{tmhostMode,AfterPrint} = Thing#{tmhostMode,NoPrint} = Thing#{tmhostMode,AfterNoPrint} = identity;",
     "Nothing#{tmhostMode,Print} = identity; Thing#{tmhostMode,Print} = value -> << value << endl; topLevelMode = tmhostMode;",
@@ -120,8 +228,37 @@ M2_BEGINS = (
 M2_LATEX = (
     'tmhostTex = value -> (if instance(value, String) or instance(value, Function) then "" else try tex value else "");',
     'tmhostIsFormula = text -> instance(text, String) and match("^[$][^$]+[$]$", text);',
+    "protect symbol tmhostTex; protect symbol tmhostIsFormula;",
     'Thing#{tmhostMode,Print} = value -> (text := tmhostTex value; if tmhostIsFormula text then << "MARK" << text << "MARK" << endl else << value << endl);',
 )
+
+# A line of gap is evaluated as a text, and its values are shown as at gap's own prompt: those of statements that end in one semicolon.
+GAP_LINE = """
+    BindGlobal("tmhostShow", function(value, is_shown)
+        if IsBound(last2) then last3 := last2; fi;
+        if IsBound(last) then last2 := last; fi;
+        last := value;
+        if is_shown then View(value); Print("\\n"); fi;
+    end);
+    BindGlobal("tmhostLine", function(text)
+        local stream, told, at;
+        stream := InputTextString(text);
+        repeat
+            told := READ_COMMAND_REAL(stream, false);
+            at := PositionStream(stream);
+            if Length(told) > 1 then tmhostShow(told[2], at < 2 or text{[at - 1, at]} <> ";;"); fi;
+        until not told[1] or IsEndOfStream(stream);
+    end);
+    BindGlobal("tmhostNoInput", function(arg) Error("a line has no input of its own"); end);
+    BindGlobal("tmhostExec", function(arg)
+        Process(DirectoryCurrent(), Filename(DirectoriesSystemPrograms(), "sh"), InputTextNone(), OutputTextUser(),
+            ["-c", JoinStringsWithSeparator(List(arg, String), " ")]);
+    end);
+    MakeReadWriteGlobal("last"); MakeReadWriteGlobal("last2"); MakeReadWriteGlobal("last3");
+    MakeReadWriteGlobal("InputTextUser"); InputTextUser := tmhostNoInput;
+    MakeReadWriteGlobal("Exec"); Exec := tmhostExec;
+    SetUserPreference("Pager", "cat"); SetUserPreference("PagerOptions", []);
+"""
 
 GIAC_LATEX = (
     "tmhost_line(tmhost_text):={local v; v:=expr(tmhost_text); "
@@ -142,41 +279,49 @@ class Profile:
     noise: bytes = b""  # what of an answer is left out: its own prompts, where they can't be turned off
     ends: bytes = b"\n"  # what stands behind the marker
     latex: Tuple[str, ...] = ()  # lines that make it write a value as MARK, its TeX and MARK, a name of random bits
+    again: bytes = rb"(?!)"  # a line that starts the interpreter again, as it was at first
+    input: bytes = rb"(?!)"  # what of a line would wait for input, and can't be made an error in the interpreter itself
+
+    def begins_again(self, line: bytes) -> bool:
+        return bool(re.fullmatch(self.again, line.strip()))
+
+    def refuses(self, line: bytes) -> bool:
+        return bool(re.search(self.input, line))
 
 
 PROFILES = {
-    "python": Profile(["python3", "-q", "-i", "-u"], "print('{0}' + '{1}')", b">>> ", (PYTHON_LINE,), in_python),
+    "python": Profile(["python3", "-q", "-i", "-u"], "tmhost_mark('{0}', '{1}')", b">>> ", (PYTHON_LINE,), in_python),
     "sh": Profile(
         ["bash", "--norc", "--noprofile", "--noediting", "-i", "+m"],
-        "tmhost_marks {0} {1}",
+        "{{ tmhost_marks {0} {1}; }} 2>/dev/null",
         b"$ ",
-        ("PS1=; PS2=; set +H; set +o history", "tmhost_marks() { local status=$?; printf '%s%s\\n' \"$@\"; return $status; }"),
+        ("PS1=; PS2=; set +H; set +o history", SH_MARKS),
         in_sh,
     ),
-    "bc": Profile(["bc", "-q", "-l"], 'print "{0}", "{1}\\n"', b""),
+    "bc": Profile(["bc", "-q", "-l"], 'print "{0}", "{1}\\n"', b"", (), in_bc, input=rb"\bread\s*\("),
     "octave": Profile(
         ["octave-cli", "-q", "--no-init-file", "--interactive", "--no-line-editing", "--no-history"],
-        "disp(['{0}' '{1}'])",
+        "tmhost_mark ('{0}', '{1}')",
         b"> ",
-        ("PS1(''); PS2(''); more off;",),
+        ("PS1 (''); PS2 (''); more off;", f"warning ('off', 'Octave:shadowed-function'); addpath ('{HERE}/octave/lines');"),
         in_octave,
-        latex=("pkg load symbolic; sym(0);", f"addpath('{HERE}/octave')"),
+        latex=("pkg load symbolic; sym (0);", f"addpath ('{HERE}/octave/formulas')"),
     ),
     "R": Profile(
-        ["R", "--no-save", "--no-restore", "--no-echo"],
-        "{{ cat('{0}', '{1}\\n', sep=''); invisible(.Last.value) }}",
+        ["R", "--no-save", "--no-restore", "--no-echo", "--file=" + COMMANDS],
+        'getOption("tmhost.mark")("{0}", "{1}")',
         b"> ",
-        ('unlockBinding(".Last.value", baseenv())', R_LINE),
+        (R_LINE,),
         in_r,
     ),
-    "gap": Profile(["gap", "-q", "-b", "-n", "-T"], 'Print("{0}", "{1}\\n");', b"gap> ", (), closed_by(b";")),
+    "gap": Profile(["gap", "-q", "-b", "-n", "-T"], 'Print("{0}", "{1}\\n");', b"gap> ", (" ".join(GAP_LINE.split()),), in_gap),
     "maxima": Profile(
         ["maxima", "--very-quiet"],
-        ':lisp (progn (princ "{0}") (princ "{1}") (terpri))',
+        ':lisp (|TMHOST-MARK| "{0}" "{1}")',
         b"",
-        (":lisp (setf $display2d nil)", " ".join(MAXIMA_LINE.split())),
+        (":lisp (setf $display2d nil (gethash '$display2d *variable-initial-values*) nil)", " ".join(MAXIMA_LINE.split())),
         in_maxima,
-        rb"\n?TMHOST-DONE\Z",
+        rb"\n?TMHOST-DONE(?=\n?(?:\(dbm:\d+\) )?\Z)",
         b"\nNIL",
         (" ".join(MAXIMA_LATEX.split()),),
     ),
@@ -187,6 +332,7 @@ PROFILES = {
         M2_BEGINS,
         in_m2,
         latex=M2_LATEX,
+        again=rb"restart\s*;?",
     ),
     "giac": Profile(
         ["giac", "--sage"],
@@ -197,17 +343,20 @@ PROFILES = {
         rb'\A(?:\d+>> )?[^\n]*\n|(?:"tmhost-done"\n)?\d+>> print\([^\n]*\n\Z',
         b"\n0\n",
         (GIAC_LATEX,),
+        rb"restart\s*(?:\(\s*\))?\s*[;:]*",
+        rb"\b(?:input|InputStr|Input|textinput|saisir|saisir_chaine)\s*\(",
     ),
     "singular": Profile(
-        ["Singular", "-q", "--no-rc", "--no-warn"], 'dbprint(1, "{0}" + "{1}");', b"> ", (), closed_by(b";", b"}")
+        ["Singular", "-q", "--no-rc", "--no-warn"], 'dbprint(1, "{0}" + "{1}");', b"> ", (), in_singular
     ),
-    "gnuplot": Profile(["gnuplot"], 'print "{0}" . "{1}"', b"gnuplot> ", ("set terminal dumb",), in_gnuplot),
+    "gnuplot": Profile(["gnuplot"], 'printerr "{0}" . "{1}"', b"gnuplot> ", ("set terminal dumb",), in_gnuplot),
     "yacas": Profile(
         ["yacas", "-pc"],
         '[ WriteString("{0}"); WriteString("{1}"); NewLine(); ];',
         b"In> ",
         (),
         in_yacas,
-        rb"\AOut> True\n|(?m:^)(?:In> |Out> )+",
+        rb"(?m:^)(?:In> |Out> )+|(?<= )Out> ",
+        b"\nOut> True\n",
     ),
 }

@@ -3,30 +3,66 @@
 
     prompted.py PROFILE [--latex]
 
-It starts the interpreter of the profile, sends it each line of its own input, and behind each line one that prints
-a marker, which is made anew at each start from random bytes and stands in no command as a whole, so that neither
-an answer nor an echo of a command has it. What comes before the marker is the answer, on as many lines as it has,
-messages of errors among it. With `--latex` values are formulas, blocks of the format `latex`, where the profile
-has a way to write them. `--help` prints the names of the profiles.
+It starts the interpreter of the profile, sends it each line of its own input, and behind each line one that prints a marker. What comes
+before the marker is the answer, on as many lines as it has, messages of errors among it. Each line has a marker of its own, which is made
+from random bytes and stands in no command as a whole, so that neither an answer nor an echo of a command has it, and one that comes late
+ends no other line. Where a line has taken its marker for its input, or its own end isn't there, it is answered by an error. With `--latex`
+values are formulas, blocks of the format `latex`, where the profile has a way to write them. `--help` prints the names of the profiles.
 """
 import argparse
+import contextlib
 import os
 import pty
 import re
-import subprocess
+import signal
 import termios
-from typing import List, Optional
+from typing import List, NamedTuple, Optional, Set
 
 import blocks
-from profiles import PROFILES, Profile
+import waiting
+from profiles import COMMANDS, PROFILES, Profile
+
+PATIENCE = 0.25  # seconds without a word behind which it is looked whether a line waits for input; they double each time
+LONGEST_PATIENCE = 2.0
+MARKS = 2  # markers that a line is sent that takes them, before it is interrupted, and behind that
+READERS = 20  # programs that wait for input in one line, and are ended
+OLD_MARKS = 100  # markers that were lost, and may come yet
+NO_INPUT = b"a line has no input of its own"
+STARTED_AGAIN = NO_INPUT + b": the interpreter was started again, without its variables"
 
 
-def plain(terminal: int) -> None:
-    """A terminal that changes no byte: no carriage returns, no echo."""
-    modes = termios.tcgetattr(terminal)
+class Mark(NamedTuple):
+    """A marker, whose halves its command has apart."""
+
+    first: str
+    second: str
+
+    @property
+    def whole(self) -> bytes:
+        return (self.first + self.second).encode()
+
+
+def new_mark() -> Mark:
+    return Mark("m" + os.urandom(8).hex(), os.urandom(8).hex())
+
+
+class Stuck(Exception):
+    """The interpreter takes all that it is sent for the input of a line."""
+
+    def __init__(self, said: bytes) -> None:
+        self.said = said  # in that line
+
+
+def terminal() -> "tuple[int, int]":
+    """The two ends of a terminal that changes no byte: no carriage returns, no echo. Nothing can be read from the second one."""
+    ours, theirs = pty.openpty()
+    modes = termios.tcgetattr(theirs)
     modes[1] &= ~termios.OPOST
     modes[3] &= ~(termios.ECHO | termios.ICANON)
-    termios.tcsetattr(terminal, termios.TCSANOW, modes)
+    termios.tcsetattr(theirs, termios.TCSANOW, modes)
+    written = os.open(os.ttyname(theirs), os.O_WRONLY | os.O_NOCTTY)
+    os.close(theirs)
+    return ours, written
 
 
 def formula(tex: bytes) -> blocks.Part:
@@ -37,51 +73,140 @@ def formula(tex: bytes) -> blocks.Part:
 
 class Interpreter(blocks.Child):
     """An interpreter with the two ends that it is spoken to by: a pipe to it, and a terminal from it, so that it writes each
-    line when it is there, but sees no terminal that it would prompt at."""
+    line when it is there, but sees no terminal that it would prompt at. Where its words name COMMANDS, the pipe is that file, and its
+    standard input is empty."""
 
-    def __init__(self, profile: Profile, is_latex: bool) -> None:
+    def __init__(self, profile: Profile, is_latex: bool, signals: Optional[blocks.Signals] = None) -> None:
         self.profile = profile
         self.begins = [*profile.begins, *(profile.latex if is_latex else ())]
-        halves = ("m" + os.urandom(8).hex(), os.urandom(8).hex())
-        self.marks = profile.marks.format(*halves)
-        self.marker = "".join(halves).encode() + profile.ends
         self.mark = blocks.new_name()  # stands before and behind each formula
-        output, theirs = pty.openpty()
-        plain(theirs)
-        environment = dict(os.environ, TERM="dumb", COLUMNS="32767", TMHOST_FORMULA=self.mark.decode())
-        super().__init__(profile.words, output, stdin=subprocess.PIPE, stdout=theirs, stderr=theirs, env=environment)
+        self.lost: List[bytes] = []  # the markers that were lost
+        theirs, self.commands = os.pipe()
+        commands = f"/dev/fd/{theirs}"
+        has_file = any(COMMANDS in word for word in profile.words)
+        output, written = terminal()
+        self.inputs = [os.readlink(f"/proc/self/fd/{theirs}"), os.ttyname(written)]  # what it, or a program that it has started, could read
+        with open(os.devnull, "rb") as nothing:
+            super().__init__(
+                [word.replace(COMMANDS, commands) for word in profile.words], output, signals,
+                stdin=nothing if has_file else theirs, stdout=written, stderr=written, pass_fds=[theirs],
+                env=dict(os.environ, TERM="dumb", COLUMNS="32767", PAGER="cat", EDITOR="false", VISUAL="false", BROWSER="true", HISTFILE=os.devnull,
+                         TMHOST_COMMANDS=commands, TMHOST_FORMULA=self.mark.decode()))
         os.close(theirs)
+        os.close(written)
 
     def begin(self) -> bool:
         """Sends what the profile begins with; false where the interpreter ends at that."""
         lines = (line.replace("MARK", self.mark.decode()) for line in self.begins)
-        return self.ask(*(line.encode() for line in lines)) is not None
+        with contextlib.suppress(Stuck):
+            return self.ask(*(line.encode() for line in lines)) is not None
+        return False
+
+    def send(self, *lines: bytes) -> Mark:
+        """Sends lines, and behind them one that prints a new marker."""
+        mark = new_mark()
+        marks = self.profile.marks.format(mark.first, mark.second).encode()
+        blocks.write(b"".join(line + b"\n" for line in (*lines, marks)), self.commands)
+        return mark
 
     def ask(self, *sent: bytes) -> Optional[bytes]:
         """What it says to these lines; None where it, or our reader, has ended before the marker."""
-        assert self.process.stdin
-        self.process.stdin.write(b"".join(line + b"\n" for line in (*sent, self.marks.encode())))
-        self.process.stdin.flush()
-        said = blocks.Said()
-        while (end := said.find(self.marker)) < 0:
-            piece = self.said()
-            if not piece:
-                return None
-            said.add(piece)
-        return said.before(end)
+        marks, said, patience = [self.send(*sent)], blocks.Said(), PATIENCE
+        ended: Set[int] = set()
+        was_waiting = False
+        while (end := said.find(marks[-1].whole + self.profile.ends)) < 0:
+            piece = self.said(patience)
+            if piece is not None:
+                if not piece:
+                    return None
+                said.add(piece)
+                patience, was_waiting = PATIENCE, False
+                continue
+            found = waiting.readers(self.process.pid, self.inputs)
+            if found and was_waiting:
+                if not self.give_no_input(found, marks, ended):
+                    raise Stuck(self.answered(said.before(len(said.kept)), marks, False))
+            elif not found:
+                patience = min(2 * patience, LONGEST_PATIENCE)
+            was_waiting = bool(found) and not was_waiting
+        return self.answered(said.before(end), marks, bool(ended))
+
+    def give_no_input(self, found: Set[int], marks: List[Mark], ended: Set[int]) -> bool:
+        """Ends the programs that a line has started and that wait for input. Where it is the interpreter that waits, it has taken the marker
+        for the input of the line, and is sent another one, behind some of them an interrupt before it. False where nothing has helped."""
+        others = found - {self.process.pid}
+        ended |= others
+        for process in others:
+            with contextlib.suppress(ProcessLookupError):
+                os.kill(process, signal.SIGKILL)
+        if others:
+            return len(ended) < READERS
+        if len(marks) > MARKS:
+            self.interrupt()
+        marks.append(self.send())
+        return len(marks) <= 2 * MARKS + 1
+
+    def answered(self, said: bytes, marks: List[Mark], has_ended: bool) -> bytes:
+        """The text of an answer, without what the profile leaves out and without echoes of the commands that print its markers, and with an
+        error where it wanted input."""
+        said = re.sub(self.profile.noise, b"", said) if self.profile.noise else said
+        for mark in marks:
+            said = without_lines(said, mark.first.encode())
+        for old in self.lost:
+            said = said.replace(old, b"")
+        self.lost = [*self.lost, *(mark.whole for mark in marks[:-1])][-OLD_MARKS:]
+        return with_error(said, NO_INPUT) if has_ended or len(marks) > 1 else said
+
+    def leave(self) -> None:
+        super().leave()
+        os.close(self.commands)
 
     def parts(self, said: bytes) -> List[blocks.Part]:
         """The texts of an answer, and the formulas between two marks. One that was cut is text."""
-        texts = (re.sub(self.profile.noise, b"", said) if self.profile.noise else said).split(self.mark)
+        texts = said.split(self.mark)
         if len(texts) % 2 == 0:
             texts[-2:] = [b"".join(texts[-2:])]
         return [formula(text) if at % 2 else blocks.Part(text.strip(b"\n")) for at, text in enumerate(texts)]
 
-    def answer(self, line: bytes) -> Optional[bytes]:
-        """The block that answers a line."""
+    def answer(self, line: bytes) -> Optional[List[blocks.Part]]:
+        """The parts of the answer to a line; None where it has ended."""
+        if self.profile.refuses(line):
+            return [blocks.Part(NO_INPUT)]
         with self.at_a_line():
             said = self.ask(self.profile.statement(line)) if self.drop_what_was_said() else None
-        return None if said is None else blocks.answer(self.parts(said), self.profile.prompt)
+        return None if said is None else self.parts(said)
+
+
+def without_lines(text: bytes, word: bytes) -> bytes:
+    """A text without the lines that have a word."""
+    return b"\n".join(line for line in text.split(b"\n") if word not in line) if word in text else text
+
+
+def with_error(said: bytes, error: bytes) -> bytes:
+    return b"%b\n%b\n" % (said.rstrip(b"\n"), error) if said.strip(b"\n") else error + b"\n"
+
+
+class Session:
+    """The interpreter that answers the lines. Where one is stuck in a line, the line is answered by an error, and another one is started."""
+
+    def __init__(self, profile: Profile, is_latex: bool) -> None:
+        self.profile, self.is_latex = profile, is_latex
+        self.interpreter = Interpreter(profile, is_latex)
+        self.signals = self.interpreter.signals
+
+    def answer(self, line: bytes) -> Optional[bytes]:
+        """The block that answers a line; None where the interpreter has ended."""
+        try:
+            parts = self.begin_again(b"") if self.profile.begins_again(line) else self.interpreter.answer(line)
+        except Stuck as stuck:
+            parts = self.begin_again(stuck.said + STARTED_AGAIN)
+        return None if parts is None else blocks.answer(parts, self.profile.prompt)
+
+    def begin_again(self, said: bytes) -> Optional[List[blocks.Part]]:
+        """Starts another interpreter in the place of this one, and answers with a text."""
+        self.interpreter.leave()
+        self.interpreter = Interpreter(self.profile, self.is_latex, self.signals)
+        return [blocks.Part(said)] if self.interpreter.begin() else None
 
 
 def main() -> None:
@@ -92,10 +217,10 @@ def main() -> None:
     profile = PROFILES[chosen.profile]
     if chosen.latex and not profile.latex:
         words.error(f"{chosen.profile} has no way to write formulas")
-    interpreter = Interpreter(profile, chosen.latex)
-    if interpreter.begin():
-        blocks.serve(blocks.verbatim(b"", profile.prompt), interpreter.answer, interpreter.signals)
-    interpreter.end()
+    session = Session(profile, chosen.latex)
+    if session.interpreter.begin():
+        blocks.serve(blocks.verbatim(b"", profile.prompt), session.answer, session.signals)
+    session.interpreter.end()
 
 
 if __name__ == "__main__":

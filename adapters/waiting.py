@@ -1,0 +1,38 @@
+"""Which processes of an interpreter wait for more of its input, as the kernel tells it."""
+import contextlib
+import os
+import platform
+from typing import Collection, Iterator, Set
+
+READ = {"x86_64": b"0", "aarch64": b"63", "riscv64": b"63"}.get(platform.machine(), b"3")  # the number of read(2)
+
+
+def session_of(process: int) -> int:
+    """The session that a process belongs to, or 0 where it has just ended."""
+    with contextlib.suppress(OSError), open(f"/proc/{process}/stat", "rb") as told:
+        return int(told.read().rpartition(b")")[2].split()[3])
+    return 0
+
+
+def processes(session: int) -> Iterator[int]:
+    return (int(name) for name in os.listdir("/proc") if name.isdigit() and session_of(int(name)) == session)
+
+
+def reads(process: int, files: Collection[str]) -> bool:
+    """Whether a thread of the process waits in a read of one of these files, so that there is nothing in it."""
+    for thread in os.listdir(f"/proc/{process}/task"):
+        with contextlib.suppress(FileNotFoundError, ProcessLookupError), open(f"/proc/{process}/task/{thread}/syscall", "rb") as told:
+            number, *words = told.read().split()
+            if number == READ and os.readlink(f"/proc/{process}/fd/{int(words[0], 16)}") in files:
+                return True
+    return False
+
+
+def readers(session: int, files: Collection[str]) -> Set[int]:
+    """The processes of a session that wait in a read of one of these files; none where the kernel doesn't tell."""
+    found = set()
+    for process in processes(session):
+        with contextlib.suppress(OSError):
+            if reads(process, files):
+                found.add(process)
+    return found
