@@ -3,7 +3,7 @@
 
 import { ask } from "./talk.js";
 import { button, make, visible } from "./dom.js";
-import { OutputView } from "./output.js";
+import { OutputView, outputShape } from "./output.js";
 import { answerState, running, textState } from "./said.js";
 import { setInto } from "./setter.js";
 
@@ -21,6 +21,26 @@ const SAVED_WITHIN = 2_500; // milliseconds of the first key that isn't saved: h
 const FITS_ITSELF = CSS.supports("field-sizing", "content");
 const LETTERS_IN_LINE = 80; // a guess
 const UNKNOWN = ["Ended", "TimedOut", "Unreached"]; // refusals behind which a text may be saved or not
+
+/** What each cell consists of. A copy of it takes a fraction of the time in which the same is made part by part. */
+const SHAPE = shape();
+
+function shape() {
+  const box = make("section", "cell"), head = make("header"), line = make("div", "input"), text = make("textarea");
+  box.tabIndex = -1;
+  box.setAttribute("role", "group");
+  head.append(make("span", "number"), make("bdi", "session"), make("span", "text-state"), make("span", "answer-state"));
+  text.spellcheck = false;
+  text.tabIndex = -1; // Enter goes into it: Tab would not go on from there
+  text.rows = 1;
+  text.setAttribute("autocapitalize", "off");
+  line.append(make("bdi", "prompt"), text);
+  box.append(head, line, outputShape());
+  return box;
+}
+
+/** @type {(node: HTMLElement) => HTMLElement[]} */
+const childrenOf = (node) => /** @type {HTMLElement[]} */ ([...node.children]);
 
 export class CellView {
   /**
@@ -51,15 +71,20 @@ export class CellView {
     this.timer = undefined;
     /** @type {number | undefined} */
     this.typedAt = undefined; // when the first key came that isn't saved
-    this.box = make("section", "cell");
-    this.head = make("header");
-    this.session = make("bdi", "session");
-    this.textState = make("span", "text-state");
-    this.answerState = make("span", "answer-state");
-    this.line = make("div", "input");
-    this.prompt = make("bdi", "prompt");
-    this.text = make("textarea");
-    this.output = new OutputView(cell.id);
+    this.said = ""; // of its states
+    this.box = /** @type {HTMLElement} */ (SHAPE.cloneNode(true));
+    const [head, line, output] = childrenOf(this.box);
+    const [number, session, textState, answerState] = childrenOf(head);
+    const [prompt, text] = childrenOf(line);
+    number.textContent = `#${this.id}`;
+    this.head = head;
+    this.session = session;
+    this.textState = textState;
+    this.answerState = answerState;
+    this.line = line;
+    this.prompt = prompt;
+    this.text = /** @type {HTMLTextAreaElement} */ (text);
+    this.output = new OutputView(cell.id, output);
     /** @type {HTMLElement | undefined} */
     this.reading = undefined; // of prose: what it says
     /** @type {string | null} */
@@ -67,23 +92,10 @@ export class CellView {
     /** @type {HTMLElement | undefined} */
     this.conflict = undefined;
     this.other = make("pre");
-    this.build();
+    this.box.id = `cell-${this.id}`;
+    this.text.setAttribute("aria-label", `Input of cell ${this.id}`);
     this.text.value = cell.input;
     this.update(cell, at);
-  }
-
-  build() {
-    this.box.id = `cell-${this.id}`;
-    this.box.tabIndex = -1;
-    this.box.setAttribute("role", "group");
-    this.head.append(make("span", "number", `#${this.id}`), this.session, this.textState, this.answerState);
-    this.text.spellcheck = false;
-    this.text.tabIndex = -1; // Enter goes into it: Tab would not go on from there
-    this.text.rows = 1;
-    this.text.setAttribute("autocapitalize", "off");
-    this.text.setAttribute("aria-label", `Input of cell ${this.id}`);
-    this.line.append(this.prompt, this.text);
-    this.box.append(this.head, this.line, this.output.box);
   }
 
   get isProse() {
@@ -145,9 +157,12 @@ export class CellView {
     this.cell = cell;
     this.toldAt = at;
     this.takeText(cell);
-    this.session.textContent = this.isProse ? "prose" : cell.session;
-    this.box.classList.toggle("prose", this.isProse);
-    this.box.setAttribute("aria-label", this.isProse ? `Prose ${this.id}` : `Cell ${this.id}, ${cell.session}`);
+    const session = this.isProse ? "prose" : cell.session;
+    if (this.session.textContent !== session) {
+      this.session.textContent = session;
+      this.box.classList.toggle("prose", this.isProse);
+      this.box.setAttribute("aria-label", this.isProse ? `Prose ${this.id}` : `Cell ${this.id}, ${cell.session}`);
+    }
     this.prompt.textContent = this.isProse ? "" : visible(cell.prompt ?? "> ");
     this.output.update(this.isProse ? null : cell.output, cell.isOld);
     this.showProse();
@@ -182,6 +197,7 @@ export class CellView {
 
   /** @param {[boolean, boolean]} mark */
   takeMark(mark) {
+    if (String(mark) === String(this.mark)) return;
     this.mark = mark;
     this.say();
   }
@@ -193,13 +209,17 @@ export class CellView {
     const { isDraft, isKept, isElsewhere, trouble, page: { isThere } } = this;
     const text = textState({ isDraft, isKept, isElsewhere, trouble, isSaving: this.saving !== undefined, isThere });
     const answer = this.isProse ? ["", ""] : answerState(this.cell, { isThere, asked: this.unsettled, isStale, hasEnded });
+    const state = this.unsettled === undefined ? this.cell.state : "asked";
+    const said = [...text, ...answer, state, this.isElsewhere ? this.theirs : ""].join("\n");
+    if (said === this.said) return;
+    this.said = said;
     for (const [place, [name, words]] of /** @type {const} */ ([[this.textState, text], [this.answerState, answer]])) {
       if (place.textContent !== words) place.textContent = words;
       place.dataset.state = name;
     }
     this.conflict?.toggleAttribute("hidden", !this.isElsewhere);
     this.other.textContent = this.isElsewhere ? visible(this.theirs) : "";
-    this.box.dataset.state = this.unsettled === undefined ? this.cell.state : "asked";
+    this.box.dataset.state = state;
     this.box.dataset.text = text[0];
   }
 
