@@ -4,7 +4,7 @@
 import { ask } from "./talk.js";
 import { button, make, visible } from "./dom.js";
 import { OutputView, outputShape } from "./output.js";
-import { answerState, running, textState } from "./said.js";
+import { answerState, textState } from "./said.js";
 import { setInto } from "./setter.js";
 
 /** @typedef {import("./types").Cell} Cell */
@@ -22,6 +22,9 @@ const FITS_ITSELF = CSS.supports("field-sizing", "content");
 const LETTERS_IN_LINE = 80; // a guess
 const UNKNOWN = ["Ended", "TimedOut", "Unreached"]; // refusals behind which a text may be saved or not
 
+/** What is said of most cells: of the text and of the answer the class and the words, and the state of the cell. */
+const AT_FIRST = { text: ["saved", "saved"], answer: ["", ""], state: "answered", theirs: "" };
+
 /** What each cell consists of. A copy of it takes a fraction of the time in which the same is made part by part. */
 const SHAPE = shape();
 
@@ -29,7 +32,11 @@ function shape() {
   const box = make("section", "cell"), head = make("header"), line = make("div", "input"), text = make("textarea");
   box.tabIndex = -1;
   box.setAttribute("role", "group");
-  head.append(make("span", "number"), make("bdi", "session"), make("span", "text-state"), make("span", "answer-state"));
+  const textState = make("span", "text-state", AT_FIRST.text[1]), answerState = make("span", "answer-state", AT_FIRST.answer[1]);
+  textState.dataset.state = box.dataset.text = AT_FIRST.text[0];
+  answerState.dataset.state = AT_FIRST.answer[0];
+  box.dataset.state = AT_FIRST.state;
+  head.append(make("span", "number"), make("bdi", "session"), textState, answerState);
   text.spellcheck = false;
   text.tabIndex = -1; // Enter goes into it: Tab would not go on from there
   text.rows = 1;
@@ -37,6 +44,15 @@ function shape() {
   line.append(make("bdi", "prompt"), text);
   box.append(head, line, outputShape());
   return box;
+}
+
+/** @type {(one: string[], other: string[]) => boolean} */
+const isOther = ([name, words], [otherName, otherWords]) => name !== otherName || words !== otherWords;
+
+/** @type {(place: HTMLElement, state: string[]) => void} */
+function show(place, [name, words]) {
+  place.textContent = words;
+  place.dataset.state = name;
 }
 
 /** @type {(node: HTMLElement) => HTMLElement[]} */
@@ -47,8 +63,9 @@ export class CellView {
    * @param {Page} page
    * @param {Cell} cell
    * @param {number} at
+   * @param {[boolean, boolean]} mark
    */
-  constructor(page, cell, at) {
+  constructor(page, cell, at, mark) {
     this.page = page;
     this.id = cell.id;
     this.cell = cell;
@@ -64,14 +81,14 @@ export class CellView {
     /** @type {Set<string>} */
     this.tried = new Set(); // texts of which it isn't known whether they were saved
     /** @type {[boolean, boolean]} */
-    this.mark = [false, false]; // of an answer: whether it is stale, and whether its interpreter has ended
+    this.mark = mark; // of an answer: whether it is stale, and whether its interpreter has ended
     /** @type {Promise<boolean> | undefined} */
     this.saving = undefined;
     /** @type {ReturnType<typeof setTimeout> | undefined} */
     this.timer = undefined;
     /** @type {number | undefined} */
     this.typedAt = undefined; // when the first key came that isn't saved
-    this.said = ""; // of its states
+    this.said = AT_FIRST;
     this.box = /** @type {HTMLElement} */ (SHAPE.cloneNode(true));
     const [head, line, output] = childrenOf(this.box);
     const [number, session, textState, answerState] = childrenOf(head);
@@ -210,22 +227,20 @@ export class CellView {
     const text = textState({ isDraft, isKept, isElsewhere, trouble, isSaving: this.saving !== undefined, isThere });
     const answer = this.isProse ? ["", ""] : answerState(this.cell, { isThere, asked: this.unsettled, isStale, hasEnded });
     const state = this.unsettled === undefined ? this.cell.state : "asked";
-    const said = [...text, ...answer, state, this.isElsewhere ? this.theirs : ""].join("\n");
-    if (said === this.said) return;
-    this.said = said;
-    for (const [place, [name, words]] of /** @type {const} */ ([[this.textState, text], [this.answerState, answer]])) {
-      if (place.textContent !== words) place.textContent = words;
-      place.dataset.state = name;
-    }
+    const theirs = this.isElsewhere ? visible(this.theirs) : "";
+    const was = this.said;
+    this.said = { text, answer, state, theirs };
+    if (isOther(text, was.text)) show(this.textState, text);
+    if (text[0] !== was.text[0]) this.box.dataset.text = text[0];
+    if (isOther(answer, was.answer)) show(this.answerState, answer);
+    if (state !== was.state) this.box.dataset.state = state;
     this.conflict?.toggleAttribute("hidden", !this.isElsewhere);
-    this.other.textContent = this.isElsewhere ? visible(this.theirs) : "";
-    this.box.dataset.state = state;
-    this.box.dataset.text = text[0];
+    if (theirs !== was.theirs) this.other.textContent = theirs;
   }
 
   /** Says how long it has been running, while it is. */
   tick() {
-    if (this.cell.state === "running" && this.page.isThere) this.answerState.textContent = running(this.cell.since ?? Date.now());
+    if (this.cell.state === "running" && this.page.isThere) this.say();
   }
 
   /** Makes the text as high as its lines, where the browser doesn't by itself. */
