@@ -3,8 +3,9 @@
 
 import { ask } from "./talk.js";
 import { button, make, visible } from "./dom.js";
-import { OutputView, outputShape } from "./output.js";
+import { OutputView } from "./output.js";
 import { answerState, textState } from "./said.js";
+import { AT_FIRST, childrenOf, copyOfShape, isOther, show } from "./shape.js";
 import { setInto } from "./setter.js";
 
 /** @typedef {import("./types").Cell} Cell */
@@ -21,42 +22,6 @@ const SAVED_WITHIN = 2_500; // milliseconds of the first key that isn't saved: h
 const FITS_ITSELF = CSS.supports("field-sizing", "content");
 const LETTERS_IN_LINE = 80; // a guess
 const UNKNOWN = ["Ended", "TimedOut", "Unreached"]; // refusals behind which a text may be saved or not
-
-/** What is said of most cells: of the text and of the answer the class and the words, and the state of the cell. */
-const AT_FIRST = { text: ["saved", "saved"], answer: ["", ""], state: "answered", theirs: "" };
-
-/** What each cell consists of. A copy of it takes a fraction of the time in which the same is made part by part. */
-const SHAPE = shape();
-
-function shape() {
-  const box = make("section", "cell"), head = make("header"), line = make("div", "input"), text = make("textarea");
-  box.tabIndex = -1;
-  box.setAttribute("role", "group");
-  const textState = make("span", "text-state", AT_FIRST.text[1]), answerState = make("span", "answer-state", AT_FIRST.answer[1]);
-  textState.dataset.state = box.dataset.text = AT_FIRST.text[0];
-  answerState.dataset.state = AT_FIRST.answer[0];
-  box.dataset.state = AT_FIRST.state;
-  head.append(make("span", "number"), make("bdi", "session"), textState, answerState);
-  text.spellcheck = false;
-  text.tabIndex = -1; // Enter goes into it: Tab would not go on from there
-  text.rows = 1;
-  text.setAttribute("autocapitalize", "off");
-  line.append(make("bdi", "prompt"), text);
-  box.append(head, line, outputShape());
-  return box;
-}
-
-/** @type {(one: string[], other: string[]) => boolean} */
-const isOther = ([name, words], [otherName, otherWords]) => name !== otherName || words !== otherWords;
-
-/** @type {(place: HTMLElement, state: string[]) => void} */
-function show(place, [name, words]) {
-  place.textContent = words;
-  place.dataset.state = name;
-}
-
-/** @type {(node: HTMLElement) => HTMLElement[]} */
-const childrenOf = (node) => /** @type {HTMLElement[]} */ ([...node.children]);
 
 export class CellView {
   /**
@@ -89,7 +54,7 @@ export class CellView {
     /** @type {number | undefined} */
     this.typedAt = undefined; // when the first key came that isn't saved
     this.said = AT_FIRST;
-    this.box = /** @type {HTMLElement} */ (SHAPE.cloneNode(true));
+    this.box = copyOfShape();
     const [head, line, output] = childrenOf(this.box);
     const [number, session, textState, answerState] = childrenOf(head);
     const [prompt, text] = childrenOf(line);
@@ -108,7 +73,6 @@ export class CellView {
     this.read = null; // the text that it says, null where that is to be set again
     /** @type {HTMLElement | undefined} */
     this.conflict = undefined;
-    this.other = make("pre");
     this.box.id = `cell-${this.id}`;
     this.text.setAttribute("aria-label", `Input of cell ${this.id}`);
     this.text.value = cell.input;
@@ -235,7 +199,7 @@ export class CellView {
     if (isOther(answer, was.answer)) show(this.answerState, answer);
     if (state !== was.state) this.box.dataset.state = state;
     this.conflict?.toggleAttribute("hidden", !this.isElsewhere);
-    if (theirs !== was.theirs) this.other.textContent = theirs;
+    if (this.conflict && theirs !== was.theirs) this.conflict.querySelector("pre")?.replaceChildren(theirs);
   }
 
   /** Says how long it has been running, while it is. */
@@ -258,6 +222,7 @@ export class CellView {
       return;
     }
     this.reading ??= this.box.appendChild(make("div", "reading"));
+    this.reading.dir = "auto";
     const text = this.text.value;
     if (this.read === text) return;
     this.read = text;
@@ -271,7 +236,7 @@ export class CellView {
     if (!this.conflict) {
       this.conflict = make("div", "conflict", "This cell was given another text elsewhere: ");
       this.conflict.append(button("keepMine", "Keep this text", "Save the text that stands in the cell"), " ",
-        button("takeTheirs", "Take the other", "Put the other text into the cell, and drop this one"), this.other);
+        button("takeTheirs", "Take the other", "Put the other text into the cell, and drop this one"), make("pre"));
       this.head.after(this.conflict);
     }
   }
@@ -327,8 +292,10 @@ export class CellView {
     const mayBeKept = this.kept !== null || UNKNOWN.includes(told.refused ?? "");
     if (told.refused && !mayBeKept) this.tried.delete(text);
     if (told.refused) return false;
-    if (told.isDraft) this.isKeptNow(text, told.at ?? 0);
-    else this.isSavedNow(text, told.at ?? 0);
+    const at = told.at ?? 0;
+    if (at <= this.toldAt) return true; // an event was quicker, and may tell of more
+    if (told.isDraft) this.isKeptNow(text, at);
+    else this.isSavedNow(text, at);
     this.showProse();
     return true;
   }

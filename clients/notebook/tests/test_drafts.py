@@ -1,5 +1,6 @@
 """What is typed into a cell that is evaluated or waits: it is kept as a draft, through reloads and kills, and becomes the cell's text."""
 
+import ctypes
 import json
 import os
 import subprocess
@@ -12,10 +13,11 @@ from unittest import mock
 import chromium
 import harness
 from harness import PROGRAM, READY, Page, PageCase, needs_chromium, needs_program, opened
+from test_page import CONTRAST
+from test_page_keys import IS_SLOW
 
 sys.path[:0] = [harness.NOTEBOOK]
 
-from tmhost_notebook import drafts  # noqa: E402
 from tmhost_notebook.drafts import Draft, Drafts, NotKept  # noqa: E402
 
 KEPT = "draft: kept, not yet the cell's text"
@@ -156,8 +158,11 @@ class DraftsOfThePage(PageCase):
         return tab
 
     def test_a_text_changed_elsewhere(self) -> None:
-        """Neither text goes before one is chosen: here the draft."""
+        """Neither text goes before one is chosen: here the draft. Both can be read, by day and by night."""
         tab = self.changed_elsewhere()
+        for scheme in ("light", "dark"):
+            tab.ask("Emulation.setEmulatedMedia", {"features": [{"name": "prefers-color-scheme", "value": scheme}]})
+            self.assertEqual([one for one in tab.value(CONTRAST) if one[1] < 4.5], [], scheme)
         tab.value("new Promise((done) => setTimeout(done, 1500))")
         self.assertEqual((self.page.cells()[1]["input"], self.kept()[1]["text"]), ("say theirs", "mine sleep 60"))
         tab.click("#cell-1 [data-do=keepMine]")
@@ -196,6 +201,21 @@ class DraftsOfThePage(PageCase):
         tab.until(TEXT % 1, "theirs asleep 60")
         tab.until(SAYS % 1, KEPT)
         self.assertEqual(self.kept()[1]["text"], "theirs asleep 60")
+
+    def test_a_late_reply(self) -> None:
+        """A reply that comes after an event tells nothing new: what another page has typed meanwhile stays in sight."""
+        tab = self.start("sleep 60", evaluated=1)
+        other = opened(self.browser, self.server, in_window=True)
+        tab.value(IS_SLOW)
+        self.write(tab, 1, "a")
+        other.until(TEXT % 1, "asleep 60")
+        tab.type("mine")
+        self.write(other, 1, "theirs ")
+        other.until(SAYS % 1, KEPT)
+        tab.until(OTHER % 1, "theirs asleep 60")
+        tab.value("window.go(), 0")
+        tab.until(SAYS % 1, "not saved: it was changed elsewhere")
+        self.assertEqual((tab.value(OTHER % 1), tab.value(TEXT % 1)), ("theirs asleep 60", "aminesleep 60"))
 
     def test_a_draft_that_is_too_long(self) -> None:
         """It stays a draft, and the page says why."""
@@ -281,7 +301,7 @@ class DraftsOnTheDisk(unittest.TestCase):
                     return call(*words, **further)
 
                 with self.subTest(name=name, turn=turn):
-                    with mock.patch.object(drafts.os, name, ends):
+                    with mock.patch.object(os, name, ends):
                         try:
                             known = self.opened()
                             known.keep(1, new)
@@ -298,8 +318,11 @@ class DraftsOnTheDisk(unittest.TestCase):
             steps.append("sync " + os.path.relpath(os.readlink(f"/proc/self/fd/{descriptor}"), os.path.dirname(self.folder)))
             sync(descriptor)
 
-        with mock.patch.object(drafts.os, "fsync", noted), mock.patch.object(drafts.os, "replace",
-                lambda *words: (steps.append("replace"), replace(*words))):
+        def named(*words: Any) -> None:
+            steps.append("replace")
+            replace(*words)
+
+        with mock.patch.object(os, "fsync", noted), mock.patch.object(os, "replace", named):
             known = self.opened()
             known.keep(1, Draft("s", "a", "b"))
             known.keep(1, None)
@@ -358,13 +381,18 @@ class DraftsOnTheDisk(unittest.TestCase):
         known = self.opened()
         self.assertEqual(known.of, {1: two})
 
-    def as_user(self, id: int = 12345) -> None:
-        """Root may write everywhere."""
-        if os.getuid() == 0:
-            for place in (self.folder, self.sheet, os.path.dirname(self.folder)):
-                os.chown(place, id, -1)
-            os.seteuid(id)
-            self.addCleanup(os.seteuid, 0)
+    def as_user(self) -> None:
+        """Root may write everywhere: as root this gives up what lets it, till the test is over."""
+        libc, head, caps = ctypes.CDLL(None), (ctypes.c_uint32 * 2)(0x20080522, 0), (ctypes.c_uint32 * 6)()
+        self.assertEqual(libc.capget(head, caps), 0)
+        had, caps[0] = caps[0], caps[0] & ~0b110  # CAP_DAC_OVERRIDE and CAP_DAC_READ_SEARCH
+        self.assertEqual(libc.capset(head, caps), 0)
+
+        def back() -> None:
+            caps[0] = had
+            libc.capset(head, caps)
+
+        self.addCleanup(back)
 
 
 if __name__ == "__main__":

@@ -184,14 +184,14 @@ class ThePage(PageCase):
     def test_a_draft_waits(self) -> None:
         """What is typed while a cell is evaluated is saved behind its answer; what is too long isn't saved, and stays."""
         self.begin()
-        self.page.call("new", session="s", text="sleep 2", after=0)
+        self.page.call("new", session="s", text="sleep 5", after=0)
         tab = opened(self.browser, self.server)
         tab.click("#cell-1 .number")
         tab.key("Enter", "Control")
         tab.until("document.querySelector('#cell-1').dataset.state", "running")
         tab.key("Enter")
         tab.type("x")
-        tab.until("document.querySelector('#cell-1 .text-state').textContent", "not saved until it has its answer")
+        tab.until("document.querySelector('#cell-1 .text-state').textContent", "draft: kept, not yet the cell's text")
         tab.until("document.querySelector('#cell-1 .text-state').textContent", "saved")
         self.assertEqual(tab.value("document.querySelector('#cell-1 .output pre').textContent"), "rested")
         self.assertEqual(tab.value("document.querySelector('#cell-1 .answer-state').dataset.state"), "stale")

@@ -8,10 +8,10 @@ import re
 import signal
 import time
 import unittest
-from typing import Any, Dict, List, Tuple
+from typing import Dict
 
 import chromium
-from harness import IN_TEXT, Case, Page, PageCase, SPOKEN, needs_chromium, needs_program, opened
+from harness import IN_TEXT, SPOKEN, Case, Page, PageCase, needs_chromium, needs_program, opened
 
 KILLS = int(os.environ.get("TMHOST_KILLS", "20"))
 AT_THE_LATEST = 3.0  # seconds of the first key that isn't saved
@@ -142,9 +142,7 @@ class Undo(PageCase):
         for key in "jkd":
             tab.key(key)
         self.assertEqual(tab.value(TEXTS), [*self.texts[:10], "say 11", "say 12"])
-        shown = self.show()
-        self.assertIn("#2 s\n> edited say 2\n", shown)
-        self.assertEqual((shown.count("edited"), shown.count("say")), (1, 12))
+        self.assertEqual(re.findall(r"(?m)^\S*> (.*)$", self.show()), [*self.texts[:10], "say 11", "say 12"])
 
     def test_nothing_else_is_undone_outside_of_a_text(self) -> None:
         """Redo, buttons, the page itself, and the browser's own menu."""
@@ -289,7 +287,7 @@ class Kills(Case):
         self.page = Page(self.server)
         self.page.call("session", name="s", words=SPOKEN, tab=False)
         for after in range(self.CELLS - 1):
-            self.page.call("new", session="s", text="say 0", after=after)
+            self.page.call("new", session="s", text="sleep 20.0000000", after=after)
         self.page.call("new", session=None, text="", after=self.CELLS - 1)
         self.browser = self.browse()
         self.tab = opened(self.browser, self.server)
@@ -324,7 +322,6 @@ class Kills(Case):
         """Has the first cell run, and the second one wait, which they do longer than a round lasts."""
         for id in (1, 2):
             if self.page.cells()[id]["state"] not in ("running", "queued"):
-                self.page.call("set", id=id, text="sleep 20.0", base=self.page.cells()[id]["input"], draft=None)
                 self.page.call("eval", id=id)
 
     def kill(self, kind: str) -> None:

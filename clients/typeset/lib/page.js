@@ -54,13 +54,14 @@ const PROSE_STYLE = `<style>
 .prose pre code{font:inherit}
 .prose blockquote{padding-left:.9rem;border-left:3px solid var(--line);color:var(--dim)}
 .prose table{border-collapse:collapse}
-.prose :is(th,td){padding:.15rem .6rem;border:1px solid var(--line);text-align:left}
+.prose :is(th,td){padding:.15rem .6rem;border:1px solid var(--line);text-align:start}
+.prose :is(h2,h3,h4,h5,h6,p,li,th,td){unicode-bidi:plaintext}
 .prose .center{text-align:center}
 .prose .right{text-align:right}
 .prose a{color:var(--mark)}
 .prose :is(a,code){unicode-bidi:isolate}
 .prose .display{display:block;margin:.6rem 0;overflow-x:auto;text-align:center}
-@media print{.prose{break-inside:auto}.prose :is(h2,h3,h4,h5,h6){break-after:avoid}}
+@media print{.prose{break-inside:auto}.prose :is(h2,h3,h4,h5,h6),.prose:has(>:is(h2,h3,h4,h5,h6):last-child){break-after:avoid}}
 </style>
 `;
 

@@ -1,0 +1,90 @@
+"""How what is there can be read: directions, lines that are longer than the page, paper, and cells without output."""
+
+import unittest
+
+from harness import PageCase, needs_chromium, needs_program, opened
+
+ARABIC = "\u0645\u0631\u062d\u0628\u0627."
+STYLE = "getComputedStyle(document.querySelector('%s'))"
+# Whether the first letter of an element's text stands in the right half of its box.
+IS_AT_RIGHT = """
+((node) => {
+  const range = document.createRange(), text = document.createTreeWalker(node, NodeFilter.SHOW_TEXT).nextNode();
+  range.setStart(text, 0);
+  range.setEnd(text, 1);
+  const [letter, box] = [range.getBoundingClientRect(), node.getBoundingClientRect()];
+  return letter.x > box.x + box.width / 2;
+})(document.querySelector('%s'))
+"""
+WIDTHS = """
+((output) => [output.scrollWidth > output.clientWidth, document.documentElement.scrollWidth <= innerWidth,
+  document.querySelector('#cell-1 pre').getClientRects()[0].height])(document.querySelector('#cell-1 .output'))
+"""
+
+
+@needs_program
+@needs_chromium
+class Reading(PageCase):
+    def test_directions(self) -> None:
+        """A text has the direction of its first letter, and so has each paragraph of prose; what an interpreter wrote begins at the left."""
+        self.begin()
+        self.page.call("new", session="s", text=ARABIC, after=0)
+        self.page.call("new", session=None, text=f"{ARABIC}\n\nleft\n\n- {ARABIC}", after=1)
+        self.page.call("eval", id=1)
+        self.page.until_idle()
+        tab = opened(self.browser, self.server)
+        tab.until("document.querySelector('#cell-2 .reading').classList.contains('set')")
+        self.assertEqual(tab.value(f"{STYLE % '#cell-1 textarea'}.direction"), "rtl")
+        self.assertEqual([tab.value(IS_AT_RIGHT % f"#cell-2 .reading {place}") for place in ("p:first-child", "p:nth-child(2)", "li")],
+            [True, False, True])
+        self.assertEqual(tab.value(f"{STYLE % '#cell-1 .output pre'}.direction"), "ltr")
+
+    def test_long_lines_scroll(self) -> None:
+        """They aren't wrapped, so that what stands below one another stays so, and the page itself doesn't scroll sideways. On paper they are."""
+        self.begin()
+        self.page.call("new", session="s", text="say " + "\u2028".join(["x " * 300] * 2), after=0)
+        self.page.call("eval", id=1)
+        self.page.until_idle()
+        tab = opened(self.browser, self.server)
+        for width in (1000, 360):
+            tab.size(width, 740)
+            is_scrolled, is_still, height = tab.value(WIDTHS)
+            self.assertEqual((is_scrolled, is_still), (True, True), width)
+            self.assertLess(height, 80)
+        tab.ask("Emulation.setEmulatedMedia", {"media": "print"})
+        self.assertEqual(tab.value(WIDTHS)[:2], [False, True])
+
+    def test_an_answer_without_output(self) -> None:
+        """It is told from none."""
+        self.begin()
+        for after, text in enumerate(("say ", "say 1", "say 2")):
+            self.page.call("new", session="s", text=text, after=after)
+        self.page.call("eval", id=1)
+        self.page.call("eval", id=2)
+        self.page.until_idle()
+        tab = opened(self.browser, self.server)
+        self.assertEqual(tab.value("[...document.querySelectorAll('.answer-state')].map((node) => node.textContent)"),
+            ["evaluated: it has no output", "", ""])
+
+    def test_headings_on_paper(self) -> None:
+        """None stands at the foot of a page, also where its text is in the next cell."""
+        self.begin()
+        for after, text in enumerate(("# Head\n\ntext", "text\n\n## Head")):
+            self.page.call("new", session=None, text=text, after=after)
+        tab = opened(self.browser, self.server)
+        tab.until("document.querySelectorAll('.reading.set').length", 2)
+        found = {place: tab.value(f"{STYLE % place}.breakAfter") for place in ("h3", "h4", "#cell-1", "#cell-2")}
+        self.assertEqual(found, {"h3": "avoid", "h4": "avoid", "#cell-1": "auto", "#cell-2": "avoid"})
+
+    def test_removed_lines(self) -> None:
+        """A removed cell has its lines in the list."""
+        self.begin()
+        self.page.call("new", session="s", text="say 1\nsay 2", after=0)
+        self.page.call("remove", id=1)
+        tab = opened(self.browser, self.server)
+        self.assertEqual(tab.value("document.querySelector('#removed-list code').innerText"), "say 1\nsay 2")
+        self.assertEqual(tab.value(f"{STYLE % '#removed-list code'}.whiteSpace"), "pre-wrap")
+
+
+if __name__ == "__main__":
+    unittest.main()
