@@ -4,7 +4,8 @@
 import { ask } from "./talk.js";
 import { button, make, visible } from "./dom.js";
 import { OutputView } from "./output.js";
-import { answerState, running, textState } from "./said.js";
+import { answerState, textState } from "./said.js";
+import { AT_FIRST, childrenOf, copyOfShape, isOther, show } from "./shape.js";
 import { setInto } from "./setter.js";
 
 /** @typedef {import("./types").Cell} Cell */
@@ -27,8 +28,9 @@ export class CellView {
    * @param {Page} page
    * @param {Cell} cell
    * @param {number} at
+   * @param {[boolean, boolean]} mark
    */
-  constructor(page, cell, at) {
+  constructor(page, cell, at, mark) {
     this.page = page;
     this.id = cell.id;
     this.cell = cell;
@@ -44,46 +46,37 @@ export class CellView {
     /** @type {Set<string>} */
     this.tried = new Set(); // texts of which it isn't known whether they were saved
     /** @type {[boolean, boolean]} */
-    this.mark = [false, false]; // of an answer: whether it is stale, and whether its interpreter has ended
+    this.mark = mark; // of an answer: whether it is stale, and whether its interpreter has ended
     /** @type {Promise<boolean> | undefined} */
     this.saving = undefined;
     /** @type {ReturnType<typeof setTimeout> | undefined} */
     this.timer = undefined;
     /** @type {number | undefined} */
     this.typedAt = undefined; // when the first key came that isn't saved
-    this.box = make("section", "cell");
-    this.head = make("header");
-    this.session = make("bdi", "session");
-    this.textState = make("span", "text-state");
-    this.answerState = make("span", "answer-state");
-    this.line = make("div", "input");
-    this.prompt = make("bdi", "prompt");
-    this.text = make("textarea");
-    this.output = new OutputView(cell.id);
+    this.said = AT_FIRST;
+    this.box = copyOfShape();
+    const [head, line, output] = childrenOf(this.box);
+    const [number, session, textState, answerState] = childrenOf(head);
+    const [prompt, text] = childrenOf(line);
+    number.textContent = `#${this.id}`;
+    this.head = head;
+    this.session = session;
+    this.textState = textState;
+    this.answerState = answerState;
+    this.line = line;
+    this.prompt = prompt;
+    this.text = /** @type {HTMLTextAreaElement} */ (text);
+    this.output = new OutputView(cell.id, output);
     /** @type {HTMLElement | undefined} */
     this.reading = undefined; // of prose: what it says
     /** @type {string | null} */
     this.read = null; // the text that it says, null where that is to be set again
     /** @type {HTMLElement | undefined} */
     this.conflict = undefined;
-    this.build();
+    this.box.id = `cell-${this.id}`;
+    this.text.setAttribute("aria-label", `Input of cell ${this.id}`);
     this.text.value = cell.input;
     this.update(cell, at);
-  }
-
-  build() {
-    this.box.id = `cell-${this.id}`;
-    this.box.tabIndex = -1;
-    this.box.setAttribute("role", "group");
-    this.head.append(make("span", "number", `#${this.id}`), this.session, this.textState, this.answerState);
-    this.text.dir = "auto";
-    this.text.spellcheck = false;
-    this.text.tabIndex = -1; // Enter goes into it: Tab would not go on from there
-    this.text.rows = 1;
-    this.text.setAttribute("autocapitalize", "off");
-    this.text.setAttribute("aria-label", `Input of cell ${this.id}`);
-    this.line.append(this.prompt, this.text);
-    this.box.append(this.head, this.line, this.output.box);
   }
 
   get isProse() {
@@ -145,9 +138,12 @@ export class CellView {
     this.cell = cell;
     this.toldAt = at;
     this.takeText(cell);
-    this.session.textContent = this.isProse ? "prose" : cell.session;
-    this.box.classList.toggle("prose", this.isProse);
-    this.box.setAttribute("aria-label", this.isProse ? `Prose ${this.id}` : `Cell ${this.id}, ${cell.session}`);
+    const session = this.isProse ? "prose" : cell.session;
+    if (this.session.textContent !== session) {
+      this.session.textContent = session;
+      this.box.classList.toggle("prose", this.isProse);
+      this.box.setAttribute("aria-label", this.isProse ? `Prose ${this.id}` : `Cell ${this.id}, ${cell.session}`);
+    }
     this.prompt.textContent = this.isProse ? "" : visible(cell.prompt ?? "> ");
     this.output.update(this.isProse ? null : cell.output, cell.isOld);
     this.showProse();
@@ -182,6 +178,7 @@ export class CellView {
 
   /** @param {[boolean, boolean]} mark */
   takeMark(mark) {
+    if (String(mark) === String(this.mark)) return;
     this.mark = mark;
     this.say();
   }
@@ -193,19 +190,21 @@ export class CellView {
     const { isDraft, isKept, isElsewhere, trouble, page: { isThere } } = this;
     const text = textState({ isDraft, isKept, isElsewhere, trouble, isSaving: this.saving !== undefined, isThere });
     const answer = this.isProse ? ["", ""] : answerState(this.cell, { isThere, asked: this.unsettled, isStale, hasEnded });
-    for (const [place, [name, words]] of /** @type {const} */ ([[this.textState, text], [this.answerState, answer]])) {
-      if (place.textContent !== words) place.textContent = words;
-      place.dataset.state = name;
-    }
+    const state = this.unsettled === undefined ? this.cell.state : "asked";
+    const theirs = this.isElsewhere ? visible(this.theirs) : "";
+    const was = this.said;
+    this.said = { text, answer, state, theirs };
+    if (isOther(text, was.text)) show(this.textState, text);
+    if (text[0] !== was.text[0]) this.box.dataset.text = text[0];
+    if (isOther(answer, was.answer)) show(this.answerState, answer);
+    if (state !== was.state) this.box.dataset.state = state;
     this.conflict?.toggleAttribute("hidden", !this.isElsewhere);
-    this.conflict?.querySelector("pre")?.replaceChildren(visible(this.isElsewhere ? this.theirs : ""));
-    this.box.dataset.state = this.unsettled === undefined ? this.cell.state : "asked";
-    this.box.dataset.text = text[0];
+    if (this.conflict && theirs !== was.theirs) this.conflict.querySelector("pre")?.replaceChildren(theirs);
   }
 
   /** Says how long it has been running, while it is. */
   tick() {
-    if (this.cell.state === "running" && this.page.isThere) this.answerState.textContent = running(this.cell.since ?? Date.now());
+    if (this.cell.state === "running" && this.page.isThere) this.say();
   }
 
   /** Makes the text as high as its lines, where the browser doesn't by itself. */

@@ -33,7 +33,7 @@ export class Cells {
     for (const cell of message.cells ?? []) {
       const view = this.views.get(cell.id);
       if (view) view.update(cell, message.at);
-      else this.views.set(cell.id, new CellView(this.page, cell, message.at));
+      else this.views.set(cell.id, new CellView(this.page, cell, message.at, message.marks?.[cell.id] ?? [false, false]));
     }
     const order = message.order ?? this.orderBehind(message);
     if (order) this.arrange(order);
@@ -92,6 +92,8 @@ export class Cells {
    */
   put(boxes) {
     let next = this.place.firstElementChild;
+    if (!next) this.place.append(...boxes); // all at once
+    if (!next) return;
     for (const box of boxes) {
       if (next !== box && next?.nextElementSibling === box) next = box; // the one between has another place, and comes to it
       if (next === box) next = next.nextElementSibling;

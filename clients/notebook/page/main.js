@@ -14,6 +14,7 @@ import { Keys } from "./keys.js";
 /** @type {import("./cell").Page} */
 const page = { isThere: false, sessions: new Map(), note: bars.note };
 let hasEnded = false; // the program, while the server is there
+let hasBeenThere = false; // the server: what was typed since is to be saved when it is there again
 const cells = new Cells(page);
 const actions = new Actions(cells, bars.note);
 const completions = new Completions();
@@ -30,18 +31,19 @@ document.body.insertBefore(emptyLine(), cells.place.nextSibling);
 
 /** @type {(message: Message, isFirst: boolean) => void} */
 function hear(message, isFirst) {
+  if (isFirst) page.isThere = true; // it is said behind what is told
   if (message.sessions) page.sessions = new Map(message.sessions.map((session) => [session.name, session]));
   if (message.path !== undefined) bars.showPath(message.path);
   if (message.ended !== undefined) {
     hasEnded = message.ended !== null;
     bars.showTrouble(message.ended);
-    if (page.isThere) bars.showConnection(true, hasEnded);
+    bars.showConnection(true, hasEnded);
   }
   if (message.removed) bars.showRemoved(message.removed);
   if (message.sessions) bars.showSessions(page.sessions, page.isThere);
   cells.hear(message);
   if (message.says) bars.note(message.says.join("; "));
-  if (message.ended === null) saveAll(); // what could not be saved while the program was gone
+  if (message.ended === null && !isFirst) saveAll(); // what could not be saved while the program was gone
   if (isFirst) document.documentElement.dataset.ready = "true";
 }
 
@@ -50,8 +52,9 @@ function connect(isThere) {
   page.isThere = isThere;
   bars.showConnection(isThere, hasEnded);
   bars.showSessions(page.sessions, isThere);
-  for (const view of cells.views.values()) view.say();
-  if (isThere) saveAll();
+  if (isThere && hasBeenThere) saveAll();
+  hasBeenThere ||= isThere;
+  if (!isThere) for (const view of cells.views.values()) view.say(); // else all have been told anew
 }
 
 function saveAll() {

@@ -17,15 +17,24 @@ function formulaOf(tex) {
 /** @type {(number: number) => string} */
 const grouped = (number) => number.toLocaleString("en");
 
+/** What each answer is shown in. */
+export function outputShape() {
+  const box = make("div", "output"), body = make("pre");
+  box.hidden = true;
+  body.dir = "ltr";
+  box.append(body);
+  return box;
+}
+
 export class OutputView {
-  /** @param {number} id */
-  constructor(id) {
+  /**
+   * @param {number} id
+   * @param {HTMLElement} box as `outputShape` makes it
+   */
+  constructor(id, box) {
     this.id = id;
-    this.box = make("div", "output");
-    this.box.hidden = true;
-    this.body = make("pre");
-    this.body.dir = "ltr";
-    this.box.append(this.body);
+    this.box = box;
+    this.body = /** @type {HTMLElement} */ (box.firstElementChild);
     this.isText = false;
     /** @type {Output | null} */
     this.shown = null;

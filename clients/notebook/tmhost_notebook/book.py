@@ -154,7 +154,7 @@ class Book:
 
     def remove(self, id: int) -> None:
         """Removes a cell, and keeps it to be brought back."""
-        field, place = self.sheet.cell(id).field, self.sheet.ids.index(id)
+        field, place = self.sheet.cell(id).field, self.places.place(id)
         with self.changing(id):
             self.sheet.remove(id)
         self.settle(lambda: id not in self.places)

@@ -115,9 +115,9 @@ def call_restore(book: Book, asked: Facts) -> Facts:
         found = book.unbin(wanted)
         if found is None:
             raise NotDone("NotThere", "there is no removed cell")
-        field, before = found["field"], book.sheet.ids[: found["place"]]
+        field = found["field"]
         try:
-            id = book.new(field.session, text_of(field), before[-1] if before else 0)
+            id = book.new(field.session, text_of(field), book.places.at(min(found["place"], len(book.places)) - 1))
         except Exception:
             with book.lock:
                 book.removed.append(found)
@@ -149,14 +149,10 @@ def call_move(book: Book, asked: Facts) -> Facts:
     by = member(asked, "by", int, int)
     with book.order:
         id = number(asked, "id")
-        ids = book.sheet.ids
-        if id not in ids:
-            raise Gone(id)
-        old = ids.index(id)
-        del ids[old]
-        new = max(0, min(len(ids), old + by))
+        old = book.places.place(field_of(book, id).id)
+        new = max(0, min(len(book.places) - 1, old + by))
         if new != old:
-            after = ids[new - 1] if new else 0
+            after = book.places.at(new if new > old else new - 1)
             book.sheet.move(id, after)
             book.settle(lambda: book.places.before(id) == after)
     return {}

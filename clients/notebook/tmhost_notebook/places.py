@@ -102,14 +102,25 @@ class Places:
     def ids(self) -> List[int]:
         return [place.id for block in self._blocks for place in block.places]
 
+    def __len__(self) -> int:
+        return len(self._of)
+
+    def place(self, id: int) -> int:
+        """How many cells stand in front of one."""
+        block = self._block_of[id]
+        return sum(len(one.places) for one in self._blocks[: self._blocks.index(block)]) + block.places.index(self._of[id])
+
+    def at(self, place: int) -> int:
+        """The cell at a place, 0 where that is in front of the first one."""
+        for block in self._blocks if place >= 0 else ():
+            if place < len(block.places):
+                return block.places[place].id
+            place -= len(block.places)
+        return 0
+
     def before(self, id: int) -> int:
         """The cell in front of one, 0 where it is the first."""
-        block = self._block_of[id]
-        at = block.places.index(self._of[id])
-        if at == 0:
-            number = self._blocks.index(block)
-            block, at = self._blocks[number - 1] if number else Block([]), 0
-        return block.places[at - 1].id if block.places else 0
+        return self.at(self.place(id) - 1)
 
     def in_order(self, ids: Iterable[int]) -> List[int]:
         blocks = {block: number for number, block in enumerate(self._blocks)}

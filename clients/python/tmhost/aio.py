@@ -149,11 +149,6 @@ class AsyncWorksheet:
         return [AsyncCell(self, id) for id in self._connection.protocol.mirror.order]
 
     @property
-    def ids(self) -> List[int]:
-        """The numbers of the cells, in their order."""
-        return list(self._connection.protocol.mirror.order)
-
-    @property
     def fields(self) -> List[Field]:
         """What the cells are at this moment, in their order."""
         return self._connection.protocol.mirror.fields()

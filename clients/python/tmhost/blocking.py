@@ -152,12 +152,6 @@ class Worksheet:
             return [Cell(self, id) for id in self._connection.mirror.order]
 
     @property
-    def ids(self) -> List[int]:
-        """The numbers of the cells, in their order."""
-        with self._connection.lock:
-            return list(self._connection.mirror.order)
-
-    @property
     def fields(self) -> List[Field]:
         """What the cells are at this moment, in their order."""
         with self._connection.lock:
