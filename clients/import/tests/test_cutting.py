@@ -3,8 +3,9 @@ import ast
 import random
 import unittest
 
+from tmhost_fences.fields import LONGEST_INPUT
 from tmhost_import import cutting, ipython
-from tmhost_import.prose import LONGEST_INPUT, size_of
+from tmhost_import.prose import size_of
 
 from .support import LINE_END, Case, code, needs_nbformat, needs_program, notebook
 

@@ -7,9 +7,9 @@ import ast
 import re
 from collections.abc import Iterator
 
-from tmhost_fences.fields import DECORATOR, GOES_ON, TEXTS
+from tmhost_fences.fields import DECORATOR, GOES_ON, LONGEST_INPUT, TEXTS
 
-from .prose import LONGEST_INPUT, size_of
+from .prose import size_of
 
 OTHER_TEXTS = re.compile(r'"(?:\\.|[^"\\])*"|/\*.*?(?:\*/|\Z)|(?:(?<=\s)|^)(?:#|//|--)\s[^\n]*', re.DOTALL | re.MULTILINE)
 TEXTS_OF = {

@@ -2,13 +2,13 @@
 import re
 from collections.abc import Callable, Iterator
 
+from tmhost_fences.fields import LINE_END, LONGEST_INPUT
+
 from .fences import ATTRIBUTE, Fence, Html, Paragraph, Reader, fences_of
 
 NAME = "prose"
 WORDS = ("true",)
 NAMES = re.compile(r"prose(-\d{1,6})?")
-LINE_END = "\u2028"  # stands in an input for the end of a line
-LONGEST_INPUT = 4095  # bytes
 ITEM = re.compile(r"(?:[*+-]|\d{1,9}[.)])[ \t]+\S")
 # A line of dashes that is no underline, with text directly below: for pandoc and others it may begin a table or front matter that goes on
 # over the ends of blocks of code.
