@@ -272,6 +272,11 @@ def ten_lines(name: str, call: str = "k(10)", said: str = "", told: str = "-5") 
     return [(TEN_LINES[name].replace("\n", "\u2028"), said), (call, told)]
 
 
+# From the first line to the second one of a pair nothing, or more than its own, is shown of a line. What `ploth` has started may write later.
+REDIRECTIONS: Dict[str, str] = {
+    "set -x": "set +x", "exec >/dev/null": "exec >&199", 'sink("/dev/null")': "sink()", 'set print "/dev/null"': "set print", "ploth(x=0,1,x^2)": "while(1,)",
+}
+
 # For each interpreter a line that has a number, and its answer.
 NUMBERS: Dict[str, Tuple[str, str]] = {
     "gp": ('print("n%d")', "n%d"), "python": ("'n%d'", "'n%d'"), "sh": ("echo n%d", "n%d"), "bc": ('print "n%d"', "n%d"), "octave": ('printf("n%d\\n")', "n%d"), "R": ('"n%d"', '[1] "n%d"'), "gap": ('Print("n%d\\n");', "n%d"),
