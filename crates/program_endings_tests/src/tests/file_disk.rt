@@ -334,7 +334,8 @@ fn is_second(rt: &HostRuntime, path: &str) -> bool {
 #[test]
 fn a_second_file_is_no_worksheet(rt: HostRuntime) {
     assert!(rt; is_done(folder(&rt, "second")));
-    assert!(rt; creates(&rt, "second/sheet") == Ok(()));
+    assert!(rt; is_done(fs::write(&rt, "second/sheet", EMPTY_SHEET)));
+    assert!(rt; opens(&rt, "second/sheet") == Ok(()));
     assert!(rt; is_second(&rt, "second/sheet.alt"));
     assert!(rt; is_done(fs::remove_file(&rt, "second/sheet.alt")));
     assert!(rt; is_second(&rt, "second/sheet.alt"));
