@@ -21,7 +21,7 @@ class Import(Case):
         blocks = [("a", "x\n  y\n\nz"), ("b {fold}", "u"), ("a", "say ```"), ("{.b .hide}", "v"), ("a", "say ~~~\n  w"), ("b", "latex $x$")]
         self.weave(self.front("a", "b") + "> ```a\n> quoted\n> ```\n\n" + fences(blocks))
         new = self.place("new")
-        done = subprocess.run([sys.executable, "-B", IMPORT, "--split", self.text, new], capture_output=True, env=environment())
+        done = subprocess.run([sys.executable, "-B", IMPORT, "--no-prose", self.text, new], capture_output=True, env=environment())
         self.assertEqual(done.returncode, 0, done.stderr.decode())
         self.assertEqual(self.lines(new), self.lines(self.sheet))
         self.assertEqual(len(self.lines(new)), 10)
@@ -31,7 +31,7 @@ class Import(Case):
         self.weave(self.front("a", "b") + "# Title\n\n" + fences([("a", "x"), ("b {fold}", "latex $x$"), ("b", "latex $y$")]) + "\n- text\n")
         with open(self.text, encoding="utf-8") as file:
             self.assertGreater(file.read().count("tmhost-answer"), 4)
-        done = subprocess.run([sys.executable, "-B", IMPORT, "--prose", "--script", self.text], capture_output=True, env=environment())
+        done = subprocess.run([sys.executable, "-B", IMPORT, "--script", self.text], capture_output=True, env=environment())
         lines = [line.split(" ", 2)[2] for line in done.stdout.decode().split("\n") if line.startswith("new ")]
         texts = ["prose # Title\u2028\u2028Text 0.", "prose Text 1.", "prose Text 2.", "prose - text"]
         self.assertEqual(lines, [texts[0], "a x", texts[1], "b latex $x$", texts[2], "b latex $y$", texts[3]])
