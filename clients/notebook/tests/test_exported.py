@@ -107,7 +107,8 @@ class Exported(Case):
         number = 0
         while not self.is_over:
             number += 1
-            if "refused" not in self.page.call("set", id=id, text=f"long {number}", base=f"long {number - 1}"):
+            told = self.page.call("set", id=id, text=f"long {number}", base=f"long {number - 1}")
+            if told.get("isDraft") is False:  # one that waits for its answer has a draft till then
                 self.saved[id] = number
                 self.page.call("eval", id=id)
             else:
