@@ -99,6 +99,18 @@ def children_of(parent: int) -> List[int]:
     return found
 
 
+def until_ended(pid: Optional[int]) -> None:
+    """Waits for the end of a process that isn't this one's child, so that another one may have to ask for its status."""
+    while pid is not None:
+        try:
+            with open(f"/proc/{pid}/stat", encoding="utf-8", errors="replace") as file:
+                if file.read().rpartition(")")[2].split()[0] in ("Z", "X"):
+                    return
+        except OSError:
+            return
+        time.sleep(0.01)
+
+
 class Page:
     """Requests as a page of the server sends them."""
 

@@ -7,12 +7,11 @@ import socket
 import stat
 import subprocess
 import sys
-import time
 import unittest
 from typing import Any, Callable
 
 import harness
-from harness import PROGRAM, SPOKEN, Case, Page, PageCase, Server, needs_chromium, needs_program, opened
+from harness import PROGRAM, SPOKEN, Case, Page, PageCase, Server, needs_chromium, needs_program, opened, until_ended
 
 sys.path[:0] = [harness.NOTEBOOK, harness.REPOSITORY + "/clients/python"]
 
@@ -53,8 +52,7 @@ class Again(PageCase):
         """Server and program."""
         program = self.server.program
         self.server.kill()
-        while program and os.path.exists(f"/proc/{program}"):
-            time.sleep(0.01)
+        until_ended(program)
         self.tab.until(IS_BAD, True)
 
     def again(self) -> None:

@@ -11,7 +11,7 @@ import unittest
 from typing import Any, Callable, Dict, List
 
 import harness
-from harness import PROGRAM, SPOKEN, Case, Page, Server, needs_chromium, needs_program, opened
+from harness import PROGRAM, SPOKEN, Case, Page, Server, needs_chromium, needs_program, opened, until_ended
 
 KILLS = int(os.environ.get("TMHOST_KILLS", "20"))
 CELLS = 40
@@ -97,8 +97,7 @@ class Kills(Lesson):
         server.kill()
         if how == 1 and program and os.path.exists(f"/proc/{program}"):
             os.killpg(program, signal.SIGKILL)
-        while program and os.path.exists(f"/proc/{program}"):
-            time.sleep(0.01)
+        until_ended(program)
 
 
 @needs_program
