@@ -56,7 +56,7 @@ ODD_LINES: Dict[str, List[str]] = {
     "maxima": [
         "read(\"v? \")", "x: read()", "readonly(\"v? \")", "break()", "asksign(z)", "integrate(u^n, u)", "entermatrix(2, 2)", "system(\"cat\")", "system(\"sh\")", "system(\"echo a\")", "to_lisp()", "describe(\"sin\")", "? sin", "?? integr", "example(diff)", "demo(\"nothing\")", "playback()", ":lisp (read)", ":lisp (princ 5)", ":lisp (",
         ":lisp (error \"l\")", "1 +", "(1 +", "[1, 2", "\"open", "/* open", "f(x) :=", "if true then", "for i thru 3 do", "block(", ")", "]", "/* a remark */", "1; 2", "1$ 2$", "a: 5$", "1/0", "error(\"e\")", "errcatch(1/0)", "kill(all)", "kill(nothing)", "reset()", "ibase: 36.", "ibase: a", "obase: 36.", "35", "obase: a",
-        "display2d: true; x/3; display2d: false", "print(\"a\")$", "print(\"a\", \"b\")", "makelist(i, i, 1, 3000)", "for i thru 2000 do print(i)", "2^20000", "writefile(\"/dev/null\")", "closefile()", "load(\"nothing\")", "batch(\"/dev/null\")", "batchload(\"/dev/null\")", "plot2d(x, [x, 0, 1])", "debugmode(true); debugmode(false)", ":top", ":q",
+        "display2d: true; x/3; display2d: false", "print(\"a\")$", "print(\"a\", \"b\")", "makelist(i, i, 1, 300)", "for i thru 2000 do print(i)", "2^20000", "writefile(\"/dev/null\")", "closefile()", "load(\"nothing\")", "batch(\"/dev/null\")", "batchload(\"/dev/null\")", "plot2d(x, [x, 0, 1])", "debugmode(true); debugmode(false)", ":top", ":q",
         "nothing", "'x", "\"it's\"", "\"a\\\"b\"", "throw(5)", "catch(throw(5))", "labels(\"%o\")", "remvalue(all)", "values", "compile(f)", "printfile(\"/dev/null\")", "openr(\"/dev/stdin\")", "readline(openr(\"/dev/stdin\"))", "bug_report()",
     ],
     "M2": [

@@ -125,11 +125,12 @@ class Interpreter(blocks.Child):
             found = waiting.readers(self.process.pid, self.inputs)
             if found and was_waiting:
                 if not self.give_no_input(found, marks, ended):
-                    raise Stuck(self.answered(said.before(len(said.kept)), marks, False))
+                    raise Stuck(with_error(self.text_of(said.before(len(said.kept)), marks), STARTED_AGAIN))
             elif not found:
                 patience = min(2 * patience, LONGEST_PATIENCE)
             was_waiting = bool(found) and not was_waiting
-        return self.answered(said.before(end), marks, bool(ended))
+        text = self.text_of(said.before(end), marks)
+        return with_error(text, NO_INPUT) if ended or len(marks) > 1 else text
 
     def give_no_input(self, found: Set[int], marks: List[Mark], ended: Set[int]) -> bool:
         """Ends the programs that a line has started and that wait for input. Where it is the interpreter that waits, it has taken the marker
@@ -146,16 +147,15 @@ class Interpreter(blocks.Child):
         marks.append(self.send())
         return len(marks) <= 2 * MARKS + 1
 
-    def answered(self, said: bytes, marks: List[Mark], has_ended: bool) -> bytes:
-        """The text of an answer, without what the profile leaves out and without echoes of the commands that print its markers, and with an
-        error where it wanted input."""
+    def text_of(self, said: bytes, marks: List[Mark]) -> bytes:
+        """The text of an answer, without what the profile leaves out and without echoes of the commands that print its markers."""
         said = re.sub(self.profile.noise, b"", said) if self.profile.noise else said
         for mark in marks:
             said = without_lines(said, mark.first.encode())
         for old in self.lost:
             said = said.replace(old, b"")
         self.lost = [*self.lost, *(mark.whole for mark in marks[:-1])][-OLD_MARKS:]
-        return with_error(said, NO_INPUT) if has_ended or len(marks) > 1 else said
+        return said
 
     def leave(self) -> None:
         super().leave()
@@ -199,7 +199,7 @@ class Session:
         try:
             parts = self.begin_again(b"") if self.profile.begins_again(line) else self.interpreter.answer(line)
         except Stuck as stuck:
-            parts = self.begin_again(stuck.said + STARTED_AGAIN)
+            parts = self.begin_again(stuck.said.strip(b"\n"))
         return None if parts is None else blocks.answer(parts, self.profile.prompt)
 
     def begin_again(self, said: bytes) -> Optional[List[blocks.Part]]:
