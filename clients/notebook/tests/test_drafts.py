@@ -3,6 +3,7 @@
 import ctypes
 import json
 import os
+import socket
 import subprocess
 import sys
 import tempfile
@@ -88,9 +89,10 @@ class DraftsOfThePage(PageCase):
                 tab.until(READY, "true")
             self.assertEqual({id: (tab.value(TEXT % id), tab.value(SAYS % id)) for id in (1, 2)}, {id: (texts[id], KEPT) for id in (1, 2)})
             self.assertEqual([tab.value(STATE % id) for id in (1, 2)], ["running", "queued"])
-        first = self.server.host
-        tab = self.again()
-        self.assertNotEqual(self.server.host, first)
+        with socket.create_server(("127.0.0.1", 0)) as free:
+            other = free.getsockname()[1]
+        self.assertNotEqual(self.server.host, f"127.0.0.1:{other}")
+        tab = self.again("--port", str(other))
         for id in (1, 2):
             self.assertEqual(tab.value(TEXT % id), texts[id])
             tab.until(SAYS % id, "saved")
@@ -100,15 +102,14 @@ class DraftsOfThePage(PageCase):
 
     def test_until_the_answer(self) -> None:
         """A draft becomes the text behind the answer; no page need be open before."""
-        tab = self.start("sleep 60", "sleep 60")
+        tab = self.start("sleep 15", "sleep 60")
         self.write(tab, 1, "say 1 ")
         self.write(tab, 2, "say 2 ")
         tab.until(SAYS % 2, KEPT)
         tab.key("Enter", "Control")
         tab.until(NOTE, "cell 2 has a draft, so nothing is done with it")
-        self.page.call("interrupt", session="s")
         tab.until(SAYS % 1, "saved")
-        self.assertEqual([tab.value(place % 2) for place in (STATE, SAYS)], ["running", KEPT])
+        self.assertEqual([tab.until(STATE % 2, "running"), tab.value(SAYS % 2)], ["running", KEPT])
         self.browser.kill()
         self.page.call("interrupt", session="s")
         self.page.until_idle()
