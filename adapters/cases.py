@@ -22,6 +22,8 @@ class Trial:
     odd_lines: Sequence[str] = ()  # what stands between numbered lines, with the cases
     number: str = ""  # a numbered line
     numbered: str = "n%d"  # its answer
+    drawing: Sequence[Tuple[str, str]] = ()  # lines that draw, and what their answers are, with a picture's format in braces for each
+    module: str = ""  # of Python that has to be here, too
 
 
 # From the manual of gp: 2.1 (errors), 2.5 (lines), 2.7 (metacommands), 2.12 (defaults), 3 (functions).
@@ -279,9 +281,32 @@ NUMBERS: Dict[str, Tuple[str, str]] = {
 }
 
 
+# Lines that draw. In an answer `{image/svg+xml}` stands for a picture.
+DRAWING: Dict[str, List[Tuple[str, str]]] = {
+    "python": [
+        ("class P: _repr_svg_ = lambda self: '<svg/>'", ""), ("P()", "{image/svg+xml}"), ("print('a'); P()", "a\n{image/svg+xml}"), ("P(), 2", "..<__main__.P object"),
+        ("class Q: _repr_png_ = lambda self: b'\\x89PNG\\r\\n\\x1a\\n' + bytes(5)", ""), ("Q()", "{image/png;base64}"),
+        ("class R: _repr_svg_ = lambda self: '<svg>' + 9_000_000 * ' '", ""), ("R()", "[a picture of 9000005 bytes is left out: those of an answer have at most 8000000]"),
+        ("class N: _repr_png_ = lambda self: 'none'", ""), ("N()", "none"),
+    ],
+    "matplotlib": [
+        ("import matplotlib.pyplot as plt", ""), ("p = plt.plot([1, 3, 2])", "{image/svg+xml}"), ("p = plt.plot([1, 2]); plt.show(); print('b')", "b\n{image/svg+xml}"),
+        ("for k in 1, 2: plt.figure(); p = plt.plot([k, 2])", "..{image/svg+xml}\n{image/svg+xml}"), ("f = plt.figure(); f", "{image/svg+xml}"), ("plt.get_fignums()", "[]"),
+        ("p = plt.scatter(range(20000), range(20000))", "{image/png;base64}"), ("p = plt.plot([2, 1]); 1/0", "..ZeroDivisionError: division by zero\n{image/svg+xml}"),
+        ("p = plt.title('$\\\\frac$')", "..ValueError"), ("plt.show()", ""),
+    ],
+    "matplotlib --no-pictures": [("import matplotlib.pyplot as plt", ""), ("p = plt.plot([1, 2]); plt.show()", ""), ("plt.figure(1)", "..<Figure size")],
+}
+
+
 def trial(words: str, program: str, leaving: str, busy: str, cases: List[Case]) -> Trial:
     name = words.split()[1 if words.startswith("prompted.py") else 0]
-    return Trial(words, program, leaving, busy, cases, ODD_LINES[name], *NUMBERS[name])
+    return Trial(words, program, leaving, busy, cases, ODD_LINES[name], *NUMBERS[name], DRAWING.get(words.removeprefix("prompted.py "), ()))
+
+
+def by_matplotlib(words: str) -> Trial:
+    drawing = DRAWING["matplotlib" + words]
+    return dataclasses.replace(trial("python" + words, "python3", "", "while True: pass", PYTHON[:1]), drawing=drawing, module="matplotlib")
 
 
 def by_prompted(profile: str, program: str, leaving: str, busy: str, cases: List[Case]) -> Trial:
@@ -297,6 +322,8 @@ TRIALS = {
     "gp_seconds": trial("gp --seconds 5", "gp", "\\q", "while (1, )", GP_SECONDS),
     "python_seconds": trial("python --seconds 5", "python3", "os._exit(0)", "while True: pass", [("import os", ""), *PYTHON_SECONDS]),
     "python": trial("python", "python3", "os._exit(0)", "while True: pass", PYTHON + ten_lines("python")),
+    "python_matplotlib": by_matplotlib(""),
+    "python_matplotlib_no_pictures": by_matplotlib(" --no-pictures"),
     "prompted_python": by_prompted("python", "python3", "quit()", "while True: pass", PROMPTED_PYTHON + ten_lines("python")),
     "sh": by_prompted("sh", "bash", "exit", "while :; do :; done", SH + ten_lines("sh", "k 10")),
     "bc": by_prompted("bc", "bc", "quit", "while (1) a = a + 1", BC + ten_lines("bc")),

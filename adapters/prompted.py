@@ -68,7 +68,7 @@ def terminal() -> "tuple[int, int]":
 def formula(tex: bytes) -> blocks.Part:
     """TeX of an interpreter as one line of LaTeX, in words that readers of formulas know."""
     words = b" ".join(tex.replace(b"\\mbox{", b"\\text{").split()).strip(b"$ ")
-    return blocks.Part(b"$" + re.sub(rb"\{\\(it|rm|bf) ([^{}]*)\}", rb"\\math\1{\2}", words) + b"$", True)
+    return blocks.Part(b"$" + re.sub(rb"\{\\(it|rm|bf) ([^{}]*)\}", rb"\\math\1{\2}", words) + b"$", blocks.LATEX)
 
 
 class Interpreter(blocks.Child):
