@@ -14,7 +14,8 @@ import sys
 import time
 from typing import Any, Callable, Iterator, List, NamedTuple, Optional, Set
 
-LONGEST = 8_000_000  # bytes of an answer; escapes may double them, and a block may have 16,777,216
+LONGEST = 8_000_000  # bytes of an answer; escapes may double them
+ROOM = 16_700_000  # bytes of what is in a block, which may have 16,777,216
 PIECE = 65_536  # bytes that are read at once
 SPARED = 0.1  # seconds of a line in which it isn't interrupted
 GRACE = 5.0  # seconds that an interpreter has for an interrupt at the end of its time; it ends behind two of them
@@ -43,17 +44,38 @@ class Part(NamedTuple):
     """A part of an answer."""
 
     text: bytes
-    is_formula: bool = False  # whether it is LaTeX, between dollars
+    format: bytes = b""  # of a block of its own: LATEX, or a picture's, of which `pictures.py` has some; none where it is text
 
 
-def answer(parts: List[Part], prompt: bytes) -> bytes:
-    """The block of an answer: a formula alone, or a text, in which each formula is a block."""
-    parts = [part for part in parts if part.text]
-    if len(parts) == 1 and parts[0].is_formula:
-        return with_prompt(b"latex:", escaped(parts[0].text), prompt)
-    shown = [escaped(part.text) for part in parts]
-    body = b"\n".join(block(b"latex:", text) if part.is_formula else text for part, text in zip(parts, shown))
-    return with_prompt(b"verbatim:", body, prompt)
+LATEX = b"latex"  # a formula, between dollars
+PICTURE = b"image/"  # the begin of the formats of pictures
+
+
+def without_surplus(parts: List[Part], before: bytes) -> List[Part]:
+    """The parts of an answer behind a text, whose pictures have LONGEST bytes at most, and fit into one block. In the place of one that would
+    have more it is said so; none is cut."""
+    others = [part.text for part in parts if not part.format.startswith(PICTURE)]
+    left = min(LONGEST, ROOM - sum(len(escaped(text)) for text in (before, *others)))
+    kept = []
+    for part in parts:
+        if part.format.startswith(PICTURE):
+            size = len(escaped(part.text))
+            if size > left:
+                part = Part(b"[a picture of %d bytes is left out: those of an answer have at most %d]" % (size, LONGEST))
+            else:
+                left -= size
+        kept.append(part)
+    return kept
+
+
+def answer(parts: List[Part], prompt: bytes, before: bytes = b"") -> bytes:
+    """The block of an answer: a formula or a picture alone, or a text, in which each of them is a block. What stands before the parts is a text
+    that ends in its own line feed."""
+    parts = without_surplus([part for part in parts if part.text], before)
+    if len(parts) == 1 and parts[0].format and not before:
+        return with_prompt(parts[0].format + b":", escaped(parts[0].text), prompt)
+    shown = [block(part.format + b":", escaped(part.text)) if part.format else escaped(part.text) for part in parts]
+    return with_prompt(b"verbatim:", escaped(before) + b"\n".join(shown), prompt)
 
 
 def verbatim(text: bytes, prompt: bytes = b"") -> bytes:

@@ -22,6 +22,8 @@ class Trial:
     odd_lines: Sequence[str] = ()  # what stands between numbered lines, with the cases
     number: str = ""  # a numbered line
     numbered: str = "n%d"  # its answer
+    drawing: Sequence[Tuple[str, str]] = ()  # lines that draw, and what their answers are, with a picture's format in braces for each
+    module: str = ""  # of Python that has to be here, too
 
 
 # From the manual of gp: 2.1 (errors), 2.5 (lines), 2.7 (metacommands), 2.12 (defaults), 3 (functions).
@@ -284,9 +286,49 @@ NUMBERS: Dict[str, Tuple[str, str]] = {
 }
 
 
+# Lines that draw. In an answer `{image/svg+xml}` stands for a picture.
+DRAWING: Dict[str, List[Tuple[str, str]]] = {
+    "python": [
+        ("class P: _repr_svg_ = lambda self: '<svg/>'", ""), ("P()", "{image/svg+xml}"), ("print('a'); P()", "a\n{image/svg+xml}"), ("P(), 2", "..<__main__.P object"),
+        ("class Q: _repr_png_ = lambda self: b'\\x89PNG\\r\\n\\x1a\\n' + bytes(5)", ""), ("Q()", "{image/png;base64}"),
+        ("class R: _repr_svg_ = lambda self: '<svg>' + 9_000_000 * ' '", ""), ("R()", "[a picture of 9000005 bytes is left out: those of an answer have at most 8000000]"),
+        ("class N: _repr_png_ = lambda self: 'none'", ""), ("N()", "none"),
+    ],
+    "matplotlib": [
+        ("import matplotlib.pyplot as plt", ""), ("p = plt.plot([1, 3, 2])", "{image/svg+xml}"), ("p = plt.plot([1, 2]); plt.show(); print('b')", "b\n{image/svg+xml}"),
+        ("for k in 1, 2: plt.figure(); p = plt.plot([k, 2])", "..{image/svg+xml}\n{image/svg+xml}"), ("f = plt.figure(); f", "{image/svg+xml}"), ("plt.get_fignums()", "[]"),
+        ("p = plt.scatter(range(20000), range(20000))", "{image/png;base64}"), ("p = plt.plot([2, 1]); 1/0", "..ZeroDivisionError: division by zero\n{image/svg+xml}"),
+        ("p = plt.title('$\\\\frac$')", "..ValueError"), ("plt.show()", ""),
+    ],
+    "R": [
+        ("plot(1:3)", "{image/svg+xml}"), ('plot(1:3); hist(1:4); "two"', '[1] "two"\n{image/svg+xml}\n{image/svg+xml}'), (".Last.value", '[1] "two"'),
+        ('plot(1:2); stop("no")', "Error: no\n{image/svg+xml}"), ("lines(1:2)", "..plot.new has not been called yet"), ('pdf("/dev/null")', ""), ("plot(1)", ""),
+        ("dev.off()", "..null device"), ("plot(1)", "{image/svg+xml}"),
+    ],
+    "octave": [
+        ("plot (1:3)", "{image/svg+xml}"), ("plot (1:2); figure; plot (2:-1:1); x = 2", "x = 2\n{image/svg+xml}\n{image/svg+xml}"), ("x;", ""), ("ans = 5;", ""),
+        ('plot (1:2); error ("no")', "error: no\n{image/svg+xml}"), ("ans", "ans = 5"), ("get (0, 'children')", "ans = [](0x1)"),
+    ],
+    "maxima": [
+        ("plot2d(x^2, [x, 0, 1])$", "{image/svg+xml}"), ("plot2d(x, [x, 0, 1])$ plot3d(x*y, [x, 0, 1], [y, 0, 1]);", "done\n{image/svg+xml}\n{image/svg+xml}"), ("%", "done"),
+        ("plot2d(x, [x, 0, 1], [svg_file, \"/dev/null\"])$", ""), ("plot2d(", "..incorrect syntax"),
+    ],
+    "gnuplot": [
+        ("plot x", "{image/svg+xml}"), ("plot x; plot x**2; print 1", "1\n{image/svg+xml}\n{image/svg+xml}"), ("plot foo(", "..invalid expression"), ("set output '/dev/null'", ""),
+        ("plot x", ""), ("set output", ""), ("set multiplot", ""), ("plot x", ""), ("unset multiplot", "{image/svg+xml}"), ("plot x; pause -1", NO_INPUT + "\n{image/svg+xml}"), ("set terminal pngcairo", ""), ("plot x", "{image/png;base64}"), ("set terminal dumb 79 24", ""), ("plot x", "..+-----"),
+    ],
+    "matplotlib --no-pictures": [("import matplotlib.pyplot as plt", ""), ("p = plt.plot([1, 2]); plt.show()", ""), ("plt.figure(1)", "..<Figure size")],
+}
+
+
 def trial(words: str, program: str, leaving: str, busy: str, cases: List[Case]) -> Trial:
     name = words.split()[1 if words.startswith("prompted.py") else 0]
-    return Trial(words, program, leaving, busy, cases, ODD_LINES[name], *NUMBERS[name])
+    return Trial(words, program, leaving, busy, cases, ODD_LINES[name], *NUMBERS[name], DRAWING.get(words.removeprefix("prompted.py "), ()))
+
+
+def by_matplotlib(words: str) -> Trial:
+    drawing = DRAWING["matplotlib" + words]
+    return dataclasses.replace(trial("python" + words, "python3", "", "while True: pass", PYTHON[:1]), drawing=drawing, module="matplotlib")
 
 
 def by_prompted(profile: str, program: str, leaving: str, busy: str, cases: List[Case]) -> Trial:
@@ -302,6 +344,8 @@ TRIALS = {
     "gp_seconds": trial("gp --seconds 5", "gp", "\\q", "while (1, )", GP_SECONDS),
     "python_seconds": trial("python --seconds 5", "python3", "os._exit(0)", "while True: pass", [("import os", ""), *PYTHON_SECONDS]),
     "python": trial("python", "python3", "os._exit(0)", "while True: pass", PYTHON + ten_lines("python")),
+    "python_matplotlib": by_matplotlib(""),
+    "python_matplotlib_no_pictures": by_matplotlib(" --no-pictures"),
     "prompted_python": by_prompted("python", "python3", "quit()", "while True: pass", PROMPTED_PYTHON + ten_lines("python")),
     "sh": by_prompted("sh", "bash", "exit", "while :; do :; done", SH + ten_lines("sh", "k 10")),
     "bc": by_prompted("bc", "bc", "quit", "while (1) a = a + 1", BC + ten_lines("bc")),

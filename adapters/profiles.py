@@ -200,6 +200,37 @@ MAXIMA_LINE = """:lisp (progn
     (defun retrieve (question flag) (declare (ignore flag)) (if question (displa question)) (merror "a line has no input of its own")))"""
 
 
+# R's device draws to a folder, a file for each page. Those that a line leaves open are closed, and not what the user has opened.
+R_PICTURES = """if (capabilities("cairo")) local({
+    count <- 0
+    draw <- function(...) {
+        count <<- count + 1
+        grDevices::svg(paste0("FOLDER/", sprintf("%05d", count), "-%05d.svg"), width = 6, height = 4.5)
+    }
+    close <- function() {
+        last <- .Last.value
+        for (one in grDevices::dev.list())
+            if (identical(dirname(as.character(attr(.Devices[[one]], "filepath"))), "FOLDER")) grDevices::dev.off(one)
+        invisible(last)
+    }
+    options(device = draw, tmhost.close = close)
+}) else options(tmhost.close = function() invisible(.Last.value))"""
+
+
+# Plots of Maxima go to a folder, a file for each, but where a plot says its own. The value of one that went there isn't its files' names, which no
+# other run would have.
+MAXIMA_PICTURES = """:lisp (let ((count 0))
+    (dolist (name '($plot2d $plot3d $contour_plot))
+        (let ((own (symbol-function name)))
+            (setf (symbol-function name) #'(lambda (&rest words)
+                (let* ((file (format nil "FOLDER/~5,'0d.svg" (incf count))) (value nil))
+                    (mfuncall '$set_plot_option (list '(mlist) '$plot_format '$gnuplot))
+                    (mfuncall '$set_plot_option (list '(mlist) '$svg_file file))
+                    (setf value (apply own words))
+                    (if (probe-file file) '$done value))))))
+    nil)"""
+
+
 # Formulas of Maxima: values but texts and definitions, in the words of LaTeX and not of plain TeX.
 MAXIMA_LATEX = r""":lisp (progn
     (defun tex-mquotient (x l r)
@@ -278,6 +309,10 @@ class Profile:
     statement: Callable[[bytes], bytes] = as_it_is  # what it is sent for a line
     noise: bytes = b""  # what of an answer is left out: its own prompts, where they can't be turned off
     ends: bytes = b"\n"  # what stands behind the marker
+    pictures: Tuple[str, ...] = ()  # lines that make it draw to the folder FOLDER
+    before: str = ""  # what it is sent before a line, and behind it, where it does
+    after: str = ""
+    closing: str = ""  # the same, before the marker in its line, so that a line that takes one for its input takes both
     latex: Tuple[str, ...] = ()  # lines that make it write a value as MARK, its TeX and MARK, a name of random bits
     again: bytes = rb"(?!)"  # a line that starts the interpreter again, as it was at first
     input: bytes = rb"(?!)"  # what of a line would wait for input, and can't be made an error in the interpreter itself
@@ -306,6 +341,8 @@ PROFILES = {
         ("PS1 (''); PS2 (''); more off;", f"warning ('off', 'Octave:shadowed-function'); addpath ('{HERE}/octave/lines');"),
         in_octave,
         latex=("pkg load symbolic; sym (0);", f"addpath ('{HERE}/octave/formulas')"),
+        pictures=("warning ('off', 'Octave:gnuplot-graphics'); warning ('off', 'print:nogs'); graphics_toolkit gnuplot; set (0, 'defaultfigurevisible', 'off');",),
+        after="tmhost_draw ('FOLDER')",
     ),
     "R": Profile(
         ["R", "--no-save", "--no-restore", "--no-echo", "--file=" + COMMANDS],
@@ -313,6 +350,8 @@ PROFILES = {
         b"> ",
         (R_LINE,),
         in_r,
+        pictures=(R_PICTURES,),
+        after='getOption("tmhost.close")()',
     ),
     "gap": Profile(["gap", "-q", "-b", "-n", "-T"], 'Print("{0}", "{1}\\n");', b"gap> ", (" ".join(GAP_LINE.split()),), in_gap),
     "maxima": Profile(
@@ -323,7 +362,8 @@ PROFILES = {
         in_maxima,
         rb"\n?TMHOST-DONE(?=\n?(?:\(dbm:\d+\) )?\Z)",
         b"\nNIL",
-        (" ".join(MAXIMA_LATEX.split()),),
+        latex=(" ".join(MAXIMA_LATEX.split()),),
+        pictures=(" ".join(MAXIMA_PICTURES.split()),),
     ),
     "M2": Profile(
         ["M2", "-q", "--silent", "--no-readline", "--no-debug", "--no-tty", "--no-prompts"],
@@ -342,14 +382,23 @@ PROFILES = {
         in_giac,
         rb'\A(?:\d+>> )?[^\n]*\n|(?:"tmhost-done"\n)?\d+>> print\([^\n]*\n\Z',
         b"\n0\n",
-        (GIAC_LATEX,),
-        rb"restart\s*(?:\(\s*\))?\s*[;:]*",
-        rb"\b(?:input|InputStr|Input|textinput|saisir|saisir_chaine)\s*\(",
+        latex=(GIAC_LATEX,),
+        again=rb"restart\s*(?:\(\s*\))?\s*[;:]*",
+        input=rb"\b(?:input|InputStr|Input|textinput|saisir|saisir_chaine)\s*\(",
     ),
     "singular": Profile(
         ["Singular", "-q", "--no-rc", "--no-warn"], 'dbprint(1, "{0}" + "{1}");', b"> ", (), in_singular
     ),
-    "gnuplot": Profile(["gnuplot"], 'printerr "{0}" . "{1}"', b"gnuplot> ", ("set terminal dumb",), in_gnuplot),
+    "gnuplot": Profile(
+        ["gnuplot"],
+        'printerr "{0}" . "{1}"',
+        b"gnuplot> ",
+        ("set terminal dumb",),
+        in_gnuplot,
+        pictures=("set terminal svg",),
+        before="""eval GPVAL_OUTPUT eq "" ? "set output 'FOLDER/drawn'" : ''""",
+        closing="eval GPVAL_OUTPUT eq 'FOLDER/drawn' && !(exists('GPVAL_MULTIPLOT') && GPVAL_MULTIPLOT) ? 'set output' : ''; ",
+    ),
     "yacas": Profile(
         ["yacas", "-pc"],
         '[ WriteString("{0}"); WriteString("{1}"); NewLine(); ];',

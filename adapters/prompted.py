@@ -1,13 +1,14 @@
 #!/usr/bin/env python3
 """Makes an interpreter that reads lines and prints answers into one that speaks the plugin protocol of TeXmacs.
 
-    prompted.py PROFILE [--latex]
+    prompted.py PROFILE [--latex] [--no-pictures]
 
 It starts the interpreter of the profile, sends it each line of its own input, and behind each line one that prints a marker. What comes
 before the marker is the answer, on as many lines as it has, messages of errors among it. Each line has a marker of its own, which is made
 from random bytes and stands in no command as a whole, so that neither an answer nor an echo of a command has it, and one that comes late
 ends no other line. Where a line has taken its marker for its input, or its own end isn't there, it is answered by an error. With `--latex`
-values are formulas, blocks of the format `latex`, where the profile has a way to write them. `--help` prints the names of the profiles.
+values are formulas, blocks of the format `latex`, where the profile has a way to write them. What a line draws stands behind its text, as blocks of
+pictures, where the profile knows how, but for `--no-pictures`. `--help` prints the names of the profiles.
 """
 import argparse
 import contextlib
@@ -15,10 +16,12 @@ import os
 import pty
 import re
 import signal
+import tempfile
 import termios
 from typing import List, NamedTuple, Optional, Set
 
 import blocks
+import pictures
 import waiting
 from profiles import COMMANDS, PROFILES, Profile
 
@@ -68,7 +71,7 @@ def terminal() -> "tuple[int, int]":
 def formula(tex: bytes) -> blocks.Part:
     """TeX of an interpreter as one line of LaTeX, in words that readers of formulas know."""
     words = b" ".join(tex.replace(b"\\mbox{", b"\\text{").split()).strip(b"$ ")
-    return blocks.Part(b"$" + re.sub(rb"\{\\(it|rm|bf) ([^{}]*)\}", rb"\\math\1{\2}", words) + b"$", True)
+    return blocks.Part(b"$" + re.sub(rb"\{\\(it|rm|bf) ([^{}]*)\}", rb"\\math\1{\2}", words) + b"$", blocks.LATEX)
 
 
 class Interpreter(blocks.Child):
@@ -76,9 +79,9 @@ class Interpreter(blocks.Child):
     line when it is there, but sees no terminal that it would prompt at. Where its words name COMMANDS, the pipe is that file, and its
     standard input is empty."""
 
-    def __init__(self, profile: Profile, is_latex: bool, signals: Optional[blocks.Signals] = None) -> None:
-        self.profile = profile
-        self.begins = [*profile.begins, *(profile.latex if is_latex else ())]
+    def __init__(self, profile: Profile, is_latex: bool, folder: str, signals: Optional[blocks.Signals] = None) -> None:
+        self.profile, self.folder = profile, folder
+        self.begins = [*profile.begins, *(profile.latex if is_latex else ()), *(profile.pictures if folder else ())]
         self.mark = blocks.new_name()  # stands before and behind each formula
         self.lost: List[bytes] = []  # the markers that were lost
         theirs, self.commands = os.pipe()
@@ -97,15 +100,24 @@ class Interpreter(blocks.Child):
 
     def begin(self) -> bool:
         """Sends what the profile begins with; false where the interpreter ends at that."""
-        lines = (line.replace("MARK", self.mark.decode()) for line in self.begins)
         with contextlib.suppress(Stuck):
-            return self.ask(*(line.encode() for line in lines)) is not None
+            return self.ask(*map(self.filled, self.begins)) is not None
         return False
+
+    def filled(self, line: str) -> bytes:
+        """A line of the profile with what is meant by its words."""
+        return line.replace("MARK", self.mark.decode()).replace("FOLDER", self.folder).encode()
+
+    def around(self, line: bytes) -> List[bytes]:
+        """What it is sent for a line."""
+        before, after = ([self.filled(one)] if self.folder and one else [] for one in (self.profile.before, self.profile.after))
+        return [*before, self.profile.statement(line), *after]
 
     def send(self, *lines: bytes) -> Mark:
         """Sends lines, and behind them one that prints a new marker."""
         mark = new_mark()
-        marks = self.profile.marks.format(mark.first, mark.second).encode()
+        closing = self.filled(self.profile.closing) if self.folder else b""
+        marks = closing + self.profile.marks.format(mark.first, mark.second).encode()
         blocks.write(b"".join(line + b"\n" for line in (*lines, marks)), self.commands)
         return mark
 
@@ -173,7 +185,7 @@ class Interpreter(blocks.Child):
         if self.profile.refuses(line):
             return [blocks.Part(NO_INPUT)]
         with self.at_a_line():
-            said = self.ask(self.profile.statement(line)) if self.drop_what_was_said() else None
+            said = self.ask(*self.around(line)) if self.drop_what_was_said() else None
         return None if said is None else self.parts(said)
 
 
@@ -189,9 +201,10 @@ def with_error(said: bytes, error: bytes) -> bytes:
 class Session:
     """The interpreter that answers the lines. Where one is stuck in a line, the line is answered by an error, and another one is started."""
 
-    def __init__(self, profile: Profile, is_latex: bool) -> None:
-        self.profile, self.is_latex = profile, is_latex
-        self.interpreter = Interpreter(profile, is_latex)
+    def __init__(self, profile: Profile, is_latex: bool, folder: str) -> None:
+        """The folder is where it draws; it has no name where there are no pictures."""
+        self.profile, self.is_latex, self.folder = profile, is_latex, folder
+        self.interpreter = Interpreter(profile, is_latex, folder)
         self.signals = self.interpreter.signals
 
     def answer(self, line: bytes) -> Optional[bytes]:
@@ -200,12 +213,14 @@ class Session:
             parts = self.begin_again(b"") if self.profile.begins_again(line) else self.interpreter.answer(line)
         except Stuck as stuck:
             parts = self.begin_again(stuck.said.strip(b"\n"))
-        return None if parts is None else blocks.answer(parts, self.profile.prompt)
+        return None if parts is None else blocks.answer([*parts, *(pictures.drawn(self.folder) if self.folder else ())], self.profile.prompt)
 
     def begin_again(self, said: bytes) -> Optional[List[blocks.Part]]:
         """Starts another interpreter in the place of this one, and answers with a text."""
         self.interpreter.leave()
-        self.interpreter = Interpreter(self.profile, self.is_latex, self.signals)
+        if self.folder:
+            pictures.clear(self.folder)
+        self.interpreter = Interpreter(self.profile, self.is_latex, self.folder, self.signals)
         return [blocks.Part(said)] if self.interpreter.begin() else None
 
 
@@ -213,14 +228,16 @@ def main() -> None:
     words = argparse.ArgumentParser(description="Makes an interpreter that prints answers one that has one block for each line.")
     words.add_argument("profile", metavar="PROFILE", choices=PROFILES, help=" ".join(PROFILES))
     words.add_argument("--latex", action="store_true", help="show values as formulas: " + " ".join(name for name in PROFILES if PROFILES[name].latex))
+    words.add_argument("--no-pictures", action="store_true", help="leave alone what is drawn, of " + " ".join(name for name in PROFILES if PROFILES[name].pictures))
     chosen = words.parse_args()
     profile = PROFILES[chosen.profile]
     if chosen.latex and not profile.latex:
         words.error(f"{chosen.profile} has no way to write formulas")
-    session = Session(profile, chosen.latex)
-    if session.interpreter.begin():
-        blocks.serve(blocks.verbatim(b"", profile.prompt), session.answer, session.signals)
-    session.interpreter.end()
+    with tempfile.TemporaryDirectory(prefix="tmhost-") as folder:
+        session = Session(profile, chosen.latex, folder if profile.pictures and not chosen.no_pictures else "")
+        if session.interpreter.begin():
+            blocks.serve(blocks.verbatim(b"", profile.prompt), session.answer, session.signals)
+        session.interpreter.end()
 
 
 if __name__ == "__main__":

@@ -1,9 +1,10 @@
 """Evaluates lines of Python for the adapter `python`, which starts it as a process of its own.
 
-    python_lines.py COMMANDS VALUE
+    python_lines.py COMMANDS VALUE [pictures]
 
 From the descriptor COMMANDS it reads for each line how long it is, a name, and the line. What the line prints goes to the standard
-output as it is; its value, as text and as a formula, to the file VALUE. Then it writes the name, and the line is done.
+output as it is; its pictures and its value, each with its kind and length before it, to the file VALUE. Then it writes the name, and
+the line is done.
 """
 import ast
 import builtins
@@ -15,10 +16,15 @@ import signal
 import sys
 import traceback
 import types
-from typing import Any, BinaryIO, Dict, NoReturn, Optional
+from typing import Any, BinaryIO, Callable, Dict, List, NoReturn, Optional, Tuple, TypeVar
+
+import tmhost_figures
 
 LONGEST = 8_000_000  # bytes of a value
 FORMULA = re.compile(r"\s*(\${1,2})([^$]+)\1\s*")
+
+Result = TypeVar("Result")
+Shown = Tuple[str, bytes]  # "text", "latex" or "picture", and what it is
 
 
 class Lines:
@@ -48,36 +54,45 @@ class Lines:
         exec(compile(tree, name, "exec"), self.names)
         return eval(compile(ast.Expression(last.value), name, "eval"), self.names) if isinstance(last, ast.Expr) else None
 
-    def evaluated(self, text: str) -> "tuple[str, str]":
-        """The value of a line as text and as a formula, which is empty where it has none. An error is printed, an exit() among them."""
+    def evaluated(self, text: str) -> List[Shown]:
+        """The pictures of a line, and its value. An error is printed, an exit() among them."""
         sys.stdin = open(os.devnull, encoding="utf-8")  # exit() closes it
+        value = self.tried(lambda: shown_of(self.value_of(text)))
+        self.tried(tmhost_figures.draw_what_is_left)
+        return [*(("picture", data) for data in tmhost_figures.taken()), *(value or [])]
+
+    def tried(self, work: Callable[[], Result]) -> Optional[Result]:
+        """What some work gives; None where it ends by an error, which is printed, or by an interrupt."""
         with contextlib.suppress(KeyboardInterrupt):  # one that comes while an error is printed
             try:
                 self.is_at_a_line = True
-                shown = as_text(self.value_of(text))
+                result = work()
                 self.is_at_a_line = False
-                return shown
+                return result
             except BaseException as error:
                 self.is_at_a_line = False
                 print_error(error)
-        return "", ""
+        return None
 
 
-def as_text(value: Any) -> "tuple[str, str]":
+def shown_of(value: Any) -> List[Shown]:
+    """A value as its formula, its picture or its text."""
     if value is None:
-        return "", ""
+        return []
     setattr(builtins, "_", value)
     if sys.displayhook is not sys.__displayhook__:
         sys.displayhook(value)
-        return "", ""
+        return []
     formula = getattr(value, "_repr_latex_", lambda: None)()
-    found = FORMULA.fullmatch(formula) if isinstance(formula, str) else None
-    return repr(value), "$" + " ".join(found[2].split()) + "$" if found else ""
+    if isinstance(formula, str) and (found := FORMULA.fullmatch(formula)):
+        return [("latex", as_bytes("$" + " ".join(found[2].split()) + "$"))]
+    picture = tmhost_figures.picture_of(value)
+    return [("picture", picture)] if picture else [("text", as_bytes(repr(value)))]
 
 
 def without_own_frames(told: traceback.TracebackException) -> None:
-    """Leaves out the frames of this file, of the errors behind an error, too."""
-    told.stack[:] = [frame for frame in told.stack if frame.filename != __file__]
+    """Leaves out the adapter's own frames, of the errors behind an error, too."""
+    told.stack[:] = [frame for frame in told.stack if frame.filename not in (__file__, tmhost_figures.__file__)]
     for behind in (told.__cause__, told.__context__):
         if behind:
             without_own_frames(behind)
@@ -101,6 +116,14 @@ def flush() -> None:
             stream.flush()
 
 
+def write_at(file: int, data: bytes, at: int) -> int:
+    """Writes all of the data to a place of the file, and tells how much that was."""
+    done = 0
+    while done < len(data):
+        done += os.pwrite(file, data[done:], at + done)
+    return done
+
+
 def serve(commands: BinaryIO, value_file: int) -> NoReturn:
     lines, own, output = Lines(), os.getpid(), os.dup(1)
     while True:
@@ -108,19 +131,23 @@ def serve(commands: BinaryIO, value_file: int) -> NoReturn:
         text = commands.read(int(length)).decode("utf-8", "surrogateescape")
         for descriptor in (1, 2):  # a line may have closed them
             os.dup2(output, descriptor)
-        value, formula = (as_bytes(one) for one in lines.evaluated(text))
+        shown = lines.evaluated(text)
         if os.getpid() != own:
             os._exit(0)  # a process that the line has forked
         flush()
         os.ftruncate(value_file, 0)
-        os.pwrite(value_file, b"%d\n" % len(value) + value + formula, 0)
+        at = 0
+        for kind, data in shown:
+            at += write_at(value_file, b"%b %d\n" % (kind.encode(), len(data)) + data, at)
         os.write(output, name)
 
 
 if __name__ == "__main__":
     sys.path[0] = ""
-    for descriptor in sys.argv[1:]:
-        os.set_inheritable(int(descriptor), False)
     commands, value_file = open(int(sys.argv[1]), "rb"), int(sys.argv[2])
+    for descriptor in (commands.fileno(), value_file):
+        os.set_inheritable(descriptor, False)
+    if sys.argv[3:]:
+        tmhost_figures.begin()
     sys.argv = [""]
     serve(commands, value_file)

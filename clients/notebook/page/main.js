@@ -8,6 +8,7 @@ import { keysDialog, sessionDialog } from "./dialogs.js";
 import { byId } from "./dom.js";
 import { listen } from "./feed.js";
 import { Keys } from "./keys.js";
+import { savePicture } from "./output.js";
 
 /** @typedef {import("./types").Message} Message */
 
@@ -94,7 +95,7 @@ const DOES = {
   reopen: () => actions.reopen(),
 };
 
-/** @type {Record<string, (view: import("./cell").CellView) => unknown>} */
+/** @type {Record<string, (view: import("./cell").CellView, node: HTMLElement) => unknown>} */
 const DOES_TO_CELL = {
   evaluate: (view) => actions.evaluate(view),
   evaluateFrom: (view) => actions.evaluateFrom(view),
@@ -109,6 +110,7 @@ const DOES_TO_CELL = {
   clear: (view) => actions.clear(view),
   remove: (view) => actions.remove(view),
   showMore: (view) => actions.showMore(view),
+  savePicture: (view, node) => savePicture(node, `cell-${view.id}`),
   keepMine: (view) => actions.keepMine(view),
   takeTheirs: (view) => actions.takeTheirs(view),
 };
@@ -122,7 +124,7 @@ document.addEventListener("click", (event) => {
   const what = node.dataset.do ?? "";
   const view = cells.of(node);
   if (view && event.detail > 0) cells.select(view); // by the mouse: the keys are for the cell again
-  if (view) DOES_TO_CELL[what]?.(view);
+  if (view) DOES_TO_CELL[what]?.(view, node);
   else DOES[what]?.(node);
 });
 

@@ -1,10 +1,11 @@
-// An answer: texts as text nodes, formulas by the setter.
+// An answer: texts as text nodes, formulas by the setter, pictures as images.
 
 import { ask } from "./talk.js";
 import { button, make, visible } from "./dom.js";
 import { setInto } from "./setter.js";
 
 /** @typedef {import("./types").Output} Output */
+/** @typedef {import("./types").Part} Part */
 
 /** @type {(tex: string) => HTMLElement} */
 function formulaOf(tex) {
@@ -12,6 +13,43 @@ function formulaOf(tex) {
   place.dataset.tex = tex;
   setInto(place, "tex", tex);
   return place;
+}
+
+/**
+ * A picture, all of which stands in its address: a browser runs no script of it, and loads nothing for it. One that it can't draw is the text that stands
+ * for it.
+ * @type {(part: Part) => HTMLElement}
+ */
+function pictureOf(part) {
+  const place = make("span", "picture"), image = make("img");
+  const about = visible(part.text ?? "").replace(/^\{[^:]*: |\}$/g, "");
+  image.alt = `A picture (${about})`;
+  image.decoding = "async";
+  image.addEventListener("error", () => image.replaceWith(visible(part.text ?? "")));
+  image.src = part.picture ?? "";
+  place.append(image, button("savePicture", "Save", `Save the picture (${about})`));
+  return place;
+}
+
+/** @type {(part: Part) => Node | string} */
+function nodeOf(part) {
+  if (part.picture !== undefined) return pictureOf(part);
+  return part.tex === undefined ? visible(part.text ?? "") : formulaOf(part.tex);
+}
+
+/**
+ * Gives the bytes of a picture, as a file.
+ * @type {(button: HTMLElement, name: string) => void}
+ */
+export function savePicture(button, name) {
+  const [head, text] = (button.parentElement?.querySelector("img")?.src ?? "").split(";base64,");
+  if (text === undefined) return;
+  const bytes = Uint8Array.from(atob(text), (character) => character.charCodeAt(0));
+  const link = make("a");
+  link.href = URL.createObjectURL(new Blob([bytes], { type: "application/octet-stream" }));
+  link.download = `${name}.${head.slice("data:image/".length).replace("+xml", "").replace("jpeg", "jpg")}`;
+  link.click();
+  setTimeout(() => URL.revokeObjectURL(link.href), 60_000);
 }
 
 /** @type {(number: number) => string} */
@@ -59,20 +97,33 @@ export class OutputView {
   draw() {
     const { shown } = this;
     this.more?.remove();
+    this.pictures?.remove();
     this.body.replaceChildren();
     this.box.hidden = !shown || shown.length === 0;
     if (!shown) return;
     if (this.isText || shown.isCut) this.body.append(visible(shown.text));
-    else this.body.append(...shown.parts.map((part) => (part.tex === undefined ? visible(part.text ?? "") : formulaOf(part.tex))));
+    else this.body.append(...shown.parts.map(nodeOf));
     this.end = [...shown.text].length;
-    if (shown.isCut) this.offerMore();
+    if (!shown.isCut) return;
+    this.offerMore();
+    if (!this.isText) this.appendPictures(shown);
+  }
+
+  /**
+   * The pictures of an answer whose text is shown piece by piece.
+   * @type {(shown: Output) => void}
+   */
+  appendPictures(shown) {
+    this.pictures = make("div", "pictures");
+    this.pictures.append(...shown.parts.filter((part) => part.picture !== undefined).map(nodeOf));
+    this.box.append(this.pictures);
   }
 
   offerMore() {
     const length = this.shown?.length ?? 0;
     this.more = make("p", "more", `${grouped(this.end)} of ${grouped(length)} characters. `);
     this.more.append(button("showMore", "Show more", "Show more of the answer"));
-    this.box.append(this.more);
+    this.body.after(this.more);
   }
 
   /** Fetches a further piece of a long answer. */

@@ -1,6 +1,7 @@
 // What the server tells; tmhost_notebook/book.py writes it.
 
-export interface Part { text?: string; tex?: string }
+/** A text, a formula, or a picture: an address that has all of it, which the server has looked at, and the text that stands for it. */
+export interface Part { text?: string; tex?: string; picture?: string }
 
 export interface Output { parts: Part[]; text: string; isCut: boolean; length: number }
 

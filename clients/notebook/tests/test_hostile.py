@@ -58,7 +58,7 @@ PROSE = [
 ]
 UNHARMED = """
 (() => {
-  const bad = ["script:not([src='main.js'])", "iframe", "object", "embed", "base", "form:not([method=dialog])", "img", "style", "video", "audio", "[onerror]",
+  const bad = ["script:not([src='main.js'])", "iframe", "object", "embed", "base", "form:not([method=dialog])", "img:not(.picture > img[src^='data:image/'])", "style", "video", "audio", "[onerror]",
     "[onload]", "[onclick]", "a[href^='javascript' i]", "a[href^='data' i]", "#cells link", "#cells meta", "#cells [id]:not(.cell):not(#completions)",
     "#cells [style*=fixed]", "#cells [style*=url]"];
   return [window.harmed ?? 0, ...bad.filter((selector) => document.querySelector(selector))];

@@ -29,7 +29,7 @@ LONGEST = 131_072  # bytes of a request; an input has 4,095
 IDLE = 30  # seconds that a connection may be silent in the middle of a request
 SAFE = {
     "Content-Security-Policy": "default-src 'none'; script-src 'self'; worker-src 'self'; style-src 'self'; connect-src 'self'; "
-    "font-src 'self'; img-src 'self'; base-uri 'none'; form-action 'none'; frame-ancestors 'none'; "
+    "font-src 'self'; img-src 'self' data:; base-uri 'none'; form-action 'none'; frame-ancestors 'none'; "
     "require-trusted-types-for 'script'; trusted-types setter",
     "X-Content-Type-Options": "nosniff",
     "X-Frame-Options": "DENY",

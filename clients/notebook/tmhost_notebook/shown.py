@@ -1,8 +1,10 @@
-"""Answers as the page gets them: texts and formulas, at most so many characters of them."""
+"""Answers as the page gets them: texts and formulas, at most so many characters of them, and pictures."""
 
 from typing import Any, Dict, List, Union
 
 from tmhost import Answer, Block, readable
+
+from .pictures import Picture, pictures_in
 
 LONGEST = 20_000  # characters of an answer that the page gets unasked; the rest is asked for piece by piece
 PIECE = 400_000  # characters of such a piece
@@ -10,26 +12,31 @@ LONGEST_FORMULA = 5_000
 
 SHOWN_WITHOUT_TAG = ("verbatim", "output")
 
-Part = Dict[str, str]  # {"text": ..} or {"tex": ..}
+Part = Dict[str, str]  # {"text": ..}, {"tex": ..}, or {"picture": its address, "text": what stands for it}
 
 
 class Parts:
-    """The parts of an answer, up to `LONGEST` characters."""
+    """The parts of an answer, up to `LONGEST` characters, and all of its pictures."""
 
-    def __init__(self) -> None:
+    def __init__(self, pictures: Dict[int, Picture]) -> None:
+        self.pictures = pictures
         self.parts: List[Part] = []
         self.left = LONGEST
 
     def text(self, text: str) -> None:
         text = text[: self.left]
         self.left -= len(text)
-        if text and self.parts and "text" in self.parts[-1]:
+        if text and self.parts and list(self.parts[-1]) == ["text"]:
             self.parts[-1]["text"] += text
         elif text:
             self.parts.append({"text": text})
 
     def add(self, block: Block) -> None:
         """A block as `tmhost show` prints it, but for its formulas. Blocks lie at most 32 deep in one another."""
+        picture = self.pictures.get(id(block))
+        if picture is not None:
+            self.parts.append({"picture": picture.address, "text": named(block, picture)})
+            return
         tag = readable(block.tag)
         tex = formula_of(block)
         if tex is not None and len(tex) <= min(LONGEST_FORMULA, self.left):
@@ -40,7 +47,7 @@ class Parts:
         if not is_bare:
             self.text("{" + tag + (":" if block.kind == "format" else "#"))
         for item in block.items:
-            if self.left <= 0:
+            if self.left <= 0 and not self.pictures:
                 return
             self.item(item)
         if not is_bare:
@@ -61,15 +68,35 @@ def formula_of(block: Block) -> Union[str, None]:
     return item if isinstance(item, str) else None
 
 
+def named(block: Block, picture: Picture) -> str:
+    """What stands for a picture in a text."""
+    return "{%s: %s}" % (readable(block.tag), picture.about)
+
+
+def text_of(block: Block, pictures: Dict[int, Picture]) -> str:
+    """A block as `tmhost show` prints it, but for its pictures."""
+    picture = pictures.get(id(block))
+    if picture is not None:
+        return named(block, picture)
+    text = "".join(text_of(item, pictures) if isinstance(item, Block) else readable(item) for item in block.items)
+    tag = readable(block.tag)
+    return text if tag in SHOWN_WITHOUT_TAG else "{" + tag + (":" if block.kind == "format" else "#") + text + "}"
+
+
+def whole_text(answer: Answer, pictures: Dict[int, Picture]) -> str:
+    return text_of(answer.output, pictures) if pictures else readable(answer.text)
+
+
 def facts_of(answer: Answer) -> Dict[str, Any]:
     """An answer as the page shows it: its parts, the same as text, whether that is all of it, and how long the whole text is."""
-    parts = Parts()
+    pictures = pictures_in(answer.output)
+    parts = Parts(pictures)
     parts.add(answer.output)
-    text = readable(answer.text)
+    text = whole_text(answer, pictures)
     return {"parts": parts.parts, "text": text[:LONGEST], "isCut": len(text) > LONGEST, "length": len(text)}
 
 
 def piece_of(answer: Answer, start: int) -> Dict[str, Any]:
     """A further piece of the text of an answer."""
-    text = readable(answer.text)
+    text = whole_text(answer, pictures_in(answer.output))
     return {"text": text[start : start + PIECE], "start": start, "length": len(text)}
