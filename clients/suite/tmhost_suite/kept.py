@@ -1,6 +1,7 @@
 """The worksheet beside a suite in which a run keeps its answers, so that one that was killed goes on."""
 import contextlib
 import dataclasses
+import hashlib
 import json
 import os
 import subprocess
@@ -63,7 +64,11 @@ def joined(parts: List[str]) -> str:
 
 
 def sheet_path(path: str, folder: Optional[str]) -> str:
-    return (os.path.join(folder, os.path.basename(path)) if folder else path) + ".run"
+    """Where the worksheet of a suite lies. In a folder for many, suites of the same name have one each."""
+    if folder is None:
+        return path + ".run"
+    mark = hashlib.sha256(os.fsencode(os.path.realpath(path))).hexdigest()[:8]
+    return os.path.join(folder, f"{os.path.basename(path)}.{mark}.run")
 
 
 def remove(path: str) -> None:
@@ -85,6 +90,9 @@ def opened(path: str) -> Worksheet:
 
 def begin(path: str, suite: Suite) -> Kept:
     """A new run, in the place of an earlier one."""
+    folder = os.path.dirname(path) or "."
+    if not os.access(folder, os.W_OK | os.X_OK):
+        raise Trouble(f"nothing can be written into {folder}: --runs FOLDER puts the worksheet of a run elsewhere")
     if os.path.lexists(path):
         opened(path).close()  # so that the worksheet of a run that goes on isn't taken away
     remove(path)
@@ -104,7 +112,10 @@ def fill(sheet: Worksheet, suite: Suite) -> Kept:
     sheet.session(NOTES, NEVER)
     kept = Kept(sheet, suite, [], {}, {})
     for name, words in suite.sessions.items():
-        sheet.session(name, words)
+        try:
+            sheet.session(name, words)
+        except Refused as refused:
+            raise Trouble(f"the session {name}, {len(sheet.sessions)} of {len(suite.sessions)}, is {refused}") from None
     for at, case in enumerate(suite.cases):
         kept.cells.append([])
         for field in case.fields:

@@ -10,7 +10,7 @@ import time
 from concurrent.futures import ThreadPoolExecutor
 from typing import Callable, Dict, FrozenSet, List, Optional, Tuple
 
-from tmhost import TmhostError
+from tmhost import TmhostError, Worksheet
 from tmhost_weave.files import put
 from tmhost_fences.troubles import Trouble
 
@@ -116,11 +116,19 @@ class Runner:
 
     def __init__(self, given: argparse.Namespace, teller: Teller) -> None:
         self.given, self.teller = given, teller
-        self.slots, self.ended = threading.Semaphore(given.jobs), threading.Event()
+        self.slots, self.ended, self.is_broken_off = threading.Semaphore(given.jobs), threading.Event(), threading.Event()
+        self.sheets: List[Worksheet] = []  # those of suites that have begun
+        self.chosen = 0  # how many cases were to be run
         self.seed = str(random.randrange(10**6)) if given.random == "new" else given.random
 
     def run(self) -> bool:
         number, parts = self.given.shard
+        real = [os.path.realpath(path) for path in self.given.suites]
+        for at, path in enumerate(real):
+            if path in real[:at]:
+                raise Trouble(f"{self.given.suites[at]} is named twice")
+        if self.given.runs:
+            os.makedirs(self.given.runs, exist_ok=True)
         paths = self.given.suites[number - 1 :: parts]
         suites = [self._read(path) for path in paths]
         self.teller.begin(sum(len(suite.cases) for suite, _ in suites))
@@ -128,11 +136,24 @@ class Runner:
             self.teller.say(f"in the order of --random {self.seed}")
         began = time.monotonic()
         with ThreadPoolExecutor(max(1, min(len(suites), self.given.jobs))) as pool:
-            told = [one for found in pool.map(lambda pair: self._run_one(*pair), suites) for one in found]
+            try:
+                told = [one for found in pool.map(lambda pair: self._run_one(*pair), suites) for one in found]
+            except BaseException:
+                self._break_off()
+                raise
         self.teller.end_progress()
         self._tell(told, time.monotonic() - began)
         self._write_reports(told)
+        if not self.chosen and parts == 1 and (self.given.only or self.given.tags):
+            raise Trouble("no case is one of those that are to be run")
         return all(one.verdict in PASSED or one.verdict == "out" for one in told)
+
+    def _break_off(self) -> None:
+        """Ends what runs, at once: what is done stands in the worksheets, and another run goes on from there."""
+        self.is_broken_off.set()
+        self.ended.set()
+        for sheet in self.sheets:
+            sheet.close(0)
 
     def _read(self, path: str) -> Read:
         try:
@@ -148,13 +169,17 @@ class Runner:
 
     def _run_suite(self, suite: Suite, text: Optional[Text]) -> List[Told]:
         path = worksheets.sheet_path(suite.path, self.given.runs)
+        if self.is_broken_off.is_set():
+            return []
         chosen = chooser(self.given, suite.path)
+        self.chosen += sum(chosen(at, case) for at, case in enumerate(suite.cases))
         found = worksheets.resume(path, suite) if self.given.resume else None
         if found is not None:
             self.teller.say(f"{suite.path}: goes on behind {len(found.results)} of {len(suite.cases)} cases")
         kept = found or worksheets.begin(path, suite)
         with kept.sheet:
-            plan = Plan(chosen, self.given.seconds, self.slots, self.ended, self.given.fail_fast, self.seed)
+            self.sheets.append(kept.sheet)
+            plan = Plan(chosen, self.given.seconds, self.slots, self.ended, self.is_broken_off, self.given.fail_fast, self.seed)
             applied = run(kept, plan, lambda at: self.teller.one_more())
         told = told_of(suite, kept.results)
         if self.given.accept:
@@ -226,5 +251,6 @@ def main(words: List[str]) -> int:
     except OSError as error:
         print(f"tmhost-suite: {error.strerror or error}" + (f": {error.filename}" if error.filename else ""), file=sys.stderr)
     except KeyboardInterrupt:
+        print("tmhost-suite: broken off; --resume goes on where it was", file=sys.stderr)
         return INTERRUPTED
     return 1
