@@ -83,6 +83,13 @@ class Resuming(Case):
         ran = self.run_suite(self.path, "--resume", "--only", "say 1")
         self.assertIn("goes on behind 1 of 3 cases", ran.output)
 
+    def test_a_long_answer_before_the_time_is_over(self) -> None:
+        said = "\U0001f600" * 600
+        self.write(case(f"say {said}\nstuck", f"{said}\n? over 0.5 s", "a {timeout 0.5}"))
+        self.assertEqual(self.verdicts(self.path), ["ok"])
+        self.assertEqual(self.verdicts(self.path, "--resume"), ["ok"])
+        self.assertIn("goes on behind 1 of 1 cases", self.outcome.output)
+
     def test_other_code_is_refused(self) -> None:
         self.write(case("say 1", "1"))
         self.run_suite(self.path)

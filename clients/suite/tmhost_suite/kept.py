@@ -16,6 +16,7 @@ from .cases import Suite
 # The session of notes: what a run is of, and what came of each case. It is never started.
 NOTES, NEVER = "tmhost-suite", ("true",)
 SECOND = ".alt"  # of a worksheet's second file
+PART = 250  # characters, each of which JSON writes in up to 12
 PATIENCE, PAUSE = 10.0, 0.05  # seconds; the program of a run that was killed needs a moment to end
 
 
@@ -42,10 +43,16 @@ class Kept:
     results: Dict[int, Result]
 
     def note(self, at: int, result: Result) -> None:
-        """A case is done when this has returned. What is too long for a note stands in the case's own cells."""
+        """A case is done when this has returned. What came isn't kept twice where the case's own cells show it, and stands in notes of its own
+        where it may be too long for one."""
         short = dataclasses.asdict(result)
         if result.got == self.shown(at):
             del short["got"]
+        elif len(result.got) > PART:
+            parts = [result.got[begin : begin + PART] for begin in range(0, len(result.got), PART)]
+            for part in parts:
+                self.sheet.new(NOTES, json.dumps({"case": at, "part": part}, ensure_ascii=True))
+            short.update(got=None, parts=len(parts))
         self.sheet.new(NOTES, json.dumps({"case": at, "digest": self.suite.cases[at].digest, **short}, ensure_ascii=True))
 
     def shown(self, at: int) -> str:
@@ -157,9 +164,17 @@ def found_in(sheet: Worksheet, suite: Suite) -> Optional[Kept]:
         kept.cells.append([cells[case.session].pop(0) for _ in fitting])
         if len(fitting) < len(case.fields):
             kept.misfits[at] = next(field.misfit for field in case.fields if field.misfit) or ""
+    parts: Dict[int, List[str]] = {}
     for note in notes[1:]:
         at = int(str(note.pop("case")))
+        if "part" in note:
+            parts.setdefault(at, []).append(str(note["part"]))
+            continue
         note.pop("digest")
+        count = int(str(note.pop("parts", 0)))
+        if count:
+            # Those of a run that was broken off between two of them stand in front.
+            note["got"] = "".join(parts[at][-count:])
         note.setdefault("got", kept.shown(at))
         kept.results[at] = Result(**note)  # type: ignore[arg-type]
     for left in cells.values():

@@ -21,7 +21,7 @@ from .reports import FORMATS, Told, told_of
 from .rules import as_wanted
 from .running import PASSED, Plan, run
 from .telling import Teller, standard
-from .readers import as_text, reader_of
+from .readers import as_text, read_other
 from .text import Text, names_sessions
 
 ABOUT = "Runs test suites that are texts: evaluates the code in their fences, and compares what comes with the answers behind them."
@@ -66,6 +66,7 @@ def arguments(words: List[str]) -> argparse.Namespace:
     parser.add_argument("--slowest", type=positive, default=0, metavar="N", help="list the N cases that took longest")
     parser.add_argument("--verbose", action="store_true", help="list all cases, and what the rules made of what came")
     parser.add_argument("--runs", metavar="FOLDER", help="where the worksheets of runs lie (beside the suites)")
+    parser.add_argument("--words", metavar="WORDS", help="the interpreter of suites of another form, as 'adapters/prompted.py R'")
     parser.add_argument("--convert", action="store_true", help="run nothing, and write the text form of a suite of another form")
     for format in FORMATS:
         parser.add_argument(f"--{format}", metavar="FILE", help=f"write a report in the form of {format} (-: standard output)")
@@ -96,17 +97,17 @@ def chooser(given: argparse.Namespace, path: str) -> Callable[[int, Case], bool]
 Read = Tuple[Suite, Optional[Text]]
 
 
-def read(path: str) -> Read:
-    """A suite, with its text where it is of the text form."""
+def read(path: str, words: Optional[str]) -> Read:
+    """A suite, with its text where it is of the text form. The words are those of the session of another form."""
     with open(path, "rb") as file:
         data = file.read()
     try:
         text = data.decode("utf-8")
     except UnicodeDecodeError:
         raise Trouble("the text is no UTF-8") from None
-    reader = reader_of(path, text, names_sessions(text))
-    if reader is not None:
-        return reader(path, text), None
+    other = read_other(path, text, names_sessions(text), words)
+    if other is not None:
+        return other, None
     found = Text(path, text)
     return found.suite, found
 
@@ -157,7 +158,7 @@ class Runner:
 
     def _read(self, path: str) -> Read:
         try:
-            return read(path)
+            return read(path, self.given.words)
         except Trouble as trouble:
             raise Trouble(f"{path}: {trouble}") from None
 
@@ -243,7 +244,7 @@ def main(words: List[str]) -> int:
     given = arguments(words)
     try:
         if given.convert:
-            sys.stdout.write("".join(as_text(read(path)[0]) for path in given.suites))
+            sys.stdout.write("".join(as_text(read(path, given.words)[0]) for path in given.suites))
             return 0
         return 0 if Runner(given, standard()).run() else 1
     except (Trouble, TmhostError) as trouble:

@@ -61,8 +61,8 @@ class Told:
         """From what was wanted to what came."""
         if not self.is_wrong or self.verdict == "xpass":
             return []
-        wanted = self.case.wanted.split("\n") if self.case.wanted is not None else []
-        return list(difflib.unified_diff(wanted, self.got.split("\n"), "wanted", "came", lineterm="", n=CONTEXT))
+        wanted, came = self.suite.rules_of(self.case).laid_out(self.case.wanted or "", self.got)
+        return list(difflib.unified_diff(wanted if self.case.wanted is not None else [], came, "wanted", "came", lineterm="", n=CONTEXT))
 
 
 def told_of(suite: Suite, results: "dict[int, Result]") -> List[Told]:

@@ -22,11 +22,15 @@ class Normal:
 
 @dataclasses.dataclass(frozen=True)
 class Rules:
-    """`relative` and `absolute` are how far numbers may be apart that stand in equal text: the greater of the two allowances."""
+    """`relative` and `absolute` are how far numbers may be apart that stand in equal text: the greater of the two allowances. With
+    `any_spaces` blanks are compared as one, and those at the ends of lines, and lines without anything else, not at all. What comes is cut
+    into lines of `columns` characters, where what is wanted was written by an interpreter that does so."""
 
     normal: Tuple[Normal, ...] = ()
     relative: Decimal = Decimal(0)
     absolute: Decimal = Decimal(0)
+    any_spaces: bool = False
+    columns: Optional[int] = None
 
     def normalised(self, text: str, applied: Set[int]) -> str:
         """The text after each rule in turn; the places of those that found something are put into `applied`."""
@@ -38,7 +42,25 @@ class Rules:
 
     def are_alike(self, wanted: str, got: str, applied: Set[int]) -> bool:
         wanted, got = self.normalised(wanted, applied), self.normalised(got, applied)
-        return wanted == got or match(wanted.split("\n"), got.split("\n"), self)
+        if wanted == got:
+            return True
+        return match(*self.laid_out(wanted, got), self)
+
+    def laid_out(self, wanted: str, got: str) -> Tuple[List[str], List[str]]:
+        """The lines that are compared with each other."""
+        lines, others = wanted.split("\n"), got.split("\n")
+        if self.columns is not None:
+            others = [part for line in others for part in wrapped(line, self.columns)]
+        return (bare(lines), bare(others)) if self.any_spaces else (lines, others)
+
+
+def wrapped(line: str, columns: int) -> List[str]:
+    return [line[at : at + columns] for at in range(0, len(line), columns)] or [line]
+
+
+def bare(lines: Sequence[str]) -> List[str]:
+    """The lines with one blank in place of several, and without those that have nothing else."""
+    return [" ".join(line.split()) for line in lines if line.strip()]
 
 
 def value(text: str) -> Decimal:

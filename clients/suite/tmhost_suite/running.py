@@ -103,7 +103,7 @@ class Chain:
 
     def _is_wanted(self, case: Case, got: str) -> bool:
         """A case without an answer behind it is wanted to say nothing."""
-        return not got if case.wanted is None else self.suite.rules.are_alike(case.wanted, got, self.applied)
+        return not got if case.wanted is None else self.suite.rules_of(case).are_alike(case.wanted, got, self.applied)
 
     # ---- one case
 
