@@ -61,6 +61,13 @@ class Pari(Forms):
         self.put("32/first", "\n".join(line[:10] + "\n" + line[10:] if len(line) == 76 else line for line in lines))
         self.assertEqual(self.verdicts(self.code), ["differs"])
 
+    def test_messages_are_not_cut(self) -> None:
+        code = 'error("' + "long " * 30 + '")\nprint("' + "long " * 30 + '")\n'
+        wanted = subprocess.run(["gp", "-q", "--test"], input=code, capture_output=True, text=True, check=True).stdout
+        self.assertGreater(max(map(len, wanted.split("\n"))), 76)
+        self.put("32/second", wanted + '? print("Total time spent: ",gettime);\nTotal time spent: 4\n')
+        self.assertEqual(self.verdicts(self.put("in/second", code)), ["ok"], self.outcome.output)
+
     def test_64_bits_come_first(self) -> None:
         self.put("32/first", "other\n")
         self.put("64/first", self.wanted)
@@ -120,4 +127,29 @@ class Notebooks(Forms):
 class Cram(Forms):
     def test_a_shell(self) -> None:
         path = self.put("a.t", "Text:\n\n  $ echo a; echo b\n  a\n  b\n\n  $ false\n  [1]\n\n  $ for x in 1 2; do\n  >   echo x$x\n  > done\n  x1\n  x? (glob)\n\n  $ echo no\n  yes\n")
-        self.assertEqual(self.verdicts(path), ["ok", "ok", "ok", "differs"], self.outcome.output)
+        self.assertEqual(self.verdicts(path)[1:-1], ["ok", "ok", "ok", "differs"], self.outcome.output)
+
+    def test_a_folder_of_its_own(self) -> None:
+        """Nothing is left beside the suite, and nothing of the folder in which it ran."""
+        names = ["a.t", "a.t.run", "a.t.run.alt", "report.jsonl"]
+        kept = self.place("folder")
+        path = self.put("a.t", f'  $ touch x; ls\n  x\n  $ echo $TESTFILE $TZ "$TESTDIR"\n  a.t GMT {self.folder}\n  $ pwd >{kept}\n')
+        self.assertEqual(self.verdicts(path), ["ok"] * 5, self.outcome.output)
+        self.assertEqual(sorted(os.listdir(self.folder)), [*names[:3], "folder", names[3]])
+        self.assertFalse(os.path.exists(self.read(kept).strip()))
+
+    def test_its_patterns(self) -> None:
+        commands = [
+            ("printf 'a\\033\\tb\\n'", "a\\x1b\\tb (esc)"),
+            ("echo 'x (esc)'", "x (esc)"),
+            ("printf '\\303\\251\\n'", "\\xc3\\xa9 (esc)"),
+            ("echo 'a*[1]'", "?\\*[1] (glob)"),
+            ("printf foo", "foo (no-eol)"),
+            ("echo 'ab[1]'", "a\\*[1] (glob)"),
+        ]
+        path = self.put("a.t", "".join(f"  $ {command}\n  {wanted}\n" for command, wanted in commands))
+        self.assertEqual(self.verdicts(path)[1:-1], ["ok"] * 5 + ["differs"], self.outcome.output)
+
+    def test_a_pattern_that_is_none(self) -> None:
+        path = self.put("a.t", "  $ echo 1\n  +++ (re)\n")
+        self.assertEqual(self.verdicts(path)[1:-1], ["differs"])

@@ -5,6 +5,7 @@ import doctest
 import json
 import os
 import re
+import shlex
 from typing import Any, Callable, Dict, Iterator, List, NamedTuple, Optional, Tuple
 
 from tmhost_fences.blocks import LINE, cut
@@ -16,8 +17,9 @@ from .rules import ANY_LINES, BY_GLOB, BY_PATTERN, Rules
 
 ADAPTERS = os.path.join(os.path.dirname(os.path.realpath(__file__)), "..", "..", "..", "adapters")
 CRAM_CODE, CRAM_MORE = re.compile(r"  \$ (.*)"), re.compile(r"  > (.*)")
-CRAM_ENDS = (BY_PATTERN, BY_GLOB)
-PARI_TIME = "Total time spent:"
+NO_END, ESCAPED = " (no-eol)", " (esc)"
+CONTROL = re.compile(r"[\x00-\x08\x0a-\x1f\x7f]")
+PARI_TIME = ("Total time spent:", '? print("Total time spent: "')
 TELLS_STATUS = 'tmhost_status=$?; [ $tmhost_status = 0 ] || echo "[$tmhost_status]"'
 
 
@@ -92,10 +94,27 @@ def read_doctest(path: str, text: str, session: Session) -> Suite:
 # ---- cram
 
 
+def without_escapes(text: str) -> str:
+    """What the escapes of cram's `(esc)` stand for, as tmhost prints it. Where they are none, the text."""
+    try:
+        found = text.encode("utf-8").decode("unicode_escape").encode("latin-1").decode("utf-8", "replace")
+    except ValueError:
+        return text
+    return CONTROL.sub(lambda character: f"\\x{ord(character[0]):02x}", found)
+
+
 def cram_line(line: str) -> str:
-    """A line that cram wants, without its two blanks. What `(esc)` stands for is written out."""
+    """A line that cram wants, without its two blanks, by the patterns of a suite. Cram takes one that ends in `(esc)` as it is, too, and
+    its globs have no brackets, but backslashes."""
     line = line[2:]
-    return line[:-6].encode("latin-1", "backslashreplace").decode("unicode_escape") if line.endswith(" (esc)") else line
+    if line.endswith(NO_END):
+        line = line[: -len(NO_END)]
+    if line.endswith(ESCAPED):
+        return "|".join(re.escape(text) for text in (line, without_escapes(line[: -len(ESCAPED)]))) + BY_PATTERN
+    if line.endswith(BY_GLOB) and re.search(r"[\\[]", line):
+        parts = re.findall(r"\\[*?\\]|.", line[: -len(BY_GLOB)])
+        return "".join({"*": ".*", "?": "."}.get(part) or re.escape(part[-1]) for part in parts) + BY_PATTERN
+    return line
 
 
 def cram_case(session: str, code: List[str], wanted: List[str], line: int) -> Case:
@@ -104,8 +123,24 @@ def cram_case(session: str, code: List[str], wanted: List[str], line: int) -> Ca
     return Case(session, Marks(), tuple(code), (field,), line, "\n".join(wanted).rstrip("\n"))
 
 
+def cram_surroundings(session: str, path: str, last: int) -> Tuple[Case, Case]:
+    """What cram does for each file: a folder of its own, and the variables that its manual names. They are taken away at the end."""
+    folder, name = os.path.split(os.path.abspath(path))
+    begin = [
+        f"CRAMTMP=$(mktemp -d -t cramtests-XXXXXX) && mkdir \"$CRAMTMP\"/{shlex.quote(name)} && cd \"$CRAMTMP\"/{shlex.quote(name)}",
+        "export CRAMTMP TMPDIR=\"$CRAMTMP\" LANG=C LC_ALL=C LANGUAGE=C TZ=GMT CDPATH= COLUMNS=80 GREP_OPTIONS=",
+        f"export TESTDIR={shlex.quote(folder)} TESTFILE={shlex.quote(name)}",
+    ]
+    end = "cd / && rm -rf \"$CRAMTMP\""
+    return (
+        whole_case(session, "\n".join(begin), None, 1, Marks(is_setup=True)),
+        whole_case(session, end, None, last, Marks(is_teardown=True)),
+    )
+
+
 def read_cram(path: str, text: str, session: Session) -> Suite:
-    cases: List[Case] = []
+    first, last = cram_surroundings(session.name, path, text.count("\n") + 1)
+    cases: List[Case] = [first]
     code: List[str] = []
     wanted: List[str] = []
     begin = 0
@@ -119,6 +154,7 @@ def read_cram(path: str, text: str, session: Session) -> Suite:
             if code:
                 cases.append(cram_case(session.name, code, wanted, begin))
             code, wanted, begin = ([command[1]], [], number) if command else ([], [], number)
+    cases.append(last)
     return Suite(path, dict([session]), Rules(), None, tuple(cases))
 
 
@@ -181,7 +217,7 @@ def read_pari(path: str, text: str, session: Session) -> Suite:
     it tell the time it took, and leaves that out."""
     with open(pari_wanted(path) or "", encoding="utf-8", errors="surrogateescape", newline="\n") as file:
         wanted = file.read().rstrip("\n").split("\n")
-    if wanted[-1].startswith(PARI_TIME):
+    while wanted and wanted[-1].startswith(PARI_TIME):
         del wanted[-1]
     lines = [cut(line)[0] for line in LINE.findall(text)]
     case = Case(session.name, Marks(), tuple(lines), tuple(groups(lines, "gp")), 1, "\n".join(wanted))
@@ -234,7 +270,7 @@ def as_text(suite: Suite) -> str:
         code = list(case.lines)
         if len(case.fields) == 1 and case.fields[0].input.endswith(TELLS_STATUS):
             code = case.fields[0].input.split(LINE_END)
-        marks = " {setup}" if case.marks.is_setup else ""
+        marks = " {setup}" if case.marks.is_setup else " {teardown}" if case.marks.is_teardown else ""
         if case.fields != tuple(groups(code, language_in(suite.sessions[case.session]))):
             marks += " {whole}"
         marks += (" {spaces any}" if case.marks.any_spaces else "") + (f" {{skip {case.marks.skip}}}" if case.marks.skip else "")

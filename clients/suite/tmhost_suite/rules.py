@@ -50,12 +50,14 @@ class Rules:
         """The lines that are compared with each other."""
         lines, others = wanted.split("\n"), got.split("\n")
         if self.columns is not None:
-            others = [part for line in others for part in wrapped(line, self.columns)]
+            others = wrapped(others, self.columns, lines)
         return (bare(lines), bare(others)) if self.any_spaces else (lines, others)
 
 
-def wrapped(line: str, columns: int) -> List[str]:
-    return [line[at : at + columns] for at in range(0, len(line), columns)] or [line]
+def wrapped(lines: Sequence[str], columns: int, wanted: Sequence[str]) -> List[str]:
+    """The lines in parts of so many characters, but those that are wanted as they are: gp cuts no messages."""
+    whole = frozenset(line for line in wanted if len(line) > columns)
+    return [line[at : at + columns] if line not in whole else line for line in lines for at in range(0, 1 if line in whole else max(1, len(line)), columns)]
 
 
 def bare(lines: Sequence[str]) -> List[str]:
@@ -78,7 +80,10 @@ def line_matches(wanted: str, got: str, rules: Rules) -> bool:
     if wanted == got:
         return True
     if wanted.endswith(BY_PATTERN):
-        return re.fullmatch(wanted[: -len(BY_PATTERN)], got) is not None
+        try:
+            return re.fullmatch(wanted[: -len(BY_PATTERN)], got) is not None
+        except re.error:
+            return False  # it is no pattern, so it matches nothing, as cram has it
     if wanted.endswith(BY_GLOB):
         return fnmatch.fnmatchcase(got, wanted[: -len(BY_GLOB)])
     if not rules.relative and not rules.absolute:
