@@ -64,6 +64,32 @@ class Resuming(Case):
         self.assertEqual(self.log("a"), [])
         self.assertIn("goes on behind 3 of 3 cases", self.outcome.output)
 
+    def test_an_interrupt_ends_it_and_it_goes_on(self) -> None:
+        self.write(case("say 1", "1"), case("sleep 20"), case("sleep 20", info="b"))
+        run = subprocess.Popen(
+            words(self.path, "--jobs", "1"), stdout=subprocess.DEVNULL, stderr=subprocess.PIPE, text=True, env=environment(), cwd=self.folder, start_new_session=True
+        )
+        until = time.monotonic() + 30
+        while self.log("a")[-1:] != ["sleep 20"] and time.monotonic() < until:
+            time.sleep(0.05)
+        began = time.monotonic()
+        run.send_signal(signal.SIGINT)
+        errors = run.communicate()[1]
+        self.assertLess(time.monotonic() - began, 10)
+        self.assertEqual((run.returncode, errors), (130, "tmhost-suite: broken off; --resume goes on where it was\n"))
+        self.assertEqual(self.log("b"), [])
+        left = subprocess.run(["pgrep", "-f", self.place("a.log")], capture_output=True, text=True).stdout
+        self.assertEqual(left, "")
+        ran = self.run_suite(self.path, "--resume", "--only", "say 1")
+        self.assertIn("goes on behind 1 of 3 cases", ran.output)
+
+    def test_a_long_answer_before_the_time_is_over(self) -> None:
+        said = "\U0001f600" * 600
+        self.write(case(f"say {said}\nstuck", f"{said}\n? over 0.5 s", "a {timeout 0.5}"))
+        self.assertEqual(self.verdicts(self.path), ["ok"])
+        self.assertEqual(self.verdicts(self.path, "--resume"), ["ok"])
+        self.assertIn("goes on behind 1 of 1 cases", self.outcome.output)
+
     def test_other_code_is_refused(self) -> None:
         self.write(case("say 1", "1"))
         self.run_suite(self.path)

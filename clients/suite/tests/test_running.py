@@ -2,11 +2,12 @@
 import importlib
 import json
 import os
+import subprocess
 import unittest
 import xml.etree.ElementTree
 from typing import Any, List
 
-from .support import HERE, Case, case, without_seconds
+from .support import HERE, Case, case, environment, without_seconds, words
 
 SCHEMA = os.path.join(os.path.dirname(HERE), "report.schema.json")
 
@@ -86,6 +87,46 @@ class Verdicts(Case):
         self.assertEqual((found["verdict"], found["tries"], self.outcome.status), ("flaky", 3, 0))
 
 
+class Worksheets(Case):
+    def test_suites_of_the_same_name_in_one_folder(self) -> None:
+        paths = []
+        for number in range(3):
+            os.mkdir(self.place(str(number)))
+            paths.append(self.place(f"{number}/suite.md"))
+            self.write(case(f"say {number}", "2"), path=paths[-1])
+        self.assertEqual(self.verdicts(*paths, "--runs", self.place("new/runs")), ["differs", "differs", "ok"])
+        self.assertEqual(len([name for name in os.listdir(self.place("new/runs")) if name.endswith(".run")]), 3)
+        self.assertEqual(self.verdicts(*paths, "--runs", self.place("new/runs"), "--rerun", "failed"), ["differs", "differs"])
+
+    def test_a_suite_that_is_named_twice(self) -> None:
+        self.write(case("say 1", "1"))
+        ran = self.run_suite(self.path, os.path.join(self.folder, ".", "suite.md"))
+        self.assertEqual((ran.status, ran.output), (1, ""))
+        self.assertIn("is named twice", ran.errors)
+
+    def test_a_folder_that_is_read_only(self) -> None:
+        self.write(case("say 1", "1"))
+        os.chmod(self.folder, 0o555)
+        # Root may write everywhere, so the run is that of nobody.
+        nobody: Any = {"user": 65534} if os.geteuid() == 0 else {}
+        ran = subprocess.run(words(self.path), capture_output=True, text=True, env=environment(), cwd="/", **nobody)
+        self.assertEqual(ran.returncode, 1)
+        self.assertIn(f"nothing can be written into {self.folder}: --runs FOLDER", ran.stderr)
+
+    def test_more_sessions_than_a_worksheet_has(self) -> None:
+        names = [f"s{number}" for number in range(70)]
+        with open(self.path, "w", encoding="utf-8") as file:
+            file.write(self.front(*names) + "\n".join(case("say 1", "1", name) for name in names))
+        self.assertIn("the session s63, 64 of 70, is refused: TooManySessions", self.run_suite(self.path).errors)
+
+    def test_line_ends_and_a_mark_of_bytes(self) -> None:
+        self.write(case("say 1\nsay 2", "1\n2"))
+        text = self.read()
+        with open(self.path, "w", encoding="utf-8", newline="") as file:
+            file.write("\ufeff" + text.replace("\n", "\r\n"))
+        self.assertEqual(self.verdicts(self.path), ["ok"])
+
+
 class Chosen(Case):
     def setUp(self) -> None:
         super().setUp()
@@ -104,6 +145,12 @@ class Chosen(Case):
     def test_what_failed(self) -> None:
         self.run_suite(self.path)
         self.assertEqual(self.titles(self.path, "--rerun", "failed"), ["say s", "say 2"])
+
+    def test_none_of_them(self) -> None:
+        self.write(case("say 1", "1"))
+        ran = self.run_suite(self.path, "--only", "other")
+        self.assertEqual(ran.status, 1)
+        self.assertIn("no case is one of those that are to be run", ran.errors)
 
     def test_shards_are_all(self) -> None:
         others = []
@@ -138,7 +185,7 @@ class Reports(Case):
 
     def test_tap(self) -> None:
         lines = self.run_suite(self.path, "--tap", "-").output.split("\n")
-        lines = lines[lines.index("TAP version 14") :]
+        lines = lines[lines.index("TAP version 13") :]
         self.assertEqual(lines[1], "1..4")
         points = [line for line in lines if line.startswith(("ok", "not ok"))]
         self.assertEqual(points[0], f"ok 1 - {self.path}:7 say <1>")
@@ -161,6 +208,14 @@ class Reports(Case):
             schema = json.load(file)
         for one in self.objects(self.path):
             jsonschema.validate(one, schema)
+
+    def test_control_characters_are_written_out(self) -> None:
+        self.write(case("say \x1b[31m \x85 \u2028 1..2", "1"), case("x", "", "a {skip \u2029 why}"))
+        for form in ("tap", "github"):
+            output = self.run_suite(self.path, f"--{form}", "-").output
+            self.assertEqual([c for c in output if not c.isprintable() and c not in "\n\t"], [], form)
+        self.run_suite(self.path, "--junit", self.place("report.xml"))
+        self.assertEqual(len(xml.etree.ElementTree.parse(self.place("report.xml")).getroot()[0]), 2)
 
     def test_remarks(self) -> None:
         github = self.run_suite(self.path, "--github", "-").output

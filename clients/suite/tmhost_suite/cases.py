@@ -21,6 +21,7 @@ class Marks:
     timeout: Optional[float] = None
     tags: FrozenSet[str] = frozenset()
     flaky: int = 0
+    any_spaces: bool = False
 
 
 @dataclasses.dataclass(frozen=True)
@@ -53,6 +54,9 @@ class Suite:
     rules: Rules
     timeout: Optional[float]
     cases: Tuple[Case, ...]
+
+    def rules_of(self, case: Case) -> Rules:
+        return dataclasses.replace(self.rules, any_spaces=True) if case.marks.any_spaces else self.rules
 
     @property
     def digest(self) -> str:

@@ -1,6 +1,7 @@
 """The worksheet beside a suite in which a run keeps its answers, so that one that was killed goes on."""
 import contextlib
 import dataclasses
+import hashlib
 import json
 import os
 import subprocess
@@ -15,6 +16,7 @@ from .cases import Suite
 # The session of notes: what a run is of, and what came of each case. It is never started.
 NOTES, NEVER = "tmhost-suite", ("true",)
 SECOND = ".alt"  # of a worksheet's second file
+PART = 250  # characters, each of which JSON writes in up to 12
 PATIENCE, PAUSE = 10.0, 0.05  # seconds; the program of a run that was killed needs a moment to end
 
 
@@ -41,10 +43,16 @@ class Kept:
     results: Dict[int, Result]
 
     def note(self, at: int, result: Result) -> None:
-        """A case is done when this has returned. What is too long for a note stands in the case's own cells."""
+        """A case is done when this has returned. What came isn't kept twice where the case's own cells show it, and stands in notes of its own
+        where it may be too long for one."""
         short = dataclasses.asdict(result)
         if result.got == self.shown(at):
             del short["got"]
+        elif len(result.got) > PART:
+            parts = [result.got[begin : begin + PART] for begin in range(0, len(result.got), PART)]
+            for part in parts:
+                self.sheet.new(NOTES, json.dumps({"case": at, "part": part}, ensure_ascii=True))
+            short.update(got=None, parts=len(parts))
         self.sheet.new(NOTES, json.dumps({"case": at, "digest": self.suite.cases[at].digest, **short}, ensure_ascii=True))
 
     def shown(self, at: int) -> str:
@@ -63,7 +71,11 @@ def joined(parts: List[str]) -> str:
 
 
 def sheet_path(path: str, folder: Optional[str]) -> str:
-    return (os.path.join(folder, os.path.basename(path)) if folder else path) + ".run"
+    """Where the worksheet of a suite lies. In a folder for many, suites of the same name have one each."""
+    if folder is None:
+        return path + ".run"
+    mark = hashlib.sha256(os.fsencode(os.path.realpath(path))).hexdigest()[:8]
+    return os.path.join(folder, f"{os.path.basename(path)}.{mark}.run")
 
 
 def remove(path: str) -> None:
@@ -85,6 +97,9 @@ def opened(path: str) -> Worksheet:
 
 def begin(path: str, suite: Suite) -> Kept:
     """A new run, in the place of an earlier one."""
+    folder = os.path.dirname(path) or "."
+    if not os.access(folder, os.W_OK | os.X_OK):
+        raise Trouble(f"nothing can be written into {folder}: --runs FOLDER puts the worksheet of a run elsewhere")
     if os.path.lexists(path):
         opened(path).close()  # so that the worksheet of a run that goes on isn't taken away
     remove(path)
@@ -104,7 +119,10 @@ def fill(sheet: Worksheet, suite: Suite) -> Kept:
     sheet.session(NOTES, NEVER)
     kept = Kept(sheet, suite, [], {}, {})
     for name, words in suite.sessions.items():
-        sheet.session(name, words)
+        try:
+            sheet.session(name, words)
+        except Refused as refused:
+            raise Trouble(f"the session {name}, {len(sheet.sessions)} of {len(suite.sessions)}, is {refused}") from None
     for at, case in enumerate(suite.cases):
         kept.cells.append([])
         for field in case.fields:
@@ -146,9 +164,17 @@ def found_in(sheet: Worksheet, suite: Suite) -> Optional[Kept]:
         kept.cells.append([cells[case.session].pop(0) for _ in fitting])
         if len(fitting) < len(case.fields):
             kept.misfits[at] = next(field.misfit for field in case.fields if field.misfit) or ""
+    parts: Dict[int, List[str]] = {}
     for note in notes[1:]:
         at = int(str(note.pop("case")))
+        if "part" in note:
+            parts.setdefault(at, []).append(str(note["part"]))
+            continue
         note.pop("digest")
+        count = int(str(note.pop("parts", 0)))
+        if count:
+            # Those of a run that was broken off between two of them stand in front.
+            note["got"] = "".join(parts[at][-count:])
         note.setdefault("got", kept.shown(at))
         kept.results[at] = Result(**note)  # type: ignore[arg-type]
     for left in cells.values():

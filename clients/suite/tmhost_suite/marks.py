@@ -47,6 +47,12 @@ def seconds(word: str) -> float:
     return value
 
 
+def any_spaces(word: str) -> bool:
+    if word != "any":
+        raise ValueError
+    return True
+
+
 def tries(word: str) -> int:
     value = int(word or "1")
     if not 1 <= value <= MOST_TRIES:
@@ -63,6 +69,7 @@ READERS: Dict[str, Tuple[str, Callable[[str], object]]] = {
     "timeout": ("timeout", seconds),
     "tags": ("tags", lambda rest: frozenset(re.split(r"[\s,]+", rest)) - {""}),
     "flaky": ("flaky", tries),
+    "spaces": ("any_spaces", any_spaces),
 }
 # Words of tmhost-weave that change nothing of a case, so that a text may be woven and tested.
 IDLE = ("hide", "fold")

@@ -10,7 +10,7 @@ import time
 from concurrent.futures import ThreadPoolExecutor
 from typing import Callable, Dict, FrozenSet, List, Optional, Tuple
 
-from tmhost import TmhostError
+from tmhost import TmhostError, Worksheet
 from tmhost_weave.files import put
 from tmhost_fences.troubles import Trouble
 
@@ -21,7 +21,7 @@ from .reports import FORMATS, Told, told_of
 from .rules import as_wanted
 from .running import PASSED, Plan, run
 from .telling import Teller, standard
-from .readers import as_text, reader_of
+from .readers import as_text, read_other
 from .text import Text, names_sessions
 
 ABOUT = "Runs test suites that are texts: evaluates the code in their fences, and compares what comes with the answers behind them."
@@ -66,6 +66,7 @@ def arguments(words: List[str]) -> argparse.Namespace:
     parser.add_argument("--slowest", type=positive, default=0, metavar="N", help="list the N cases that took longest")
     parser.add_argument("--verbose", action="store_true", help="list all cases, and what the rules made of what came")
     parser.add_argument("--runs", metavar="FOLDER", help="where the worksheets of runs lie (beside the suites)")
+    parser.add_argument("--words", metavar="WORDS", help="the interpreter of suites of another form, as 'adapters/prompted.py R'")
     parser.add_argument("--convert", action="store_true", help="run nothing, and write the text form of a suite of another form")
     for format in FORMATS:
         parser.add_argument(f"--{format}", metavar="FILE", help=f"write a report in the form of {format} (-: standard output)")
@@ -96,17 +97,17 @@ def chooser(given: argparse.Namespace, path: str) -> Callable[[int, Case], bool]
 Read = Tuple[Suite, Optional[Text]]
 
 
-def read(path: str) -> Read:
-    """A suite, with its text where it is of the text form."""
+def read(path: str, words: Optional[str]) -> Read:
+    """A suite, with its text where it is of the text form. The words are those of the session of another form."""
     with open(path, "rb") as file:
         data = file.read()
     try:
         text = data.decode("utf-8")
     except UnicodeDecodeError:
         raise Trouble("the text is no UTF-8") from None
-    reader = reader_of(path, text, names_sessions(text))
-    if reader is not None:
-        return reader(path, text), None
+    other = read_other(path, text, names_sessions(text), words)
+    if other is not None:
+        return other, None
     found = Text(path, text)
     return found.suite, found
 
@@ -116,11 +117,19 @@ class Runner:
 
     def __init__(self, given: argparse.Namespace, teller: Teller) -> None:
         self.given, self.teller = given, teller
-        self.slots, self.ended = threading.Semaphore(given.jobs), threading.Event()
+        self.slots, self.ended, self.is_broken_off = threading.Semaphore(given.jobs), threading.Event(), threading.Event()
+        self.sheets: List[Worksheet] = []  # those of suites that have begun
+        self.chosen = 0  # how many cases were to be run
         self.seed = str(random.randrange(10**6)) if given.random == "new" else given.random
 
     def run(self) -> bool:
         number, parts = self.given.shard
+        real = [os.path.realpath(path) for path in self.given.suites]
+        for at, path in enumerate(real):
+            if path in real[:at]:
+                raise Trouble(f"{self.given.suites[at]} is named twice")
+        if self.given.runs:
+            os.makedirs(self.given.runs, exist_ok=True)
         paths = self.given.suites[number - 1 :: parts]
         suites = [self._read(path) for path in paths]
         self.teller.begin(sum(len(suite.cases) for suite, _ in suites))
@@ -128,15 +137,28 @@ class Runner:
             self.teller.say(f"in the order of --random {self.seed}")
         began = time.monotonic()
         with ThreadPoolExecutor(max(1, min(len(suites), self.given.jobs))) as pool:
-            told = [one for found in pool.map(lambda pair: self._run_one(*pair), suites) for one in found]
+            try:
+                told = [one for found in pool.map(lambda pair: self._run_one(*pair), suites) for one in found]
+            except BaseException:
+                self._break_off()
+                raise
         self.teller.end_progress()
         self._tell(told, time.monotonic() - began)
         self._write_reports(told)
+        if not self.chosen and parts == 1 and (self.given.only or self.given.tags):
+            raise Trouble("no case is one of those that are to be run")
         return all(one.verdict in PASSED or one.verdict == "out" for one in told)
+
+    def _break_off(self) -> None:
+        """Ends what runs, at once: what is done stands in the worksheets, and another run goes on from there."""
+        self.is_broken_off.set()
+        self.ended.set()
+        for sheet in self.sheets:
+            sheet.close(0)
 
     def _read(self, path: str) -> Read:
         try:
-            return read(path)
+            return read(path, self.given.words)
         except Trouble as trouble:
             raise Trouble(f"{path}: {trouble}") from None
 
@@ -148,13 +170,17 @@ class Runner:
 
     def _run_suite(self, suite: Suite, text: Optional[Text]) -> List[Told]:
         path = worksheets.sheet_path(suite.path, self.given.runs)
+        if self.is_broken_off.is_set():
+            return []
         chosen = chooser(self.given, suite.path)
+        self.chosen += sum(chosen(at, case) for at, case in enumerate(suite.cases))
         found = worksheets.resume(path, suite) if self.given.resume else None
         if found is not None:
             self.teller.say(f"{suite.path}: goes on behind {len(found.results)} of {len(suite.cases)} cases")
         kept = found or worksheets.begin(path, suite)
         with kept.sheet:
-            plan = Plan(chosen, self.given.seconds, self.slots, self.ended, self.given.fail_fast, self.seed)
+            self.sheets.append(kept.sheet)
+            plan = Plan(chosen, self.given.seconds, self.slots, self.ended, self.is_broken_off, self.given.fail_fast, self.seed)
             applied = run(kept, plan, lambda at: self.teller.one_more())
         told = told_of(suite, kept.results)
         if self.given.accept:
@@ -218,7 +244,7 @@ def main(words: List[str]) -> int:
     given = arguments(words)
     try:
         if given.convert:
-            sys.stdout.write("".join(as_text(read(path)[0]) for path in given.suites))
+            sys.stdout.write("".join(as_text(read(path, given.words)[0]) for path in given.suites))
             return 0
         return 0 if Runner(given, standard()).run() else 1
     except (Trouble, TmhostError) as trouble:
@@ -226,5 +252,6 @@ def main(words: List[str]) -> int:
     except OSError as error:
         print(f"tmhost-suite: {error.strerror or error}" + (f": {error.filename}" if error.filename else ""), file=sys.stderr)
     except KeyboardInterrupt:
+        print("tmhost-suite: broken off; --resume goes on where it was", file=sys.stderr)
         return INTERRUPTED
     return 1

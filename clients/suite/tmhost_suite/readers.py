@@ -1,12 +1,15 @@
-"""Suites in the forms of others: doctest's `>>>`, cram's `.t`, a Jupyter notebook with its outputs. Each is read as cases of one session."""
+"""Suites in the forms of others: doctest's `>>>`, cram's `.t`, a Jupyter notebook with its outputs, PARI's `in` and `32`. Each is read as
+cases of one session."""
 import ast
 import doctest
 import json
 import os
 import re
-from typing import Any, Callable, Dict, Iterator, List, Optional, Tuple
+import shlex
+from typing import Any, Callable, Dict, Iterator, List, NamedTuple, Optional, Tuple
 
-from tmhost_fences.fields import LINE_END, Group, groups, whole
+from tmhost_fences.blocks import LINE, cut
+from tmhost_fences.fields import LINE_END, Group, groups, language_in, whole
 from tmhost_fences.troubles import Trouble
 
 from .cases import Case, Marks, Suite
@@ -14,7 +17,9 @@ from .rules import ANY_LINES, BY_GLOB, BY_PATTERN, Rules
 
 ADAPTERS = os.path.join(os.path.dirname(os.path.realpath(__file__)), "..", "..", "..", "adapters")
 CRAM_CODE, CRAM_MORE = re.compile(r"  \$ (.*)"), re.compile(r"  > (.*)")
-CRAM_ENDS = (BY_PATTERN, BY_GLOB)
+NO_END, ESCAPED = " (no-eol)", " (esc)"
+CONTROL = re.compile(r"[\x00-\x08\x0a-\x1f\x7f]")
+PARI_TIME = ("Total time spent:", '? print("Total time spent: "')
 TELLS_STATUS = 'tmhost_status=$?; [ $tmhost_status = 0 ] || echo "[$tmhost_status]"'
 
 
@@ -22,9 +27,27 @@ def adapter(*words: str) -> Tuple[str, ...]:
     return (os.path.normpath(os.path.join(ADAPTERS, words[0])), *words[1:])
 
 
-def python_case(source: str, wanted: Optional[str], line: int, marks: Marks) -> Case:
+class Session(NamedTuple):
+    name: str
+    words: Tuple[str, ...]
+
+
+PYTHON = Session("py", adapter("python"))
+SHELL = Session("sh", adapter("prompted.py", "sh"))
+GP = Session("gp", adapter("gp", "--text", "--no-numbers"))
+
+
+def session_of(words: str) -> Session:
+    """A session with words from outside. Its name is that of the adapter, or of what this is told to speak to."""
+    found = tuple(words.split())
+    if not found:
+        raise Trouble("--words names no interpreter")
+    return Session(re.sub(r"\W", "_", os.path.basename(next((word for word in reversed(found) if word[0] != "-"), found[0])), flags=re.ASCII)[:20], found)
+
+
+def whole_case(session: str, source: str, wanted: Optional[str], line: int, marks: Marks) -> Case:
     lines = source.rstrip("\n").split("\n")
-    return Case("py", marks, tuple(lines), tuple(whole(lines)), line, wanted)
+    return Case(session, marks, tuple(lines), tuple(whole(lines)), line, wanted)
 
 
 # ---- doctest
@@ -49,41 +72,75 @@ def docstrings(text: str) -> Iterator[Tuple[str, int]]:
                 yield found, node.body[0].lineno - 1
 
 
-def examples(text: str, first: int) -> Iterator[Case]:
+def examples(session: str, text: str, first: int) -> Iterator[Case]:
     for example in doctest.DocTestParser().get_examples(text):
         skip = "by # doctest: +SKIP" if example.options.get(doctest.SKIP) else None
-        yield python_case(example.source, wanted_of(example), first + example.lineno + 1, Marks(skip=skip))
+        marks = Marks(skip=skip, any_spaces=example.options.get(doctest.NORMALIZE_WHITESPACE, False))
+        yield whole_case(session, example.source, wanted_of(example), first + example.lineno + 1, marks)
 
 
-def read_doctest(path: str, text: str) -> Suite:
+def read_doctest(path: str, text: str, session: Session) -> Suite:
     cases: List[Case] = []
     if path.endswith(".py"):
         run = f"import runpy; globals().update(runpy.run_path({os.path.abspath(path)!r}, run_name='__doctest__'))"
-        cases.append(python_case(run, None, 1, Marks(is_setup=True)))
+        cases.append(whole_case(session.name, run, None, 1, Marks(is_setup=True)))
         for found, first in sorted(docstrings(text), key=lambda pair: pair[1]):
-            cases += examples(found, first)
+            cases += examples(session.name, found, first)
     else:
-        cases += examples(text, 0)
-    return Suite(path, {"py": adapter("python")}, Rules(), None, tuple(cases))
+        cases += examples(session.name, text, 0)
+    return Suite(path, dict([session]), Rules(), None, tuple(cases))
 
 
 # ---- cram
 
 
+def without_escapes(text: str) -> str:
+    """What the escapes of cram's `(esc)` stand for, as tmhost prints it. Where they are none, the text."""
+    try:
+        found = text.encode("utf-8").decode("unicode_escape").encode("latin-1").decode("utf-8", "replace")
+    except ValueError:
+        return text
+    return CONTROL.sub(lambda character: f"\\x{ord(character[0]):02x}", found)
+
+
 def cram_line(line: str) -> str:
-    """A line that cram wants, without its two blanks. What `(esc)` stands for is written out."""
+    """A line that cram wants, without its two blanks, by the patterns of a suite. Cram takes one that ends in `(esc)` as it is, too, and
+    its globs have no brackets, but backslashes."""
     line = line[2:]
-    return line[:-6].encode("latin-1", "backslashreplace").decode("unicode_escape") if line.endswith(" (esc)") else line
+    if line.endswith(NO_END):
+        line = line[: -len(NO_END)]
+    if line.endswith(ESCAPED):
+        return "|".join(re.escape(text) for text in (line, without_escapes(line[: -len(ESCAPED)]))) + BY_PATTERN
+    if line.endswith(BY_GLOB) and re.search(r"[\\[]", line):
+        parts = re.findall(r"\\[*?\\]|.", line[: -len(BY_GLOB)])
+        return "".join({"*": ".*", "?": "."}.get(part) or re.escape(part[-1]) for part in parts) + BY_PATTERN
+    return line
 
 
-def cram_case(code: List[str], wanted: List[str], line: int) -> Case:
+def cram_case(session: str, code: List[str], wanted: List[str], line: int) -> Case:
     """A command, and its status where that isn't 0, as cram tells it."""
     field = Group(0, LINE_END.join([*code, TELLS_STATUS]))
-    return Case("sh", Marks(), tuple(code), (field,), line, "\n".join(wanted).rstrip("\n"))
+    return Case(session, Marks(), tuple(code), (field,), line, "\n".join(wanted).rstrip("\n"))
 
 
-def read_cram(path: str, text: str) -> Suite:
-    cases: List[Case] = []
+def cram_surroundings(session: str, path: str, last: int) -> Tuple[Case, Case]:
+    """What cram does for each file: a folder of its own, and the variables that its manual names. They are taken away at the end."""
+    folder, name = os.path.split(os.path.abspath(path))
+    begin = [
+        f"CRAMTMP=$(mktemp -d -t cramtests-XXXXXX) && mkdir \"$CRAMTMP\"/{shlex.quote(name)} && cd \"$CRAMTMP\"/{shlex.quote(name)}",
+        "export CRAMTMP TMPDIR=\"$CRAMTMP\" LANG=C LC_ALL=C LANGUAGE=C TZ=GMT CDPATH= COLUMNS=80 GREP_OPTIONS=",
+        f"export TESTDIR={shlex.quote(folder)} TESTFILE={shlex.quote(name)}",
+    ]
+    end = "cd / && rm -rf \"$CRAMTMP\""
+    return (
+        whole_case(session, "\n".join(begin), None, 1, Marks(is_setup=True)),
+        whole_case(session, end, None, last, Marks(is_teardown=True)),
+    )
+
+
+def read_cram(path: str, text: str, session: Session) -> Suite:
+    first, last = cram_surroundings(session.name, path, text.count("\n") + 1)
+    cases: List[Case] = [first]
     code: List[str] = []
     wanted: List[str] = []
     begin = 0
@@ -95,9 +152,10 @@ def read_cram(path: str, text: str) -> Suite:
             wanted.append(cram_line(line))
         else:
             if code:
-                cases.append(cram_case(code, wanted, begin))
+                cases.append(cram_case(session.name, code, wanted, begin))
             code, wanted, begin = ([command[1]], [], number) if command else ([], [], number)
-    return Suite(path, {"sh": adapter("prompted.py", "sh")}, Rules(), None, tuple(cases))
+    cases.append(last)
+    return Suite(path, dict([session]), Rules(), None, tuple(cases))
 
 
 # ---- Jupyter
@@ -107,51 +165,93 @@ def text_in(value: Any) -> str:
     return value if isinstance(value, str) else "".join(value or [])
 
 
-def output_of(output: Dict[str, Any]) -> str:
+def output_of(output: Dict[str, Any], language: str) -> str:
+    """An output as plain text. Of an error its last line is wanted; kernels of other languages than Python's name it in their own words, in which
+    it is what stands behind the last colon."""
     kind = output.get("output_type")
     if kind == "stream":
         return text_in(output.get("text")).rstrip("\n")
     if kind == "error":
-        return f"{ANY_LINES}\n{output.get('ename')}: {output.get('evalue')}"
+        if language == "python":
+            return f"{ANY_LINES}\n{output.get('ename')}: {output.get('evalue')}"
+        said = str(output.get("evalue")).strip().split("\n")[-1].rpartition(": ")[2]
+        return f"{ANY_LINES}\n.*{re.escape(said)}{BY_PATTERN}\n{ANY_LINES}"
     return text_in(output.get("data", {}).get("text/plain")).rstrip("\n")
 
 
-def read_notebook(path: str, text: str) -> Suite:
+def read_notebook(path: str, text: str, session: Session) -> Suite:
     """Each cell of code is a case, and its outputs as plain text are what is wanted. The number of its cell stands for a line."""
     try:
         notebook = json.loads(text)
-        language = str(notebook.get("metadata", {}).get("kernelspec", {}).get("language", "python"))
+        metadata = notebook.get("metadata", {})
+        language = str(metadata.get("kernelspec", {}).get("language") or metadata.get("language_info", {}).get("name") or "python")
         cells = list(notebook["cells"])
     except (ValueError, KeyError, AttributeError, TypeError):
         raise Trouble("it is no notebook of Jupyter") from None
-    if language != "python":
-        raise Trouble(f"the notebook is in {language}: write its cells as a text with the session's words")
+    if language != "python" and session == PYTHON:
+        raise Trouble(f"the notebook is in {language}: --words names the interpreter of its cells")
     cases: List[Case] = []
     for number, cell in enumerate(cells, 1):
         lines = text_in(cell.get("source")).split("\n")
-        fields = tuple(groups(lines, "python"))
+        fields = tuple(groups(lines, language_in(session.words)))
         if cell.get("cell_type") == "code" and fields:
-            wanted = "\n".join(part for part in map(output_of, cell.get("outputs", [])) if part)
-            cases.append(Case("py", Marks(), tuple(lines), fields, number, wanted))
-    return Suite(path, {"py": adapter("python")}, Rules(), None, tuple(cases))
+            wanted = "\n".join(part for part in (output_of(it, language) for it in cell.get("outputs", [])) if part)
+            cases.append(Case(session.name, Marks(), tuple(lines), fields, number, wanted))
+    return Suite(path, dict([session]), Rules(), None, tuple(cases))
 
 
-READERS: Dict[str, Callable[[str, str], Suite]] = {
-    ".t": read_cram,
-    ".py": read_doctest,
-    ".rst": read_doctest,
-    ".txt": read_doctest,
-    ".ipynb": read_notebook,
+# ---- PARI
+
+
+def pari_wanted(path: str) -> Optional[str]:
+    """The file of what PARI's own tests want of a file `in/NAME`: `64/NAME`, or else `32/NAME`, in the folder of `in`."""
+    folder, name = os.path.split(os.path.abspath(path))
+    if os.path.basename(folder) != "in":
+        return None
+    beside = (os.path.join(os.path.dirname(folder), bits, name) for bits in ("64", "32"))
+    return next((one for one in beside if os.path.isfile(one)), None)
+
+
+def read_pari(path: str, text: str, session: Session) -> Suite:
+    """One case, since what is wanted says not which lines are whose. `gp --test` wrote that, in lines of 76 characters; PARI's `dotest` lets
+    it tell the time it took, and leaves that out."""
+    with open(pari_wanted(path) or "", encoding="utf-8", errors="surrogateescape", newline="\n") as file:
+        wanted = file.read().rstrip("\n").split("\n")
+    while wanted and wanted[-1].startswith(PARI_TIME):
+        del wanted[-1]
+    lines = [cut(line)[0] for line in LINE.findall(text)]
+    case = Case(session.name, Marks(), tuple(lines), tuple(groups(lines, "gp")), 1, "\n".join(wanted))
+    return Suite(path, dict([session]), Rules(any_spaces=True, columns=76), None, (case,))
+
+
+Reader = Callable[[str, str, Session], Suite]
+READERS: Dict[str, Tuple[Reader, Session]] = {
+    ".t": (read_cram, SHELL),
+    ".py": (read_doctest, PYTHON),
+    ".rst": (read_doctest, PYTHON),
+    ".txt": (read_doctest, PYTHON),
+    ".ipynb": (read_notebook, PYTHON),
 }
 PROMPT = re.compile(r"^[ \t>]*>>> ", re.MULTILINE)
 
 
-def reader_of(path: str, text: str, names_sessions: bool) -> Optional[Callable[[str, str], Suite]]:
-    """Who reads a file. A Markdown text that names no sessions and has `>>>` is doctest's."""
+def reader_of(path: str, text: str, names_sessions: bool) -> Optional[Tuple[Reader, Session]]:
+    """Who reads a file, and with which words where none are named. A Markdown text that names no sessions and has `>>>` is doctest's."""
     ending = os.path.splitext(path)[1]
+    if pari_wanted(path) is not None:
+        return read_pari, GP
     if ending in READERS:
         return READERS[ending]
-    return read_doctest if not names_sessions and PROMPT.search(text) else None
+    return (read_doctest, PYTHON) if not names_sessions and PROMPT.search(text) else None
+
+
+def read_other(path: str, text: str, names_sessions: bool, words: Optional[str]) -> Optional[Suite]:
+    """A suite of another form than the text form. None where it is of that."""
+    found = reader_of(path, text, names_sessions)
+    if found is None:
+        return None
+    reader, session = found
+    return reader(path, text, session_of(words) if words is not None else session)
 
 
 # ---- the text form
@@ -164,10 +264,16 @@ def fenced(kind: str, lines: List[str]) -> List[str]:
 
 def as_text(suite: Suite) -> str:
     """The text form of a suite of another form."""
-    lines = ["---", "sessions:", *(f"  {name}: {json.dumps(list(words))}" for name, words in suite.sessions.items()), "---", ""]
+    rules = [*(["spaces: any"] if suite.rules.any_spaces else []), *([f"columns: {suite.rules.columns}"] if suite.rules.columns else [])]
+    lines = ["---", "sessions:", *(f"  {name}: {json.dumps(list(words))}" for name, words in suite.sessions.items()), *rules, "---", ""]
     for case in suite.cases:
-        code = [line for field in case.fields for line in field.input.split(LINE_END)] if case.session == "sh" else list(case.lines)
-        marks = "".join([" {setup}" if case.marks.is_setup else "", " {whole}", f" {{skip {case.marks.skip}}}" if case.marks.skip else ""])
+        code = list(case.lines)
+        if len(case.fields) == 1 and case.fields[0].input.endswith(TELLS_STATUS):
+            code = case.fields[0].input.split(LINE_END)
+        marks = " {setup}" if case.marks.is_setup else " {teardown}" if case.marks.is_teardown else ""
+        if case.fields != tuple(groups(code, language_in(suite.sessions[case.session]))):
+            marks += " {whole}"
+        marks += (" {spaces any}" if case.marks.any_spaces else "") + (f" {{skip {case.marks.skip}}}" if case.marks.skip else "")
         lines += fenced(case.session + marks, code)
         if case.wanted is not None:
             lines += ["", *fenced("answer", case.wanted.split("\n") if case.wanted else [])]

@@ -15,6 +15,11 @@ CONTEXT = 2  # lines
 NO_XML = re.compile("[^\t\n\r -\ud7ff\ue000-\ufffd\U00010000-\U0010ffff]")
 
 
+def readable(text: str) -> str:
+    """Without what moves a terminal's cursor, changes its state, or ends a line for some reader of a report."""
+    return "".join(c if c in "\n\t" or c.isprintable() else c.encode("unicode_escape").decode() for c in text)
+
+
 @dataclasses.dataclass(frozen=True)
 class Told:
     """A case with what came of it. One that was skipped or not reached has no result."""
@@ -56,8 +61,8 @@ class Told:
         """From what was wanted to what came."""
         if not self.is_wrong or self.verdict == "xpass":
             return []
-        wanted = self.case.wanted.split("\n") if self.case.wanted is not None else []
-        return list(difflib.unified_diff(wanted, self.got.split("\n"), "wanted", "came", lineterm="", n=CONTEXT))
+        wanted, came = self.suite.rules_of(self.case).laid_out(self.case.wanted or "", self.got)
+        return list(difflib.unified_diff(wanted if self.case.wanted is not None else [], came, "wanted", "came", lineterm="", n=CONTEXT))
 
 
 def told_of(suite: Suite, results: "dict[int, Result]") -> List[Told]:
@@ -70,13 +75,14 @@ def told_of(suite: Suite, results: "dict[int, Result]") -> List[Told]:
 
 
 def tap(all_told: List[Told]) -> Iterator[str]:
-    """TAP version 14 (testanything.org)."""
+    """TAP (testanything.org). It says that it is version 13, which Perl's `prove` reads; nothing of version 14 is in it."""
     shown = [told for told in all_told if told.verdict not in ("out", "setup")]
-    yield "TAP version 14"
+    yield "TAP version 13"
     yield f"1..{len(shown)}"
     for number, told in enumerate(shown, 1):
-        name = re.sub(r"[\\#]", r"\\\g<0>", told.name)
-        directive = {"skip": f" # SKIP {told.remark}", "xfail": f" # TODO {told.remark}", "xpass": f" # TODO {told.remark}"}.get(told.verdict, "")
+        name = re.sub(r"[\\#]", r"\\\g<0>", readable(told.name.replace("\n", " ")))
+        remark = readable(told.remark)
+        directive = {"skip": f" # SKIP {remark}", "xfail": f" # TODO {remark}", "xpass": f" # TODO {remark}"}.get(told.verdict, "")
         yield f"{'not ok' if told.verdict in ('differs', 'new', 'xfail') else 'ok'} {number} - {name}{directive.rstrip()}"
         if told.result:
             yield "  ---"
@@ -84,7 +90,7 @@ def tap(all_told: List[Told]) -> Iterator[str]:
             yield f"  duration_ms: {told.seconds * 1000:.3f}"
             if told.diff:
                 yield "  diff: |2"
-                yield from ("    " + line for line in told.diff)
+                yield from ("    " + readable(line) for line in told.diff)
             yield "  ..."
 
 
@@ -141,7 +147,7 @@ def json_lines(all_told: List[Told]) -> Iterator[str]:
 
 
 def github_text(text: str) -> str:
-    return text.replace("%", "%25").replace("\r", "%0D").replace("\n", "%0A")
+    return readable(text).replace("%", "%25").replace("\r", "%0D").replace("\n", "%0A")
 
 
 def github(all_told: List[Told]) -> Iterator[str]:

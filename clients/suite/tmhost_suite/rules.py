@@ -22,11 +22,15 @@ class Normal:
 
 @dataclasses.dataclass(frozen=True)
 class Rules:
-    """`relative` and `absolute` are how far numbers may be apart that stand in equal text: the greater of the two allowances."""
+    """`relative` and `absolute` are how far numbers may be apart that stand in equal text: the greater of the two allowances. With
+    `any_spaces` blanks are compared as one, and those at the ends of lines, and lines without anything else, not at all. What comes is cut
+    into lines of `columns` characters, where what is wanted was written by an interpreter that does so."""
 
     normal: Tuple[Normal, ...] = ()
     relative: Decimal = Decimal(0)
     absolute: Decimal = Decimal(0)
+    any_spaces: bool = False
+    columns: Optional[int] = None
 
     def normalised(self, text: str, applied: Set[int]) -> str:
         """The text after each rule in turn; the places of those that found something are put into `applied`."""
@@ -38,7 +42,27 @@ class Rules:
 
     def are_alike(self, wanted: str, got: str, applied: Set[int]) -> bool:
         wanted, got = self.normalised(wanted, applied), self.normalised(got, applied)
-        return wanted == got or match(wanted.split("\n"), got.split("\n"), self)
+        if wanted == got:
+            return True
+        return match(*self.laid_out(wanted, got), self)
+
+    def laid_out(self, wanted: str, got: str) -> Tuple[List[str], List[str]]:
+        """The lines that are compared with each other."""
+        lines, others = wanted.split("\n"), got.split("\n")
+        if self.columns is not None:
+            others = wrapped(others, self.columns, lines)
+        return (bare(lines), bare(others)) if self.any_spaces else (lines, others)
+
+
+def wrapped(lines: Sequence[str], columns: int, wanted: Sequence[str]) -> List[str]:
+    """The lines in parts of so many characters, but those that are wanted as they are: gp cuts no messages."""
+    whole = frozenset(line for line in wanted if len(line) > columns)
+    return [line[at : at + columns] if line not in whole else line for line in lines for at in range(0, 1 if line in whole else max(1, len(line)), columns)]
+
+
+def bare(lines: Sequence[str]) -> List[str]:
+    """The lines with one blank in place of several, and without those that have nothing else."""
+    return [" ".join(line.split()) for line in lines if line.strip()]
 
 
 def value(text: str) -> Decimal:
@@ -56,7 +80,10 @@ def line_matches(wanted: str, got: str, rules: Rules) -> bool:
     if wanted == got:
         return True
     if wanted.endswith(BY_PATTERN):
-        return re.fullmatch(wanted[: -len(BY_PATTERN)], got) is not None
+        try:
+            return re.fullmatch(wanted[: -len(BY_PATTERN)], got) is not None
+        except re.error:
+            return False  # it is no pattern, so it matches nothing, as cram has it
     if wanted.endswith(BY_GLOB):
         return fnmatch.fnmatchcase(got, wanted[: -len(BY_GLOB)])
     if not rules.relative and not rules.absolute:

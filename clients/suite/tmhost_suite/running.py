@@ -19,12 +19,14 @@ WRONG = ("differs", "new", "xpass")
 
 @dataclasses.dataclass
 class Plan:
-    """What is run and how: `chosen` says which cases, `slots` how many at a time over all files, `ended` that no more are begun."""
+    """What is run and how: `chosen` says which cases, `slots` how many at a time over all files, `ended` that no more are begun,
+    and `is_broken_off` that what comes now isn't what a case came to."""
 
     chosen: Callable[[int, Case], bool]
     seconds: float
     slots: threading.Semaphore
     ended: threading.Event
+    is_broken_off: threading.Event
     fails_fast: bool = False
     seed: Optional[int] = None
 
@@ -87,10 +89,12 @@ class Chain:
 
     def _judge(self, at: int, case: Case) -> None:
         tries, good, result = 0, False, Result("", 0.0)
-        while not good and tries <= case.marks.flaky:
+        while not good and tries <= case.marks.flaky and not self.plan.is_broken_off.is_set():
             tries += 1
             result = self._evaluate(at, case)
             good = self._is_wanted(case, result.got)
+        if self.plan.is_broken_off.is_set():
+            return
         result.tries, result.verdict = tries, verdict_of(case, good, tries)
         self.kept.note(at, result)
         self.kept.results[at] = result
@@ -99,7 +103,7 @@ class Chain:
 
     def _is_wanted(self, case: Case, got: str) -> bool:
         """A case without an answer behind it is wanted to say nothing."""
-        return not got if case.wanted is None else self.suite.rules.are_alike(case.wanted, got, self.applied)
+        return not got if case.wanted is None else self.suite.rules_of(case).are_alike(case.wanted, got, self.applied)
 
     # ---- one case
 

@@ -4,17 +4,12 @@ import threading
 from typing import Dict, List, TextIO
 
 from .cases import Suite
-from .reports import Told
+from .reports import Told, readable
 
 COLOURS = {"-": "31", "+": "32", "@": "36"}
 BOLD = "1"
 ORDER = ("ok", "flaky", "xfail", "skip", "differs", "new", "xpass")
 CLEAR = "\r\x1b[K"
-
-
-def readable(text: str) -> str:
-    """Without what moves a terminal's cursor or changes its state."""
-    return "".join(c if c in "\n\t" or c.isprintable() else c.encode("unicode_escape").decode() for c in text)
 
 
 class Teller:

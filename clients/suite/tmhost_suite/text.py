@@ -15,7 +15,7 @@ from .rules import Normal, Rules
 
 ANSWER = "answer"
 RUN = re.compile("`+")
-OF_RULES = ("normal", "tolerance", "timeout")
+COLUMNS = re.compile(r"[1-9][0-9]{0,5}", re.ASCII)
 
 
 @dataclasses.dataclass(frozen=True)
@@ -59,7 +59,24 @@ def rules_in(front: Dict[str, Any]) -> Rules:
         normals_in(front.get("normal") or {}),
         decimal_in(tolerance.get("relative", "0")),
         decimal_in(tolerance.get("absolute", "0")),
+        spaces_in(front),
+        columns_in(front),
     )
+
+
+def spaces_in(front: Dict[str, Any]) -> bool:
+    if front.get("spaces", "any") != "any":
+        raise Trouble("`spaces` can only be `any`")
+    return "spaces" in front
+
+
+def columns_in(front: Dict[str, Any]) -> Optional[int]:
+    word = front.get("columns")
+    if word is None:
+        return None
+    if not isinstance(word, str) or not COLUMNS.fullmatch(word):
+        raise Trouble("`columns` is no number of characters")
+    return int(word)
 
 
 def timeout_in(front: Dict[str, Any]) -> Optional[float]:

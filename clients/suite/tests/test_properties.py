@@ -1,0 +1,61 @@
+"""Suites that are written from random sessions pass, and one byte that is changed in one wanted answer is the failure of its case alone."""
+import os
+import random
+from typing import List, Tuple
+
+from .support import Case, case
+from .values import expected
+
+SUITES, CHANGES = 4, 3
+LETTERS = "abxyz019 .#>`-*[]()\u00e9"
+
+
+class Random(Case):
+    def setUp(self) -> None:
+        super().setUp()
+        self.random = random.Random(self.id())
+
+    def code(self, at: int) -> str:
+        kind = self.random.random()
+        return "die" if kind < 0.1 else "quiet" if kind < 0.2 else f"x{at}" if kind < 0.6 else "say " + self.said()
+
+    def said(self) -> str:
+        lines = ["".join(self.random.choices(LETTERS, k=self.random.randint(1, 12))) for _ in range(self.random.randint(1, 3))]
+        # An answer is compared without line ends behind it, and a line that reads as a pattern would be one.
+        return "\\n".join(line.strip(" .") or "z" for line in lines)
+
+    def session(self) -> List[Tuple[str, str, str]]:
+        """Random cases, each with its session, its code, and what is wanted."""
+        code = [(self.random.choice("ab"), self.code(at), self.random.random() < 0.15) for at in range(self.random.randint(6, 25))]
+        code = [(session, line, is_setup and line != "die") for session, line, is_setup in code]
+        values = expected(code)
+        return [
+            (session + (" {setup}" if is_setup else ""), line, self.shown(line, value)) for (session, line, is_setup), value in zip(code, values)
+        ]
+
+    def shown(self, line: str, value: str) -> str:
+        word, _, rest = line.partition(" ")
+        return "" if word == "quiet" else rest.replace("\\n", "\n") if word == "say" else value
+
+    def changed(self, text: str) -> str:
+        """The text with one of its characters that end no line put in another's place."""
+        at = self.random.choice([at for at, character in enumerate(text) if character != "\n"])
+        other = self.random.choice([letter for letter in "abcdefgh0123456789" if letter != text[at]])
+        return text[:at] + other + text[at + 1 :]
+
+    def put(self, cases: List[Tuple[str, str, str]]) -> None:
+        for name in "ab":
+            if os.path.exists(self.place(name + ".log")):
+                os.unlink(self.place(name + ".log"))
+        self.write(*(case(line, wanted, info) if wanted else case(line, None, info) for info, line, wanted in cases))
+
+    def test_they_pass_and_each_change_is_one_failure(self) -> None:
+        for _ in range(SUITES):
+            cases = self.session()
+            self.put(cases)
+            self.assertEqual(self.verdicts(self.path), ["ok"] * len(cases), self.read())
+            for _ in range(CHANGES):
+                at = self.random.choice([at for at, one in enumerate(cases) if one[2]])
+                info, line, wanted = cases[at]
+                self.put([*cases[:at], (info, line, self.changed(wanted)), *cases[at + 1 :]])
+                self.assertEqual(self.verdicts(self.path), ["differs" if it == at else "ok" for it in range(len(cases))], self.read())
