@@ -2,8 +2,9 @@
 
     python_lines.py COMMANDS VALUE
 
-From the descriptor COMMANDS it reads for each line how long it is, a name, and the line. What the line prints goes to the standard
-output as it is; its value, as text and as a formula, to the file VALUE. Then it writes the name, and the line is done.
+From the descriptor COMMANDS it reads for each line whether it is to be evaluated or completed, how long it is, a name, and the line. What
+the line prints goes to the standard output as it is; its value, as text and as a formula, to the file VALUE, or the word at its end and
+the names that may stand there. Then it writes the name, and the line is done.
 """
 import ast
 import builtins
@@ -15,7 +16,9 @@ import signal
 import sys
 import traceback
 import types
-from typing import Any, BinaryIO, Dict, NoReturn, Optional
+from typing import Any, BinaryIO, Callable, Dict, NoReturn, Optional
+
+import python_names
 
 LONGEST = 8_000_000  # bytes of a value
 FORMULA = re.compile(r"\s*(\${1,2})([^$]+)\1\s*")
@@ -103,12 +106,14 @@ def flush() -> None:
 
 def serve(commands: BinaryIO, value_file: int) -> NoReturn:
     lines, own, output = Lines(), os.getpid(), os.dup(1)
+    wishes: Dict[bytes, Callable[[str], "tuple[str, str]"]] = {
+        b"evaluate": lines.evaluated, b"complete": lambda text: python_names.completed(text, lines.names)}
     while True:
-        length, name = commands.readline().split()
+        wish, length, name = commands.readline().split()
         text = commands.read(int(length)).decode("utf-8", "surrogateescape")
         for descriptor in (1, 2):  # a line may have closed them
             os.dup2(output, descriptor)
-        value, formula = (as_bytes(one) for one in lines.evaluated(text))
+        value, formula = (as_bytes(one) for one in wishes[wish](text))
         if os.getpid() != own:
             os._exit(0)  # a process that the line has forked
         flush()
