@@ -58,6 +58,22 @@ PYTHON: List[Case] = [
     ("Made.vis|", '"vis" "ible"'), ("made.vis|", '"vis" "ible"'), ("slots.|", '"" "left" "right"'), ("slots.left.meth|", '"meth" "od"'), ("slots.right.|", NONE), ("bad.|", NONE), ("Color.RE|", '"RE" "D"'), ("pair.fi|", '"fi" "rst"'),
 ]
 
+# A line makes names of every kind, and gp's own words of the same beginning stay behind them.
+GP_LINE = "\u2028".join([
+    "alphabet = 5; alphabetic = [1, 2]; zz_top(t) = t^2; zz_arrow = t -> t; zz_sum += 1; zz_set = 3; x.zz_own = x -> 7",
+    "zz_wide = (1 +", "2)", 'zz_text = "zz_inside"; if (zz_compared == 3, 1); zz_less <= 2; print("zz_printed")',
+])
+GP: List[Case] = [
+    ("alphab|", '"alphab" "et" "etic"'), ("alphabeti|", '"alphabeti" "c"'), ("alphabetic|", '"alphabetic" ""'), ("alphab|et", '"alphab" "et" "etic"'), ("2 + alphabeti| + 1", '"alphabeti" "c"'), ("sin(alphabeti|", '"alphabeti" "c"'), ("[1,alphabeti|", '"alphabeti" "c"'),
+    ("zz_|", '"zz_" "arrow" "set" "sum" "text" "top" "wide"'), ("zz_t|", '"zz_t" "ext" "op"'), ("zz_i|", NONE), ("zz_c|", NONE), ("zz_l|", NONE), ("zz_p|", NONE), ("zz_o|", NONE), ("factorb|", '"factorb" "ack"'), ("fact|", '.."or" "orback"'), ("matker|", '.."" "int"'), ("Catal|", '"Catal" "an"'),
+    ("Strch|", '"Strch" "r"'), ("polrootsr|", '"polrootsr" "eal"'), ("forprimes|", '"forprimes" "tep"'), ("ellin|", '.."it"'), ("x = ellini|", '"ellini" "t"'), ("a+b*ellini|", '"ellini" "t"'), ("{f(t) =\u2028 ellini|", '"ellini" "t"'), ("1\u2028ellini|\u2028 2", '"ellini" "t"'),
+    ('"é"; ellini|', '"ellini" "t"'), ('"\\"\u2028"; ellini|', '"ellini" "t"'), ("\\p ellini|", '"ellini" "t"'), ("?ellini|", '"ellini" "t"'), ("??ellini|", '"ellini" "t"'), ("|", NONE), ("  |", NONE), ("(|", NONE), ("1+|", NONE), ("nothing_like_it|", NONE), ("é|", NONE), ("%|", NONE),
+    ("1|", NONE), ("1.|", NONE), ("1.e|", NONE), ("1.5e|", NONE), ("12.p|", NONE), (".p|", NONE), ("+.p|", NONE), ("2ellini|", NONE), ("x1.disc|", '"disc" ""'), ("x.zz|", '"zz" "_own"'), ("x.zz_own.dis|", '"dis" "c"'), ("x.orde|", '"orde" "rs"'), ("x . orde|", '"orde" "rs"'),
+    ("f(3).roo|", '"roo" "ts"'), ("v[1].roo|", '"roo" "ts"'), ("x.codi|", '"codi" "ff"'), ("x.et|", '"et" "a"'), ("x.a|", '"a" "1" "2" "3" "4" "6" "rea"'), ("x.|", '.."zkst"'), ("x.r1|", '"r1" ""'), ("x.ellini|", NONE), ("ellinit(x).dis|", '"dis" "c"'), ("x.no|", '"no" ""'),
+]
+
 COMPLETING: Dict[str, Completing] = {
     "python": Completing(PYTHON_LINE, PYTHON),
+    "gp": Completing(GP_LINE, GP),
+    "gp --text": Completing(GP_LINE, GP),
 }
