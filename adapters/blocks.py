@@ -12,7 +12,7 @@ import signal
 import subprocess
 import sys
 import time
-from typing import Any, Callable, Iterator, List, NamedTuple, Optional, Set
+from typing import Any, Callable, Iterable, Iterator, List, NamedTuple, Optional, Set
 
 LONGEST = 8_000_000  # bytes of an answer; escapes may double them
 ROOM = 16_700_000  # bytes of what is in a block, which may have 16,777,216
@@ -23,6 +23,8 @@ NEVER = 1e6  # seconds
 KILL_WITH_PARENT = 1  # PR_SET_PDEATHSIG of prctl(2)
 LINE_SEPARATOR = "\u2028".encode()
 REQUEST = b"\x10"  # a line that begins so asks for completions
+REQUESTED = re.compile(rb'\x10\(complete "(.*)" (\d+)\)', re.DOTALL)
+MOST_COMPLETIONS = 1_000
 
 
 def escaped(text: bytes) -> bytes:
@@ -85,6 +87,21 @@ def verbatim(text: bytes, prompt: bytes = b"") -> bytes:
 NO_COMPLETIONS = block(b"scheme:", b"(tuple)")
 
 
+def front_of(request: bytes) -> bytes:
+    """The input of a request of completions, up to its cursor, which counts the bytes of the input as it was sent."""
+    found = REQUESTED.fullmatch(request)
+    text = re.sub(rb'\\(["\\])', rb"\1", found[1])[:int(found[2])] if found else b""
+    return text.replace(LINE_SEPARATOR, b"\n")
+
+
+def completions(root: str, names: Iterable[str]) -> bytes:
+    """The block that says which of the names begin with the root, each without it; the first ones where there are many. What is no name has
+    letters that mean something in the block, and is left out."""
+    found = sorted(name[len(root):] for name in set(names) if name.startswith(root) and name.isidentifier())[:MOST_COMPLETIONS]
+    told = " ".join(f'"{text}"' for text in [root, *found])
+    return block(b"scheme:", f"(tuple {told})".encode()) if found else NO_COMPLETIONS
+
+
 def write(data: bytes, descriptor: int = 1) -> None:
     while data:
         data = data[os.write(descriptor, data):]
@@ -110,8 +127,8 @@ class Signals:
 
 
 def lines(signals: Signals) -> Iterator[bytes]:
-    """The lines of our input. A LINE SEPARATOR in one stands for a line feed. What has no end is no line: its writer has ended. Where
-    no line is there, a signal has nothing to end; one that has come with a line is left for it."""
+    """The lines of our input. A LINE SEPARATOR in one stands for a line feed, but not yet in a request, whose cursor counts bytes. What has no
+    end is no line: its writer has ended. Where no line is there, a signal has nothing to end; one that has come with a line is left for it."""
     waiting, rest = select.poll(), b""
     waiting.register(0, select.POLLIN)
     waiting.register(signals.descriptor, select.POLLIN)
@@ -119,7 +136,7 @@ def lines(signals: Signals) -> Iterator[bytes]:
         line, end, behind = rest.partition(b"\n")
         if end:
             rest = behind
-            yield line.replace(LINE_SEPARATOR, b"\n")
+            yield line if line.startswith(REQUEST) else line.replace(LINE_SEPARATOR, b"\n")
         elif any(descriptor == 0 for descriptor, _ in waiting.poll()):
             piece = os.read(0, PIECE)
             if not piece:
@@ -129,11 +146,15 @@ def lines(signals: Signals) -> Iterator[bytes]:
             signals.take()
 
 
-def serve(banner: bytes, answer: Callable[[bytes], Optional[bytes]], signals: Signals) -> None:
-    """Writes the banner, and then the block that answers each line, until there is no line, or None for one."""
+Answering = Callable[[bytes], Optional[bytes]]
+
+
+def serve(banner: bytes, answer: Answering, signals: Signals, complete: Answering = lambda front: NO_COMPLETIONS) -> None:
+    """Writes the banner, and then the block that answers each line, until there is no line, or None for one. `complete` is given what stands
+    in front of the cursor of a request."""
     write(banner)
     for line in lines(signals):
-        told = NO_COMPLETIONS if line.startswith(REQUEST) else answer(line)
+        told = complete(front_of(line)) if line.startswith(REQUEST) else answer(line)
         if told is None:
             break
         write(told)

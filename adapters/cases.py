@@ -3,9 +3,10 @@
 Of an output that begins with `..` it is what the output has somewhere. A line with True behind it is interrupted behind a while.
 """
 import dataclasses
-from typing import Dict, List, Sequence, Tuple
+from typing import Dict, List, Optional, Sequence, Tuple
 
 import gp_lines
+from completion_cases import COMPLETING, Completing
 from gp_lines import MESSAGE, NO_INPUT, Line as Case, ones
 from odd_lines import ODD_LINES
 
@@ -24,6 +25,7 @@ class Trial:
     numbered: str = "n%d"  # its answer
     drawing: Sequence[Tuple[str, str]] = ()  # lines that draw, and what their answers are, with a picture's format in braces for each
     module: str = ""  # of Python that has to be here, too
+    completing: Optional[Completing] = None  # where it answers requests of completions
 
 
 # From the manual of gp: 2.1 (errors), 2.5 (lines), 2.7 (metacommands), 2.12 (defaults), 3 (functions).
@@ -323,7 +325,7 @@ DRAWING: Dict[str, List[Tuple[str, str]]] = {
 
 def trial(words: str, program: str, leaving: str, busy: str, cases: List[Case]) -> Trial:
     name = words.split()[1 if words.startswith("prompted.py") else 0]
-    return Trial(words, program, leaving, busy, cases, ODD_LINES[name], *NUMBERS[name], DRAWING.get(words.removeprefix("prompted.py "), ()))
+    return Trial(words, program, leaving, busy, cases, ODD_LINES[name], *NUMBERS[name], DRAWING.get(words.removeprefix("prompted.py "), ()), completing=COMPLETING.get(words))
 
 
 def by_matplotlib(words: str) -> Trial:

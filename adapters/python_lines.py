@@ -2,9 +2,9 @@
 
     python_lines.py COMMANDS VALUE [pictures]
 
-From the descriptor COMMANDS it reads for each line how long it is, a name, and the line. What the line prints goes to the standard
-output as it is; its pictures and its value, each with its kind and length before it, to the file VALUE. Then it writes the name, and
-the line is done.
+From the descriptor COMMANDS it reads for each line whether it is to be evaluated or completed, how long it is, a name, and the line. What
+the line prints goes to the standard output as it is; its pictures and its value, or the word at its end and the names that may stand
+there, each with its kind and length before it, to the file VALUE. Then it writes the name, and the line is done.
 """
 import ast
 import builtins
@@ -18,6 +18,7 @@ import traceback
 import types
 from typing import Any, BinaryIO, Callable, Dict, List, NoReturn, Optional, Tuple, TypeVar
 
+import python_names
 import tmhost_figures
 
 LONGEST = 8_000_000  # bytes of a value
@@ -60,6 +61,11 @@ class Lines:
         value = self.tried(lambda: shown_of(self.value_of(text)))
         self.tried(tmhost_figures.draw_what_is_left)
         return [*(("picture", data) for data in tmhost_figures.taken()), *(value or [])]
+
+    def completed(self, text: str) -> List[Shown]:
+        """The word at the end of a text, and the names that may stand there."""
+        root, names = python_names.completed(text, self.names)
+        return [("root", as_bytes(root)), ("names", as_bytes(names))]
 
     def tried(self, work: Callable[[], Result]) -> Optional[Result]:
         """What some work gives; None where it ends by an error, which is printed, or by an interrupt."""
@@ -126,12 +132,13 @@ def write_at(file: int, data: bytes, at: int) -> int:
 
 def serve(commands: BinaryIO, value_file: int) -> NoReturn:
     lines, own, output = Lines(), os.getpid(), os.dup(1)
+    wishes: Dict[bytes, Callable[[str], List[Shown]]] = {b"evaluate": lines.evaluated, b"complete": lines.completed}
     while True:
-        length, name = commands.readline().split()
+        wish, length, name = commands.readline().split()
         text = commands.read(int(length)).decode("utf-8", "surrogateescape")
         for descriptor in (1, 2):  # a line may have closed them
             os.dup2(output, descriptor)
-        shown = lines.evaluated(text)
+        shown = wishes[wish](text)
         if os.getpid() != own:
             os._exit(0)  # a process that the line has forked
         flush()

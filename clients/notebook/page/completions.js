@@ -11,6 +11,7 @@ export class Completions {
   constructor() {
     this.list = make("ul", "completions");
     this.list.setAttribute("role", "listbox");
+    this.list.setAttribute("aria-label", "completions");
     this.list.id = "completions";
     this.list.addEventListener("mousedown", (event) => this.press(event));
     /** @type {CellView | undefined} */

@@ -1,5 +1,6 @@
 """The page by keys: from an empty worksheet to an answer, buttons, the dialog of a new session, what is undone and found."""
 
+import shutil
 import unittest
 from typing import Any, List
 
@@ -38,6 +39,7 @@ FAILS = """
 """
 SUGGESTED = "[...document.querySelectorAll('#session-known button')].map((one) => one.textContent)"
 SUGGESTS = "[...document.querySelectorAll('#session-known button')].find((one) => one.textContent === '%s').click()"
+SHOWN = "[...document.querySelectorAll('.completions li')].map((one) => one.textContent)"
 NAMES = "((name) => [name.value, name.checkValidity()])(document.querySelector('#session-name'))"
 # Counts how often the dialog has another height.
 MOVES = """
@@ -138,9 +140,69 @@ class KeysOfThePage(PageCase):
         tab.key("Enter")
         tab.type("say c")
         self.press(tab, IS_SLOW, "Control+s", "a", "Tab")
-        tab.until("[...document.querySelectorAll('.completions li')].map((one) => one.textContent)", ["cat", "cave", "call"])
+        tab.until(SHOWN, ["cat", "cave", "call"])
         tab.until("document.querySelector('#cell-1 .text-state').textContent", "saved")
         self.assertEqual((tab.value("document.querySelector('#note').textContent"), self.page.cells()[1]["input"]), ("", "say ca"))
+
+    def test_completions_of_adapters(self) -> None:
+        """What is suggested as a session completes, where its adapter does."""
+        self.server = self.serve()
+        self.page, self.browser = Page(self.server), self.browse()
+        tab = opened(self.browser, self.server)
+        self.complete_by(tab, "python", "import os; naming = 1", "nami", "naming", "os.getcw", ["getcwd", "getcwdb"])
+        if shutil.which("gp"):
+            self.complete_by(tab, "gp", "naming = 1; naval = 2", "nami", "naming", "na", ["naming", "naval"])
+        self.assertEqual(self.browser.trouble, [])
+
+    def complete_by(self, tab: Any, name: str, line: str, one: str, whole: str, several: str, shown: List[str]) -> None:
+        """Makes a session and a cell of it, and completes in it: one name goes in at once, several are a list."""
+        tab.click("[data-do=askSession]")
+        tab.until(FOCUSED, "session-name")
+        tab.value(SUGGESTS % name)
+        tab.until(FOCUSED, "session-make")
+        tab.key("Enter")
+        tab.until("document.querySelector('#session-dialog').open", False)
+        id = self.page.call("new", session=name, text=line, after=0)["id"]
+        self.page.call("eval", id=id)
+        self.page.until_idle()
+        tab.until(f"document.querySelector('#cell-{id}')?.dataset.state", "answered")
+        text = f"document.querySelector('#cell-{id} textarea').value"
+        tab.click(f"#cell-{id} .number")
+        tab.key("Enter")
+        for typed, told, wanted in ((one, text, f"{line}\n{whole}"), (several, SHOWN, shown)):
+            tab.key("Enter")
+            tab.type(typed)
+            tab.key("Tab")
+            tab.until(told, wanted)
+        self.assertEqual(tab.value("document.querySelector('#completions').getAttribute('role')"), "listbox")
+        tab.key("ArrowDown")
+        tab.key("Enter")
+        tab.until(text, f"{line}\n{whole}\n{several[:several.find('.') + 1]}{shown[1]}")
+        self.assertEqual(tab.value(SHOWN), [])
+        tab.key("Enter")
+        tab.key("Tab")
+        tab.until(text, f"{line}\n{whole}\n{several[:several.find('.') + 1]}{shown[1]}\n    ")
+        tab.key("Escape")
+
+    def test_completions_of_a_busy_session(self) -> None:
+        """It isn't asked, the page says so, and nothing is lost."""
+        self.begin()
+        self.page.call("eval", id=self.page.call("new", session="s", text="sleep 60", after=0)["id"])
+        self.page.call("new", session="s", text="", after=1)
+        tab = opened(self.browser, self.server)
+        tab.until("document.querySelector('#cell-1').dataset.state", "running")
+        tab.click("#cell-2 .number")
+        tab.key("Enter")
+        tab.type("say be")
+        tab.key("Tab")
+        tab.until("document.querySelector('#note').textContent", "no completions: its interpreter is at work")
+        self.assertEqual(tab.value("document.querySelector('#cell-2 textarea').value"), "say be")
+        self.assertEqual([session["waiting"] for session in self.page.snapshot()["sessions"]], [1])
+        self.page.call("interrupt", session="s")
+        self.page.until_idle()
+        tab.until("document.querySelector('#cell-1').dataset.state", "answered")
+        tab.key("Tab")
+        tab.until("document.querySelector('#cell-2 textarea').value", "say beta")
 
     def press(self, tab: Any, before: str, *keys: str) -> None:
         """Presses keys, the first of which asks the server for something; that goes on when all are pressed."""

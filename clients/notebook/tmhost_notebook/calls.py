@@ -234,10 +234,15 @@ def call_session(book: Book, asked: Facts) -> Facts:
 
 
 def call_complete(book: Book, asked: Facts) -> Facts:
-    """What can stand at a cursor in a text, which the cell needn't have yet. The cursor counts the characters before it, as JavaScript does."""
+    """What can stand at a cursor in a text, which the cell needn't have yet. The cursor counts the characters before it, as JavaScript does. An
+    interpreter that has other things to answer isn't asked: that would come when nobody waits for it any more."""
     id, given, cursor = number(asked, "id"), text(asked, "text"), number(asked, "cursor")
     before = given.encode("utf-16-le", "surrogatepass")[: 2 * cursor].decode("utf-16-le", "replace")
     place = len(before.replace("\n", "\u2028").encode("utf-8"))
+    name = field_of(book, id).session
+    with book.lock:
+        if book.sheet.sessions[name].waiting or book.feed.count(name):
+            raise NotDone("Busy", SAYINGS["Busy"])
     return completion_facts(book.sheet.complete(id, place, timeout=COMPLETED_WITHIN, text=given))
 
 

@@ -8,6 +8,7 @@ SAYINGS = {
     "SessionExists": "there is a session with this name already",
     "NoSession": "there is no session with this name",
     "NoField": "the cell isn't there any more",
+    "Busy": "its interpreter is at work",
     "NoTab": "its interpreter answers no completions",
     "QueueFull": "1,024 lines wait in this session already",
     "TooManyFields": "there are 10,000 cells",

@@ -12,8 +12,8 @@ FOLDERS = (os.path.join(HERE, "..", "..", "..", "adapters"), os.path.join(HERE, 
 
 # The name of the session, the adapter with its words, the program that has to be here, and whether it answers completions.
 ADAPTERS: List[Tuple[str, str, str, bool]] = [
-    ("python", "python", "python3", False),
-    ("gp", "gp", "gp", False),
+    ("python", "python", "python3", True),
+    ("gp", "gp", "gp", True),
     ("sh", "prompted.py sh", "bash", False),
     ("bc", "prompted.py bc", "bc", False),
     ("octave", "prompted.py octave", "octave", False),

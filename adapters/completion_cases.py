@@ -1,0 +1,79 @@
+"""Requests of completions for each adapter that answers them, with what `tmhost` prints of the answers; `try` asks for them.
+
+The cursor is at the `|`. Of an answer that begins with `..` it is what the answer has somewhere.
+"""
+import dataclasses
+from typing import Dict, List, Tuple
+
+Case = Tuple[str, str]
+NONE = '""'
+
+
+@dataclasses.dataclass(frozen=True)
+class Completing:
+    """What is asked of an adapter, behind a line."""
+
+    line: str
+    cases: List[Case]
+
+
+# The line makes names that are no words, and objects whose own functions would print, or never come back.
+PYTHON_LINE = "\u2028".join([
+    "import os, collections, enum",
+    "alpha = alpine = 1; über = 2; _hidden = 3; text = 'a'; many = {}",
+    "globals().update({'hostile\"': 1, 'hostile\\\\': 1, 'hostile\\x05\\x02': 1, 'hostile b': 1, 'hostile\\n': 1, 'hostile' + 'x' * 300: 1, 7: 1})",
+    "def function(argument): return argument",
+    "class Kind:",
+    "    shared = 1",
+    "    def __init__(self): self.inner = self; self.words = text; self.folder = os",
+    "    def method(self): return 1",
+    "    @property",
+    "    def computed(self): os._exit(1)",
+    "    @staticmethod",
+    "    def alone(): pass",
+    "class Loud(Kind):",
+    "    def __getattr__(self, name): os._exit(1)",
+    "    def __dir__(self): os._exit(1)",
+    "class Meta(type):",
+    "    def __dir__(self): os._exit(1)",
+    "    def __getattribute__(self, name): os._exit(1)",
+    "class Made(metaclass=Meta): visible = 1",
+    "class Slots: __slots__ = ('left', 'right')",
+    "class Bad:",
+    "    @property",
+    "    def __dict__(self): os._exit(1)",
+    "class Color(enum.Enum): RED = 1",
+    "Pair = collections.namedtuple('Pair', 'first second'); pair = Pair(alpha, text)",
+    "kind, loud, made, slots, bad = Kind(), Loud(), Made(), Slots(), Bad(); slots.left = kind",
+])
+PYTHON: List[Case] = [
+    ("alp|", '"alp" "ha" "ine"'), ("alph|", '"alph" "a"'), ("alpha|", '"alpha" ""'), ("al|pha", '..ha" "pine"'), ("x = alp|", '"alp" "ha" "ine"'), ("alpha + alp|ine", '"alp" "ha" "ine"'),
+    ("über|", '"über" ""'), ("ü|b", '"ü" "ber"'), ("'é'; alp|", '"alp" "ha" "ine"'), ("1\u2028alp|", '"alp" "ha" "ine"'), ("alpha\u2028über\u2028alph|\u2028alpha", '"alph" "a"'), ("'\u2028\\\"'; alph|", '"alph" "a"'),
+    ("_hid|", '"_hid" "den"'), ("func|", '"func" "tion"'), ("print(func|", '"func" "tion"'), ("prin|", '"prin" "t"'), ("ZeroD|", '"ZeroD" "ivisionError"'), ("whil|", '"whil" "e"'), ("lamb|", '"lamb" "da"'), ("hostile|", NONE), ("host|", NONE),
+    ("|", NONE), ("   |", NONE), ("alpha |", NONE), ("(|", NONE), ("nothing_like_it|", NONE), ("1|", NONE), ("1.|", NONE), ("1.re|", NONE), ("0x|", NONE), (".|", NONE), ("..a|", NONE), ("f().a|", NONE), ("text[0].up|", NONE), ("'a'.up|", NONE),
+    ("os.getcw|", '"getcw" "d" "db"'), ("os.path.joi|", '"joi" "n"'), ("os . path . joi|", '"joi" "n"'), ("os.path.nothing.a|", NONE), ("nothing.a|", NONE), ("len(os.path.spli|", '"spli" "t" "tdrive" "text"'),
+    ("text.upp|", '"upp" "er"'), ("alpha.bit_c|", '"bit_c" "ount"'), ("many.setd|", '"setd" "efault"'), ("function.__na|", '"__na" "me__"'),
+    ("kind.|", '"" "alone" "computed" "folder" "inner" "method" "shared" "words"'), ("kind.inn|", '"inn" "er"'), ("kind.inner.inner.wo|", '"wo" "rds"'), ("kind.words.upp|", '"upp" "er"'), ("kind.folder.getcwdb|", '"getcwdb" ""'), ("kind.__cl|", '"__cl" "ass__"'),
+    ("kind.comp|", '"comp" "uted"'), ("kind.computed.a|", NONE), ("kind.computed.|", NONE), ("Kind.sha|", '"sha" "red"'), ("loud.|", '"" "alone" "computed" "folder" "inner" "method" "shared" "words"'), ("loud.unknown.|", NONE), ("loud.me|", '"me" "thod"'),
+    ("Made.vis|", '"vis" "ible"'), ("made.vis|", '"vis" "ible"'), ("slots.|", '"" "left" "right"'), ("slots.left.meth|", '"meth" "od"'), ("slots.right.|", NONE), ("bad.|", NONE), ("Color.RE|", '"RE" "D"'), ("pair.fi|", '"fi" "rst"'),
+]
+
+# A line makes names of every kind, and gp's own words of the same beginning stay behind them.
+GP_LINE = "\u2028".join([
+    "alphabet = 5; alphabetic = [1, 2]; zz_top(t) = t^2; zz_arrow = t -> t; zz_sum += 1; zz_set = 3; x.zz_own = x -> 7",
+    "zz_wide = (1 +", "2)", 'zz_text = "zz_inside"; if (zz_compared == 3, 1); zz_less <= 2; print("zz_printed")',
+])
+GP: List[Case] = [
+    ("alphab|", '"alphab" "et" "etic"'), ("alphabeti|", '"alphabeti" "c"'), ("alphabetic|", '"alphabetic" ""'), ("alphab|et", '"alphab" "et" "etic"'), ("2 + alphabeti| + 1", '"alphabeti" "c"'), ("sin(alphabeti|", '"alphabeti" "c"'), ("[1,alphabeti|", '"alphabeti" "c"'),
+    ("zz_|", '"zz_" "arrow" "set" "sum" "text" "top" "wide"'), ("zz_t|", '"zz_t" "ext" "op"'), ("zz_i|", NONE), ("zz_c|", NONE), ("zz_l|", NONE), ("zz_p|", NONE), ("zz_o|", NONE), ("factorb|", '"factorb" "ack"'), ("fact|", '.."or" "orback"'), ("matker|", '.."" "int"'), ("Catal|", '"Catal" "an"'),
+    ("Strch|", '"Strch" "r"'), ("polrootsr|", '"polrootsr" "eal"'), ("forprimes|", '"forprimes" "tep"'), ("ellin|", '.."it"'), ("x = ellini|", '"ellini" "t"'), ("a+b*ellini|", '"ellini" "t"'), ("{f(t) =\u2028 ellini|", '"ellini" "t"'), ("1\u2028ellini|\u2028 2", '"ellini" "t"'),
+    ('"é"; ellini|', '"ellini" "t"'), ('"\\"\u2028"; ellini|', '"ellini" "t"'), ("\\p ellini|", '"ellini" "t"'), ("?ellini|", '"ellini" "t"'), ("??ellini|", '"ellini" "t"'), ("|", NONE), ("  |", NONE), ("(|", NONE), ("1+|", NONE), ("nothing_like_it|", NONE), ("é|", NONE), ("%|", NONE),
+    ("1|", NONE), ("1.|", NONE), ("1.e|", NONE), ("1.5e|", NONE), ("12.p|", NONE), (".p|", NONE), ("+.p|", NONE), ("2ellini|", NONE), ("x1.disc|", '"disc" ""'), ("x.zz|", '"zz" "_own"'), ("x.zz_own.dis|", '"dis" "c"'), ("x.orde|", '"orde" "rs"'), ("x . orde|", '"orde" "rs"'),
+    ("f(3).roo|", '"roo" "ts"'), ("v[1].roo|", '"roo" "ts"'), ("x.codi|", '"codi" "ff"'), ("x.et|", '"et" "a"'), ("x.a|", '"a" "1" "2" "3" "4" "6" "rea"'), ("x.|", '.."zkst"'), ("x.r1|", '"r1" ""'), ("x.ellini|", NONE), ("ellinit(x).dis|", '"dis" "c"'), ("x.no|", '"no" ""'),
+]
+
+COMPLETING: Dict[str, Completing] = {
+    "python": Completing(PYTHON_LINE, PYTHON),
+    "gp": Completing(GP_LINE, GP),
+    "gp --text": Completing(GP_LINE, GP),
+}
