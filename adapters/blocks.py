@@ -107,11 +107,17 @@ def lines(signals: Signals) -> Iterator[bytes]:
             signals.take()
 
 
-def serve(banner: bytes, answer: Callable[[bytes], Optional[bytes]], signals: Signals) -> None:
-    """Writes the banner, and then the block that answers each line, until there is no line, or None for one."""
+def none_known(request: bytes) -> Optional[bytes]:
+    """The block that answers a request of completions by an interpreter that has none."""
+    return NO_COMPLETIONS
+
+
+def serve(banner: bytes, answer: Callable[[bytes], Optional[bytes]], signals: Signals,
+          completed: Callable[[bytes], Optional[bytes]] = none_known) -> None:
+    """Writes the banner, and then the block that answers each line, or request, until there is none, or None for one."""
     write(banner)
     for line in lines(signals):
-        told = NO_COMPLETIONS if line.startswith(REQUEST) else answer(line)
+        told = completed(line) if line.startswith(REQUEST) else answer(line)
         if told is None:
             break
         write(told)

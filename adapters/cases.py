@@ -6,6 +6,7 @@ import dataclasses
 from typing import Dict, List, Sequence, Tuple
 
 import gp_lines
+import jupyter_lines
 from gp_lines import MESSAGE, NO_INPUT, Line as Case, ones
 from odd_lines import ODD_LINES
 
@@ -15,7 +16,7 @@ class Trial:
     """What is tried of an adapter."""
 
     words: str  # behind the folder of the adapters
-    program: str  # that has to be here
+    program: str  # that has to be here, or a file
     leaving: str  # a line that ends it; empty where none does
     busy: str  # a line without an end
     cases: List[Case]
@@ -302,6 +303,10 @@ TRIALS = {
     "gp_seconds": trial("gp --seconds 5", "gp", "\\q", "while (1, )", GP_SECONDS),
     "python_seconds": trial("python --seconds 5", "python3", "os._exit(0)", "while True: pass", [("import os", ""), *PYTHON_SECONDS]),
     "python": trial("python", "python3", "os._exit(0)", "while True: pass", PYTHON + ten_lines("python")),
+    "jupyter": Trial(
+        "jupyter python3", "/usr/share/jupyter/kernels/python3/kernel.json", "os._exit(0)", "while True: pass", jupyter_lines.LINES + ten_lines("python"),
+        [line for line in ODD_LINES["python"] if "fork" not in line],  # which would go on as a second kernel
+        *NUMBERS["python"]),
     "prompted_python": by_prompted("python", "python3", "quit()", "while True: pass", PROMPTED_PYTHON + ten_lines("python")),
     "sh": by_prompted("sh", "bash", "exit", "while :; do :; done", SH + ten_lines("sh", "k 10")),
     "bc": by_prompted("bc", "bc", "quit", "while (1) a = a + 1", BC + ten_lines("bc")),
