@@ -138,7 +138,7 @@ class Output:
             if source == "page":
                 self.add_value(payload.get("data", {}))
             elif source == "set_next_input":
-                self.next_input = str(payload.get("text", ""))
+                self.next_input = str(payload.get("text", "")).rstrip("\n").replace("\n", blocks.LINE_SEPARATOR.decode())
             is_end = is_end or source == "ask_exit" and not payload.get("keepkernel")
         return is_end
 
