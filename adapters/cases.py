@@ -294,6 +294,12 @@ def by_prompted(profile: str, program: str, leaving: str, busy: str, cases: List
     return trial(f"prompted.py {profile}", program, leaving, busy, cases)
 
 
+def by_jupyter(words: str, cases: List[Case]) -> Trial:
+    """The kernel of Python. A line that forks is left out, which would go on as a second kernel."""
+    odd_lines = [line for line in ODD_LINES["python"] if "fork" not in line]
+    return Trial(f"jupyter {words}", "/usr/share/jupyter/kernels/python3/kernel.json", "os._exit(0)", "while True: pass", cases, odd_lines, *NUMBERS["python"])
+
+
 TRIALS = {
     "gp": trial("gp", "gp", "quit", "while (1, )", GP),
     "gp_lines": trial("gp", "gp", "\\q", "while (1, )", gp_lines.LINES),
@@ -303,10 +309,8 @@ TRIALS = {
     "gp_seconds": trial("gp --seconds 5", "gp", "\\q", "while (1, )", GP_SECONDS),
     "python_seconds": trial("python --seconds 5", "python3", "os._exit(0)", "while True: pass", [("import os", ""), *PYTHON_SECONDS]),
     "python": trial("python", "python3", "os._exit(0)", "while True: pass", PYTHON + ten_lines("python")),
-    "jupyter": Trial(
-        "jupyter python3", "/usr/share/jupyter/kernels/python3/kernel.json", "os._exit(0)", "while True: pass", jupyter_lines.LINES + ten_lines("python"),
-        [line for line in ODD_LINES["python"] if "fork" not in line],  # which would go on as a second kernel
-        *NUMBERS["python"]),
+    "jupyter": by_jupyter("python3", jupyter_lines.LINES + ten_lines("python")),
+    "jupyter_seconds": by_jupyter("python3 --seconds 5", [("import os", ""), *PYTHON_SECONDS]),
     "prompted_python": by_prompted("python", "python3", "quit()", "while True: pass", PROMPTED_PYTHON + ten_lines("python")),
     "sh": by_prompted("sh", "bash", "exit", "while :; do :; done", SH + ten_lines("sh", "k 10")),
     "bc": by_prompted("bc", "bc", "quit", "while (1) a = a + 1", BC + ten_lines("bc")),
