@@ -11,7 +11,7 @@ PAGES = crates/tmhost/out/pages
 SHARE = $(DESTDIR)$(PREFIX)/share
 # The adapters and the clients lie there as they do here, since the clients find them and each other by their folders.
 HERE = $(SHARE)/tmhost
-ADAPTERS = gp python prompted.py
+ADAPTERS = gp jupyter python prompted.py
 CLIENTS = import typeset notebook repl suite weave
 
 .PHONY: all proved check-quick dist install uninstall
@@ -41,7 +41,7 @@ install:
 	install -Dm 644 $(PAGES)/tmhost.fish $(SHARE)/fish/vendor_completions.d/tmhost.fish
 	install -d $(HERE)/adapters
 	install $(addprefix adapters/,$(ADAPTERS)) $(HERE)/adapters
-	install -m 644 adapters/blocks.py adapters/gp_names.py adapters/pictures.py adapters/profiles.py adapters/python_lines.py adapters/python_names.py adapters/tmhost_figures.py adapters/waiting.py $(HERE)/adapters
+	install -m 644 adapters/blocks.py adapters/gp_names.py adapters/jupyter_output.py adapters/pictures.py adapters/profiles.py adapters/python_lines.py adapters/python_names.py adapters/tmhost_figures.py adapters/waiting.py $(HERE)/adapters
 	install -d $(HERE)/adapters/octave/lines $(HERE)/adapters/octave/formulas/@sym
 	install -m 644 adapters/octave/lines/*.m $(HERE)/adapters/octave/lines
 	install -m 644 adapters/octave/formulas/@sym/*.m $(HERE)/adapters/octave/formulas/@sym

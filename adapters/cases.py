@@ -7,6 +7,7 @@ from typing import Dict, List, Optional, Sequence, Tuple
 
 import gp_lines
 from completion_cases import COMPLETING, Completing
+import jupyter_lines
 from gp_lines import MESSAGE, NO_INPUT, Line as Case, ones
 from odd_lines import ODD_LINES
 
@@ -16,7 +17,7 @@ class Trial:
     """What is tried of an adapter."""
 
     words: str  # behind the folder of the adapters
-    program: str  # that has to be here
+    program: str  # that has to be here, or a file
     leaving: str  # a line that ends it; empty where none does
     busy: str  # a line without an end
     cases: List[Case]
@@ -337,6 +338,12 @@ def by_prompted(profile: str, program: str, leaving: str, busy: str, cases: List
     return trial(f"prompted.py {profile}", program, leaving, busy, cases)
 
 
+def by_jupyter(words: str, cases: List[Case]) -> Trial:
+    """The kernel of Python. A line that forks is left out, which would go on as a second kernel."""
+    odd_lines = [line for line in ODD_LINES["python"] if "fork" not in line]
+    return Trial(f"jupyter {words}", "/usr/share/jupyter/kernels/python3/kernel.json", "os._exit(0)", "while True: pass", cases, odd_lines, *NUMBERS["python"])
+
+
 TRIALS = {
     "gp": trial("gp", "gp", "quit", "while (1, )", GP),
     "gp_lines": trial("gp", "gp", "\\q", "while (1, )", gp_lines.LINES),
@@ -348,6 +355,8 @@ TRIALS = {
     "python": trial("python", "python3", "os._exit(0)", "while True: pass", PYTHON + ten_lines("python")),
     "python_matplotlib": by_matplotlib(""),
     "python_matplotlib_no_pictures": by_matplotlib(" --no-pictures"),
+    "jupyter": by_jupyter("python3", jupyter_lines.LINES + ten_lines("python")),
+    "jupyter_seconds": by_jupyter("python3 --seconds 5", [("import os", ""), *PYTHON_SECONDS]),
     "prompted_python": by_prompted("python", "python3", "quit()", "while True: pass", PROMPTED_PYTHON + ten_lines("python")),
     "sh": by_prompted("sh", "bash", "exit", "while :; do :; done", SH + ten_lines("sh", "k 10")),
     "bc": by_prompted("bc", "bc", "quit", "while (1) a = a + 1", BC + ten_lines("bc")),
