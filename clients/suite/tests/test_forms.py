@@ -118,10 +118,17 @@ class Notebooks(Forms):
     def test_in_python(self) -> None:
         stream = {"output_type": "stream", "name": "stdout", "text": ["a\n", "b\n"]}
         error = {"output_type": "error", "ename": "ZeroDivisionError", "evalue": "division by zero", "traceback": []}
-        path = self.notebook("python", [("for c in 'ab':\n    print(c)\n1 + 1", [stream, self.result("2")]), ("1 / 0", [error]), ("3", [self.result("4")])])
+        path = self.notebook("python", [("for c in 'ab':\n    print(c)\n1 + 1", [stream, self.result("2")]), ("1 / 0\nprint('no')", [error]), ("3", [self.result("4")])])
         self.assertEqual(self.verdicts(path), ["ok", "ok", "differs"])
         text = self.run_suite("--convert", path).output
         self.assertEqual(self.verdicts(self.put("a.md", text)), ["ok", "ok", "differs"], text)
+
+    def test_only_the_last_value_is_shown(self) -> None:
+        cells: List[Any] = [("x = 3\nx\nx + 1", [self.result("4")]), ("x;", []), ("x\ny = 2", [])]
+        path = self.notebook("python", cells)
+        self.assertEqual(self.verdicts(path), ["ok"] * 3, self.outcome.output)
+        text = self.run_suite("--convert", path).output
+        self.assertEqual(self.verdicts(self.put("a.md", text)), ["ok"] * 3, text)
 
 
 class Cram(Forms):

@@ -119,6 +119,10 @@ class Worksheets(Case):
             file.write(self.front(*names) + "\n".join(case("say 1", "1", name) for name in names))
         self.assertIn("the session s63, 64 of 70, is refused: TooManySessions", self.run_suite(self.path).errors)
 
+    def test_more_cases_than_a_worksheet_has_fields(self) -> None:
+        self.write(*[case("say 1", "1")] * 4751)
+        self.assertIn("its 4,751 cases with 4,751 fields are more than 9,500 in all", self.run_suite(self.path).errors)
+
     def test_line_ends_and_a_mark_of_bytes(self) -> None:
         self.write(case("say 1\nsay 2", "1\n2"))
         text = self.read()

@@ -16,6 +16,7 @@ from .cases import Suite
 # The session of notes: what a run is of, and what came of each case. It is never started.
 NOTES, NEVER = "tmhost-suite", ("true",)
 SECOND = ".alt"  # of a worksheet's second file
+MOST = 9_500  # of the fields of a suite and a note for each case; a worksheet has 10,000, and long answers have notes, too
 PART = 250  # characters, each of which JSON writes in up to 12
 PATIENCE, PAUSE = 10.0, 0.05  # seconds; the program of a run that was killed needs a moment to end
 
@@ -100,6 +101,9 @@ def begin(path: str, suite: Suite) -> Kept:
     folder = os.path.dirname(path) or "."
     if not os.access(folder, os.W_OK | os.X_OK):
         raise Trouble(f"nothing can be written into {folder}: --runs FOLDER puts the worksheet of a run elsewhere")
+    fields, notes = sum(len(case.fields) for case in suite.cases), len(suite.cases)
+    if fields + notes > MOST:
+        raise Trouble(f"its {notes:,} cases with {fields:,} fields are more than {MOST:,} in all, which a run can keep: make two suites of it")
     if os.path.lexists(path):
         opened(path).close()  # so that the worksheet of a run that goes on isn't taken away
     remove(path)

@@ -179,8 +179,15 @@ def output_of(output: Dict[str, Any], language: str) -> str:
     return text_in(output.get("data", {}).get("text/plain")).rstrip("\n")
 
 
+def cell_lines(source: str, language: str) -> List[str]:
+    """The lines of a cell. Python's kernel keeps the value of the last one to itself where that ends in a semicolon."""
+    lines = source.split("\n")
+    return [*lines, "None"] if language == "python" and source.rstrip().endswith(";") else lines
+
+
 def read_notebook(path: str, text: str, session: Session) -> Suite:
-    """Each cell of code is a case, and its outputs as plain text are what is wanted. The number of its cell stands for a line."""
+    """Each cell of code is a case of one field, which its first error ends, and its outputs as plain text are what is wanted. The number of its
+    cell stands for a line."""
     try:
         notebook = json.loads(text)
         metadata = notebook.get("metadata", {})
@@ -193,7 +200,7 @@ def read_notebook(path: str, text: str, session: Session) -> Suite:
     cases: List[Case] = []
     for number, cell in enumerate(cells, 1):
         lines = text_in(cell.get("source")).split("\n")
-        fields = tuple(groups(lines, language_in(session.words)))
+        fields = tuple(whole(cell_lines(text_in(cell.get("source")), language)))
         if cell.get("cell_type") == "code" and fields:
             wanted = "\n".join(part for part in (output_of(it, language) for it in cell.get("outputs", [])) if part)
             cases.append(Case(session.name, Marks(), tuple(lines), fields, number, wanted))
@@ -268,7 +275,7 @@ def as_text(suite: Suite) -> str:
     lines = ["---", "sessions:", *(f"  {name}: {json.dumps(list(words))}" for name, words in suite.sessions.items()), *rules, "---", ""]
     for case in suite.cases:
         code = list(case.lines)
-        if len(case.fields) == 1 and case.fields[0].input.endswith(TELLS_STATUS):
+        if len(case.fields) == 1:
             code = case.fields[0].input.split(LINE_END)
         marks = " {setup}" if case.marks.is_setup else " {teardown}" if case.marks.is_teardown else ""
         if case.fields != tuple(groups(code, language_in(suite.sessions[case.session]))):
