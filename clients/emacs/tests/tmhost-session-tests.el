@@ -125,6 +125,29 @@
     (goto-char (tmhost-view-input-end (tmhost-view-field 1)))
     (should-not (nth 2 (tmhost-completion-at-point)))))
 
+(ert-deftest tmhost-tests-completion-of-python ()
+  "The adapter of Python tells the names that a field has made."
+  (tmhost-tests-with-sheet path
+    (tmhost-new-session "py" tmhost-tests-python t)
+    (tmhost-tests-until (lambda () (tmhost-sheet-session "py")) "session")
+    (tmhost-insert-after "py" "import os; naming = 1")
+    (tmhost-tests-until (lambda () (tmhost-view-field 1)) "field")
+    (tmhost-evaluate)
+    (tmhost-tests-until
+     (lambda ()
+       (and (eq (tmhost-field-state (tmhost-view-field 1)) 'answered)
+            (not (tmhost-session-busy (tmhost-sheet-session "py")))))
+     "answer")
+    (let ((tmhost-completion-patience 60.0))
+      (tmhost-view-set-text (tmhost-tests-at 1) "x = nami")
+      (goto-char (tmhost-view-input-end (tmhost-view-field 1)))
+      (completion-at-point)
+      (should (equal (tmhost-tests-inputs) '("x = naming")))
+      (tmhost-view-set-text (tmhost-tests-at 1) "os.getcw")
+      (goto-char (tmhost-view-input-end (tmhost-view-field 1)))
+      (should (equal (nth 2 (tmhost-completion-at-point))
+                     '("getcwd" "getcwdb"))))))
+
 (ert-deftest tmhost-tests-hostile-output ()
   "An output is text alone, whatever stands in it."
   (tmhost-tests-with-sheet path

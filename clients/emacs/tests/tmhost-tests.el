@@ -13,11 +13,18 @@
   (file-name-directory (or load-file-name buffer-file-name))
   "The folder of the tests.")
 
-(defconst tmhost-tests-interpreter
-  (concat "python3 " (or (getenv "TMHOST_TEST_INTERPRETER")
-                         (expand-file-name "../../repl/tests/interpreter.py"
-                                           tmhost-tests-folder)))
+(defconst tmhost-tests-file
+  (or (getenv "TMHOST_TEST_INTERPRETER")
+      (expand-file-name "../../repl/tests/interpreter.py" tmhost-tests-folder))
+  "The file of an interpreter.")
+
+(defconst tmhost-tests-interpreter (concat "python3 " tmhost-tests-file)
   "The words of an interpreter.")
+
+(defconst tmhost-tests-python
+  (expand-file-name "../../../adapters/python"
+                    (file-name-directory tmhost-tests-file))
+  "The adapter of Python.")
 
 (defun tmhost-tests-until (condition &optional what)
   "Wait for the function CONDITION to give true; WHAT is its name."

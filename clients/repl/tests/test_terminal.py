@@ -1,10 +1,12 @@
 """The command at a terminal: what is shown after what is typed."""
 import os
+import shutil
 import signal
 import termios
 import time
+import unittest
 
-from .support import INTERPRETER, LINE_END, Case, Terminal
+from .support import INTERPRETER, LINE_END, ROOT, Case, Terminal
 
 PASTE = "\x1b[200~{}\x1b[201~"
 
@@ -277,6 +279,32 @@ class Completions(Case):
         terminal.sees(r"^say  sleep  stuck\nt> s\Z")
         terminal.send("l\t 0\r")
         terminal.sees(r"\] sleep 0\nslept\nt>\Z")
+
+    def test_names_of_python(self) -> None:
+        """By the adapter: what a line has made, and what an object has."""
+        terminal = self.terminal("--create", "--tab", self.sheet, "py", os.path.join(ROOT, "adapters/python"))
+        terminal.sees("py>")
+        terminal.send("import os; naming = 1\r")
+        terminal.sees(r"naming = 1\npy>\Z")
+        terminal.send("nami\t")
+        terminal.sees(r"^py> naming\Z")
+        terminal.send(" + len(os.getc\t")
+        terminal.sees(r"^py> naming \+ len\(os.getcwd\Z")
+        terminal.send("\t\t")
+        terminal.sees(r"os.getcwd  os.getcwdb\npy> naming \+ len\(os.getcwd\Z")
+        terminal.send("\x15nami\t * 2\r")
+        terminal.sees(r"naming \* 2\n2\npy>\Z")
+
+    @unittest.skipUnless(shutil.which("gp"), "there is no gp")
+    def test_names_of_gp(self) -> None:
+        terminal = self.terminal("--create", "--tab", self.sheet, "gp", os.path.join(ROOT, "adapters/gp"), "--text")
+        terminal.sees("gp>")
+        terminal.send("naming(t) = t^2 + 1\r")
+        terminal.sees(r"\(t\)->t\^2\+1\ngp>\Z")
+        terminal.send("nami\t(3)\r")
+        terminal.sees(r"naming\(3\)\n%2 = 10\ngp>\Z")
+        terminal.send("ellini\t([0,1]).dis\t\r")
+        terminal.sees(r"ellinit\(\[0,1\]\).disc\n%3 = -432\ngp>\Z")
 
     def test_a_line_that_is_given_up(self) -> None:
         """Its cell goes."""
