@@ -176,6 +176,15 @@ class Interpreter(blocks.Child):
             said = self.ask(self.profile.statement(line)) if self.drop_what_was_said() else None
         return None if said is None else self.parts(said)
 
+    def complete(self, front: bytes) -> Optional[bytes]:
+        """The block that says what can stand behind a text; None where it has ended."""
+        found = re.search(self.profile.word, front.decode("utf-8", "replace"), re.ASCII)
+        if not found or not self.profile.names:
+            return blocks.NO_COMPLETIONS
+        with self.at_a_line():
+            said = self.ask(self.profile.names.format(found[0]).encode()) if self.drop_what_was_said() else None
+        return None if said is None else blocks.completions(found[0], said.decode("utf-8", "replace").split())
+
 
 def without_lines(text: bytes, word: bytes) -> bytes:
     """A text without the lines that have a word."""
@@ -202,6 +211,13 @@ class Session:
             parts = self.begin_again(stuck.said.strip(b"\n"))
         return None if parts is None else blocks.answer(parts, self.profile.prompt)
 
+    def complete(self, front: bytes) -> Optional[bytes]:
+        """The block that says what can stand behind a text; None where the interpreter has ended."""
+        try:
+            return self.interpreter.complete(front)
+        except Stuck:
+            return None if self.begin_again(b"") is None else blocks.NO_COMPLETIONS
+
     def begin_again(self, said: bytes) -> Optional[List[blocks.Part]]:
         """Starts another interpreter in the place of this one, and answers with a text."""
         self.interpreter.leave()
@@ -219,7 +235,7 @@ def main() -> None:
         words.error(f"{chosen.profile} has no way to write formulas")
     session = Session(profile, chosen.latex)
     if session.interpreter.begin():
-        blocks.serve(blocks.verbatim(b"", profile.prompt), session.answer, session.signals)
+        blocks.serve(blocks.verbatim(b"", profile.prompt), session.answer, session.signals, session.complete)
     session.interpreter.end()
 
 
