@@ -83,6 +83,11 @@ R: List[Case] = [
     ("zz|", '"zz" ".list" ".top" "_active" "_alone" "_made"'), ("zz.|", '"zz." "list" "top"'), ("zz.t|", '"zz.t" "op"'), ("zz.t|op", '"zz.t" "op"'), ("x <- zz.t|", '"zz.t" "op"'), ("1:zz.t|", '"zz.t" "op"'), ("read.tab|", '"read.tab" "le"'), ("c(read.tab|", '"read.tab" "le"'), ("1\u2028read.tab|\u20282", '"read.tab" "le"'),
     ("zz.list$f|", NONE), ("zz_active$f|", NONE), ("x@zz|", NONE), ("stats::med|", NONE), ("stats:::med|", NONE), ("nothing_like_it|", NONE), ("|", NONE), (" |", NONE), ("(|", NONE), ("1|", NONE), ("1e|", NONE), ("é|", NONE), ('"\\"; read.tab|', '"read.tab" "le"'), ("'; read.tab|", '"read.tab" "le"'),
 ]
+MAXIMA_LINE = "zz_top: 5$ zz_alone: [1]$ zz_made(x) := error(\"run\")$ zzUp: 1$ 7"
+MAXIMA: List[Case] = [
+    ("zz_|", '"zz_" "alone" "made" "top"'), ("zz_t|", '"zz_t" "op"'), ("zz_t|op", '"zz_t" "op"'), ("x: zz_t|", '"zz_t" "op"'), ("1+zz_m|", '"zz_m" "ade"'), ("zzU|", '"zzU" "p"'), ("zzu|", NONE), ("integrate_use|", '"integrate_use" "_rootsof"'), ("f(integrate_use|", '"integrate_use" "_rootsof"'),
+    ("1;\u2028polydec|\u20282", '"polydec" "omp"'), ("polydec|", '"polydec" "omp"'), ("NI|", NONE), ("%p|", NONE), ("nothing_like_it|", NONE), ("|", NONE), (" |", NONE), ("(|", NONE), ("1|", NONE), ("1e|", NONE), ("é|", NONE), ('"\\"; polydec|', '"polydec" "omp"'), ("'polydec|", '"polydec" "omp"'),
+]
 
 COMPLETING: Dict[str, Completing] = {
     "python": Completing(PYTHON_LINE, PYTHON),
@@ -90,4 +95,6 @@ COMPLETING: Dict[str, Completing] = {
     "gp --text": Completing(GP_LINE, GP),
     "prompted.py octave": Completing(OCTAVE_LINE, OCTAVE),
     "prompted.py R": Completing(R_LINE, R),
+    "prompted.py maxima": Completing(MAXIMA_LINE, MAXIMA),
+    "prompted.py maxima --latex": Completing(MAXIMA_LINE, MAXIMA),
 }

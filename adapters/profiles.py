@@ -335,6 +335,8 @@ PROFILES = {
         rb"\n?TMHOST-DONE(?=\n?(?:\(dbm:\d+\) )?\Z)",
         b"\nNIL",
         (" ".join(MAXIMA_LATEX.split()),),
+        names=':lisp (progn (dolist (s (cdr (meval (list (list (quote $apropos)) "{0}")))) (format t "~%~a" ($sconcat s))) (values))',
+        word=r"(?<![\w%?])[A-Za-z]\w*\Z",
     ),
     "M2": Profile(
         ["M2", "-q", "--silent", "--no-readline", "--no-debug", "--no-tty", "--no-prompts"],

@@ -19,7 +19,7 @@ ADAPTERS: List[Tuple[str, str, str, bool]] = [
     ("octave", "prompted.py octave", "octave", True),
     ("r", "prompted.py R", "R", True),
     ("gap", "prompted.py gap", "gap", False),
-    ("maxima", "prompted.py maxima --latex", "maxima", False),
+    ("maxima", "prompted.py maxima --latex", "maxima", True),
     ("m2", "prompted.py M2 --latex", "M2", False),
     ("giac", "prompted.py giac --latex", "giac", False),
     ("singular", "prompted.py singular", "Singular", False),
