@@ -95,9 +95,9 @@ def front_of(request: bytes) -> bytes:
 
 
 def completions(root: str, names: Iterable[str]) -> bytes:
-    """The block that says which of the names begin with the root, each without it; the first ones where there are many. What is no name has
-    letters that mean something in the block, and is left out."""
-    found = sorted(name[len(root):] for name in set(names) if name.startswith(root) and name.isidentifier())[:MOST_COMPLETIONS]
+    """The block that says which of the names begin with the root, each without it; the first ones where there are many. What has other
+    letters than names have is left out, since it could mean something in the block."""
+    found = sorted(name[len(root):] for name in set(names) if name.startswith(root) and re.fullmatch(r"[\w.]+", name))[:MOST_COMPLETIONS]
     told = " ".join(f'"{text}"' for text in [root, *found])
     return block(b"scheme:", f"(tuple {told})".encode()) if found else NO_COMPLETIONS
 

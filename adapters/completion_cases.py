@@ -72,8 +72,29 @@ GP: List[Case] = [
     ("f(3).roo|", '"roo" "ts"'), ("v[1].roo|", '"roo" "ts"'), ("x.codi|", '"codi" "ff"'), ("x.et|", '"et" "a"'), ("x.a|", '"a" "1" "2" "3" "4" "6" "rea"'), ("x.|", '.."zkst"'), ("x.r1|", '"r1" ""'), ("x.ellini|", NONE), ("ellinit(x).dis|", '"dis" "c"'), ("x.no|", '"no" ""'),
 ]
 
+# Of a value behind a dot or a dollar nothing is told, since it would have to be computed.
+OCTAVE_LINE = "zz_top = 5; zz_alone = 1; zz_s.field = 1; function zz_made (), error ('run'), end"
+OCTAVE: List[Case] = [
+    ("zz_|", '"zz_" "alone" "made" "s" "top"'), ("zz_t|", '"zz_t" "op"'), ("zz_t|op", '"zz_t" "op"'), ("x = zz_t|", '"zz_t" "op"'), ("1 + zz_m|", '"zz_m" "ade"'), ("fclos|", '"fclos" "e"'), ("zeros (fclos|", '"fclos" "e"'), ("1;\u2028fclos|\u20282", '"fclos" "e"'),
+    ("zz_s.f|", NONE), ("zz_s.|", NONE), ("zz_made.f|", NONE), ("zz_made ().f|", NONE), ("nothing_like_it|", NONE), ("|", NONE), (" |", NONE), ("(|", NONE), ("1|", NONE), ("1.|", NONE), ("1e|", NONE), ("é|", NONE), ('"\\"; fclos|', '"fclos" "e"'), ("'; fclos|", '"fclos" "e"'),
+]
+R_LINE = "zz.top <- 5; zz_alone <- 1; zz.list <- list(field = 1); zz_made <- function() stop('run'); makeActiveBinding('zz_active', function() quit(), globalenv()); 7"
+R: List[Case] = [
+    ("zz|", '"zz" ".list" ".top" "_active" "_alone" "_made"'), ("zz.|", '"zz." "list" "top"'), ("zz.t|", '"zz.t" "op"'), ("zz.t|op", '"zz.t" "op"'), ("x <- zz.t|", '"zz.t" "op"'), ("1:zz.t|", '"zz.t" "op"'), ("read.tab|", '"read.tab" "le"'), ("c(read.tab|", '"read.tab" "le"'), ("1\u2028read.tab|\u20282", '"read.tab" "le"'),
+    ("zz.list$f|", NONE), ("zz_active$f|", NONE), ("x@zz|", NONE), ("stats::med|", NONE), ("stats:::med|", NONE), ("nothing_like_it|", NONE), ("|", NONE), (" |", NONE), ("(|", NONE), ("1|", NONE), ("1e|", NONE), ("é|", NONE), ('"\\"; read.tab|', '"read.tab" "le"'), ("'; read.tab|", '"read.tab" "le"'),
+]
+MAXIMA_LINE = "zz_top: 5$ zz_alone: [1]$ zz_made(x) := error(\"run\")$ zzUp: 1$ 7"
+MAXIMA: List[Case] = [
+    ("zz_|", '"zz_" "alone" "made" "top"'), ("zz_t|", '"zz_t" "op"'), ("zz_t|op", '"zz_t" "op"'), ("x: zz_t|", '"zz_t" "op"'), ("1+zz_m|", '"zz_m" "ade"'), ("zzU|", '"zzU" "p"'), ("zzu|", NONE), ("integrate_use|", '"integrate_use" "_rootsof"'), ("f(integrate_use|", '"integrate_use" "_rootsof"'),
+    ("1;\u2028polydec|\u20282", '"polydec" "omp"'), ("polydec|", '"polydec" "omp"'), ("NI|", NONE), ("%p|", NONE), ("nothing_like_it|", NONE), ("|", NONE), (" |", NONE), ("(|", NONE), ("1|", NONE), ("1e|", NONE), ("é|", NONE), ('"\\"; polydec|', '"polydec" "omp"'), ("'polydec|", '"polydec" "omp"'),
+]
+
 COMPLETING: Dict[str, Completing] = {
     "python": Completing(PYTHON_LINE, PYTHON),
     "gp": Completing(GP_LINE, GP),
     "gp --text": Completing(GP_LINE, GP),
+    "prompted.py octave": Completing(OCTAVE_LINE, OCTAVE),
+    "prompted.py R": Completing(R_LINE, R),
+    "prompted.py maxima": Completing(MAXIMA_LINE, MAXIMA),
+    "prompted.py maxima --latex": Completing(MAXIMA_LINE, MAXIMA),
 }

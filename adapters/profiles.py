@@ -172,6 +172,12 @@ R_LINE = r"""local({
         }
         invisible(.Last.value)
     }
+    names <- function(word) {
+        last <- .Last.value
+        found <- utils::apropos(paste0("^", gsub(".", "[.]", word, fixed = TRUE)), ignore.case = FALSE)
+        base::cat(found, "", sep = "\n")
+        invisible(last)
+    }
     mark <- function(first, second) {
         last <- .Last.value
         number <- sink.number("message")
@@ -183,7 +189,7 @@ R_LINE = r"""local({
         invisible(last)
     }
     tools::Rd2txt_options(underline_titles = FALSE)
-    options(error = expression(NULL), showErrorCalls = FALSE, keep.source = TRUE, tmhost.line = line, tmhost.mark = mark)
+    options(error = expression(NULL), showErrorCalls = FALSE, keep.source = TRUE, tmhost.line = line, tmhost.mark = mark, tmhost.names = names)
 }, envir = new.env(parent = baseenv()))"""
 
 
@@ -316,6 +322,8 @@ class Profile:
     latex: Tuple[str, ...] = ()  # lines that make it write a value as MARK, its TeX and MARK, a name of random bits
     again: bytes = rb"(?!)"  # a line that starts the interpreter again, as it was at first
     input: bytes = rb"(?!)"  # what of a line would wait for input, and can't be made an error in the interpreter itself
+    names: str = ""  # the line that prints the names which begin with the word {0}; empty where there is none
+    word: str = r"(?<![\w.])[A-Za-z_]\w*\Z"  # such a word at the end of a text
 
     def begins_again(self, line: bytes) -> bool:
         return bool(re.fullmatch(self.again, line.strip()))
@@ -343,6 +351,7 @@ PROFILES = {
         latex=("pkg load symbolic; sym (0);", f"addpath ('{HERE}/octave/formulas')"),
         pictures=("warning ('off', 'Octave:gnuplot-graphics'); warning ('off', 'print:nogs'); graphics_toolkit gnuplot; set (0, 'defaultfigurevisible', 'off');",),
         after="tmhost_draw ('FOLDER')",
+        names="completion_matches ('{0}')",
     ),
     "R": Profile(
         ["R", "--no-save", "--no-restore", "--no-echo", "--file=" + COMMANDS],
@@ -352,6 +361,8 @@ PROFILES = {
         in_r,
         pictures=(R_PICTURES,),
         after='getOption("tmhost.close")()',
+        names='getOption("tmhost.names")("{0}")',
+        word=r"(?<![\w.$@])(?<!::)[A-Za-z][\w.]*\Z",
     ),
     "gap": Profile(["gap", "-q", "-b", "-n", "-T"], 'Print("{0}", "{1}\\n");', b"gap> ", (" ".join(GAP_LINE.split()),), in_gap),
     "maxima": Profile(
@@ -364,6 +375,8 @@ PROFILES = {
         b"\nNIL",
         latex=(" ".join(MAXIMA_LATEX.split()),),
         pictures=(" ".join(MAXIMA_PICTURES.split()),),
+        names=':lisp (progn (dolist (s (cdr (meval (list (list (quote $apropos)) "{0}")))) (format t "~%~a" ($sconcat s))) (values))',
+        word=r"(?<![\w%?])[A-Za-z]\w*\Z",
     ),
     "M2": Profile(
         ["M2", "-q", "--silent", "--no-readline", "--no-debug", "--no-tty", "--no-prompts"],

@@ -188,6 +188,15 @@ class Interpreter(blocks.Child):
             said = self.ask(*self.around(line)) if self.drop_what_was_said() else None
         return None if said is None else self.parts(said)
 
+    def complete(self, front: bytes) -> Optional[bytes]:
+        """The block that says what can stand behind a text; None where it has ended."""
+        found = re.search(self.profile.word, front.decode("utf-8", "replace"), re.ASCII)
+        if not found or not self.profile.names:
+            return blocks.NO_COMPLETIONS
+        with self.at_a_line():
+            said = self.ask(self.profile.names.format(found[0]).encode()) if self.drop_what_was_said() else None
+        return None if said is None else blocks.completions(found[0], said.decode("utf-8", "replace").split())
+
 
 def without_lines(text: bytes, word: bytes) -> bytes:
     """A text without the lines that have a word."""
@@ -215,6 +224,13 @@ class Session:
             parts = self.begin_again(stuck.said.strip(b"\n"))
         return None if parts is None else blocks.answer([*parts, *(pictures.drawn(self.folder) if self.folder else ())], self.profile.prompt)
 
+    def complete(self, front: bytes) -> Optional[bytes]:
+        """The block that says what can stand behind a text; None where the interpreter has ended."""
+        try:
+            return self.interpreter.complete(front)
+        except Stuck:
+            return None if self.begin_again(b"") is None else blocks.NO_COMPLETIONS
+
     def begin_again(self, said: bytes) -> Optional[List[blocks.Part]]:
         """Starts another interpreter in the place of this one, and answers with a text."""
         self.interpreter.leave()
@@ -236,7 +252,7 @@ def main() -> None:
     with tempfile.TemporaryDirectory(prefix="tmhost-") as folder:
         session = Session(profile, chosen.latex, folder if profile.pictures and not chosen.no_pictures else "")
         if session.interpreter.begin():
-            blocks.serve(blocks.verbatim(b"", profile.prompt), session.answer, session.signals)
+            blocks.serve(blocks.verbatim(b"", profile.prompt), session.answer, session.signals, session.complete)
         session.interpreter.end()
 
 
