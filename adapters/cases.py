@@ -303,6 +303,8 @@ DRAWING: Dict[str, List[Tuple[str, str]]] = {
         ("p = plt.scatter(range(20000), range(20000))", "{image/png;base64}"), ("p = plt.plot([2, 1]); 1/0", "..ZeroDivisionError: division by zero\n{image/svg+xml}"),
         ("p = plt.title('$\\\\frac$')", "..ValueError"), ("plt.show()", ""),
     ],
+    "gp": [("2", r"{latex:$\%1 = 2$}"), ('plothexport("svg", x = 0, 1, x^2)', "%2 =\n{image/svg+xml}"), ('plothexport("svg", x = 0, 1, x); 3', r"{latex:$\%3 = 3$}"), ("#%2 > 99", r"{latex:$\%4 = 1$}")],
+    "gp --no-numbers": [('plothexport("svg", x = 0, 1, x^2)', "{image/svg+xml}"), ('"<svg"', '"<svg"')],
     "R": [
         ("plot(1:3)", "{image/svg+xml}"), ('plot(1:3); hist(1:4); "two"', '[1] "two"\n{image/svg+xml}\n{image/svg+xml}'), (".Last.value", '[1] "two"'),
         ('plot(1:2); stop("no")', "Error: no\n{image/svg+xml}"), ("lines(1:2)", "..plot.new has not been called yet"), ('pdf("/dev/null")', ""), ("plot(1)", ""),

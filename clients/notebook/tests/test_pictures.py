@@ -49,6 +49,7 @@ DRAWN: List[Tuple[str, bytes]] = [
     ("image/svg+xml", (SVG % (
         '<defs><g><symbol overflow="visible" id="g"><path d="M1 1 L5 5"/></symbol></g><linearGradient id="l"><stop offset="1" stop-color="red"/>'
         '</linearGradient></defs><use xlink:href="#g" x="5" y="5"/><rect width="9" height="9" fill="url(#l)"/>'
+        '<defs><filter id="textbox" x="0" y="0" width="1" height="1"><feFlood flood-color="white" result="b"/><feComposite in="SourceGraphic" in2="b"/></filter></defs>'
         '<title>Gnuplot</title><text x="9" y="50">Sin(x) &amp; x &lt; 1</text>')).encode()),
     ("image/svg+xml", (SVG % f'<image width="9" height="9" xlink:href="data:image/png;base64,{base64.b64encode(png()).decode()}"/>').encode()),
 ]

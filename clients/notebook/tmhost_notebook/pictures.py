@@ -1,8 +1,8 @@
 """Which blocks of an answer are pictures that the page may draw: blocks with one text, whose format is a MIME type, and whose bytes were looked at.
 
 A browser runs no script of a picture in an `img`, and loads nothing for it; but one may be made so that it takes minutes to draw. So a PNG or JPEG
-has so many dots at most, and an SVG is of elements that draw at once: no scripts, filters, animations or pages in it, and what is referred
-to refers to nothing itself, so that no chain of references makes more of it than so many elements.
+has so many dots at most, and an SVG is of elements that draw at once: no scripts, filters, animations or pages in it, and references draw
+only so many elements again.
 """
 
 import base64
@@ -20,10 +20,12 @@ MOST_DOTS = 25_000_000
 MOST_ELEMENTS = 300_000  # with those that references draw again
 MOST_IMAGES = 100  # within an SVG
 DEEPEST = 64  # elements in one another
+DEEPEST_REFERENCE = 8  # what refers to what refers ..
 
 ELEMENTS = frozenset(
     "svg g defs symbol use path rect circle ellipse line polyline polygon text tspan textPath image clipPath mask pattern marker "
-    "linearGradient radialGradient stop style title desc metadata a switch".split()
+    "linearGradient radialGradient stop style title desc metadata a switch "
+    "filter feFlood feComposite".split()  # gnuplot defines one; none is used, since nothing may refer to it by `filter`
 )
 SVG, XLINK = "http://www.w3.org/2000/svg", "http://www.w3.org/1999/xlink"
 UNTOLD = ("title", "desc", "metadata")  # what stands in these isn't drawn
@@ -147,16 +149,23 @@ class Drawing:
             raise NotDrawn
 
     def look_at_references(self) -> None:
-        """Nothing that is referred to refers to anything."""
-        targets = [target for _, name in self.references for target in self.named.get(name, ())]
-        drawn = self.count + sum(end - begin for begin, end in targets)
-        who = sorted({number for number, _ in self.references})
-        for begin, end in set(targets):
-            at = bisect.bisect_left(who, begin)
-            if at < len(who) and who[at] < end:
-                raise NotDrawn
-        if drawn > MOST_ELEMENTS:
+        """What is drawn with all that is drawn again, references within what is referred to among it, has so many elements at most."""
+        self.references.sort()
+        self.weights: Dict[Tuple[int, int], int] = {}
+        if self.count + self.weight(0, self.count + 1, 0) > MOST_ELEMENTS:
             raise NotDrawn
+
+    def weight(self, begin: int, end: int, depth: int) -> int:
+        """How many elements the references in a range of elements draw again."""
+        if depth > DEEPEST_REFERENCE:
+            raise NotDrawn
+        drawn = 0
+        for at in range(bisect.bisect_left(self.references, (begin, "")), bisect.bisect_left(self.references, (end, ""))):
+            for target in self.named.get(self.references[at][1], ()):
+                if target not in self.weights:
+                    self.weights[target] = target[1] - target[0] + self.weight(*target, depth + 1)
+                drawn += self.weights[target]
+        return drawn
 
 
 def refuse(*told: object) -> None:
