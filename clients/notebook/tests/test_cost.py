@@ -139,7 +139,7 @@ class Opening(Costs):
         tab = browser.open("about:blank")
         before = self.settled(browser.process.pid)
         tab.ask("Page.navigate", {"url": server.address})
-        while tab.value(f"{READY} ?? ''") != "true":  # who asks more often spends its processor time
+        while tab.value(f"document.documentElement && ({READY} ?? '')") != "true":  # who asks more often spends its processor time
             time.sleep(1)
         after = times_of(browser.process.pid)
         page = sum(spent - before.get(pid, 0.0) for pid, spent in after.items())

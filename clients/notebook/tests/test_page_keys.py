@@ -162,6 +162,7 @@ class KeysOfThePage(PageCase):
         tab.until(FOCUSED, "session-make")
         tab.key("Enter")
         tab.until("document.querySelector('#session-dialog').open", False)
+        tab.until(f"[...document.querySelectorAll('#sessions li')].some((one) => one.textContent.includes({name!r}))", True)
         id = self.page.call("new", session=name, text=line, after=0)["id"]
         self.page.call("eval", id=id)
         self.page.until_idle()

@@ -132,7 +132,9 @@ class Requests(Case):
             self.assertEqual(policy["default-src"], "'none'")
             self.assertEqual(policy["script-src"], "'self'")
             self.assertEqual(policy["require-trusted-types-for"], "'script'")
-            self.assertFalse(re.search(r"unsafe|\*|data:|blob:|http", headers["content-security-policy"]))
+            self.assertEqual(policy["img-src"], "'self' data:")
+            others = headers["content-security-policy"].replace("img-src 'self' data:", "")
+            self.assertFalse(re.search(r"unsafe|\*|data:|blob:|http", others))
             self.assertEqual((headers["x-content-type-options"], headers["referrer-policy"], headers["cache-control"]),
                 ("nosniff", "no-referrer", "no-store"))
 
