@@ -1,10 +1,16 @@
 """The page by keys: from an empty worksheet to an answer, buttons, the dialog of a new session, what is undone and found."""
 
 import shutil
+import sys
 import unittest
 from typing import Any, List
 
+import harness
 from harness import HOLDS, IN_TEXT, READY, SPOKEN, Page, PageCase, needs_chromium, needs_program, opened
+
+sys.path[:0] = [harness.NOTEBOOK]
+
+from tmhost_notebook.suggested import kernels  # noqa: E402
 
 FOCUSED = "document.activeElement.dataset?.do || document.activeElement.id || document.activeElement.className || document.activeElement.localName"
 NAME_OF = "((node) => node.dataset?.do || node.id || node.href || node.localName)(%s)"
@@ -229,6 +235,8 @@ class KeysOfThePage(PageCase):
         tab.click("[data-do=addCell]")
         tab.until("document.querySelector('#session-dialog').open")
         self.assertIn("sh", tab.value(SUGGESTED))
+        for name in kernels():
+            self.assertIn(f"jupyter-{name}", tab.value(SUGGESTED))
         tab.value(SUGGESTS % "sh")
         tab.until(FOCUSED, "session-make")
         tab.key("Enter")
