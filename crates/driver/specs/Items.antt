@@ -1,0 +1,121 @@
+-- What is to be done, and what was done.
+use Rattle.std.specs.Prelude.{ℕ, Bool, List, [], ◌∷◌, ◌++◌, Option, Some, None, map}
+use Rattle.host_events.specs.declared.event.Event.{Event}
+use Rattle.host_events.specs.declared.event.Event.TheVariants.{Child}
+use Rattle.host_events.specs.declared.event.ChildEvent.TheVariants as child
+use Rattle.host_events.specs.declared.outcome.Outcome.{Outcome}
+use Rattle.host_events.specs.declared.reply.Reply.{Reply}
+use Rattle.child_calls.specs.declared.seat.Seat.{Seat}
+use Rattle.child_edge.specs.Faithful.{Beat}
+use Rattle.child_edge.specs.Together.{Followed, beats_behind, trace_of}
+use Rattle.child_edge.specs.Told.{told}
+use Rattle.child_edge.specs.declared.interrupting.Interrupted.{Interrupted}
+use Rattle.arrivals.specs.Watching.{Asked, asked}
+use Rattle.arrivals.specs.declared.sources.Woken.{Woken}
+use Rattle.tellings.specs.declared.note.Note.{Note}
+use Rattle.offline_programs.specs.declared.fault.RunFault.{RunFault}
+use Rattle.offline_programs.specs.declared.fault.RunFault.TheVariants as fault
+use Rattle.driver.specs.declared.turn.Turn.{Turn}
+use Rattle.driver.specs.declared.turn.Turn.TheVariants as turn
+use Rattle.driver.specs.declared.said.Said.{Said}
+use Rattle.driver.specs.declared.said.Said.TheVariants as said
+use Rattle.driver.specs.declared.said.Came.{Came}
+
+-- what is to be done
+pub data Item : Type 0 where
+  -- the agenda says what is next
+  ask : Item
+  -- the sources are watched
+  watch : Asked → Item
+  -- this life is received from, and others that are ready: so many at most
+  hear : Seat → ℕ → Item
+  -- these events are taken behind one gate: those of lives, or of the lines from this one on
+  take : Option ℕ → List Event → Item
+  -- the journal is rewritten, for which this line asks
+  rewrite : ℕ → Item
+  -- each life in which an item waits has stalled
+  stall : Item
+  -- the interpreter of this session is interrupted
+  interrupt : List ℕ → Item
+  -- this is told
+  tell : Said → Item
+  -- the agenda heeds what came
+  heed : Came → Item
+  -- this fault is told
+  confess : RunFault → Item
+  -- no more is done, by this fault
+  halt : RunFault → Item
+
+-- what was done
+pub data Step : Type 0 where
+  chose : Turn → Step
+  watched : Asked → Woken → Step
+  heard : List Event → Step
+  took : List Event → List Outcome → List Followed → Step
+  rewrote : Beat → Step
+  stalled : List Seat → Step
+  interrupted : List ℕ → Interrupted → Step
+  told_of : Said → Step
+  heeded : Came → Option Note → Step
+  -- the item at the head failed, after these events were taken
+  broke : List Beat → RunFault → Step
+  -- the fault was told last of all, or that was tried
+  confessed : RunFault → Bool → Step
+
+-- what comes of a turn
+abbrev pub came : List Outcome → List Reply → Came
+came outcomes replies = record { outcomes = outcomes; replies = replies; interrupted = None }
+
+abbrev pub interrupt_came : Interrupted → Came
+interrupt_came told = record { outcomes = []; replies = []; interrupted = Some told }
+
+-- what the agenda asked for, and then it is asked again; at the end it is not
+abbrev pub items_of : Turn → List Item
+items_of turn.End = []
+items_of turn.Nothing = ask ∷ []
+items_of (turn.Watch input patience) = watch (asked input patience) ∷ ask ∷ []
+items_of (turn.Hear seat most) = hear seat most ∷ ask ∷ []
+items_of (turn.Lines first events) = take (Some first) events.items ∷ ask ∷ []
+items_of (turn.Checkpoint line) = rewrite line ∷ ask ∷ []
+items_of turn.Stall = stall ∷ ask ∷ []
+items_of (turn.Interrupt name) = interrupt name ∷ ask ∷ []
+items_of (turn.Note n) = tell (said.Note n) ∷ heed (came [] []) ∷ ask ∷ []
+items_of (turn.Sheet line) = tell (said.Sheet line) ∷ heed (came [] []) ∷ ask ∷ []
+items_of (turn.Field line id) = tell (said.Field line id) ∷ heed (came [] []) ∷ ask ∷ []
+items_of (turn.Export line format) = tell (said.Export line format) ∷ heed (came [] []) ∷ ask ∷ []
+
+-- what events gave that were taken behind one gate is told, lines by their numbers, and then what followed; the agenda heeds it
+abbrev pub said_of : Option ℕ → List Outcome → Said
+said_of None outcomes = said.Lives outcomes
+said_of (Some first) outcomes = said.Lines first outcomes
+
+abbrev pub telling : Option ℕ → List Outcome → List Reply → List Item
+telling from outcomes replies = tell (said_of from outcomes) ∷ tell (said.Followed replies) ∷ heed (came outcomes replies) ∷ []
+
+-- what is noted is told
+abbrev pub notes : Option Note → List Item
+notes None = []
+notes (Some n) = tell (said.Note n) ∷ []
+
+-- After a fault it is told, and no more is done; that the sink failed is not.
+abbrev pub after_fault : RunFault → List Item
+after_fault fault.Output = halt fault.Output ∷ []
+after_fault why = confess why ∷ []
+
+-- the event that a life has stalled
+abbrev pub stalls : Seat → Event
+stalls seat = Child seat.name seat.life child.Stalled
+
+-- the entries of the trace
+abbrev pub beats_of : Step → List Beat
+beats_of (chose t) = []
+beats_of (watched q w) = []
+beats_of (heard events) = []
+beats_of (took events outcomes followed) = trace_of events outcomes followed
+beats_of (rewrote b) = b ∷ []
+beats_of (stalled seats) = []
+beats_of (interrupted name told) = []
+beats_of (told_of s) = []
+beats_of (heeded c n) = []
+beats_of (broke beats why) = beats
+beats_of (confessed why whole) = []

@@ -1,0 +1,46 @@
+-- Laws of all runs.
+use Rattle.std.specs.Prelude.{◌≡◌, ◌⊎◌, ℕ, Bool, true, List, [], ◌∷◌, ◌++◌, Option}
+use Rattle.std.specs.List.{flat_map}
+use Rattle.std.specs.Io.KnownBytes.{Appends}
+use Rattle.disk_model.specs.Disk.{DiskView}
+use Rattle.host_events.specs.declared.event.Event.{Event}
+use Rattle.host_events.specs.declared.outcome.Outcome.{Outcome}
+use Rattle.session_engine.specs.World.{World}
+use Rattle.session_engine.specs.Does.{Runs}
+use Rattle.child_edge.specs.Faithful.{Beat}
+use Rattle.child_edge.specs.Kept.{HoldsSheet}
+use Rattle.child_edge.specs.Moments.{events_of, outcomes_of}
+use Rattle.offline_programs.specs.declared.fault.RunFault.{RunFault}
+use Rattle.driver.specs.declared.said.Said.{Said}
+use Rattle.driver.specs.Said.{text_of}
+use Rattle.driver.specs.Items.{Item, Step, beats_of, broke, confessed, halt, told_of}
+use Rattle.driver.specs.Place.{Place, Rules, Tries}
+use Rattle.driver.specs.Steps.{Run}
+
+-- the entries of the trace of a run
+abbrev pub trace : List Step → List Beat
+trace steps = flat_map beats_of steps
+
+-- The first steps of a run are a run, and the others another from where those led.
+pub record CutAt {A C K : Type 0} (R : Rules A C K) (p : Place A C K) (todo : List Item) (first last : List Step) (left : List Item) (q : Place A C K) : Type 0 where
+  pub there : Place A C K
+  pub then_to_do : List Item
+  pub ran : Run R p todo first then_to_do there
+  pub goes_on : Run R there then_to_do last left q
+
+abbrev pub RunsAreCutAnywhere : {A C K : Type 0} → Rules A C K → Type 0
+RunsAreCutAnywhere {A = A} {C = C} {K = K} R = (p q : Place A C K) (todo left : List Item) (first last : List Step)
+    → Run R p todo (first ++ last) left q → CutAt R p todo first last left q
+
+-- This was told when the events of the steps before it had led to that world, and the disk held its worksheet at every image.
+pub record ToldAfter {A C K : Type 0} (R : Rules A C K) (p : Place A C K) (before : List Step) (s : Said) : Type 0 where
+  pub there : Place A C K
+  pub runs : Runs p.world (events_of (trace before)) (outcomes_of (trace before)) there.world
+  pub holds : HoldsSheet there.world there.disk
+  pub sink : K
+  pub tries : Tries R.sink there.sink there.disk (text_of R.sink.voice there.world s) true sink
+
+-- A reply follows its sync: what is told of events is told when all that they gave is durable.
+abbrev pub RepliesFollowSyncs : {A C K : Type 0} → Rules A C K → Type 0
+RepliesFollowSyncs {A = A} {C = C} {K = K} R = (p q : Place A C K) (todo left : List Item) (before after : List Step) (s : Said)
+    → HoldsSheet p.world p.disk → Run R p todo (before ++ told_of s ∷ after) left q → ToldAfter R p before s

@@ -1,0 +1,7 @@
+pub mod Said
+pub mod Place
+pub mod Items
+pub mod Hearing
+pub mod Steps
+pub mod Runs
+pub mod Laws

@@ -1,0 +1,67 @@
+-- Where a run stands, and what differs from run to run.
+use Rattle.std.specs.Prelude.{◌≡◌, ℕ, Bool, true, List, Option, Result}
+use Rattle.std.specs.Io.KnownBytes.{Appends}
+use Rattle.disk_model.specs.Disk.{DiskView}
+use Rattle.session_engine.specs.World.{World}
+use Rattle.child_edge.specs.Faithful.{At, Relation, at}
+use Rattle.arrivals.specs.Watching.{Asked}
+use Rattle.arrivals.specs.declared.sources.Woken.{Woken}
+use Rattle.tellings.specs.Voice.{Voice}
+use Rattle.tellings.specs.declared.note.Note.{Note}
+use Rattle.offline_programs.specs.declared.fault.RunFault.{RunFault}
+use Rattle.driver.specs.declared.turn.Turn.{Turn}
+use Rattle.driver.specs.declared.said.Came.{Came}
+
+-- How often the agenda was asked, the agenda, where events led to, the disk of the host, the sources, and the sink.
+pub record Place (A C K : Type 0) : Type 0 where
+  pub asked : ℕ
+  pub agenda : A
+  pub world : World
+  pub disk : DiskView
+  pub sources : C
+  pub sink : K
+
+-- the place as runs of events see it
+abbrev pub run_at : {A C K : Type 0} → Place A C K → At C
+run_at p = at p.world p.sources p.disk
+
+-- What sources may do: the calls on children, a watch, and what the clock reads.
+pub record SourceRules (C : Type 0) : Type 1 where
+  pub after : Relation C
+  pub wakes : C → Asked → Option Woken → C → Type 0
+  pub clock : C → ℕ → Type 0
+
+-- What a sink may do: its texts, what was told so far, and what came of trying a text while the disk stood so.
+pub record SinkRules (K : Type 0) : Type 1 where
+  pub voice : Voice
+  pub written : K → Option (List ℕ)
+  pub tried : K → DiskView → List ℕ → Bool → K → Type 0
+
+-- What an agenda may do: what it says is next, that it is told whose turn it is, and what it makes of what came.
+pub record AgendaRules (A : Type 0) : Type 1 where
+  pub says : A → World → ℕ → Result Turn RunFault → A → Type 0
+  pub woken : A → Woken → A → Type 0
+  pub heeds : A → World → ℕ → Came → Option Note → A → Type 0
+
+pub record Rules (A C K : Type 0) : Type 1 where
+  pub agenda : AgendaRules A
+  pub sources : SourceRules C
+  pub sink : SinkRules K
+
+abbrev pub agenda_rules : {A : Type 0} → (A → World → ℕ → Result Turn RunFault → A → Type 0) → (A → Woken → A → Type 0)
+    → (A → World → ℕ → Came → Option Note → A → Type 0) → AgendaRules A
+agenda_rules says woken heeds = record { says = says; woken = woken; heeds = heeds }
+
+abbrev pub source_rules : {C : Type 0} → Relation C → (C → Asked → Option Woken → C → Type 0) → (C → ℕ → Type 0) → SourceRules C
+source_rules after wakes clock = record { after = after; wakes = wakes; clock = clock }
+
+abbrev pub sink_rules : {K : Type 0} → Voice → (K → Option (List ℕ)) → (K → DiskView → List ℕ → Bool → K → Type 0) → SinkRules K
+sink_rules voice written tried = record { voice = voice; written = written; tried = tried }
+
+abbrev pub rules : {A C K : Type 0} → AgendaRules A → SourceRules C → SinkRules K → Rules A C K
+rules agenda sources sink = record { agenda = agenda; sources = sources; sink = sink }
+
+-- A text was tried while the disk stood so; where all of it went out, it comes after what was told before.
+pub record Tries {K : Type 0} (R : SinkRules K) (k : K) (disk : DiskView) (text : List ℕ) (whole : Bool) (l : K) : Type 0 where
+  pub tried : R.tried k disk text whole l
+  pub appends : whole ≡ true → Appends (R.written k) (R.written l) text

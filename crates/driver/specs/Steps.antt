@@ -1,0 +1,110 @@
+-- One step of a run, from what is to be done to what is to be done then.
+use Rattle.std.specs.Prelude.{◌≡◌, ◌⊎◌, ℕ, suc, ◌+◌, ◌^◌, ◌≤◌, ◌<◌, Bool, true, false, List, [], ◌∷◌, ◌++◌, Option, Some, None, IsSomeAnd, Ok, Err, length, map}
+use Rattle.disk_model.specs.Disk.{DiskView}
+use Rattle.host_events.specs.declared.command.Command.TheVariants as command
+use Rattle.host_events.specs.declared.event.Event.{Event}
+use Rattle.host_events.specs.declared.event.Event.TheVariants as event
+use Rattle.host_events.specs.declared.outcome.Outcome.{Outcome}
+use Rattle.host_events.specs.declared.outcome.HostFault.{HostFault}
+use Rattle.host_events.specs.declared.outcome.HostFault.TheVariants as hosts
+use Rattle.session_engine.specs.World.{World}
+use Rattle.session_engine.specs.Does.{Gives}
+use Rattle.session_engine.specs.Host.{HostView}
+use Rattle.child_calls.specs.declared.seat.Seat.{Seat}
+use Rattle.child_edge.specs.Edge.{Stopped}
+use Rattle.child_edge.specs.Faithful.{At, Beat, at}
+use Rattle.child_edge.specs.Interrupts.{Interrupts}
+use Rattle.child_edge.specs.Kept.{Kept}
+use Rattle.child_edge.specs.Seats.{waits}
+use Rattle.child_edge.specs.Together.{Followed, LostTogether, Together, TogetherUpTo, beats_behind, trace_of}
+use Rattle.child_edge.specs.Told.{told}
+use Rattle.child_edge.specs.declared.together.TogetherFault.{TogetherFault}
+use Rattle.child_edge.specs.declared.together.TogetherFault.TheVariants as at_gate
+use Rattle.child_edge.specs.declared.interrupting.Interrupted.{Interrupted}
+use Rattle.arrivals.specs.Watching.{Asked}
+use Rattle.arrivals.specs.declared.sources.Woken.{Woken}
+use Rattle.tellings.specs.Voice.{IsUntold}
+use Rattle.tellings.specs.declared.note.Note.{Note}
+use Rattle.offline_programs.specs.declared.fault.RunFault.{RunFault}
+use Rattle.offline_programs.specs.declared.fault.RunFault.TheVariants as fault
+use Rattle.driver.specs.declared.turn.Turn.{Turn}
+use Rattle.driver.specs.declared.said.Said.{Said}
+use Rattle.driver.specs.declared.said.Came.{Came}
+use Rattle.driver.specs.Said.{text_of}
+use Rattle.driver.specs.Place.{Place, Rules, Tries, run_at}
+use Rattle.driver.specs.Items.{Item, Step, after_fault, ask, broke, chose, confess, confessed, halt, hear, heard, heed, heeded, interrupt, interrupt_came, interrupted, items_of, notes, rewrite, rewrote, stall, stalled, stalls, take, tell, telling, told_of, took, watch, watched}
+use Rattle.driver.specs.Hearing.{Heard}
+
+-- the most events that are taken behind one gate
+abbrev pub most_together : ℕ
+most_together = 1024
+
+-- the fault of a run where events weren't taken behind one gate
+abbrev pub fault_at_gate : TogetherFault → RunFault
+fault_at_gate at_gate.OutOfMemory = fault.OutOfMemory
+fault_at_gate at_gate.Lost = fault.Host hosts.Disk
+fault_at_gate (at_gate.Host f) = fault.Host f
+
+-- The first item fails with this fault, after the events of these entries were taken, and leaves the run there.
+pub data Fails {A C K : Type 0} (R : Rules A C K) (p : Place A C K) : Item → List Beat → RunFault → Place A C K → Type 0 where
+  -- the agenda can't say what is next
+  unsaid : (now : ℕ) (why : RunFault) (a : A) → R.sources.clock p.sources now → R.agenda.says p.agenda p.world now (Err why) a
+      → Fails R p ask [] why (record p { asked = suc p.asked; agenda = a })
+  -- it was asked as often as is counted
+  uncounted : 2 ^ 64 ≤ p.asked + 1 → Fails R p ask [] fault.InputTooLong p
+  -- the sources can't be watched
+  unwatched : (q : Asked) (c : C) → R.sources.wakes p.sources q None c → Fails R p (watch q) [] fault.Input (record p { sources = c })
+  -- there was no memory, and nothing was received
+  unheard : (seat : Seat) (most : ℕ) → Fails R p (hear seat most) [] fault.OutOfMemory p
+  -- there are too many events for one gate, or the number of a line can't be counted: none was taken
+  too_many : (from : Option ℕ) (events : List Event) → (most_together < length events) ⊎ IsSomeAnd from (λ n. 2 ^ 64 ≤ n + most_together + 1)
+      → Fails R p (take from events) [] fault.InputTooLong p
+  -- there was no memory, and none was taken
+  untaken : (from : Option ℕ) (events : List Event) → Fails R p (take from events) [] fault.OutOfMemory p
+  -- the disk failed at the gate: of none of the events anything is told
+  lost : (from : Option ℕ) (events : List Event) (h : HostView) → LostTogether p.world events p.disk h
+      → Fails R p (take from events) [] (fault.Host hosts.Disk) (record p { disk = h.store.disk })
+  -- the host had this fault at one of the events, or at one that followed
+  broken : (from : Option ℕ) (events : List Event) (beats : List Beat) (e : Event) (f : HostFault) (w : World) (c : C) (d : DiskView) (h : HostView)
+      → TogetherUpTo R.sources.after (run_at p) events beats e (at w c d) → Stopped d h w e f
+      → Fails R p (take from events) beats (fault.Host f) (record p { world = w; sources = c; disk = h.store.disk })
+  -- the host had this fault at the checkpoint
+  unwritten : (line : ℕ) (f : HostFault) (h : HostView) → Stopped p.disk h p.world (event.Command command.Checkpoint) f
+      → Fails R p (rewrite line) [] (fault.Host f) (record p { disk = h.store.disk })
+  unnumbered : (line : ℕ) → 2 ^ 64 ≤ line + most_together + 1 → Fails R p (rewrite line) [] fault.InputTooLong p
+  -- there was no memory for the lives that stall
+  unstalled : Fails R p stall [] fault.OutOfMemory p
+  -- the sink failed, or there was no memory for the text
+  untold : (s : Said) (why : RunFault) (k : K) → IsUntold R.sink.voice why → Tries R.sink p.sink p.disk (text_of R.sink.voice p.world s) false k
+      → Fails R p (tell s) [] why (record p { sink = k })
+
+-- One step.
+pub data Goes {A C K : Type 0} (R : Rules A C K) (p : Place A C K) : List Item → Step → List Item → Place A C K → Type 0 where
+  asks : (now : ℕ) (t : Turn) (a : A) → R.sources.clock p.sources now → R.agenda.says p.agenda p.world now (Ok t) a
+      → Goes R p (ask ∷ []) (chose t) (items_of t) (record p { asked = suc p.asked; agenda = a })
+  watches : (q : Asked) (w : Woken) (c : C) (a : A) (rest : List Item) → R.sources.wakes p.sources q (Some w) c → R.agenda.woken p.agenda w a
+      → Goes R p (watch q ∷ rest) (watched q w) rest (record p { agenda = a; sources = c })
+  hears : (seat : Seat) (most : ℕ) (events : List Event) (c : C) (rest : List Item) → Heard R.sources seat most p.sources events c
+      → Goes R p (hear seat most ∷ rest) (heard events) (take None events ∷ rest) (record p { sources = c })
+  -- All that the events give is durable before an effect of theirs is carried out, and before a word of it is told.
+  takes : (from : Option ℕ) (events : List Event) (outcomes : List Outcome) (followed : List Followed) (w : World) (c : C) (d : DiskView) (rest : List Item)
+      → Together R.sources.after (run_at p) events outcomes followed (at w c d)
+      → Goes R p (take from events ∷ rest) (took events outcomes followed) (telling from outcomes (told (beats_behind followed)) ++ rest) (record p { world = w; sources = c; disk = d })
+  rewrites : (line : ℕ) (o : Outcome) (w : World) (d : DiskView) (rest : List Item) (g : Gives p.world (event.Command command.Checkpoint) o w) → Kept p.world g.0 w p.disk d
+      → Goes R p (rewrite line ∷ rest) (rewrote (record { event = event.Command command.Checkpoint; outcome = o; answer = None })) (telling (Some line) (o ∷ []) [] ++ rest) (record p { world = w; disk = d })
+  stalls_all : (rest : List Item) → Goes R p (stall ∷ rest) (stalled (waits p.world)) (take None (map stalls (waits p.world)) ∷ rest) p
+  interrupts : (name : List ℕ) (told : Interrupted) (c : C) (rest : List Item) → Interrupts R.sources.after p.world name p.sources told c
+      → Goes R p (interrupt name ∷ rest) (interrupted name told) (heed (interrupt_came told) ∷ rest) (record p { sources = c })
+  tells : (s : Said) (k : K) (rest : List Item) → Tries R.sink p.sink p.disk (text_of R.sink.voice p.world s) true k
+      → Goes R p (tell s ∷ rest) (told_of s) rest (record p { sink = k })
+  heeds : (c : Came) (now : ℕ) (n : Option Note) (a : A) (rest : List Item) → R.sources.clock p.sources now → R.agenda.heeds p.agenda p.world now c n a
+      → Goes R p (heed c ∷ rest) (heeded c n) (notes n ++ rest) (record p { agenda = a })
+  breaks : (i : Item) (beats : List Beat) (why : RunFault) (q : Place A C K) (rest : List Item) → Fails R p i beats why q
+      → Goes R p (i ∷ rest) (broke beats why) (after_fault why) q
+  confesses : (why : RunFault) (whole : Bool) (k : K) → Tries R.sink p.sink p.disk (R.sink.voice.fault why) whole k
+      → Goes R p (confess why ∷ []) (confessed why whole) (halt why ∷ []) (record p { sink = k })
+
+-- These steps lead from where this is to be done to where that is.
+abbrev pub Run : {A C K : Type 0} → Rules A C K → Place A C K → List Item → List Step → List Item → Place A C K → Type 0
+Run R p todo [] left q = (left ≡ todo) × (q ≡ p)
+Run {A = A} {C = C} {K = K} R p todo (s ∷ steps) left q = (next : List Item) × (mid : Place A C K) × Goes R p todo s next mid × Run R mid next steps left q

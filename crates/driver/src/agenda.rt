@@ -1,0 +1,34 @@
+//! Who says what is next.
+
+use crate::said::Came;
+use crate::turn::Turn;
+use arrivals::Woken;
+use disk_model::Disk;
+use offline_programs::RunFault;
+use session_engine::Host;
+use std::alloc::Global;
+use tellings::Note;
+
+/// Who says what is next, and heeds what came of it. It sees the host and what the clock reads, and calls neither a child nor a
+/// watch; it may have an input of its own.
+pub trait Agenda {
+    ghost use Rattle.session_engine.specs.World.{World};
+    ghost use Rattle.session_engine.specs.Host.{IsHost};
+    ghost use Rattle.driver.specs.Place.{AgendaRules};
+
+    /// What it may say, by the world and what the clock read, and how it changes.
+    ghost rules: { AgendaRules Self };
+
+    /// What is done next, where the host stands so and the clock reads this; or why there is no next: its input can't be
+    /// read, too much came to be counted, or memory was refused.
+    fn next<D: Disk>(&mut self, alloc: Global, host: &Host<D>, now: u64) -> Result<Turn, RunFault>
+        ensures { (w : World) → IsHost host.now w → rules.says self.old w now result self.new };
+
+    /// It is the turn of this one, by the watch that it asked for.
+    fn wake(&mut self, told: Woken)
+        ensures { rules.woken self.old told self.new };
+
+    /// The turn was taken and told. What is noted of what came of it.
+    fn heed<D: Disk>(&mut self, host: &Host<D>, now: u64, came: Came<'_>) -> Option<Note>
+        ensures { (w : World) → IsHost host.now w → rules.heeds self.old w now came result self.new };
+}

@@ -1,0 +1,386 @@
+//! The driver, and its loop.
+ghost use Rattle.std.specs.Prelude.{◌≡◌, ◌≤◌, ◌+◌, ◌<◌, ◌^◌, ℕ, suc, List, [], ◌∷◌, ◌++◌, Option, Some, None, IfOk, IfSome, IsSomeAnd, length, map, true, false};
+ghost use Rattle.disk_model.specs.Disk.{SameDisk};
+ghost use Rattle.session_engine.specs.World.{World};
+ghost use Rattle.session_engine.specs.Host.{IsHost};
+ghost use Rattle.driver.specs.Place.{rules, source_rules};
+ghost use Rattle.driver.specs.Items.{Item, ask, heed as heeding, hear as hearing, interrupt as interrupting, items_of, came, rewrite as rewriting, stall as stalling, stalls, take as taking, tell as to_tell, telling, watch as watching};
+ghost use Rattle.driver.specs.Steps.{fault_at_gate, most_together};
+ghost use Rattle.driver.specs.Said.{IsCounted};
+ghost use Rattle.driver.specs.Runs.{Did, again, left_at_end, left_by, parts, seen};
+ghost use Rattle.child_edge.specs.Seats.{waits};
+ghost use Rattle.arrivals.specs.Watching.{asked};
+
+use crate::agenda::Agenda;
+use crate::hearing::hear_ready;
+use crate::said::{Came, Said};
+use crate::sink::Sink;
+use crate::turn::Turn;
+use arrivals::{Input, Sources};
+use child_calls::Seat;
+use child_edge::{
+    GaveTogether, MOST_TOGETHER, TogetherFault, interrupt, serve_together, waiting_lives,
+};
+use disk_model::Disk;
+use host_events::{ChildEvent, Event, HostFault, Outcome};
+use offline_programs::RunFault;
+use session_engine::Host;
+use std::alloc::{AllocError, Global};
+use std::slice;
+use worksheet::Name;
+
+/// The greatest number of a line from which on those of a group can be counted.
+const MOST_COUNTED: u64 = u64::MAX - 1_025;
+
+/// A host, the sources of what comes to it, the sink of what comes of that, and the agenda that says what is next.
+pub struct Driver<D: Disk, S, K, A> {
+    pub alloc: Global,
+    pub host: Host<D>,
+    pub sources: S,
+    pub sink: K,
+    pub agenda: A,
+}
+
+/// The fault of a run, where events weren't taken behind one gate.
+fn gate_fault(fault: TogetherFault) -> RunFault
+    ensures { result ≡ fault_at_gate fault }
+{
+    match fault {
+        TogetherFault::OutOfMemory => RunFault::OutOfMemory,
+        TogetherFault::Lost => RunFault::Host(HostFault::Disk),
+        TogetherFault::Host(fault) => RunFault::Host(fault),
+    }
+}
+
+/// Whether the lines of a group can't be counted from this one on.
+fn is_uncounted(from: Option<u64>) -> bool
+    ensures yes { result ≡ true → IsSomeAnd from (λ n. 2 ^ 64 ≤ n + most_together + 1) }
+    ensures no { result ≡ false → IfSome from (λ n. n + most_together + 1 < 2 ^ 64) }
+{
+    match from {
+        Some(number) => number > MOST_COUNTED,
+        None => false,
+    }
+}
+
+/// The event that a life has stalled.
+fn stalled(seat: Seat) -> Event
+    ensures { result ≡ stalls seat }
+{
+    Event::Child {
+        name: seat.name,
+        life: seat.life,
+        event: ChildEvent::Stalled,
+    }
+}
+
+/// The events that these lives have stalled.
+fn stalled_events(alloc: Global, seats: &[Seat]) -> Result<Vec<Event>, AllocError>
+    ensures { IfOk result (λ events. events.items ≡ map stalls seats.now) }
+{
+    let mut events = Vec::new(alloc);
+    for seat in seats {
+        events.push(stalled(*seat))?;
+    }
+    Ok(events)
+}
+
+impl<D: Disk, S: Sources, K: Sink, A: Agenda> Driver<D, S, K, A> {
+    /// Takes events behind one gate: those of lives, or of lines from this one on.
+    fn take(&mut self, from: Option<u64>, events: Vec<Event>) -> Result<GaveTogether, RunFault>
+        ensures same { SameDisk self.old.host.store.disk self.new.host.store.disk }
+        ensures did { (n : ℕ) (rest : List Item) (w : World) → IsHost self.old.host w
+            → Did (rules A.rules (source_rules S.after S.wakes S.clock) K.rules)
+            (seen n w (parts self.old.host self.old.sources self.old.sink self.old.agenda))
+            (taking from events.items ∷ rest)
+            (left_by (λ gave. telling from gave.outcomes.items gave.replies.items ++ rest)) result
+            (n , parts self.new.host self.new.sources self.new.sink self.new.agenda) }
+        ensures few { IfOk result (λ gave. length gave.outcomes.items ≤ most_together) }
+        ensures counted { IfOk result (λ gave. IfSome from (λ number. number + most_together + 1 < 2 ^ 64)) }
+    {
+        if events.len() > MOST_TOGETHER || is_uncounted(from) {
+            return Err(RunFault::InputTooLong);
+        }
+        match serve_together(self.alloc, &mut self.host, &mut self.sources, events) {
+            Ok(gave) => {
+                // There is one for each event.
+                if gave.outcomes.len() > MOST_TOGETHER {
+                    return Err(RunFault::InputTooLong);
+                }
+                Ok(gave)
+            }
+            Err(fault) => Err(gate_fault(fault)),
+        }
+    }
+
+    /// Tells this.
+    fn tell(&mut self, said: Said<'_>) -> Result<(), RunFault>
+        requires { IsCounted said }
+        ensures same { SameDisk self.old.host.store.disk self.new.host.store.disk }
+        ensures did { (n : ℕ) (rest : List Item) (w : World) → IsHost self.old.host w
+            → Did (rules A.rules (source_rules S.after S.wakes S.clock) K.rules)
+            (seen n w (parts self.old.host self.old.sources self.old.sink self.old.agenda))
+            (to_tell said ∷ rest) (left_by (λ done. rest)) result
+            (n , parts self.new.host self.new.sources self.new.sink self.new.agenda) }
+    {
+        self.sink.say(&self.host, said)
+    }
+
+    /// Has the agenda heed what came, and tells what it notes of that.
+    fn heed(&mut self, came: Came<'_>) -> Result<(), RunFault>
+        ensures same { SameDisk self.old.host.store.disk self.new.host.store.disk }
+        ensures did { (n : ℕ) (rest : List Item) (w : World) → IsHost self.old.host w
+            → Did (rules A.rules (source_rules S.after S.wakes S.clock) K.rules)
+            (seen n w (parts self.old.host self.old.sources self.old.sink self.old.agenda))
+            (heeding came ∷ rest) (left_by (λ done. rest)) result
+            (n , parts self.new.host self.new.sources self.new.sink self.new.agenda) }
+    {
+        let now = self.sources.now();
+        match self.agenda.heed(&self.host, now, came) {
+            Some(note) => self.tell(Said::Note(note)),
+            None => Ok(()),
+        }
+    }
+
+    /// Tells what events gave, those of lives or of lines from this one on, and has the agenda heed it.
+    fn tell_gave(&mut self, from: Option<u64>, gave: &GaveTogether) -> Result<(), RunFault>
+        requires few { length gave.now.outcomes.items ≤ most_together }
+        requires counted { IfSome from (λ number. number + most_together + 1 < 2 ^ 64) }
+        ensures same { SameDisk self.old.host.store.disk self.new.host.store.disk }
+        ensures did { (n : ℕ) (rest : List Item) (w : World) → IsHost self.old.host w
+            → Did (rules A.rules (source_rules S.after S.wakes S.clock) K.rules)
+            (seen n w (parts self.old.host self.old.sources self.old.sink self.old.agenda))
+            (telling from gave.now.outcomes.items gave.now.replies.items ++ rest) (left_by (λ done. rest)) result
+            (n , parts self.new.host self.new.sources self.new.sink self.new.agenda) }
+    {
+        let outcomes = gave.outcomes.as_slice();
+        let replies = gave.replies.as_slice();
+        let said = match from {
+            Some(number) => Said::Lines(number, outcomes),
+            None => Said::Lives(outcomes),
+        };
+        self.tell(said)?;
+        self.tell(Said::Followed(replies))?;
+        self.heed(Came {
+            outcomes,
+            replies,
+            interrupted: None,
+        })
+    }
+
+    /// Takes events behind one gate, and tells what they gave.
+    fn take_and_tell(&mut self, from: Option<u64>, events: Vec<Event>) -> Result<(), RunFault>
+        ensures same { SameDisk self.old.host.store.disk self.new.host.store.disk }
+        ensures did { (n : ℕ) (rest : List Item) (w : World) → IsHost self.old.host w
+            → Did (rules A.rules (source_rules S.after S.wakes S.clock) K.rules)
+            (seen n w (parts self.old.host self.old.sources self.old.sink self.old.agenda))
+            (taking from events.items ∷ rest) (left_by (λ done. rest)) result
+            (n , parts self.new.host self.new.sources self.new.sink self.new.agenda) }
+    {
+        let gave = self.take(from, events)?;
+        self.tell_gave(from, &gave)
+    }
+
+    /// Receives from this life, and from so many others at most that are ready, and takes what they have.
+    fn hear(&mut self, seat: Seat, most: u64) -> Result<(), RunFault>
+        ensures same { SameDisk self.old.host.store.disk self.new.host.store.disk }
+        ensures did { (n : ℕ) (rest : List Item) (w : World) → IsHost self.old.host w
+            → Did (rules A.rules (source_rules S.after S.wakes S.clock) K.rules)
+            (seen n w (parts self.old.host self.old.sources self.old.sink self.old.agenda))
+            (hearing seat most ∷ rest) (left_by (λ done. rest)) result
+            (n , parts self.new.host self.new.sources self.new.sink self.new.agenda) }
+    {
+        match hear_ready(self.alloc, &mut self.sources, seat, most) {
+            Ok(events) => self.take_and_tell(None, events),
+            Err(_) => Err(RunFault::OutOfMemory),
+        }
+    }
+
+    /// Tells what a checkpoint gave, for which this line asked, and has the agenda heed it.
+    fn tell_rewrote(&mut self, line: u64, outcome: &Outcome) -> Result<(), RunFault>
+        requires { line + most_together + 1 < 2 ^ 64 }
+        ensures same { SameDisk self.old.host.store.disk self.new.host.store.disk }
+        ensures did { (n : ℕ) (rest : List Item) (w : World) → IsHost self.old.host w
+            → Did (rules A.rules (source_rules S.after S.wakes S.clock) K.rules)
+            (seen n w (parts self.old.host self.old.sources self.old.sink self.old.agenda))
+            (telling (Some line) (outcome.now ∷ []) [] ++ rest) (left_by (λ done. rest)) result
+            (n , parts self.new.host self.new.sources self.new.sink self.new.agenda) }
+    {
+        let outcomes = slice::from_ref(outcome);
+        self.tell(Said::Lines(line, outcomes))?;
+        self.tell(Said::Followed(&[]))?;
+        self.heed(Came {
+            outcomes,
+            replies: &[],
+            interrupted: None,
+        })
+    }
+
+    /// Rewrites the journal, for which this line asks.
+    fn rewrite(&mut self, line: u64) -> Result<(), RunFault>
+        ensures same { SameDisk self.old.host.store.disk self.new.host.store.disk }
+        ensures did { (n : ℕ) (rest : List Item) (w : World) → IsHost self.old.host w
+            → Did (rules A.rules (source_rules S.after S.wakes S.clock) K.rules)
+            (seen n w (parts self.old.host self.old.sources self.old.sink self.old.agenda))
+            (rewriting line ∷ rest) (left_by (λ done. rest)) result
+            (n , parts self.new.host self.new.sources self.new.sink self.new.agenda) }
+    {
+        if line > MOST_COUNTED {
+            return Err(RunFault::InputTooLong);
+        }
+        match self.host.checkpoint() {
+            Ok(outcome) => self.tell_rewrote(line, &outcome),
+            Err(fault) => Err(RunFault::Host(fault)),
+        }
+    }
+
+    /// Takes that each life in which an item waits has stalled.
+    fn stall(&mut self) -> Result<(), RunFault>
+        ensures same { SameDisk self.old.host.store.disk self.new.host.store.disk }
+        ensures did { (n : ℕ) (rest : List Item) (w : World) → IsHost self.old.host w
+            → Did (rules A.rules (source_rules S.after S.wakes S.clock) K.rules)
+            (seen n w (parts self.old.host self.old.sources self.old.sink self.old.agenda))
+            (stalling ∷ rest) (left_by (λ done. rest)) result
+            (n , parts self.new.host self.new.sources self.new.sink self.new.agenda) }
+    {
+        let Ok(seats) = waiting_lives(self.alloc, &self.host) else {
+            return Err(RunFault::OutOfMemory);
+        };
+        match stalled_events(self.alloc, seats.as_slice()) {
+            Ok(events) => self.take_and_tell(None, events),
+            Err(_) => Err(RunFault::OutOfMemory),
+        }
+    }
+
+    /// Interrupts the interpreter of this session.
+    fn interrupt(&mut self, name: Name) -> Result<(), RunFault>
+        ensures same { SameDisk self.old.host.store.disk self.new.host.store.disk }
+        ensures did { (n : ℕ) (rest : List Item) (w : World) → IsHost self.old.host w
+            → Did (rules A.rules (source_rules S.after S.wakes S.clock) K.rules)
+            (seen n w (parts self.old.host self.old.sources self.old.sink self.old.agenda))
+            (interrupting name ∷ rest) (left_by (λ done. rest)) result
+            (n , parts self.new.host self.new.sources self.new.sink self.new.agenda) }
+    {
+        let told = interrupt(&self.host, &mut self.sources, name);
+        self.heed(Came {
+            outcomes: &[],
+            replies: &[],
+            interrupted: Some(told),
+        })
+    }
+
+    /// Watches the sources, and tells the agenda whose turn it is.
+    fn watch(&mut self, input: Input, patience: Option<u64>) -> Result<(), RunFault>
+        ensures same { SameDisk self.old.host.store.disk self.new.host.store.disk }
+        ensures did { (n : ℕ) (rest : List Item) (w : World) → IsHost self.old.host w
+            → Did (rules A.rules (source_rules S.after S.wakes S.clock) K.rules)
+            (seen n w (parts self.old.host self.old.sources self.old.sink self.old.agenda))
+            (watching (asked input patience) ∷ rest) (left_by (λ done. rest)) result
+            (n , parts self.new.host self.new.sources self.new.sink self.new.agenda) }
+    {
+        match self.sources.watch(input, patience) {
+            Ok(told) => {
+                self.agenda.wake(told);
+                Ok(())
+            }
+            Err(_) => Err(RunFault::Input),
+        }
+    }
+
+    /// Tells what a line asks for, and has the agenda heed that it was told.
+    fn show(&mut self, said: Said<'_>) -> Result<(), RunFault>
+        requires { IsCounted said }
+        ensures same { SameDisk self.old.host.store.disk self.new.host.store.disk }
+        ensures did { (n : ℕ) (rest : List Item) (w : World) → IsHost self.old.host w
+            → Did (rules A.rules (source_rules S.after S.wakes S.clock) K.rules)
+            (seen n w (parts self.old.host self.old.sources self.old.sink self.old.agenda))
+            (to_tell said ∷ heeding (came [] []) ∷ rest) (left_by (λ done. rest)) result
+            (n , parts self.new.host self.new.sources self.new.sink self.new.agenda) }
+    {
+        self.tell(said)?;
+        self.heed(Came {
+            outcomes: &[],
+            replies: &[],
+            interrupted: None,
+        })
+    }
+
+    /// Does what the agenda asks for. Whether it is asked again.
+    fn serve(&mut self, turn: Turn) -> Result<bool, RunFault>
+        ensures same { SameDisk self.old.host.store.disk self.new.host.store.disk }
+        ensures did { (n : ℕ) (w : World) → IsHost self.old.host w
+            → Did (rules A.rules (source_rules S.after S.wakes S.clock) K.rules)
+            (seen n w (parts self.old.host self.old.sources self.old.sink self.old.agenda))
+            (items_of turn) (left_by again) result
+            (n , parts self.new.host self.new.sources self.new.sink self.new.agenda) }
+    {
+        match turn {
+            Turn::End => return Ok(false),
+            Turn::Nothing => {}
+            Turn::Watch(input, patience) => self.watch(input, patience)?,
+            Turn::Hear(seat, most) => self.hear(seat, most)?,
+            Turn::Lines(first, events) => self.take_and_tell(Some(first), events)?,
+            Turn::Checkpoint(line) => self.rewrite(line)?,
+            Turn::Stall => self.stall()?,
+            Turn::Interrupt(name) => self.interrupt(name)?,
+            Turn::Note(note) => self.show(Said::Note(note))?,
+            Turn::Sheet(line) => self.show(Said::Sheet(line))?,
+            Turn::Field(line, id) => self.show(Said::Field(line, id))?,
+            Turn::Export(line, format) => self.show(Said::Export(line, format))?,
+        }
+        Ok(true)
+    }
+
+    /// Asks the agenda what is next, and does it. Whether it is asked again.
+    fn step(&mut self) -> Result<bool, RunFault>
+        ensures same { SameDisk self.old.host.store.disk self.new.host.store.disk }
+        ensures did { (n : ℕ) (w : World) → IsHost self.old.host w
+            → Did (rules A.rules (source_rules S.after S.wakes S.clock) K.rules)
+            (seen n w (parts self.old.host self.old.sources self.old.sink self.old.agenda))
+            (ask ∷ []) (left_by again) result
+            (suc n , parts self.new.host self.new.sources self.new.sink self.new.agenda) }
+    {
+        let now = self.sources.now();
+        let turn = self.agenda.next(self.alloc, &self.host, now)?;
+        self.serve(turn)
+    }
+
+    /// Does what the agenda says, one after the other, to its end.
+    fn go_on(&mut self) -> Result<(), RunFault>
+        ensures same { SameDisk self.old.host.store.disk self.new.host.store.disk }
+        ensures did { (w : World) → IsHost self.old.host w → (n : ℕ)
+            × Did (rules A.rules (source_rules S.after S.wakes S.clock) K.rules)
+            (seen 0 w (parts self.old.host self.old.sources self.old.sink self.old.agenda))
+            (ask ∷ []) (left_by (λ done. [])) result
+            (n , parts self.new.host self.new.sources self.new.sink self.new.agenda) }
+    {
+        for _ in 0..u64::MAX {
+            match self.step() {
+                Ok(true) => {}
+                Ok(false) => return Ok(()),
+                Err(why) => return Err(why),
+            }
+        }
+        Err(RunFault::InputTooLong)
+    }
+
+    /// Does what the agenda says, one after the other, to its end. Where something failed before that, the fault is told last
+    /// of all, unless it is the sink's own.
+    pub fn drive(&mut self) -> Result<(), RunFault>
+        ensures same { SameDisk self.old.host.store.disk self.new.host.store.disk }
+        ensures did { (w : World) → IsHost self.old.host w → (n : ℕ)
+            × Did (rules A.rules (source_rules S.after S.wakes S.clock) K.rules)
+            (seen 0 w (parts self.old.host self.old.sources self.old.sink self.old.agenda))
+            (ask ∷ []) left_at_end result
+            (n , parts self.new.host self.new.sources self.new.sink self.new.agenda) }
+    {
+        match self.go_on() {
+            Ok(()) => Ok(()),
+            Err(RunFault::Output) => Err(RunFault::Output),
+            Err(why) => {
+                let _ = self.sink.confess(&self.host, why);
+                Err(why)
+            }
+        }
+    }
+}

@@ -1,0 +1,17 @@
+//! Laws of every run. The functions do nothing: their contracts are the laws.
+ghost use Rattle.driver.specs.Place.{rules, source_rules};
+ghost use Rattle.driver.specs.Laws.{RepliesFollowSyncs, RunsAreCutAnywhere};
+
+use crate::agenda::Agenda;
+use crate::sink::Sink;
+use arrivals::Sources;
+
+/// The first steps of a run are a run.
+pub fn runs_are_cut_anywhere<S: Sources, K: Sink, A: Agenda>()
+    ensures { RunsAreCutAnywhere (rules A.rules (source_rules S.after S.wakes S.clock) K.rules) }
+{}
+
+/// What is told of events is told when all that they gave is durable.
+pub fn replies_follow_syncs<S: Sources, K: Sink, A: Agenda>()
+    ensures { RepliesFollowSyncs (rules A.rules (source_rules S.after S.wakes S.clock) K.rules) }
+{}

@@ -1,0 +1,17 @@
+//! A host with the sources of what comes to it and the sink of what comes of that, and the one loop that drives it: an agenda says what
+//! is next, it is done, and what came of it is told.
+#![tactic(auto)]
+
+pub mod agenda;
+pub mod driver;
+mod hearing;
+pub mod laws;
+pub mod said;
+pub mod sink;
+pub mod turn;
+
+pub use agenda::Agenda;
+pub use driver::{Driver, drive};
+pub use said::{Came, Said};
+pub use sink::Sink;
+pub use turn::Turn;

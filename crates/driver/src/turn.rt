@@ -1,0 +1,38 @@
+//! What an agenda asks for.
+
+use arrivals::Input;
+use child_calls::Seat;
+use host_events::Event;
+use sheet_export::Format;
+use tellings::Note;
+use worksheet::Name;
+
+/// What is done next.
+#[derive(Drop)]
+pub enum Turn {
+    /// No more: the run is at its end.
+    End,
+    /// Nothing now: the agenda read its own input, and is asked again.
+    Nothing,
+    /// The sources are watched, where the input stands so, for so many milliseconds at most where there is a limit.
+    Watch(Input, Option<u64>),
+    /// What this life has is received and taken, and behind the same gate what others have that are ready: so many lives at
+    /// most.
+    Hear(Seat, u64),
+    /// These commands are taken behind one gate, one of each line from the one with this number on. None is a checkpoint.
+    Lines(u64, Vec<Event>),
+    /// The journal is rewritten, for which the line with this number asks.
+    Checkpoint(u64),
+    /// Each life in which an item waits has stalled: that is taken behind one gate.
+    Stall,
+    /// The interpreter of this session is interrupted.
+    Interrupt(Name),
+    /// This is told.
+    Note(Note),
+    /// The worksheet is told, for which the line with this number asks.
+    Sheet(u64),
+    /// The field with this number, which comes second, is told.
+    Field(u64, u32),
+    /// The worksheet is told in a format.
+    Export(u64, Format),
+}
