@@ -1,1 +1,5 @@
-
+pub mod Courses
+pub mod Gates
+pub mod Running
+pub mod Order
+pub mod Fronts

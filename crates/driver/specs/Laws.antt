@@ -9,11 +9,16 @@ use Rattle.session_engine.specs.World.{World}
 use Rattle.session_engine.specs.Does.{Runs}
 use Rattle.child_edge.specs.Faithful.{Beat}
 use Rattle.child_edge.specs.Kept.{HoldsSheet}
-use Rattle.child_edge.specs.Moments.{events_of, outcomes_of}
+use Rattle.child_edge.specs.Edge.{Stopped}
+use Rattle.child_edge.specs.Together.{LostTogether}
+use Rattle.child_edge.specs.Moments.{LeavesFronts, LeavesFrontsUpTo, events_of, outcomes_of}
+use Rattle.host_events.specs.declared.outcome.HostFault.{HostFault}
+use Rattle.session_engine.specs.Crash.{Moments}
+use Rattle.session_engine.specs.Host.{HostView}
 use Rattle.offline_programs.specs.declared.fault.RunFault.{RunFault}
 use Rattle.driver.specs.declared.said.Said.{Said}
 use Rattle.driver.specs.Said.{text_of}
-use Rattle.driver.specs.Items.{Item, Step, beats_of, broke, confessed, halt, told_of}
+use Rattle.driver.specs.Items.{Item, Step, beats_of, told_of}
 use Rattle.driver.specs.Place.{Place, Rules, Tries}
 use Rattle.driver.specs.Steps.{Run}
 
@@ -44,3 +49,22 @@ pub record ToldAfter {A C K : Type 0} (R : Rules A C K) (p : Place A C K) (befor
 abbrev pub RepliesFollowSyncs : {A C K : Type 0} → Rules A C K → Type 0
 RepliesFollowSyncs {A = A} {C = C} {K = K} R = (p q : Place A C K) (todo left : List Item) (before after : List Step) (s : Said)
     → HoldsSheet p.world p.disk → Run R p todo (before ++ told_of s ∷ after) left q → ToldAfter R p before s
+
+-- What a run left of the disk at every moment, from its first place to its last: each image was one of the worksheet after some of the first events of
+-- its trace. Where it broke off at an event, that had this fault; where the disk failed at a gate, an image may be one of the worksheet after events
+-- of which nothing was told.
+pub data LeavesFrontsOf {A C K : Type 0} (p : Place A C K) (beats : List Beat) (q : Place A C K) : Type 0 where
+  all_told : LeavesFronts p.world beats p.disk q.disk → LeavesFrontsOf p beats q
+  broke_at : (d : DiskView) (h : HostView) (e : Event) (f : HostFault) → Stopped d h q.world e f → q.disk ≡ h.store.disk
+      → LeavesFrontsUpTo p.world beats e f p.disk q.disk → LeavesFrontsOf p beats q
+  lost_at : (events : List Event) (d : DiskView) (h : HostView) (l : LostTogether q.world events d h) → q.disk ≡ h.store.disk
+      → Moments p.world (events_of beats ++ l.taken) (outcomes_of beats ++ l.untold) p.disk q.disk → LeavesFrontsOf p beats q
+
+abbrev pub RunsLeaveFronts : {A C K : Type 0} → Rules A C K → Type 0
+RunsLeaveFronts {A = A} {C = C} {K = K} R = (p q : Place A C K) (todo left : List Item) (steps : List Step)
+    → HoldsSheet p.world p.disk → Run R p todo steps left q → LeavesFrontsOf p (trace steps) q
+
+-- The events of a run's trace led from its first world to its last one.
+abbrev pub RunsLead : {A C K : Type 0} → Rules A C K → Type 0
+RunsLead {A = A} {C = C} {K = K} R = (p q : Place A C K) (todo left : List Item) (steps : List Step)
+    → Run R p todo steps left q → Runs p.world (events_of (trace steps)) (outcomes_of (trace steps)) q.world

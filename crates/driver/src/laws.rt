@@ -1,6 +1,6 @@
 //! Laws of every run. The functions do nothing: their contracts are the laws.
 ghost use Rattle.driver.specs.Place.{rules, source_rules};
-ghost use Rattle.driver.specs.Laws.{RepliesFollowSyncs, RunsAreCutAnywhere};
+ghost use Rattle.driver.specs.Laws.{RepliesFollowSyncs, RunsAreCutAnywhere, RunsLead, RunsLeaveFronts};
 
 use crate::agenda::Agenda;
 use crate::sink::Sink;
@@ -14,4 +14,14 @@ pub fn runs_are_cut_anywhere<S: Sources, K: Sink, A: Agenda>()
 /// What is told of events is told when all that they gave is durable.
 pub fn replies_follow_syncs<S: Sources, K: Sink, A: Agenda>()
     ensures { RepliesFollowSyncs (rules A.rules (source_rules S.after S.wakes S.clock) K.rules) }
+{}
+
+/// The events of a run led from its first world to its last one.
+pub fn runs_lead<S: Sources, K: Sink, A: Agenda>()
+    ensures { RunsLead (rules A.rules (source_rules S.after S.wakes S.clock) K.rules) }
+{}
+
+/// At every moment each image of the disk is one of the worksheet after some of the first events.
+pub fn runs_leave_fronts<S: Sources, K: Sink, A: Agenda>()
+    ensures { RunsLeaveFronts (rules A.rules (source_rules S.after S.wakes S.clock) K.rules) }
 {}
