@@ -9,9 +9,11 @@ pub mod laws;
 pub mod said;
 pub mod sink;
 pub mod turn;
+pub mod voiced;
 
 pub use agenda::Agenda;
 pub use driver::{Driver, drive};
 pub use said::{Came, Said};
 pub use sink::Sink;
 pub use turn::Turn;
+pub use voiced::Voiced;

@@ -1,0 +1,88 @@
+//! A sink over a voice and a stream.
+ghost use Rattle.std.specs.Prelude.{◌⊎◌, IfErr, OnOk};
+ghost use Rattle.std.specs.Io.KnownBytes.{Appends};
+ghost use Rattle.tellings.specs.Voice.{IsUntold, came_text};
+ghost use Rattle.child_edge.specs.Told.{spoken};
+ghost use Rattle.driver.specs.Said.{lives_text};
+
+use crate::said::Said;
+use crate::sink::Sink;
+use disk_model::Disk;
+use host_events::{Outcome, Reply};
+use offline_programs::RunFault;
+use session_engine::Host;
+use std::io::Write;
+use std::slice;
+use tellings::Tells;
+use worksheet::Sheet;
+
+/// A voice that tells on a stream.
+#[derive(Drop)]
+pub struct Voiced<T, W> {
+    pub tells: T,
+    pub writer: W,
+}
+
+/// Tells what came of one life, where that says something.
+fn tell_life<T: Tells, W: Write>(
+    sheet: &Sheet,
+    outcome: &Outcome,
+    tells: &T,
+    writer: &mut W,
+) -> Result<(), RunFault>
+    ensures ok { OnOk result (Appends (W.contents writer.old) (W.contents writer.new)
+        (came_text T.voice sheet.now.contents (spoken outcome.now.reply))) }
+    ensures err { IfErr result (IsUntold T.voice) }
+{
+    match &outcome.reply {
+        Reply::Nothing => Ok(()),
+        reply => tells.lives(sheet, slice::from_ref(reply), writer),
+    }
+}
+
+/// Tells what came of each life.
+fn tell_lives<T: Tells, W: Write>(
+    sheet: &Sheet,
+    outcomes: &[Outcome],
+    tells: &T,
+    writer: &mut W,
+) -> Result<(), RunFault>
+    ensures ok { OnOk result (Appends (W.contents writer.old) (W.contents writer.new)
+        (lives_text T.voice sheet.now.contents outcomes.now)) }
+    ensures err { IfErr result (IsUntold T.voice) }
+{
+    for outcome in outcomes {
+        if let Err(fault) = tell_life(sheet, outcome, tells, writer) {
+            return Err(fault);
+        }
+    }
+    Ok(())
+}
+
+impl<T: Tells, W: Write> Sink for Voiced<T, W> {
+    ghost use Rattle.driver.specs.Place.{sink_rules};
+
+    // Nobody can say what a stream does.
+    ghost rules = { sink_rules T.voice (λ k. W.contents k.writer) (λ k d text whole l. Unit {0}) };
+
+    fn say<D: Disk>(&mut self, host: &Host<D>, said: Said<'_>) -> Result<(), RunFault> {
+        let sheet = host.sheet();
+        match said {
+            Said::Lines(first, outcomes) => {
+                self.tells.outcomes(first, sheet, outcomes, &mut self.writer)
+            }
+            Said::Lives(outcomes) => tell_lives(sheet, outcomes, &self.tells, &mut self.writer),
+            Said::Followed(replies) => self.tells.events(sheet, replies, &mut self.writer),
+            Said::Note(note) => self.tells.note(note, &mut self.writer),
+            Said::Sheet(line) => self.tells.sheet(line, host, &mut self.writer),
+            Said::Field(line, id) => self.tells.field(line, id, host, &mut self.writer),
+            Said::Export(line, format) => {
+                self.tells.export(line, format, sheet, &mut self.writer)
+            }
+        }
+    }
+
+    fn confess<D: Disk>(&mut self, _host: &Host<D>, why: RunFault) -> bool {
+        self.tells.fault(why, &mut self.writer)
+    }
+}
