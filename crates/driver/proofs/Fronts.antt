@@ -17,10 +17,10 @@ use Rattle.child_edge.specs.Together.{LostTogether}
 use Rattle.host_events.specs.declared.outcome.HostFault.{HostFault}
 use Rattle.host_events.specs.declared.outcome.HostFault.TheVariants as faults
 use Rattle.offline_programs.specs.declared.fault.RunFault.{RunFault}
-use Rattle.driver.specs.Items.{Item, Step, after_fault, beats_of, broke, confess, halt}
+use Rattle.driver.specs.Items.{Item, Step, after_fault, beats_of, broke, print_fault, halt}
 use Rattle.driver.specs.Place.{Place, Rules, run_at}
-use Rattle.driver.specs.Steps.{Fails, Goes, Run, asks, breaks, broken, confesses, hears, heeds, interrupts, lost, rewrites, stalls_all, takes, tells, too_many, uncounted, unheard, unnumbered, unsaid, unstalled, untaken, untold, unwatched, unwritten, watches}
-use Rattle.driver.specs.Laws.{LeavesFrontsOf, all_told, broke_at, lost_at, trace}
+use Rattle.driver.specs.Steps.{Fails, Goes, Run, asks, breaks, broken, prints_fault, hears, heeds, interrupts, lost, rewrites, stalls_all, takes, prints, too_many, uncounted, unheard, unnumbered, unsaid, unstalled, untaken, unprinted, unwatched, unwritten, watches}
+use Rattle.driver.specs.Laws.{LeavesFrontsOf, all_printed, broke_at, lost_at, trace}
 use Rattle.driver.proofs.Courses.{Course, course_up_to, either_moments, events_append, moments_on, outcomes_append, runs_on}
 use Rattle.driver.proofs.Gates.{together_course, up_to_course}
 use Rattle.driver.proofs.Order.{Broke, after_halt, after_is, no_step, step_course}
@@ -39,7 +39,7 @@ fails_lead R p q i beats why (broken from events bs e f w c d h t stopped) = (up
 fails_lead R p q i beats why (unwritten line f h stopped) = refl
 fails_lead R p q i beats why (unnumbered line many) = refl
 fails_lead R p q i beats why unstalled = refl
-fails_lead R p q i beats why (untold s w k is tries) = refl
+fails_lead R p q i beats why (unprinted s w k is tries) = refl
 
 step_leads : {A C K : Type 0} (R : Rules A C K) (p mid : Place A C K) (todo next : List Item) (s : Step) → Goes R p todo s next mid → Runs p.world (events_of (beats_of s)) (outcomes_of (beats_of s)) mid.world
 step_leads R p mid todo next s (asks now t a c says) = refl
@@ -49,10 +49,10 @@ step_leads R p mid todo next s (takes from events outcomes followed w c d rest t
 step_leads R p mid todo next s (rewrites line o w d rest g k) = (w, g, refl)
 step_leads R p mid todo next s (stalls_all rest) = refl
 step_leads R p mid todo next s (interrupts name told c rest i) = refl
-step_leads R p mid todo next s (tells t k rest tries) = refl
+step_leads R p mid todo next s (prints t k rest tries) = refl
 step_leads R p mid todo next s (heeds c now n a rest clock h) = refl
 step_leads R p mid todo next s (breaks i beats why q rest fails) = fails_lead R p q i beats why fails
-step_leads R p mid todo next s (confesses why whole k tries) = refl
+step_leads R p mid todo next s (prints_fault why whole k tries) = refl
 
 -- events of these entries and then of those
 appended : (w : World) (bs : List Beat) (m : World) (cs : List Beat) (v : World) → Runs w (events_of bs) (outcomes_of bs) m → Runs m (events_of cs) (outcomes_of cs) v → Runs w (events_of (bs ++ cs)) (outcomes_of (bs ++ cs)) v
@@ -82,26 +82,26 @@ module _ (w : World) (d : DiskView) (bs : List Beat) (m : World) (e : DiskView) 
       (after cs [] [] f (subst (λ (l : List Event). Moments m l (outcomes_of cs ++ []) e f) (sym (append-nil (events_of cs)))
       (subst (λ (l : List Outcome). Moments m (events_of cs) l e f) (sym (append-nil (outcomes_of cs))) later))))
 
-  untold_after : (cs : List Beat) (x : Event) (f : DiskView) → Moments m (events_of cs ++ x ∷ []) (outcomes_of cs) e f → Moments w (events_of (bs ++ cs) ++ x ∷ []) (outcomes_of (bs ++ cs)) d f
-  untold_after cs x f later =
+  unprinted_after : (cs : List Beat) (x : Event) (f : DiskView) → Moments m (events_of cs ++ x ∷ []) (outcomes_of cs) e f → Moments w (events_of (bs ++ cs) ++ x ∷ []) (outcomes_of (bs ++ cs)) d f
+  unprinted_after cs x f later =
       subst (λ (l : List Outcome). Moments w (events_of (bs ++ cs) ++ x ∷ []) l d f) (append-nil (outcomes_of (bs ++ cs)))
       (after cs (x ∷ []) [] f (subst (λ (l : List Outcome). Moments m (events_of cs ++ x ∷ []) l e f) (sym (append-nil (outcomes_of cs))) later))
 
   up_to_after : (cs : List Beat) (x : Event) (fault : HostFault) (f : DiskView) → LeavesFrontsUpTo m cs x fault e f → LeavesFrontsUpTo w (bs ++ cs) x fault d f
   up_to_after cs x faults.Closed f later = later
   up_to_after cs x faults.Disk f later = (later.0, after cs (x ∷ []) (later.0 ∷ []) f later.1)
-  up_to_after cs x faults.OutOfMemory f later = untold_after cs x f later
-  up_to_after cs x faults.JournalFull f later = untold_after cs x f later
+  up_to_after cs x faults.OutOfMemory f later = unprinted_after cs x f later
+  up_to_after cs x faults.JournalFull f later = unprinted_after cs x f later
 
 behind : {A C K : Type 0} (p mid q : Place A C K) (bs cs : List Beat) → HoldsSheet p.world p.disk → Course p.world p.disk bs mid.world mid.disk → LeavesFrontsOf mid cs q → LeavesFrontsOf p (bs ++ cs) q
-behind p mid q bs cs held c (all_told m) = all_told (fronts_after p.world p.disk bs mid.world mid.disk held c cs q.disk m)
+behind p mid q bs cs held c (all_printed m) = all_printed (fronts_after p.world p.disk bs mid.world mid.disk held c cs q.disk m)
 behind p mid q bs cs held c (broke_at d h e f stopped is m) = broke_at d h e f stopped is (up_to_after p.world p.disk bs mid.world mid.disk held c cs e f q.disk m)
 behind p mid q bs cs held c (lost_at events d h l is m) = lost_at events d h l is (after p.world p.disk bs mid.world mid.disk held c cs l.taken l.untold q.disk m)
 
 -- What an item leaves that failed.
 
 nothing_done : {A C K : Type 0} (p q : Place A C K) → HoldsSheet p.world p.disk → q.disk ≡ p.disk → LeavesFrontsOf p [] q
-nothing_done p q held is = all_told (subst (λ (d : DiskView). LeavesFronts p.world [] p.disk d) (sym is) ((no_step p.world p.disk).moments held))
+nothing_done p q held is = all_printed (subst (λ (d : DiskView). LeavesFronts p.world [] p.disk d) (sym is) ((no_step p.world p.disk).moments held))
 
 fails_leave : {A C K : Type 0} (R : Rules A C K) (p q : Place A C K) (i : Item) (beats : List Beat) (why : RunFault) → HoldsSheet p.world p.disk → Fails R p i beats why q → LeavesFrontsOf p beats q
 fails_leave R p q i beats why held (unsaid now w a clock says) = nothing_done p q held refl
@@ -117,7 +117,7 @@ fails_leave R p q i beats why held (unwritten line f h stopped) =
     broke_at p.disk h (event.Command command.Checkpoint) f stopped refl (course_up_to p.world p.disk [] p.world p.disk (event.Command command.Checkpoint) f h held (no_step p.world p.disk) stopped)
 fails_leave R p q i beats why held (unnumbered line many) = nothing_done p q held refl
 fails_leave R p q i beats why held unstalled = nothing_done p q held refl
-fails_leave R p q i beats why held (untold s w k is tries) = nothing_done p q held refl
+fails_leave R p q i beats why held (unprinted s w k is tries) = nothing_done p q held refl
 
 -- After a fault no event is taken, and the disk stays.
 
@@ -133,22 +133,22 @@ halt_stays : {A C K : Type 0} (R : Rules A C K) (p q : Place A C K) (why : RunFa
 halt_stays R p q why left [] r = stays_at p q r.1
 halt_stays R p q why left (s ∷ steps) (next, mid, goes, more) = absurd (after_halt R p mid why s next goes)
 
-confess_stays : {A C K : Type 0} (R : Rules A C K) (p q : Place A C K) (why : RunFault) (left : List Item) (steps : List Step) → Run R p (confess why ∷ []) steps left q → StaysThere p q steps
-confess_stays R p q why left [] r = stays_at p q r.1
-confess_stays R p q why left (s ∷ steps) (next, mid, confesses w whole k tries, more) =
+fault_line_stays : {A C K : Type 0} (R : Rules A C K) (p q : Place A C K) (why : RunFault) (left : List Item) (steps : List Step) → Run R p (print_fault why ∷ []) steps left q → StaysThere p q steps
+fault_line_stays R p q why left [] r = stays_at p q r.1
+fault_line_stays R p q why left (s ∷ steps) (next, mid, prints_fault w whole k tries, more) =
     let so = halt_stays R mid q why left steps more in
     record { world = so.world; disk = so.disk; none = so.none }
-confess_stays R p q why left (s ∷ steps) (next, mid, breaks i beats w x rest fails, more) = absurd (elim fails [ ])
+fault_line_stays R p q why left (s ∷ steps) (next, mid, breaks i beats w x rest fails, more) = absurd (elim fails [ ])
 
 fault_stays : {A C K : Type 0} (R : Rules A C K) (p q : Place A C K) (why : RunFault) (next left : List Item) (steps : List Step) → next ≡ after_fault why → Run R p next steps left q → StaysThere p q steps
 fault_stays R p q why next left steps is r = by (after_is why)
   where
-    by : ((after_fault why ≡ halt why ∷ []) ⊎ (after_fault why ≡ confess why ∷ [])) → StaysThere p q steps
+    by : ((after_fault why ≡ halt why ∷ []) ⊎ (after_fault why ≡ print_fault why ∷ [])) → StaysThere p q steps
     by (inl e) = halt_stays R p q why left steps (subst (λ (t : List Item). Run R p t steps left q) (is ∙ e) r)
-    by (inr e) = confess_stays R p q why left steps (subst (λ (t : List Item). Run R p t steps left q) (is ∙ e) r)
+    by (inr e) = fault_line_stays R p q why left steps (subst (λ (t : List Item). Run R p t steps left q) (is ∙ e) r)
 
 same_there : {A C K : Type 0} (p mid q : Place A C K) (beats : List Beat) → q.world ≡ mid.world → q.disk ≡ mid.disk → LeavesFrontsOf p beats mid → LeavesFrontsOf p beats q
-same_there p mid q beats world disk (all_told m) = all_told (subst (λ (d : DiskView). LeavesFronts p.world beats p.disk d) (sym disk) m)
+same_there p mid q beats world disk (all_printed m) = all_printed (subst (λ (d : DiskView). LeavesFronts p.world beats p.disk d) (sym disk) m)
 same_there p mid q beats world disk (broke_at d h e f stopped is m) =
     broke_at d h e f (subst (λ (w : World). Stopped d h w e f) (sym world) stopped) (disk ∙ is) (subst (λ (x : DiskView). LeavesFrontsUpTo p.world beats e f p.disk x) (sym disk) m)
 same_there p mid q beats world disk (lost_at events d h l is m) =

@@ -1,4 +1,4 @@
--- What events that were taken behind one gate leave of the disk, with all that followed.
+-- What events that were taken as one group leave of the disk, with all that followed.
 use Rattle.std.proofs.Common.{◌≡◌, inl, inr, ℕ, zero, suc, List, [], ◌∷◌, ◌++◌, Option, Some, None, refl, ap, sym, ◌∙◌, subst, append-nil, length}
 use Rattle.disk_model.specs.Disk.{DiskView}
 use Rattle.host_events.specs.declared.event.Event.{Event}

@@ -1,4 +1,4 @@
--- The order of what is durable and what is told.
+-- The order of what is durable and what is printed.
 use Rattle.std.proofs.Common.{◌≡◌, inl, inr, ℕ, List, [], ◌∷◌, ◌++◌, None, refl, sym, ap, subst, append-nil, ◌∙◌, true}
 use Rattle.std.specs.Prelude.{◌⊎◌}
 use Rattle.disk_model.specs.Disk.{DiskView}
@@ -7,12 +7,12 @@ use Rattle.child_edge.specs.Faithful.{Beat, at}
 use Rattle.child_edge.specs.Kept.{HoldsSheet}
 use Rattle.offline_programs.specs.declared.fault.RunFault.{RunFault}
 use Rattle.offline_programs.specs.declared.fault.RunFault.TheVariants as fault
-use Rattle.driver.specs.declared.said.Said.{Said}
-use Rattle.driver.specs.Said.{text_of}
-use Rattle.driver.specs.Items.{Item, Step, after_fault, beats_of, broke, confess, halt, told_of}
+use Rattle.driver.specs.declared.report.Report.{Report}
+use Rattle.driver.specs.Reports.{text_of}
+use Rattle.driver.specs.Items.{Item, Step, after_fault, beats_of, broke, print_fault, halt, printed}
 use Rattle.driver.specs.Place.{Place, Rules, Tries, run_at}
-use Rattle.driver.specs.Steps.{Fails, Goes, Run, asks, breaks, confesses, hears, heeds, interrupts, rewrites, stalls_all, takes, tells, watches}
-use Rattle.driver.specs.Laws.{CutAt, ToldAfter, trace}
+use Rattle.driver.specs.Steps.{Fails, Goes, Run, asks, breaks, prints_fault, hears, heeds, interrupts, rewrites, stalls_all, takes, prints, watches}
+use Rattle.driver.specs.Laws.{CutAt, PrintedAfter, trace}
 use Rattle.driver.proofs.Courses.{Course, course_on, goes_course}
 use Rattle.driver.proofs.Gates.{together_course}
 
@@ -47,35 +47,35 @@ step_course R p mid todo next s (rewrites line o w d rest g k) =
     inl (goes_course p.world p.disk (beats_of s) w d (w, d, g, k, (refl, refl)))
 step_course R p mid todo next s (stalls_all rest) = inl (no_step p.world p.disk)
 step_course R p mid todo next s (interrupts name told c rest i) = inl (no_step p.world p.disk)
-step_course R p mid todo next s (tells t k rest tries) = inl (no_step p.world p.disk)
+step_course R p mid todo next s (prints t k rest tries) = inl (no_step p.world p.disk)
 step_course R p mid todo next s (heeds c now n a rest clock h) = inl (no_step p.world p.disk)
 step_course R p mid todo next s (breaks i beats why q rest fails) = inr (record { item = i; beats = beats; why = why; fails = fails; step = refl; left = refl })
-step_course R p mid todo next s (confesses why whole k tries) = inl (no_step p.world p.disk)
+step_course R p mid todo next s (prints_fault why whole k tries) = inl (no_step p.world p.disk)
 
--- After a fault nothing is told but it.
+-- After a fault nothing is printed but it.
 
 pub after_halt : {A C K : Type 0} (R : Rules A C K) (p mid : Place A C K) (why : RunFault) (s : Step) (next : List Item) → Goes R p (halt why ∷ []) s next mid → ⊥
 after_halt R p mid why s next (breaks i beats w q rest fails) = elim fails [ ]
 
-halted : {A C K : Type 0} (R : Rules A C K) (p q : Place A C K) (why : RunFault) (left : List Item) (before after : List Step) (s : Said)
-    → Run R p (halt why ∷ []) (before ++ told_of s ∷ after) left q → ⊥
-halted R p q why left [] after s (next, mid, goes, more) = after_halt R p mid why (told_of s) next goes
+halted : {A C K : Type 0} (R : Rules A C K) (p q : Place A C K) (why : RunFault) (left : List Item) (before after : List Step) (s : Report)
+    → Run R p (halt why ∷ []) (before ++ printed s ∷ after) left q → ⊥
+halted R p q why left [] after s (next, mid, goes, more) = after_halt R p mid why (printed s) next goes
 halted R p q why left (x ∷ before) after s (next, mid, goes, more) = after_halt R p mid why x next goes
 
-confess_first : {A C K : Type 0} (R : Rules A C K) (p mid : Place A C K) (why : RunFault) (s : Said) (next : List Item) → Goes R p (confess why ∷ []) (told_of s) next mid → ⊥
-confess_first R p mid why s next goes = elim goes [ ]
+fault_first : {A C K : Type 0} (R : Rules A C K) (p mid : Place A C K) (why : RunFault) (s : Report) (next : List Item) → Goes R p (print_fault why ∷ []) (printed s) next mid → ⊥
+fault_first R p mid why s next goes = elim goes [ ]
 
-confess_next : {A C K : Type 0} (R : Rules A C K) (p mid : Place A C K) (why : RunFault) (s : Step) (next : List Item) → Goes R p (confess why ∷ []) s next mid → next ≡ halt why ∷ []
-confess_next R p mid why s next (confesses w whole k tries) = refl
-confess_next R p mid why s next (breaks i beats w q rest fails) = absurd (elim fails [ ])
+fault_next : {A C K : Type 0} (R : Rules A C K) (p mid : Place A C K) (why : RunFault) (s : Step) (next : List Item) → Goes R p (print_fault why ∷ []) s next mid → next ≡ halt why ∷ []
+fault_next R p mid why s next (prints_fault w whole k tries) = refl
+fault_next R p mid why s next (breaks i beats w q rest fails) = absurd (elim fails [ ])
 
-confessing : {A C K : Type 0} (R : Rules A C K) (p q : Place A C K) (why : RunFault) (left : List Item) (before after : List Step) (s : Said)
-    → Run R p (confess why ∷ []) (before ++ told_of s ∷ after) left q → ⊥
-confessing R p q why left [] after s (next, mid, goes, more) = confess_first R p mid why s next goes
-confessing R p q why left (x ∷ before) after s (next, mid, goes, more) =
-    halted R mid q why left before after s (subst (λ (t : List Item). Run R mid t (before ++ told_of s ∷ after) left q) (confess_next R p mid why x next goes) more)
+fault_only : {A C K : Type 0} (R : Rules A C K) (p q : Place A C K) (why : RunFault) (left : List Item) (before after : List Step) (s : Report)
+    → Run R p (print_fault why ∷ []) (before ++ printed s ∷ after) left q → ⊥
+fault_only R p q why left [] after s (next, mid, goes, more) = fault_first R p mid why s next goes
+fault_only R p q why left (x ∷ before) after s (next, mid, goes, more) =
+    halted R mid q why left before after s (subst (λ (t : List Item). Run R mid t (before ++ printed s ∷ after) left q) (fault_next R p mid why x next goes) more)
 
-pub after_is : (why : RunFault) → (after_fault why ≡ halt why ∷ []) ⊎ (after_fault why ≡ confess why ∷ [])
+pub after_is : (why : RunFault) → (after_fault why ≡ halt why ∷ []) ⊎ (after_fault why ≡ print_fault why ∷ [])
 after_is fault.Input = inr refl
 after_is fault.InputTooLong = inr refl
 after_is fault.Output = inl refl
@@ -85,30 +85,30 @@ after_is (fault.Open cause) = inr refl
 after_is fault.InUse = inr refl
 after_is fault.SecondFile = inr refl
 
-no_words : {A C K : Type 0} (R : Rules A C K) (p q : Place A C K) (why : RunFault) (next left : List Item) (before after : List Step) (s : Said)
-    → next ≡ after_fault why → Run R p next (before ++ told_of s ∷ after) left q → ⊥
+no_words : {A C K : Type 0} (R : Rules A C K) (p q : Place A C K) (why : RunFault) (next left : List Item) (before after : List Step) (s : Report)
+    → next ≡ after_fault why → Run R p next (before ++ printed s ∷ after) left q → ⊥
 no_words {A = A} {C = C} {K = K} R p q why next left before after s is r = by (after_is why)
   where
-    by : ((after_fault why ≡ halt why ∷ []) ⊎ (after_fault why ≡ confess why ∷ [])) → ⊥
-    by (inl e) = halted R p q why left before after s (subst (λ (t : List Item). Run R p t (before ++ told_of s ∷ after) left q) (is ∙ e) r)
-    by (inr e) = confessing R p q why left before after s (subst (λ (t : List Item). Run R p t (before ++ told_of s ∷ after) left q) (is ∙ e) r)
+    by : ((after_fault why ≡ halt why ∷ []) ⊎ (after_fault why ≡ print_fault why ∷ [])) → ⊥
+    by (inl e) = halted R p q why left before after s (subst (λ (t : List Item). Run R p t (before ++ printed s ∷ after) left q) (is ∙ e) r)
+    by (inr e) = fault_only R p q why left before after s (subst (λ (t : List Item). Run R p t (before ++ printed s ∷ after) left q) (is ∙ e) r)
 
--- This was told there, and the steps before led there.
-record ToldThere {A C K : Type 0} (R : Rules A C K) (p : Place A C K) (before : List Step) (s : Said) : Type 0 where
+-- This was printed there, and the steps before led there.
+record PrintedThere {A C K : Type 0} (R : Rules A C K) (p : Place A C K) (before : List Step) (s : Report) : Type 0 where
   there : Place A C K
   course : Course p.world p.disk (trace before) there.world there.disk
   sink : K
   tries : Tries R.sink there.sink there.disk (text_of R.sink.voice there.world s) true sink
 
-told_there : {A C K : Type 0} (R : Rules A C K) (p q : Place A C K) (todo left : List Item) (before after : List Step) (s : Said)
-    → Run R p todo (before ++ told_of s ∷ after) left q → ToldThere R p before s
-told_there R p q todo left [] after s (next, mid, tells x k rest tries, more) =
+printed_there : {A C K : Type 0} (R : Rules A C K) (p q : Place A C K) (todo left : List Item) (before after : List Step) (s : Report)
+    → Run R p todo (before ++ printed s ∷ after) left q → PrintedThere R p before s
+printed_there R p q todo left [] after s (next, mid, prints x k rest tries, more) =
     record { there = p; course = no_step p.world p.disk; sink = k; tries = tries }
-told_there R p q todo left (x ∷ before) after s (next, mid, goes, more) = by (step_course R p mid todo next x goes)
+printed_there R p q todo left (x ∷ before) after s (next, mid, goes, more) = by (step_course R p mid todo next x goes)
   where
-    by : (Course p.world p.disk (beats_of x) mid.world mid.disk ⊎ Broke R p x next mid) → ToldThere R p (x ∷ before) s
+    by : (Course p.world p.disk (beats_of x) mid.world mid.disk ⊎ Broke R p x next mid) → PrintedThere R p (x ∷ before) s
     by (inl c) =
-        let so = told_there R mid q next left before after s more in record {
+        let so = printed_there R mid q next left before after s more in record {
           there = so.there;
           course = course_on p.world p.disk (beats_of x) mid.world mid.disk (trace before) so.there.world so.there.disk c so.course;
           sink = so.sink;
@@ -116,8 +116,8 @@ told_there R p q todo left (x ∷ before) after s (next, mid, goes, more) = by (
         }
     by (inr b) = absurd (no_words R mid q b.why next left before after s b.left more)
 
-pub replies_follow : {A C K : Type 0} (R : Rules A C K) (p q : Place A C K) (todo left : List Item) (before after : List Step) (s : Said)
-    → HoldsSheet p.world p.disk → Run R p todo (before ++ told_of s ∷ after) left q → ToldAfter R p before s
+pub replies_follow : {A C K : Type 0} (R : Rules A C K) (p q : Place A C K) (todo left : List Item) (before after : List Step) (s : Report)
+    → HoldsSheet p.world p.disk → Run R p todo (before ++ printed s ∷ after) left q → PrintedAfter R p before s
 replies_follow R p q todo left before after s held r =
-    let so = told_there R p q todo left before after s r in
+    let so = printed_there R p q todo left before after s r in
     record { there = so.there; runs = so.course.runs; holds = so.course.holds held; sink = so.sink; tries = so.tries }

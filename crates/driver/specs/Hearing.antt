@@ -23,7 +23,7 @@ pub data HeardAfter {C : Type 0} (R : SourceRules C) (c : C) : List Event → C 
 
 -- The sources were left alone, or they were watched once more and nothing that they have was received.
 abbrev pub WatchedOnce : {C : Type 0} → SourceRules C → C → C → Type 0
-WatchedOnce R c d = (d ≡ c) ⊎ ((told : Option Woken) × R.wakes c (asked input.HeldBack None) told d)
+WatchedOnce R c d = (d ≡ c) ⊎ ((woken : Option Woken) × R.wakes c (asked input.HeldBack None) woken d)
 
 -- This life gave an event, and others that were ready gave the later ones: so many in all at most.
 pub record Heard {C : Type 0} (R : SourceRules C) (seat : Seat) (most : ℕ) (c : C) (events : List Event) (d : C) : Type 0 where

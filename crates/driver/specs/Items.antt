@@ -17,9 +17,9 @@ use Rattle.offline_programs.specs.declared.fault.RunFault.{RunFault}
 use Rattle.offline_programs.specs.declared.fault.RunFault.TheVariants as fault
 use Rattle.driver.specs.declared.turn.Turn.{Turn}
 use Rattle.driver.specs.declared.turn.Turn.TheVariants as turn
-use Rattle.driver.specs.declared.said.Said.{Said}
-use Rattle.driver.specs.declared.said.Said.TheVariants as said
-use Rattle.driver.specs.declared.said.Came.{Came}
+use Rattle.driver.specs.declared.report.Report.{Report}
+use Rattle.driver.specs.declared.report.Report.TheVariants as report
+use Rattle.driver.specs.declared.report.Came.{Came}
 
 -- what is to be done
 pub data Item : Type 0 where
@@ -29,7 +29,7 @@ pub data Item : Type 0 where
   watch : Asked → Item
   -- this life is received from, and others that are ready: so many at most
   hear : Seat → ℕ → Item
-  -- these events are taken behind one gate: those of lives, or of the lines from this one on
+  -- these events are taken as one group: those of lives, or of the lines from this one on
   take : Option ℕ → List Event → Item
   -- the journal is rewritten, for which this line asks
   rewrite : ℕ → Item
@@ -37,12 +37,12 @@ pub data Item : Type 0 where
   stall : Item
   -- the interpreter of this session is interrupted
   interrupt : List ℕ → Item
-  -- this is told
-  tell : Said → Item
+  -- this is printed
+  print : Report → Item
   -- the agenda heeds what came
   heed : Came → Item
-  -- this fault is told
-  confess : RunFault → Item
+  -- this fault is printed
+  print_fault : RunFault → Item
   -- no more is done, by this fault
   halt : RunFault → Item
 
@@ -55,19 +55,19 @@ pub data Step : Type 0 where
   rewrote : Beat → Step
   stalled : List Seat → Step
   interrupted : List ℕ → Interrupted → Step
-  told_of : Said → Step
+  printed : Report → Step
   heeded : Came → Option Note → Step
   -- the item at the head failed, after these events were taken
   broke : List Beat → RunFault → Step
-  -- the fault was told last of all, or that was tried
-  confessed : RunFault → Bool → Step
+  -- the fault was printed last of all, or that was tried
+  printed_fault : RunFault → Bool → Step
 
 -- what comes of a turn
 abbrev pub came : List Outcome → List Reply → Came
 came outcomes replies = record { outcomes = outcomes; replies = replies; interrupted = None }
 
 abbrev pub interrupt_came : Interrupted → Came
-interrupt_came told = record { outcomes = []; replies = []; interrupted = Some told }
+interrupt_came result = record { outcomes = []; replies = []; interrupted = Some result }
 
 -- what the agenda asked for, and then it is asked again; at the end it is not
 abbrev pub items_of : Turn → List Item
@@ -79,28 +79,28 @@ items_of (turn.Lines first events) = take (Some first) events.items ∷ ask ∷ 
 items_of (turn.Checkpoint line) = rewrite line ∷ ask ∷ []
 items_of turn.Stall = stall ∷ ask ∷ []
 items_of (turn.Interrupt name) = interrupt name ∷ ask ∷ []
-items_of (turn.Note n) = tell (said.Note n) ∷ heed (came [] []) ∷ ask ∷ []
-items_of (turn.Sheet line) = tell (said.Sheet line) ∷ heed (came [] []) ∷ ask ∷ []
-items_of (turn.Field line id) = tell (said.Field line id) ∷ heed (came [] []) ∷ ask ∷ []
-items_of (turn.Export line format) = tell (said.Export line format) ∷ heed (came [] []) ∷ ask ∷ []
+items_of (turn.Note n) = print (report.Note n) ∷ heed (came [] []) ∷ ask ∷ []
+items_of (turn.Sheet line) = print (report.Sheet line) ∷ heed (came [] []) ∷ ask ∷ []
+items_of (turn.Field line id) = print (report.Field line id) ∷ heed (came [] []) ∷ ask ∷ []
+items_of (turn.Export line format) = print (report.Export line format) ∷ heed (came [] []) ∷ ask ∷ []
 
--- what events gave that were taken behind one gate is told, lines by their numbers, and then what followed; the agenda heeds it
-abbrev pub said_of : Option ℕ → List Outcome → Said
-said_of None outcomes = said.Lives outcomes
-said_of (Some first) outcomes = said.Lines first outcomes
+-- what events gave that were taken as one group is printed, lines by their numbers, and then what followed; the agenda heeds it
+abbrev pub report_of : Option ℕ → List Outcome → Report
+report_of None outcomes = report.Lives outcomes
+report_of (Some first) outcomes = report.Lines first outcomes
 
-abbrev pub telling : Option ℕ → List Outcome → List Reply → List Item
-telling from outcomes replies = tell (said_of from outcomes) ∷ tell (said.Followed replies) ∷ heed (came outcomes replies) ∷ []
+abbrev pub printing : Option ℕ → List Outcome → List Reply → List Item
+printing from outcomes replies = print (report_of from outcomes) ∷ print (report.Followed replies) ∷ heed (came outcomes replies) ∷ []
 
--- what is noted is told
+-- what is noted is printed
 abbrev pub notes : Option Note → List Item
 notes None = []
-notes (Some n) = tell (said.Note n) ∷ []
+notes (Some n) = print (report.Note n) ∷ []
 
--- After a fault it is told, and no more is done; that the sink failed is not.
+-- After a fault it is printed, and no more is done; that the sink failed is not.
 abbrev pub after_fault : RunFault → List Item
 after_fault fault.Output = halt fault.Output ∷ []
-after_fault why = confess why ∷ []
+after_fault why = print_fault why ∷ []
 
 -- the event that a life has stalled
 abbrev pub stalls : Seat → Event
@@ -114,8 +114,8 @@ beats_of (heard events) = []
 beats_of (took events outcomes followed) = trace_of events outcomes followed
 beats_of (rewrote b) = b ∷ []
 beats_of (stalled seats) = []
-beats_of (interrupted name told) = []
-beats_of (told_of s) = []
+beats_of (interrupted name result) = []
+beats_of (printed s) = []
 beats_of (heeded c n) = []
 beats_of (broke beats why) = beats
-beats_of (confessed why whole) = []
+beats_of (printed_fault why whole) = []

@@ -16,9 +16,9 @@ use Rattle.host_events.specs.declared.outcome.HostFault.{HostFault}
 use Rattle.session_engine.specs.Crash.{Moments}
 use Rattle.session_engine.specs.Host.{HostView}
 use Rattle.offline_programs.specs.declared.fault.RunFault.{RunFault}
-use Rattle.driver.specs.declared.said.Said.{Said}
-use Rattle.driver.specs.Said.{text_of}
-use Rattle.driver.specs.Items.{Item, Step, beats_of, told_of}
+use Rattle.driver.specs.declared.report.Report.{Report}
+use Rattle.driver.specs.Reports.{text_of}
+use Rattle.driver.specs.Items.{Item, Step, beats_of, printed}
 use Rattle.driver.specs.Place.{Place, Rules, Tries}
 use Rattle.driver.specs.Steps.{Run}
 
@@ -37,24 +37,24 @@ abbrev pub RunsAreCutAnywhere : {A C K : Type 0} → Rules A C K → Type 0
 RunsAreCutAnywhere {A = A} {C = C} {K = K} R = (p q : Place A C K) (todo left : List Item) (first last : List Step)
     → Run R p todo (first ++ last) left q → CutAt R p todo first last left q
 
--- This was told when the events of the steps before it had led to that world, and the disk held its worksheet at every image.
-pub record ToldAfter {A C K : Type 0} (R : Rules A C K) (p : Place A C K) (before : List Step) (s : Said) : Type 0 where
+-- This was printed when the events of the steps before it had led to that world, and the disk held its worksheet at every image.
+pub record PrintedAfter {A C K : Type 0} (R : Rules A C K) (p : Place A C K) (before : List Step) (s : Report) : Type 0 where
   pub there : Place A C K
   pub runs : Runs p.world (events_of (trace before)) (outcomes_of (trace before)) there.world
   pub holds : HoldsSheet there.world there.disk
   pub sink : K
   pub tries : Tries R.sink there.sink there.disk (text_of R.sink.voice there.world s) true sink
 
--- A reply follows its sync: what is told of events is told when all that they gave is durable.
+-- A reply follows its sync: what is printed of events is printed when all that they gave is durable.
 abbrev pub RepliesFollowSyncs : {A C K : Type 0} → Rules A C K → Type 0
-RepliesFollowSyncs {A = A} {C = C} {K = K} R = (p q : Place A C K) (todo left : List Item) (before after : List Step) (s : Said)
-    → HoldsSheet p.world p.disk → Run R p todo (before ++ told_of s ∷ after) left q → ToldAfter R p before s
+RepliesFollowSyncs {A = A} {C = C} {K = K} R = (p q : Place A C K) (todo left : List Item) (before after : List Step) (s : Report)
+    → HoldsSheet p.world p.disk → Run R p todo (before ++ printed s ∷ after) left q → PrintedAfter R p before s
 
 -- What a run left of the disk at every moment, from its first place to its last: each image was one of the worksheet after some of the first events of
 -- its trace. Where it broke off at an event, that had this fault; where the disk failed at a gate, an image may be one of the worksheet after events
--- of which nothing was told.
+-- of which nothing was printed.
 pub data LeavesFrontsOf {A C K : Type 0} (p : Place A C K) (beats : List Beat) (q : Place A C K) : Type 0 where
-  all_told : LeavesFronts p.world beats p.disk q.disk → LeavesFrontsOf p beats q
+  all_printed : LeavesFronts p.world beats p.disk q.disk → LeavesFrontsOf p beats q
   broke_at : (d : DiskView) (h : HostView) (e : Event) (f : HostFault) → Stopped d h q.world e f → q.disk ≡ h.store.disk
       → LeavesFrontsUpTo p.world beats e f p.disk q.disk → LeavesFrontsOf p beats q
   lost_at : (events : List Event) (d : DiskView) (h : HostView) (l : LostTogether q.world events d h) → q.disk ≡ h.store.disk

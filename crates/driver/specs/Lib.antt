@@ -1,4 +1,4 @@
-pub mod Said
+pub mod Reports
 pub mod Place
 pub mod Items
 pub mod Hearing

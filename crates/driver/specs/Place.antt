@@ -10,7 +10,7 @@ use Rattle.tellings.specs.Voice.{Voice}
 use Rattle.tellings.specs.declared.note.Note.{Note}
 use Rattle.offline_programs.specs.declared.fault.RunFault.{RunFault}
 use Rattle.driver.specs.declared.turn.Turn.{Turn}
-use Rattle.driver.specs.declared.said.Came.{Came}
+use Rattle.driver.specs.declared.report.Came.{Came}
 
 -- How often the agenda was asked, the agenda, where events led to, the disk of the host, the sources, and the sink.
 pub record Place (A C K : Type 0) : Type 0 where
@@ -31,13 +31,13 @@ pub record SourceRules (C : Type 0) : Type 1 where
   pub wakes : C → Asked → Option Woken → C → Type 0
   pub clock : C → ℕ → Type 0
 
--- What a sink may do: its texts, what was told so far, and what came of trying a text while the disk stood so.
+-- What a sink may do: its texts, what was printed so far, and what came of trying a text while the disk stood so.
 pub record SinkRules (K : Type 0) : Type 1 where
   pub voice : Voice
   pub written : K → Option (List ℕ)
   pub tried : K → DiskView → List ℕ → Bool → K → Type 0
 
--- What an agenda may do: what it says is next, that it is told whose turn it is, and what it makes of what came.
+-- What an agenda may do: what it says is next, that it is given whose turn it is, and what it makes of what came.
 pub record AgendaRules (A : Type 0) : Type 1 where
   pub says : A → World → ℕ → Result Turn RunFault → A → Type 0
   pub woken : A → Woken → A → Type 0
@@ -61,7 +61,7 @@ sink_rules voice written tried = record { voice = voice; written = written; trie
 abbrev pub rules : {A C K : Type 0} → AgendaRules A → SourceRules C → SinkRules K → Rules A C K
 rules agenda sources sink = record { agenda = agenda; sources = sources; sink = sink }
 
--- A text was tried while the disk stood so; where all of it went out, it comes after what was told before.
+-- A text was tried while the disk stood so; where all of it went out, it comes after what was printed before.
 pub record Tries {K : Type 0} (R : SinkRules K) (k : K) (disk : DiskView) (text : List ℕ) (whole : Bool) (l : K) : Type 0 where
   pub tried : R.tried k disk text whole l
   pub appends : whole ≡ true → Appends (R.written k) (R.written l) text

@@ -28,18 +28,18 @@ use Rattle.tellings.specs.declared.note.Note.{Note}
 use Rattle.offline_programs.specs.declared.fault.RunFault.{RunFault}
 use Rattle.offline_programs.specs.declared.fault.RunFault.TheVariants as fault
 use Rattle.driver.specs.declared.turn.Turn.{Turn}
-use Rattle.driver.specs.declared.said.Said.{Said}
-use Rattle.driver.specs.declared.said.Came.{Came}
-use Rattle.driver.specs.Said.{text_of}
+use Rattle.driver.specs.declared.report.Report.{Report}
+use Rattle.driver.specs.declared.report.Came.{Came}
+use Rattle.driver.specs.Reports.{text_of}
 use Rattle.driver.specs.Place.{Place, Rules, Tries, run_at}
-use Rattle.driver.specs.Items.{Item, Step, after_fault, ask, broke, chose, confess, confessed, halt, hear, heard, heed, heeded, interrupt, interrupt_came, interrupted, items_of, notes, rewrite, rewrote, stall, stalled, stalls, take, tell, telling, told_of, took, watch, watched}
+use Rattle.driver.specs.Items.{Item, Step, after_fault, ask, broke, chose, print_fault, printed_fault, halt, hear, heard, heed, heeded, interrupt, interrupt_came, interrupted, items_of, notes, rewrite, rewrote, stall, stalled, stalls, take, print, printing, printed, took, watch, watched}
 use Rattle.driver.specs.Hearing.{Heard}
 
--- the most events that are taken behind one gate
+-- the most events that are taken as one group
 abbrev pub most_together : ℕ
 most_together = 1024
 
--- the fault of a run where events weren't taken behind one gate
+-- the fault of a run where events weren't taken as one group
 abbrev pub fault_at_gate : TogetherFault → RunFault
 fault_at_gate at_gate.OutOfMemory = fault.OutOfMemory
 fault_at_gate at_gate.Lost = fault.Host hosts.Disk
@@ -61,7 +61,7 @@ pub data Fails {A C K : Type 0} (R : Rules A C K) (p : Place A C K) : Item → L
       → Fails R p (take from events) [] fault.InputTooLong p
   -- there was no memory, and none was taken
   untaken : (from : Option ℕ) (events : List Event) → Fails R p (take from events) [] fault.OutOfMemory p
-  -- the disk failed at the gate: of none of the events anything is told
+  -- the disk failed at the gate: of none of the events anything is printed
   lost : (from : Option ℕ) (events : List Event) (h : HostView) → LostTogether p.world events p.disk h
       → Fails R p (take from events) [] (fault.Host hosts.Disk) (record p { disk = h.store.disk })
   -- the host had this fault at one of the events, or at one that followed
@@ -75,8 +75,8 @@ pub data Fails {A C K : Type 0} (R : Rules A C K) (p : Place A C K) : Item → L
   -- there was no memory for the lives that stall
   unstalled : Fails R p stall [] fault.OutOfMemory p
   -- the sink failed, or there was no memory for the text
-  untold : (s : Said) (why : RunFault) (k : K) → IsUntold R.sink.voice why → Tries R.sink p.sink p.disk (text_of R.sink.voice p.world s) false k
-      → Fails R p (tell s) [] why (record p { sink = k })
+  unprinted : (s : Report) (why : RunFault) (k : K) → IsUntold R.sink.voice why → Tries R.sink p.sink p.disk (text_of R.sink.voice p.world s) false k
+      → Fails R p (print s) [] why (record p { sink = k })
 
 -- One step.
 pub data Goes {A C K : Type 0} (R : Rules A C K) (p : Place A C K) : List Item → Step → List Item → Place A C K → Type 0 where
@@ -86,23 +86,23 @@ pub data Goes {A C K : Type 0} (R : Rules A C K) (p : Place A C K) : List Item �
       → Goes R p (watch q ∷ rest) (watched q w) rest (record p { agenda = a; sources = c })
   hears : (seat : Seat) (most : ℕ) (events : List Event) (c : C) (rest : List Item) → Heard R.sources seat most p.sources events c
       → Goes R p (hear seat most ∷ rest) (heard events) (take None events ∷ rest) (record p { sources = c })
-  -- All that the events give is durable before an effect of theirs is carried out, and before a word of it is told.
+  -- All that the events give is durable before an effect of theirs is carried out, and before a word of it is printed.
   takes : (from : Option ℕ) (events : List Event) (outcomes : List Outcome) (followed : List Followed) (w : World) (c : C) (d : DiskView) (rest : List Item)
       → Together R.sources.after (run_at p) events outcomes followed (at w c d)
-      → Goes R p (take from events ∷ rest) (took events outcomes followed) (telling from outcomes (told (beats_behind followed)) ++ rest) (record p { world = w; sources = c; disk = d })
+      → Goes R p (take from events ∷ rest) (took events outcomes followed) (printing from outcomes (told (beats_behind followed)) ++ rest) (record p { world = w; sources = c; disk = d })
   rewrites : (line : ℕ) (o : Outcome) (w : World) (d : DiskView) (rest : List Item) (g : Gives p.world (event.Command command.Checkpoint) o w) → Kept p.world g.0 w p.disk d
-      → Goes R p (rewrite line ∷ rest) (rewrote (record { event = event.Command command.Checkpoint; outcome = o; answer = None })) (telling (Some line) (o ∷ []) [] ++ rest) (record p { world = w; disk = d })
+      → Goes R p (rewrite line ∷ rest) (rewrote (record { event = event.Command command.Checkpoint; outcome = o; answer = None })) (printing (Some line) (o ∷ []) [] ++ rest) (record p { world = w; disk = d })
   stalls_all : (rest : List Item) → Goes R p (stall ∷ rest) (stalled (waits p.world)) (take None (map stalls (waits p.world)) ∷ rest) p
-  interrupts : (name : List ℕ) (told : Interrupted) (c : C) (rest : List Item) → Interrupts R.sources.after p.world name p.sources told c
-      → Goes R p (interrupt name ∷ rest) (interrupted name told) (heed (interrupt_came told) ∷ rest) (record p { sources = c })
-  tells : (s : Said) (k : K) (rest : List Item) → Tries R.sink p.sink p.disk (text_of R.sink.voice p.world s) true k
-      → Goes R p (tell s ∷ rest) (told_of s) rest (record p { sink = k })
+  interrupts : (name : List ℕ) (result : Interrupted) (c : C) (rest : List Item) → Interrupts R.sources.after p.world name p.sources result c
+      → Goes R p (interrupt name ∷ rest) (interrupted name result) (heed (interrupt_came result) ∷ rest) (record p { sources = c })
+  prints : (s : Report) (k : K) (rest : List Item) → Tries R.sink p.sink p.disk (text_of R.sink.voice p.world s) true k
+      → Goes R p (print s ∷ rest) (printed s) rest (record p { sink = k })
   heeds : (c : Came) (now : ℕ) (n : Option Note) (a : A) (rest : List Item) → R.sources.clock p.sources now → R.agenda.heeds p.agenda p.world now c n a
       → Goes R p (heed c ∷ rest) (heeded c n) (notes n ++ rest) (record p { agenda = a })
   breaks : (i : Item) (beats : List Beat) (why : RunFault) (q : Place A C K) (rest : List Item) → Fails R p i beats why q
       → Goes R p (i ∷ rest) (broke beats why) (after_fault why) q
-  confesses : (why : RunFault) (whole : Bool) (k : K) → Tries R.sink p.sink p.disk (R.sink.voice.fault why) whole k
-      → Goes R p (confess why ∷ []) (confessed why whole) (halt why ∷ []) (record p { sink = k })
+  prints_fault : (why : RunFault) (whole : Bool) (k : K) → Tries R.sink p.sink p.disk (R.sink.voice.fault why) whole k
+      → Goes R p (print_fault why ∷ []) (printed_fault why whole) (halt why ∷ []) (record p { sink = k })
 
 -- These steps lead from where this is to be done to where that is.
 abbrev pub Run : {A C K : Type 0} → Rules A C K → Place A C K → List Item → List Step → List Item → Place A C K → Type 0

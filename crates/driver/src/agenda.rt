@@ -1,6 +1,6 @@
 //! Who says what is next.
 
-use crate::said::Came;
+use crate::report::Came;
 use crate::turn::Turn;
 use arrivals::Woken;
 use disk_model::Disk;
@@ -25,10 +25,10 @@ pub trait Agenda {
         ensures { (w : World) → IsHost host.now w → rules.says self.old w now result self.new };
 
     /// It is the turn of this one, by the watch that it asked for.
-    fn wake(&mut self, told: Woken)
-        ensures { rules.woken self.old told self.new };
+    fn wake(&mut self, woken: Woken)
+        ensures { rules.woken self.old woken self.new };
 
-    /// The turn was taken and told. What is noted of what came of it.
+    /// The turn was taken and printed. What is noted of what came of it.
     fn heed<D: Disk>(&mut self, host: &Host<D>, now: u64, came: Came<'_>) -> Option<Note>
         ensures { (w : World) → IsHost host.now w → rules.heeds self.old w now came result self.new };
 }

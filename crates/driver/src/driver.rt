@@ -4,16 +4,16 @@ ghost use Rattle.disk_model.specs.Disk.{SameDisk};
 ghost use Rattle.session_engine.specs.World.{World};
 ghost use Rattle.session_engine.specs.Host.{IsHost};
 ghost use Rattle.driver.specs.Place.{rules, source_rules};
-ghost use Rattle.driver.specs.Items.{Item, ask, heed as heeding, hear as hearing, interrupt as interrupting, items_of, came, rewrite as rewriting, stall as stalling, stalls, take as taking, tell as to_tell, telling, watch as watching};
+ghost use Rattle.driver.specs.Items.{Item, ask, heed as heeding, hear as hearing, interrupt as interrupting, items_of, came, rewrite as rewriting, stall as stalling, stalls, take as taking, print as to_print, printing, watch as watching};
 ghost use Rattle.driver.specs.Steps.{fault_at_gate, most_together};
-ghost use Rattle.driver.specs.Said.{IsCounted};
+ghost use Rattle.driver.specs.Reports.{IsCounted};
 ghost use Rattle.driver.specs.Runs.{Did, again, left_at_end, left_by, parts, seen};
 ghost use Rattle.child_edge.specs.Seats.{waits};
 ghost use Rattle.arrivals.specs.Watching.{asked};
 
 use crate::agenda::Agenda;
 use crate::hearing::hear_ready;
-use crate::said::{Came, Said};
+use crate::report::{Came, Report};
 use crate::sink::Sink;
 use crate::turn::Turn;
 use arrivals::{Input, Sources};
@@ -41,7 +41,7 @@ pub struct Driver<D: Disk, S, K, A> {
     pub agenda: A,
 }
 
-/// The fault of a run, where events weren't taken behind one gate.
+/// The fault of a run, where events weren't taken as one group.
 fn gate_fault(fault: TogetherFault) -> RunFault
     ensures { result ≡ fault_at_gate fault }
 {
@@ -86,14 +86,14 @@ fn stalled_events(alloc: Global, seats: &[Seat]) -> Result<Vec<Event>, AllocErro
 }
 
 impl<D: Disk, S: Sources, K: Sink, A: Agenda> Driver<D, S, K, A> {
-    /// Takes events behind one gate: those of lives, or of lines from this one on.
+    /// Takes events as one group: those of lives, or of lines from this one on.
     fn take(&mut self, from: Option<u64>, events: Vec<Event>) -> Result<GaveTogether, RunFault>
         ensures same { SameDisk self.old.host.store.disk self.new.host.store.disk }
         ensures did { (n : ℕ) (rest : List Item) (w : World) → IsHost self.old.host w
             → Did (rules A.rules (source_rules S.after S.wakes S.clock) K.rules)
             (seen n w (parts self.old.host self.old.sources self.old.sink self.old.agenda))
             (taking from events.items ∷ rest)
-            (left_by (λ gave. telling from gave.outcomes.items gave.replies.items ++ rest)) result
+            (left_by (λ gave. printing from gave.outcomes.items gave.replies.items ++ rest)) result
             (n , parts self.new.host self.new.sources self.new.sink self.new.agenda) }
         ensures few { IfOk result (λ gave. length gave.outcomes.items ≤ most_together) }
         ensures counted { IfOk result (λ gave. IfSome from (λ number. number + most_together + 1 < 2 ^ 64)) }
@@ -113,20 +113,20 @@ impl<D: Disk, S: Sources, K: Sink, A: Agenda> Driver<D, S, K, A> {
         }
     }
 
-    /// Tells this.
-    fn tell(&mut self, said: Said<'_>) -> Result<(), RunFault>
-        requires { IsCounted said }
+    /// Prints this.
+    fn print(&mut self, report: Report<'_>) -> Result<(), RunFault>
+        requires { IsCounted report }
         ensures same { SameDisk self.old.host.store.disk self.new.host.store.disk }
         ensures did { (n : ℕ) (rest : List Item) (w : World) → IsHost self.old.host w
             → Did (rules A.rules (source_rules S.after S.wakes S.clock) K.rules)
             (seen n w (parts self.old.host self.old.sources self.old.sink self.old.agenda))
-            (to_tell said ∷ rest) (left_by (λ done. rest)) result
+            (to_print report ∷ rest) (left_by (λ done. rest)) result
             (n , parts self.new.host self.new.sources self.new.sink self.new.agenda) }
     {
-        self.sink.say(&self.host, said)
+        self.sink.print(&self.host, report)
     }
 
-    /// Has the agenda heed what came, and tells what it notes of that.
+    /// Has the agenda heed what came, and prints what it notes of that.
     fn heed(&mut self, came: Came<'_>) -> Result<(), RunFault>
         ensures same { SameDisk self.old.host.store.disk self.new.host.store.disk }
         ensures did { (n : ℕ) (rest : List Item) (w : World) → IsHost self.old.host w
@@ -137,30 +137,30 @@ impl<D: Disk, S: Sources, K: Sink, A: Agenda> Driver<D, S, K, A> {
     {
         let now = self.sources.now();
         match self.agenda.heed(&self.host, now, came) {
-            Some(note) => self.tell(Said::Note(note)),
+            Some(note) => self.print(Report::Note(note)),
             None => Ok(()),
         }
     }
 
-    /// Tells what events gave, those of lives or of lines from this one on, and has the agenda heed it.
-    fn tell_gave(&mut self, from: Option<u64>, gave: &GaveTogether) -> Result<(), RunFault>
+    /// Prints what events gave, those of lives or of lines from this one on, and has the agenda heed it.
+    fn print_group(&mut self, from: Option<u64>, gave: &GaveTogether) -> Result<(), RunFault>
         requires few { length gave.now.outcomes.items ≤ most_together }
         requires counted { IfSome from (λ number. number + most_together + 1 < 2 ^ 64) }
         ensures same { SameDisk self.old.host.store.disk self.new.host.store.disk }
         ensures did { (n : ℕ) (rest : List Item) (w : World) → IsHost self.old.host w
             → Did (rules A.rules (source_rules S.after S.wakes S.clock) K.rules)
             (seen n w (parts self.old.host self.old.sources self.old.sink self.old.agenda))
-            (telling from gave.now.outcomes.items gave.now.replies.items ++ rest) (left_by (λ done. rest)) result
+            (printing from gave.now.outcomes.items gave.now.replies.items ++ rest) (left_by (λ done. rest)) result
             (n , parts self.new.host self.new.sources self.new.sink self.new.agenda) }
     {
         let outcomes = gave.outcomes.as_slice();
         let replies = gave.replies.as_slice();
-        let said = match from {
-            Some(number) => Said::Lines(number, outcomes),
-            None => Said::Lives(outcomes),
+        let report = match from {
+            Some(number) => Report::Lines(number, outcomes),
+            None => Report::Lives(outcomes),
         };
-        self.tell(said)?;
-        self.tell(Said::Followed(replies))?;
+        self.print(report)?;
+        self.print(Report::Followed(replies))?;
         self.heed(Came {
             outcomes,
             replies,
@@ -168,8 +168,8 @@ impl<D: Disk, S: Sources, K: Sink, A: Agenda> Driver<D, S, K, A> {
         })
     }
 
-    /// Takes events behind one gate, and tells what they gave.
-    fn take_and_tell(&mut self, from: Option<u64>, events: Vec<Event>) -> Result<(), RunFault>
+    /// Takes events as one group, and prints what they gave.
+    fn take_and_print(&mut self, from: Option<u64>, events: Vec<Event>) -> Result<(), RunFault>
         ensures same { SameDisk self.old.host.store.disk self.new.host.store.disk }
         ensures did { (n : ℕ) (rest : List Item) (w : World) → IsHost self.old.host w
             → Did (rules A.rules (source_rules S.after S.wakes S.clock) K.rules)
@@ -178,7 +178,7 @@ impl<D: Disk, S: Sources, K: Sink, A: Agenda> Driver<D, S, K, A> {
             (n , parts self.new.host self.new.sources self.new.sink self.new.agenda) }
     {
         let gave = self.take(from, events)?;
-        self.tell_gave(from, &gave)
+        self.print_group(from, &gave)
     }
 
     /// Receives from this life, and from so many others at most that are ready, and takes what they have.
@@ -191,24 +191,24 @@ impl<D: Disk, S: Sources, K: Sink, A: Agenda> Driver<D, S, K, A> {
             (n , parts self.new.host self.new.sources self.new.sink self.new.agenda) }
     {
         match hear_ready(self.alloc, &mut self.sources, seat, most) {
-            Ok(events) => self.take_and_tell(None, events),
+            Ok(events) => self.take_and_print(None, events),
             Err(_) => Err(RunFault::OutOfMemory),
         }
     }
 
-    /// Tells what a checkpoint gave, for which this line asked, and has the agenda heed it.
-    fn tell_rewrote(&mut self, line: u64, outcome: &Outcome) -> Result<(), RunFault>
+    /// Prints what a checkpoint gave, for which this line asked, and has the agenda heed it.
+    fn print_rewritten(&mut self, line: u64, outcome: &Outcome) -> Result<(), RunFault>
         requires { line + most_together + 1 < 2 ^ 64 }
         ensures same { SameDisk self.old.host.store.disk self.new.host.store.disk }
         ensures did { (n : ℕ) (rest : List Item) (w : World) → IsHost self.old.host w
             → Did (rules A.rules (source_rules S.after S.wakes S.clock) K.rules)
             (seen n w (parts self.old.host self.old.sources self.old.sink self.old.agenda))
-            (telling (Some line) (outcome.now ∷ []) [] ++ rest) (left_by (λ done. rest)) result
+            (printing (Some line) (outcome.now ∷ []) [] ++ rest) (left_by (λ done. rest)) result
             (n , parts self.new.host self.new.sources self.new.sink self.new.agenda) }
     {
         let outcomes = slice::from_ref(outcome);
-        self.tell(Said::Lines(line, outcomes))?;
-        self.tell(Said::Followed(&[]))?;
+        self.print(Report::Lines(line, outcomes))?;
+        self.print(Report::Followed(&[]))?;
         self.heed(Came {
             outcomes,
             replies: &[],
@@ -229,7 +229,7 @@ impl<D: Disk, S: Sources, K: Sink, A: Agenda> Driver<D, S, K, A> {
             return Err(RunFault::InputTooLong);
         }
         match self.host.checkpoint() {
-            Ok(outcome) => self.tell_rewrote(line, &outcome),
+            Ok(outcome) => self.print_rewritten(line, &outcome),
             Err(fault) => Err(RunFault::Host(fault)),
         }
     }
@@ -247,7 +247,7 @@ impl<D: Disk, S: Sources, K: Sink, A: Agenda> Driver<D, S, K, A> {
             return Err(RunFault::OutOfMemory);
         };
         match stalled_events(self.alloc, seats.as_slice()) {
-            Ok(events) => self.take_and_tell(None, events),
+            Ok(events) => self.take_and_print(None, events),
             Err(_) => Err(RunFault::OutOfMemory),
         }
     }
@@ -261,15 +261,15 @@ impl<D: Disk, S: Sources, K: Sink, A: Agenda> Driver<D, S, K, A> {
             (interrupting name ∷ rest) (left_by (λ done. rest)) result
             (n , parts self.new.host self.new.sources self.new.sink self.new.agenda) }
     {
-        let told = interrupt(&self.host, &mut self.sources, name);
+        let result = interrupt(&self.host, &mut self.sources, name);
         self.heed(Came {
             outcomes: &[],
             replies: &[],
-            interrupted: Some(told),
+            interrupted: Some(result),
         })
     }
 
-    /// Watches the sources, and tells the agenda whose turn it is.
+    /// Watches the sources, and gives the agenda whose turn it is.
     fn watch(&mut self, input: Input, patience: Option<u64>) -> Result<(), RunFault>
         ensures same { SameDisk self.old.host.store.disk self.new.host.store.disk }
         ensures did { (n : ℕ) (rest : List Item) (w : World) → IsHost self.old.host w
@@ -279,25 +279,25 @@ impl<D: Disk, S: Sources, K: Sink, A: Agenda> Driver<D, S, K, A> {
             (n , parts self.new.host self.new.sources self.new.sink self.new.agenda) }
     {
         match self.sources.watch(input, patience) {
-            Ok(told) => {
-                self.agenda.wake(told);
+            Ok(woken) => {
+                self.agenda.wake(woken);
                 Ok(())
             }
             Err(_) => Err(RunFault::Input),
         }
     }
 
-    /// Tells what a line asks for, and has the agenda heed that it was told.
-    fn show(&mut self, said: Said<'_>) -> Result<(), RunFault>
-        requires { IsCounted said }
+    /// Prints what a line asks for, and has the agenda heed that it was printed.
+    fn show(&mut self, report: Report<'_>) -> Result<(), RunFault>
+        requires { IsCounted report }
         ensures same { SameDisk self.old.host.store.disk self.new.host.store.disk }
         ensures did { (n : ℕ) (rest : List Item) (w : World) → IsHost self.old.host w
             → Did (rules A.rules (source_rules S.after S.wakes S.clock) K.rules)
             (seen n w (parts self.old.host self.old.sources self.old.sink self.old.agenda))
-            (to_tell said ∷ heeding (came [] []) ∷ rest) (left_by (λ done. rest)) result
+            (to_print report ∷ heeding (came [] []) ∷ rest) (left_by (λ done. rest)) result
             (n , parts self.new.host self.new.sources self.new.sink self.new.agenda) }
     {
-        self.tell(said)?;
+        self.print(report)?;
         self.heed(Came {
             outcomes: &[],
             replies: &[],
@@ -319,14 +319,14 @@ impl<D: Disk, S: Sources, K: Sink, A: Agenda> Driver<D, S, K, A> {
             Turn::Nothing => {}
             Turn::Watch(input, patience) => self.watch(input, patience)?,
             Turn::Hear(seat, most) => self.hear(seat, most)?,
-            Turn::Lines(first, events) => self.take_and_tell(Some(first), events)?,
+            Turn::Lines(first, events) => self.take_and_print(Some(first), events)?,
             Turn::Checkpoint(line) => self.rewrite(line)?,
             Turn::Stall => self.stall()?,
             Turn::Interrupt(name) => self.interrupt(name)?,
-            Turn::Note(note) => self.show(Said::Note(note))?,
-            Turn::Sheet(line) => self.show(Said::Sheet(line))?,
-            Turn::Field(line, id) => self.show(Said::Field(line, id))?,
-            Turn::Export(line, format) => self.show(Said::Export(line, format))?,
+            Turn::Note(note) => self.show(Report::Note(note))?,
+            Turn::Sheet(line) => self.show(Report::Sheet(line))?,
+            Turn::Field(line, id) => self.show(Report::Field(line, id))?,
+            Turn::Export(line, format) => self.show(Report::Export(line, format))?,
         }
         Ok(true)
     }
@@ -364,7 +364,7 @@ impl<D: Disk, S: Sources, K: Sink, A: Agenda> Driver<D, S, K, A> {
         Err(RunFault::InputTooLong)
     }
 
-    /// Does what the agenda says, one after the other, to its end. Where something failed before that, the fault is told last
+    /// Does what the agenda says, one after the other, to its end. Where something failed before that, the fault is printed last
     /// of all, unless it is the sink's own.
     pub fn drive(&mut self) -> Result<(), RunFault>
         ensures same { SameDisk self.old.host.store.disk self.new.host.store.disk }
@@ -378,7 +378,7 @@ impl<D: Disk, S: Sources, K: Sink, A: Agenda> Driver<D, S, K, A> {
             Ok(()) => Ok(()),
             Err(RunFault::Output) => Err(RunFault::Output),
             Err(why) => {
-                let _ = self.sink.confess(&self.host, why);
+                let _ = self.sink.print_fault(&self.host, why);
                 Err(why)
             }
         }

@@ -11,7 +11,7 @@ pub fn runs_are_cut_anywhere<S: Sources, K: Sink, A: Agenda>()
     ensures { RunsAreCutAnywhere (rules A.rules (source_rules S.after S.wakes S.clock) K.rules) }
 {}
 
-/// What is told of events is told when all that they gave is durable.
+/// What is printed of events is printed when all that they gave is durable.
 pub fn replies_follow_syncs<S: Sources, K: Sink, A: Agenda>()
     ensures { RepliesFollowSyncs (rules A.rules (source_rules S.after S.wakes S.clock) K.rules) }
 {}

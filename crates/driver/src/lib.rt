@@ -1,19 +1,19 @@
 //! A host with the sources of what comes to it and the sink of what comes of that, and the one loop that drives it: an agenda says what
-//! is next, it is done, and what came of it is told.
+//! is next, it is done, and what came of it is printed.
 #![tactic(auto)]
 
 pub mod agenda;
 pub mod driver;
 mod hearing;
 pub mod laws;
-pub mod said;
+pub mod report;
 pub mod sink;
 pub mod turn;
 pub mod voiced;
 
 pub use agenda::Agenda;
-pub use driver::{Driver, drive};
-pub use said::{Came, Said};
+pub use driver::Driver;
+pub use report::{Came, Report};
 pub use sink::Sink;
 pub use turn::Turn;
 pub use voiced::Voiced;

@@ -1,6 +1,6 @@
-//! Where a run tells what comes of it.
+//! Where a run prints what comes of it.
 
-use crate::said::Said;
+use crate::report::Report;
 use disk_model::Disk;
 use offline_programs::RunFault;
 use session_engine::Host;
@@ -16,20 +16,20 @@ pub trait Sink {
     ghost use Rattle.session_engine.specs.Host.{IsHost};
     ghost use Rattle.tellings.specs.Voice.{IsUntold};
     ghost use Rattle.driver.specs.Place.{SinkRules, Tries};
-    ghost use Rattle.driver.specs.Said.{IsCounted, text_of};
+    ghost use Rattle.driver.specs.Reports.{IsCounted, text_of};
 
-    /// The texts that it tells, what was told so far where that is known, and what may come of trying one.
+    /// The texts that it prints, what was printed so far where that is known, and what may come of trying one.
     ghost rules: { SinkRules Self };
 
-    /// Tells this. `Output`: the stream failed, and a part may have gone out. `OutOfMemory`: a voice that takes memory has none
+    /// Prints this. `Output`: the stream failed, and a part may have gone out. `OutOfMemory`: a voice that takes memory has none
     /// for it.
-    fn say<D: Disk>(&mut self, host: &Host<D>, said: Said<'_>) -> Result<(), RunFault>
-        requires { IsCounted said }
+    fn print<D: Disk>(&mut self, host: &Host<D>, report: Report<'_>) -> Result<(), RunFault>
+        requires { IsCounted report }
         ensures tries { (w : World) → IsHost host.now w
-            → Tries rules self.old host.now.store.disk (text_of rules.voice w said) (is_ok result) self.new }
+            → Tries rules self.old host.now.store.disk (text_of rules.voice w report) (is_ok result) self.new }
         ensures err { IfErr result (IsUntold rules.voice) };
 
-    /// Tells a fault, last of all. Whether that went out.
-    fn confess<D: Disk>(&mut self, host: &Host<D>, why: RunFault) -> bool
+    /// Prints a fault, last of all. Whether that went out.
+    fn print_fault<D: Disk>(&mut self, host: &Host<D>, why: RunFault) -> bool
         ensures { Tries rules self.old host.now.store.disk (rules.voice.fault why) result self.new };
 }

@@ -16,23 +16,23 @@ pub enum Turn {
     Nothing,
     /// The sources are watched, where the input stands so, for so many milliseconds at most where there is a limit.
     Watch(Input, Option<u64>),
-    /// What this life has is received and taken, and behind the same gate what others have that are ready: so many lives at
+    /// What this life has is received and taken, and in the same group what others have that are ready: so many lives at
     /// most.
     Hear(Seat, u64),
-    /// These commands are taken behind one gate, one of each line from the one with this number on. None is a checkpoint.
+    /// These commands are taken as one group, one of each line from the one with this number on. None is a checkpoint.
     Lines(u64, Vec<Event>),
     /// The journal is rewritten, for which the line with this number asks.
     Checkpoint(u64),
-    /// Each life in which an item waits has stalled: that is taken behind one gate.
+    /// Each life in which an item waits has stalled: that is taken as one group.
     Stall,
     /// The interpreter of this session is interrupted.
     Interrupt(Name),
-    /// This is told.
+    /// This is printed.
     Note(Note),
-    /// The worksheet is told, for which the line with this number asks.
+    /// The worksheet is printed, for which the line with this number asks.
     Sheet(u64),
-    /// The field with this number, which comes second, is told.
+    /// The field with this number, which comes second, is printed.
     Field(u64, u32),
-    /// The worksheet is told in a format.
+    /// The worksheet is printed in a format.
     Export(u64, Format),
 }

@@ -3,9 +3,9 @@ ghost use Rattle.std.specs.Prelude.{◌⊎◌, IfErr, OnOk};
 ghost use Rattle.std.specs.Io.KnownBytes.{Appends};
 ghost use Rattle.tellings.specs.Voice.{IsUntold, came_text};
 ghost use Rattle.child_edge.specs.Told.{spoken};
-ghost use Rattle.driver.specs.Said.{lives_text};
+ghost use Rattle.driver.specs.Reports.{lives_text};
 
-use crate::said::Said;
+use crate::report::Report;
 use crate::sink::Sink;
 use disk_model::Disk;
 use host_events::{Outcome, Reply};
@@ -16,15 +16,15 @@ use std::slice;
 use tellings::Tells;
 use worksheet::Sheet;
 
-/// A voice that tells on a stream.
+/// A voice that prints on a stream.
 #[derive(Drop)]
 pub struct Voiced<T, W> {
     pub tells: T,
     pub writer: W,
 }
 
-/// Tells what came of one life, where that says something.
-fn tell_life<T: Tells, W: Write>(
+/// Prints what came of one life, where that says something.
+fn print_life<T: Tells, W: Write>(
     sheet: &Sheet,
     outcome: &Outcome,
     tells: &T,
@@ -40,8 +40,8 @@ fn tell_life<T: Tells, W: Write>(
     }
 }
 
-/// Tells what came of each life.
-fn tell_lives<T: Tells, W: Write>(
+/// Prints what came of each life.
+fn print_lives<T: Tells, W: Write>(
     sheet: &Sheet,
     outcomes: &[Outcome],
     tells: &T,
@@ -52,7 +52,7 @@ fn tell_lives<T: Tells, W: Write>(
     ensures err { IfErr result (IsUntold T.voice) }
 {
     for outcome in outcomes {
-        if let Err(fault) = tell_life(sheet, outcome, tells, writer) {
+        if let Err(fault) = print_life(sheet, outcome, tells, writer) {
             return Err(fault);
         }
     }
@@ -65,24 +65,24 @@ impl<T: Tells, W: Write> Sink for Voiced<T, W> {
     // Nobody can say what a stream does.
     ghost rules = { sink_rules T.voice (λ k. W.contents k.writer) (λ k d text whole l. Unit {0}) };
 
-    fn say<D: Disk>(&mut self, host: &Host<D>, said: Said<'_>) -> Result<(), RunFault> {
+    fn print<D: Disk>(&mut self, host: &Host<D>, report: Report<'_>) -> Result<(), RunFault> {
         let sheet = host.sheet();
-        match said {
-            Said::Lines(first, outcomes) => {
+        match report {
+            Report::Lines(first, outcomes) => {
                 self.tells.outcomes(first, sheet, outcomes, &mut self.writer)
             }
-            Said::Lives(outcomes) => tell_lives(sheet, outcomes, &self.tells, &mut self.writer),
-            Said::Followed(replies) => self.tells.events(sheet, replies, &mut self.writer),
-            Said::Note(note) => self.tells.note(note, &mut self.writer),
-            Said::Sheet(line) => self.tells.sheet(line, host, &mut self.writer),
-            Said::Field(line, id) => self.tells.field(line, id, host, &mut self.writer),
-            Said::Export(line, format) => {
+            Report::Lives(outcomes) => print_lives(sheet, outcomes, &self.tells, &mut self.writer),
+            Report::Followed(replies) => self.tells.events(sheet, replies, &mut self.writer),
+            Report::Note(note) => self.tells.note(note, &mut self.writer),
+            Report::Sheet(line) => self.tells.sheet(line, host, &mut self.writer),
+            Report::Field(line, id) => self.tells.field(line, id, host, &mut self.writer),
+            Report::Export(line, format) => {
                 self.tells.export(line, format, sheet, &mut self.writer)
             }
         }
     }
 
-    fn confess<D: Disk>(&mut self, _host: &Host<D>, why: RunFault) -> bool {
+    fn print_fault<D: Disk>(&mut self, _host: &Host<D>, why: RunFault) -> bool {
         self.tells.fault(why, &mut self.writer)
     }
 }

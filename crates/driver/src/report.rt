@@ -1,20 +1,20 @@
-//! What is told, and what an agenda is given to heed.
+//! What is printed, and what an agenda is given to heed.
 
 use child_edge::Interrupted;
 use host_events::{Outcome, Reply};
 use sheet_export::Format;
 use tellings::Note;
 
-/// What is told by one call of a sink.
+/// What is printed by one call of a sink.
 #[derive(Clone, Copy)]
-pub enum Said<'a> {
-    /// What commands gave that were taken behind one gate, one of each line from the one with this number on.
+pub enum Report<'a> {
+    /// What commands gave that were taken as one group, one of each line from the one with this number on.
     Lines(u64, &'a [Outcome]),
-    /// What lives gave that were taken behind one gate. Not flushed: `Followed` comes next.
+    /// What lives gave that were taken as one group. Not flushed: `Followed` comes next.
     Lives(&'a [Outcome]),
     /// The replies to what followed effects.
     Followed(&'a [Reply]),
-    /// What is told of a line, of a wait or of a limit, apart from replies.
+    /// What is printed of a line, of a wait or of a limit, apart from replies.
     Note(Note),
     /// The worksheet, for which the line with this number asks.
     Sheet(u64),
