@@ -157,11 +157,11 @@ same_there p mid q beats world disk (lost_at events d h l is m) =
 
 pub leave_fronts : {A C K : Type 0} (R : Rules A C K) (p q : Place A C K) (todo left : List Item) (steps : List Step) → HoldsSheet p.world p.disk → Run R p todo steps left q → LeavesFrontsOf p (trace steps) q
 leave_fronts R p q todo left [] held r = nothing_done p q held (ap (λ (x : Place _ _ _). x.disk) r.1)
-leave_fronts R p q todo left (s ∷ steps) held (next, mid, goes, more) = by (step_course R p mid todo next s goes)
+leave_fronts R p q todo left (s ∷ steps) held (next, mid, goes, more) = by (λ h. leave_fronts R mid q next left steps h more) (step_course R p mid todo next s goes)
   where
-    by : (Course p.world p.disk (beats_of s) mid.world mid.disk ⊎ Broke R p s next mid) → LeavesFrontsOf p (trace (s ∷ steps)) q
-    by (inl c) = behind p mid q (beats_of s) (trace steps) held c (leave_fronts R mid q next left steps (c.holds held) more)
-    by (inr b) =
+    by : (HoldsSheet mid.world mid.disk → LeavesFrontsOf mid (trace steps) q) → (Course p.world p.disk (beats_of s) mid.world mid.disk ⊎ Broke R p s next mid) → LeavesFrontsOf p (trace (s ∷ steps)) q
+    by on (inl c) = behind p mid q (beats_of s) (trace steps) held c (on (c.holds held))
+    by on (inr b) =
         let so = fault_stays R mid q b.why next left steps b.left more in
         subst (λ (l : List Beat). LeavesFrontsOf p l q) (sym (append-nil b.beats) ∙ ap (λ (l : List Beat). b.beats ++ l) (sym so.none) ∙ ap (λ (x : Step). beats_of x ++ trace steps) (sym b.step))
         (same_there p mid q b.beats so.world so.disk (fails_leave R p mid b.item b.beats b.why held b.fails))

@@ -7,8 +7,7 @@ use Rattle.child_edge.specs.Faithful.{Beat, at}
 use Rattle.child_edge.specs.Kept.{HoldsSheet}
 use Rattle.offline_programs.specs.declared.fault.RunFault.{RunFault}
 use Rattle.offline_programs.specs.declared.fault.RunFault.TheVariants as fault
-use Rattle.driver.specs.declared.report.Report.{Report}
-use Rattle.driver.specs.Reports.{text_of}
+use Rattle.driver.specs.Reports.{Report, text_of}
 use Rattle.driver.specs.Items.{Item, Step, after_fault, beats_of, broke, print_fault, halt, printed}
 use Rattle.driver.specs.Place.{Place, Rules, Tries, run_at}
 use Rattle.driver.specs.Steps.{Fails, Goes, Run, asks, breaks, prints_fault, hears, heeds, interrupts, rewrites, stalls_all, takes, prints, watches}
@@ -104,17 +103,16 @@ printed_there : {A C K : Type 0} (R : Rules A C K) (p q : Place A C K) (todo lef
     → Run R p todo (before ++ printed s ∷ after) left q → PrintedThere R p before s
 printed_there R p q todo left [] after s (next, mid, prints x k rest tries, more) =
     record { there = p; course = no_step p.world p.disk; sink = k; tries = tries }
-printed_there R p q todo left (x ∷ before) after s (next, mid, goes, more) = by (step_course R p mid todo next x goes)
+printed_there R p q todo left (x ∷ before) after s (next, mid, goes, more) = by (printed_there R mid q next left before after s more) (step_course R p mid todo next x goes)
   where
-    by : (Course p.world p.disk (beats_of x) mid.world mid.disk ⊎ Broke R p x next mid) → PrintedThere R p (x ∷ before) s
-    by (inl c) =
-        let so = printed_there R mid q next left before after s more in record {
+    by : PrintedThere R mid before s → (Course p.world p.disk (beats_of x) mid.world mid.disk ⊎ Broke R p x next mid) → PrintedThere R p (x ∷ before) s
+    by so (inl c) = record {
           there = so.there;
           course = course_on p.world p.disk (beats_of x) mid.world mid.disk (trace before) so.there.world so.there.disk c so.course;
           sink = so.sink;
           tries = so.tries;
         }
-    by (inr b) = absurd (no_words R mid q b.why next left before after s b.left more)
+    by so (inr b) = absurd (no_words R mid q b.why next left before after s b.left more)
 
 pub replies_follow : {A C K : Type 0} (R : Rules A C K) (p q : Place A C K) (todo left : List Item) (before after : List Step) (s : Report)
     → HoldsSheet p.world p.disk → Run R p todo (before ++ printed s ∷ after) left q → PrintedAfter R p before s

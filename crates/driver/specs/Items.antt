@@ -17,9 +17,9 @@ use Rattle.offline_programs.specs.declared.fault.RunFault.{RunFault}
 use Rattle.offline_programs.specs.declared.fault.RunFault.TheVariants as fault
 use Rattle.driver.specs.declared.turn.Turn.{Turn}
 use Rattle.driver.specs.declared.turn.Turn.TheVariants as turn
-use Rattle.driver.specs.declared.report.Report.{Report}
-use Rattle.driver.specs.declared.report.Report.TheVariants as report
-use Rattle.driver.specs.declared.report.Came.{Came}
+use Rattle.driver.specs.Reports.{Came, Report, came}
+use Rattle.driver.specs.Reports as report
+use Rattle.driver.specs.declared.report.Show.TheVariants as show
 
 -- what is to be done
 pub data Item : Type 0 where
@@ -62,13 +62,6 @@ pub data Step : Type 0 where
   -- the fault was printed last of all, or that was tried
   printed_fault : RunFault → Bool → Step
 
--- what comes of a turn
-abbrev pub came : List Outcome → List Reply → Came
-came outcomes replies = record { outcomes = outcomes; replies = replies; interrupted = None }
-
-abbrev pub interrupt_came : Interrupted → Came
-interrupt_came result = record { outcomes = []; replies = []; interrupted = Some result }
-
 -- what the agenda asked for, and then it is asked again; at the end it is not
 abbrev pub items_of : Turn → List Item
 items_of turn.End = []
@@ -79,23 +72,20 @@ items_of (turn.Lines first events) = take (Some first) events.items ∷ ask ∷ 
 items_of (turn.Checkpoint line) = rewrite line ∷ ask ∷ []
 items_of turn.Stall = stall ∷ ask ∷ []
 items_of (turn.Interrupt name) = interrupt name ∷ ask ∷ []
-items_of (turn.Note n) = print (report.Note n) ∷ heed (came [] []) ∷ ask ∷ []
-items_of (turn.Sheet line) = print (report.Sheet line) ∷ heed (came [] []) ∷ ask ∷ []
-items_of (turn.Field line id) = print (report.Field line id) ∷ heed (came [] []) ∷ ask ∷ []
-items_of (turn.Export line format) = print (report.Export line format) ∷ heed (came [] []) ∷ ask ∷ []
+items_of (turn.Show s) = print (report.shown s) ∷ heed (came [] []) ∷ ask ∷ []
 
 -- what events gave that were taken as one group is printed, lines by their numbers, and then what followed; the agenda heeds it
-abbrev pub report_of : Option ℕ → List Outcome → Report
-report_of None outcomes = report.Lives outcomes
-report_of (Some first) outcomes = report.Lines first outcomes
+abbrev pub group_of : Option ℕ → List Outcome → Report
+group_of None outcomes = report.lives outcomes
+group_of (Some first) outcomes = report.lines first outcomes
 
 abbrev pub printing : Option ℕ → List Outcome → List Reply → List Item
-printing from outcomes replies = print (report_of from outcomes) ∷ print (report.Followed replies) ∷ heed (came outcomes replies) ∷ []
+printing from outcomes replies = print (group_of from outcomes) ∷ print (report.followed replies) ∷ heed (came outcomes replies) ∷ []
 
 -- what is noted is printed
 abbrev pub notes : Option Note → List Item
 notes None = []
-notes (Some n) = print (report.Note n) ∷ []
+notes (Some n) = print (report.shown (show.Note n)) ∷ []
 
 -- After a fault it is printed, and no more is done; that the sink failed is not.
 abbrev pub after_fault : RunFault → List Item

@@ -16,8 +16,7 @@ use Rattle.host_events.specs.declared.outcome.HostFault.{HostFault}
 use Rattle.session_engine.specs.Crash.{Moments}
 use Rattle.session_engine.specs.Host.{HostView}
 use Rattle.offline_programs.specs.declared.fault.RunFault.{RunFault}
-use Rattle.driver.specs.declared.report.Report.{Report}
-use Rattle.driver.specs.Reports.{text_of}
+use Rattle.driver.specs.Reports.{Report, text_of}
 use Rattle.driver.specs.Items.{Item, Step, beats_of, printed}
 use Rattle.driver.specs.Place.{Place, Rules, Tries}
 use Rattle.driver.specs.Steps.{Run}

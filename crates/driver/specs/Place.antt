@@ -10,7 +10,7 @@ use Rattle.tellings.specs.Voice.{Voice}
 use Rattle.tellings.specs.declared.note.Note.{Note}
 use Rattle.offline_programs.specs.declared.fault.RunFault.{RunFault}
 use Rattle.driver.specs.declared.turn.Turn.{Turn}
-use Rattle.driver.specs.declared.report.Came.{Came}
+use Rattle.driver.specs.Reports.{Came}
 
 -- How often the agenda was asked, the agenda, where events led to, the disk of the host, the sources, and the sink.
 pub record Place (A C K : Type 0) : Type 0 where

@@ -28,11 +28,9 @@ use Rattle.tellings.specs.declared.note.Note.{Note}
 use Rattle.offline_programs.specs.declared.fault.RunFault.{RunFault}
 use Rattle.offline_programs.specs.declared.fault.RunFault.TheVariants as fault
 use Rattle.driver.specs.declared.turn.Turn.{Turn}
-use Rattle.driver.specs.declared.report.Report.{Report}
-use Rattle.driver.specs.declared.report.Came.{Came}
-use Rattle.driver.specs.Reports.{text_of}
+use Rattle.driver.specs.Reports.{Came, Report, interrupt_came, text_of}
 use Rattle.driver.specs.Place.{Place, Rules, Tries, run_at}
-use Rattle.driver.specs.Items.{Item, Step, after_fault, ask, broke, chose, print_fault, printed_fault, halt, hear, heard, heed, heeded, interrupt, interrupt_came, interrupted, items_of, notes, rewrite, rewrote, stall, stalled, stalls, take, print, printing, printed, took, watch, watched}
+use Rattle.driver.specs.Items.{Item, Step, after_fault, ask, broke, chose, print_fault, printed_fault, halt, hear, heard, heed, heeded, interrupt, interrupted, items_of, notes, rewrite, rewrote, stall, stalled, stalls, take, print, printing, printed, took, watch, watched}
 use Rattle.driver.specs.Hearing.{Heard}
 
 -- the most events that are taken as one group

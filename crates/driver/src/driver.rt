@@ -4,16 +4,17 @@ ghost use Rattle.disk_model.specs.Disk.{SameDisk};
 ghost use Rattle.session_engine.specs.World.{World};
 ghost use Rattle.session_engine.specs.Host.{IsHost};
 ghost use Rattle.driver.specs.Place.{rules, source_rules};
-ghost use Rattle.driver.specs.Items.{Item, ask, heed as heeding, hear as hearing, interrupt as interrupting, items_of, came, rewrite as rewriting, stall as stalling, stalls, take as taking, print as to_print, printing, watch as watching};
+ghost use Rattle.driver.specs.Items.{Item, ask, group_of, heed as heeding, hear as hearing, interrupt as interrupting, items_of, rewrite as rewriting, stall as stalling, stalls, take as taking, print as to_print, printing, watch as watching};
 ghost use Rattle.driver.specs.Steps.{fault_at_gate, most_together};
-ghost use Rattle.driver.specs.Reports.{IsCounted};
+ghost use Rattle.driver.specs.Reports.{came as came_by, came_of};
+ghost use Rattle.driver.specs.Reports as report;
 ghost use Rattle.driver.specs.Runs.{Did, again, left_at_end, left_by, parts, seen};
 ghost use Rattle.child_edge.specs.Seats.{waits};
 ghost use Rattle.arrivals.specs.Watching.{asked};
 
 use crate::agenda::Agenda;
 use crate::hearing::hear_ready;
-use crate::report::{Came, Report};
+use crate::report::{Came, Show};
 use crate::sink::Sink;
 use crate::turn::Turn;
 use arrivals::{Input, Sources};
@@ -22,7 +23,7 @@ use child_edge::{
     GaveTogether, MOST_TOGETHER, TogetherFault, interrupt, serve_together, waiting_lives,
 };
 use disk_model::Disk;
-use host_events::{ChildEvent, Event, HostFault, Outcome};
+use host_events::{ChildEvent, Event, HostFault, Outcome, Reply};
 use offline_programs::RunFault;
 use session_engine::Host;
 use std::alloc::{AllocError, Global};
@@ -113,59 +114,77 @@ impl<D: Disk, S: Sources, K: Sink, A: Agenda> Driver<D, S, K, A> {
         }
     }
 
-    /// Prints this.
-    fn print(&mut self, report: Report<'_>) -> Result<(), RunFault>
-        requires { IsCounted report }
-        ensures same { SameDisk self.old.host.store.disk self.new.host.store.disk }
-        ensures did { (n : ℕ) (rest : List Item) (w : World) → IsHost self.old.host w
-            → Did (rules A.rules (source_rules S.after S.wakes S.clock) K.rules)
-            (seen n w (parts self.old.host self.old.sources self.old.sink self.old.agenda))
-            (to_print report ∷ rest) (left_by (λ done. rest)) result
-            (n , parts self.new.host self.new.sources self.new.sink self.new.agenda) }
-    {
-        self.sink.print(&self.host, report)
-    }
-
-    /// Has the agenda heed what came, and prints what it notes of that.
-    fn heed(&mut self, came: Came<'_>) -> Result<(), RunFault>
-        ensures same { SameDisk self.old.host.store.disk self.new.host.store.disk }
-        ensures did { (n : ℕ) (rest : List Item) (w : World) → IsHost self.old.host w
-            → Did (rules A.rules (source_rules S.after S.wakes S.clock) K.rules)
-            (seen n w (parts self.old.host self.old.sources self.old.sink self.old.agenda))
-            (heeding came ∷ rest) (left_by (λ done. rest)) result
-            (n , parts self.new.host self.new.sources self.new.sink self.new.agenda) }
-    {
-        let now = self.sources.now();
-        match self.agenda.heed(&self.host, now, came) {
-            Some(note) => self.print(Report::Note(note)),
-            None => Ok(()),
-        }
-    }
-
-    /// Prints what events gave, those of lives or of lines from this one on, and has the agenda heed it.
-    fn print_group(&mut self, from: Option<u64>, gave: &GaveTogether) -> Result<(), RunFault>
-        requires few { length gave.now.outcomes.items ≤ most_together }
+    /// Prints what events gave, those of lives or of lines from this one on.
+    fn print_outcomes(&mut self, from: Option<u64>, outcomes: &[Outcome]) -> Result<(), RunFault>
+        requires few { length outcomes.now ≤ most_together }
         requires counted { IfSome from (λ number. number + most_together + 1 < 2 ^ 64) }
         ensures same { SameDisk self.old.host.store.disk self.new.host.store.disk }
         ensures did { (n : ℕ) (rest : List Item) (w : World) → IsHost self.old.host w
             → Did (rules A.rules (source_rules S.after S.wakes S.clock) K.rules)
             (seen n w (parts self.old.host self.old.sources self.old.sink self.old.agenda))
-            (printing from gave.now.outcomes.items gave.now.replies.items ++ rest) (left_by (λ done. rest)) result
+            (to_print (group_of from outcomes.now) ∷ rest) (left_by (λ done. rest)) result
             (n , parts self.new.host self.new.sources self.new.sink self.new.agenda) }
     {
-        let outcomes = gave.outcomes.as_slice();
-        let replies = gave.replies.as_slice();
-        let report = match from {
-            Some(number) => Report::Lines(number, outcomes),
-            None => Report::Lives(outcomes),
-        };
-        self.print(report)?;
-        self.print(Report::Followed(replies))?;
-        self.heed(Came {
-            outcomes,
-            replies,
-            interrupted: None,
-        })
+        match from {
+            Some(number) => self.sink.lines(&self.host, number, outcomes),
+            None => self.sink.lives(&self.host, outcomes),
+        }
+    }
+
+    /// Prints the replies to what followed effects.
+    fn print_followed(&mut self, replies: &[Reply]) -> Result<(), RunFault>
+        ensures same { SameDisk self.old.host.store.disk self.new.host.store.disk }
+        ensures did { (n : ℕ) (rest : List Item) (w : World) → IsHost self.old.host w
+            → Did (rules A.rules (source_rules S.after S.wakes S.clock) K.rules)
+            (seen n w (parts self.old.host self.old.sources self.old.sink self.old.agenda))
+            (to_print (report.followed replies.now) ∷ rest) (left_by (λ done. rest)) result
+            (n , parts self.new.host self.new.sources self.new.sink self.new.agenda) }
+    {
+        self.sink.followed(&self.host, replies)
+    }
+
+    /// Shows this.
+    fn show(&mut self, show: Show) -> Result<(), RunFault>
+        ensures same { SameDisk self.old.host.store.disk self.new.host.store.disk }
+        ensures did { (n : ℕ) (rest : List Item) (w : World) → IsHost self.old.host w
+            → Did (rules A.rules (source_rules S.after S.wakes S.clock) K.rules)
+            (seen n w (parts self.old.host self.old.sources self.old.sink self.old.agenda))
+            (to_print (report.shown show) ∷ rest) (left_by (λ done. rest)) result
+            (n , parts self.new.host self.new.sources self.new.sink self.new.agenda) }
+    {
+        self.sink.show(&self.host, show)
+    }
+
+    /// Has the agenda heed what came, and prints what it notes of that.
+    fn heed(&mut self, came: &Came) -> Result<(), RunFault>
+        ensures same { SameDisk self.old.host.store.disk self.new.host.store.disk }
+        ensures did { (n : ℕ) (rest : List Item) (w : World) → IsHost self.old.host w
+            → Did (rules A.rules (source_rules S.after S.wakes S.clock) K.rules)
+            (seen n w (parts self.old.host self.old.sources self.old.sink self.old.agenda))
+            (heeding (came_of came.now) ∷ rest) (left_by (λ done. rest)) result
+            (n , parts self.new.host self.new.sources self.new.sink self.new.agenda) }
+    {
+        let now = self.sources.now();
+        match self.agenda.heed(&self.host, now, came) {
+            Some(note) => self.show(Show::Note(note)),
+            None => Ok(()),
+        }
+    }
+
+    /// Prints what events gave and what followed, and has the agenda heed it.
+    fn print_group(&mut self, from: Option<u64>, gave: GaveTogether) -> Result<(), RunFault>
+        requires few { length gave.outcomes.items ≤ most_together }
+        requires counted { IfSome from (λ number. number + most_together + 1 < 2 ^ 64) }
+        ensures same { SameDisk self.old.host.store.disk self.new.host.store.disk }
+        ensures did { (n : ℕ) (rest : List Item) (w : World) → IsHost self.old.host w
+            → Did (rules A.rules (source_rules S.after S.wakes S.clock) K.rules)
+            (seen n w (parts self.old.host self.old.sources self.old.sink self.old.agenda))
+            (printing from gave.outcomes.items gave.replies.items ++ rest) (left_by (λ done. rest)) result
+            (n , parts self.new.host self.new.sources self.new.sink self.new.agenda) }
+    {
+        self.print_outcomes(from, gave.outcomes.as_slice())?;
+        self.print_followed(gave.replies.as_slice())?;
+        self.heed(&Came::Gave(gave))
     }
 
     /// Takes events as one group, and prints what they gave.
@@ -178,7 +197,7 @@ impl<D: Disk, S: Sources, K: Sink, A: Agenda> Driver<D, S, K, A> {
             (n , parts self.new.host self.new.sources self.new.sink self.new.agenda) }
     {
         let gave = self.take(from, events)?;
-        self.print_group(from, &gave)
+        self.print_group(from, gave)
     }
 
     /// Receives from this life, and from so many others at most that are ready, and takes what they have.
@@ -197,23 +216,18 @@ impl<D: Disk, S: Sources, K: Sink, A: Agenda> Driver<D, S, K, A> {
     }
 
     /// Prints what a checkpoint gave, for which this line asked, and has the agenda heed it.
-    fn print_rewritten(&mut self, line: u64, outcome: &Outcome) -> Result<(), RunFault>
+    fn print_rewritten(&mut self, line: u64, outcome: Outcome) -> Result<(), RunFault>
         requires { line + most_together + 1 < 2 ^ 64 }
         ensures same { SameDisk self.old.host.store.disk self.new.host.store.disk }
         ensures did { (n : ℕ) (rest : List Item) (w : World) → IsHost self.old.host w
             → Did (rules A.rules (source_rules S.after S.wakes S.clock) K.rules)
             (seen n w (parts self.old.host self.old.sources self.old.sink self.old.agenda))
-            (printing (Some line) (outcome.now ∷ []) [] ++ rest) (left_by (λ done. rest)) result
+            (printing (Some line) (outcome ∷ []) [] ++ rest) (left_by (λ done. rest)) result
             (n , parts self.new.host self.new.sources self.new.sink self.new.agenda) }
     {
-        let outcomes = slice::from_ref(outcome);
-        self.print(Report::Lines(line, outcomes))?;
-        self.print(Report::Followed(&[]))?;
-        self.heed(Came {
-            outcomes,
-            replies: &[],
-            interrupted: None,
-        })
+        self.print_outcomes(Some(line), slice::from_ref(&outcome))?;
+        self.print_followed(&[])?;
+        self.heed(&Came::Rewrote(outcome))
     }
 
     /// Rewrites the journal, for which this line asks.
@@ -229,7 +243,7 @@ impl<D: Disk, S: Sources, K: Sink, A: Agenda> Driver<D, S, K, A> {
             return Err(RunFault::InputTooLong);
         }
         match self.host.checkpoint() {
-            Ok(outcome) => self.print_rewritten(line, &outcome),
+            Ok(outcome) => self.print_rewritten(line, outcome),
             Err(fault) => Err(RunFault::Host(fault)),
         }
     }
@@ -262,11 +276,7 @@ impl<D: Disk, S: Sources, K: Sink, A: Agenda> Driver<D, S, K, A> {
             (n , parts self.new.host self.new.sources self.new.sink self.new.agenda) }
     {
         let result = interrupt(&self.host, &mut self.sources, name);
-        self.heed(Came {
-            outcomes: &[],
-            replies: &[],
-            interrupted: Some(result),
-        })
+        self.heed(&Came::Interrupted(result))
     }
 
     /// Watches the sources, and gives the agenda whose turn it is.
@@ -287,22 +297,17 @@ impl<D: Disk, S: Sources, K: Sink, A: Agenda> Driver<D, S, K, A> {
         }
     }
 
-    /// Prints what a line asks for, and has the agenda heed that it was printed.
-    fn show(&mut self, report: Report<'_>) -> Result<(), RunFault>
-        requires { IsCounted report }
+    /// Shows this, and has the agenda heed that it was shown.
+    fn show_and_heed(&mut self, show: Show) -> Result<(), RunFault>
         ensures same { SameDisk self.old.host.store.disk self.new.host.store.disk }
         ensures did { (n : ℕ) (rest : List Item) (w : World) → IsHost self.old.host w
             → Did (rules A.rules (source_rules S.after S.wakes S.clock) K.rules)
             (seen n w (parts self.old.host self.old.sources self.old.sink self.old.agenda))
-            (to_print report ∷ heeding (came [] []) ∷ rest) (left_by (λ done. rest)) result
+            (to_print (report.shown show) ∷ heeding (came_by [] []) ∷ rest) (left_by (λ done. rest)) result
             (n , parts self.new.host self.new.sources self.new.sink self.new.agenda) }
     {
-        self.print(report)?;
-        self.heed(Came {
-            outcomes: &[],
-            replies: &[],
-            interrupted: None,
-        })
+        self.show(show)?;
+        self.heed(&Came::Shown)
     }
 
     /// Does what the agenda asks for. Whether it is asked again.
@@ -323,10 +328,7 @@ impl<D: Disk, S: Sources, K: Sink, A: Agenda> Driver<D, S, K, A> {
             Turn::Checkpoint(line) => self.rewrite(line)?,
             Turn::Stall => self.stall()?,
             Turn::Interrupt(name) => self.interrupt(name)?,
-            Turn::Note(note) => self.show(Report::Note(note))?,
-            Turn::Sheet(line) => self.show(Report::Sheet(line))?,
-            Turn::Field(line, id) => self.show(Report::Field(line, id))?,
-            Turn::Export(line, format) => self.show(Report::Export(line, format))?,
+            Turn::Show(show) => self.show_and_heed(show)?,
         }
         Ok(true)
     }

@@ -13,7 +13,7 @@ pub mod voiced;
 
 pub use agenda::Agenda;
 pub use driver::Driver;
-pub use report::{Came, Report};
+pub use report::{Came, Show};
 pub use sink::Sink;
 pub use turn::Turn;
 pub use voiced::Voiced;
