@@ -3,3 +3,4 @@ pub mod Gates
 pub mod Running
 pub mod Order
 pub mod Fronts
+pub mod Doing
