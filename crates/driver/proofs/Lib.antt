@@ -4,3 +4,4 @@ pub mod Running
 pub mod Order
 pub mod Fronts
 pub mod Doing
+pub mod Heard

@@ -46,3 +46,8 @@ pub did_break : {A C K T : Type 0} (R : Rules A C K) (p : Place A C K) (i : Item
     → Fails R p i beats why (seen now.0 w now.1) → Stands now.1.host w → Did R p (i ∷ rest) (left_by f) (Err why) now
 did_break R p i rest beats f why w now fails stands =
     did_one R p (i ∷ rest) (broke beats why) (left_by f) (Err why) w now (breaks i beats why (seen now.0 w now.1) rest fails) stands
+
+-- nothing was to be done
+pub did_none : {A C K T : Type 0} (R : Rules A C K) (w : World) (x : Parts A C K) (n : ℕ) (todo : List Item) (left : Result T RunFault → List Item) (answer : Result T RunFault) → left answer ≡ todo → StandsBy answer x.host w
+    → Did R (seen n w x) todo left answer (n , x)
+did_none R w x n todo left answer is stands = record { steps = []; world = w; ran = (is, refl); stands = stands }

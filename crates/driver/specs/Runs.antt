@@ -56,6 +56,11 @@ abbrev pub again : Bool → List Item
 again true = ask ∷ []
 again false = []
 
+-- that it is asked again, where this was done
+abbrev pub again_by : {T : Type 0} → Result T RunFault → Result Bool RunFault
+again_by (Ok done) = Ok true
+again_by (Err why) = Err why
+
 -- what is left at the end of a run
 abbrev pub left_at_end : {T : Type 0} → Result T RunFault → List Item
 left_at_end (Ok done) = []

@@ -1,5 +1,5 @@
 -- One step of a run, from what is to be done to what is to be done then.
-use Rattle.std.specs.Prelude.{◌≡◌, ◌⊎◌, ℕ, suc, ◌+◌, ◌^◌, ◌≤◌, ◌<◌, Bool, true, false, List, [], ◌∷◌, ◌++◌, Option, Some, None, IsSomeAnd, Ok, Err, length, map}
+use Rattle.std.specs.Prelude.{◌≡◌, ◌⊎◌, ℕ, ◌+◌, ◌^◌, ◌≤◌, ◌<◌, Bool, true, false, List, [], ◌∷◌, ◌++◌, Option, Some, None, IsSomeAnd, Ok, Err, length, map}
 use Rattle.disk_model.specs.Disk.{DiskView}
 use Rattle.host_events.specs.declared.command.Command.TheVariants as command
 use Rattle.host_events.specs.declared.event.Event.{Event}
@@ -47,7 +47,7 @@ fault_at_gate (at_gate.Host f) = fault.Host f
 pub data Fails {A C K : Type 0} (R : Rules A C K) (p : Place A C K) : Item → List Beat → RunFault → Place A C K → Type 0 where
   -- the agenda can't say what is next
   unsaid : (now : ℕ) (why : RunFault) (a : A) → R.sources.clock p.sources now → R.agenda.says p.agenda p.world now (Err why) a
-      → Fails R p ask [] why (record p { asked = suc p.asked; agenda = a })
+      → Fails R p ask [] why (record p { asked = p.asked + 1; agenda = a })
   -- it was asked as often as is counted
   uncounted : 2 ^ 64 ≤ p.asked + 1 → Fails R p ask [] fault.InputTooLong p
   -- the sources can't be watched
@@ -79,7 +79,7 @@ pub data Fails {A C K : Type 0} (R : Rules A C K) (p : Place A C K) : Item → L
 -- One step.
 pub data Goes {A C K : Type 0} (R : Rules A C K) (p : Place A C K) : List Item → Step → List Item → Place A C K → Type 0 where
   asks : (now : ℕ) (t : Turn) (a : A) → R.sources.clock p.sources now → R.agenda.says p.agenda p.world now (Ok t) a
-      → Goes R p (ask ∷ []) (chose t) (items_of t) (record p { asked = suc p.asked; agenda = a })
+      → Goes R p (ask ∷ []) (chose t) (items_of t) (record p { asked = p.asked + 1; agenda = a })
   watches : (q : Asked) (w : Woken) (c : C) (a : A) (rest : List Item) → R.sources.wakes p.sources q (Some w) c → R.agenda.woken p.agenda w a
       → Goes R p (watch q ∷ rest) (watched q w) rest (record p { agenda = a; sources = c })
   hears : (seat : Seat) (most : ℕ) (events : List Event) (c : C) (rest : List Item) → Heard R.sources seat most p.sources events c

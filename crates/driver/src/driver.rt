@@ -1,5 +1,5 @@
 //! The driver, and its loop.
-ghost use Rattle.std.specs.Prelude.{◌≡◌, ◌≤◌, ◌+◌, ◌<◌, ◌^◌, ℕ, suc, List, [], ◌∷◌, ◌++◌, Option, Some, None, IfOk, IfSome, IsSomeAnd, length, map, true, false};
+ghost use Rattle.std.specs.Prelude.{◌≡◌, ◌≤◌, ◌+◌, ◌<◌, ◌^◌, ℕ, List, [], ◌∷◌, ◌++◌, Option, Some, None, IfOk, IfSome, IsSomeAnd, length, map, true, false};
 ghost use Rattle.disk_model.specs.Disk.{SameDisk};
 ghost use Rattle.session_engine.specs.World.{World};
 ghost use Rattle.session_engine.specs.Host.{IsHost};
@@ -8,7 +8,7 @@ ghost use Rattle.driver.specs.Items.{Item, ask, group_of, heed as heeding, hear 
 ghost use Rattle.driver.specs.Steps.{fault_at_gate, most_together};
 ghost use Rattle.driver.specs.Reports.{came as came_by, came_of};
 ghost use Rattle.driver.specs.Reports as report;
-ghost use Rattle.driver.specs.Runs.{Did, again, left_at_end, left_by, parts, seen};
+ghost use Rattle.driver.specs.Runs.{Did, again, again_by, left_at_end, left_by, parts, seen};
 ghost use Rattle.child_edge.specs.Seats.{waits};
 ghost use Rattle.arrivals.specs.Watching.{asked};
 
@@ -86,6 +86,16 @@ fn stalled_events(alloc: Global, seats: &[Seat]) -> Result<Vec<Event>, AllocErro
     Ok(events)
 }
 
+/// That the agenda is asked again, where this was done.
+fn and_again(done: Result<(), RunFault>) -> Result<bool, RunFault>
+    ensures { result ≡ again_by done }
+{
+    match done {
+        Ok(()) => Ok(true),
+        Err(why) => Err(why),
+    }
+}
+
 impl<D: Disk, S: Sources, K: Sink, A: Agenda> Driver<D, S, K, A> {
     /// Takes events as one group: those of lives, or of lines from this one on.
     fn take(&mut self, from: Option<u64>, events: Vec<Event>) -> Result<GaveTogether, RunFault>
@@ -99,7 +109,10 @@ impl<D: Disk, S: Sources, K: Sink, A: Agenda> Driver<D, S, K, A> {
         ensures few { IfOk result (λ gave. length gave.outcomes.items ≤ most_together) }
         ensures counted { IfOk result (λ gave. IfSome from (λ number. number + most_together + 1 < 2 ^ 64)) }
     {
-        if events.len() > MOST_TOGETHER || is_uncounted(from) {
+        if events.len() > MOST_TOGETHER {
+            return Err(RunFault::InputTooLong);
+        }
+        if is_uncounted(from) {
             return Err(RunFault::InputTooLong);
         }
         match serve_together(self.alloc, &mut self.host, &mut self.sources, events) {
@@ -182,8 +195,12 @@ impl<D: Disk, S: Sources, K: Sink, A: Agenda> Driver<D, S, K, A> {
             (printing from gave.outcomes.items gave.replies.items ++ rest) (left_by (λ done. rest)) result
             (n , parts self.new.host self.new.sources self.new.sink self.new.agenda) }
     {
-        self.print_outcomes(from, gave.outcomes.as_slice())?;
-        self.print_followed(gave.replies.as_slice())?;
+        if let Err(why) = self.print_outcomes(from, gave.outcomes.as_slice()) {
+            return Err(why);
+        }
+        if let Err(why) = self.print_followed(gave.replies.as_slice()) {
+            return Err(why);
+        }
         self.heed(&Came::Gave(gave))
     }
 
@@ -196,8 +213,10 @@ impl<D: Disk, S: Sources, K: Sink, A: Agenda> Driver<D, S, K, A> {
             (taking from events.items ∷ rest) (left_by (λ done. rest)) result
             (n , parts self.new.host self.new.sources self.new.sink self.new.agenda) }
     {
-        let gave = self.take(from, events)?;
-        self.print_group(from, gave)
+        match self.take(from, events) {
+            Ok(gave) => self.print_group(from, gave),
+            Err(why) => Err(why),
+        }
     }
 
     /// Receives from this life, and from so many others at most that are ready, and takes what they have.
@@ -225,8 +244,12 @@ impl<D: Disk, S: Sources, K: Sink, A: Agenda> Driver<D, S, K, A> {
             (printing (Some line) (outcome ∷ []) [] ++ rest) (left_by (λ done. rest)) result
             (n , parts self.new.host self.new.sources self.new.sink self.new.agenda) }
     {
-        self.print_outcomes(Some(line), slice::from_ref(&outcome))?;
-        self.print_followed(&[])?;
+        if let Err(why) = self.print_outcomes(Some(line), slice::from_ref(&outcome)) {
+            return Err(why);
+        }
+        if let Err(why) = self.print_followed(&[]) {
+            return Err(why);
+        }
         self.heed(&Came::Rewrote(outcome))
     }
 
@@ -306,8 +329,10 @@ impl<D: Disk, S: Sources, K: Sink, A: Agenda> Driver<D, S, K, A> {
             (to_print (report.shown show) ∷ heeding (came_by [] []) ∷ rest) (left_by (λ done. rest)) result
             (n , parts self.new.host self.new.sources self.new.sink self.new.agenda) }
     {
-        self.show(show)?;
-        self.heed(&Came::Shown)
+        match self.show(show) {
+            Ok(()) => self.heed(&Came::Shown),
+            Err(why) => Err(why),
+        }
     }
 
     /// Does what the agenda asks for. Whether it is asked again.
@@ -320,17 +345,16 @@ impl<D: Disk, S: Sources, K: Sink, A: Agenda> Driver<D, S, K, A> {
             (n , parts self.new.host self.new.sources self.new.sink self.new.agenda) }
     {
         match turn {
-            Turn::End => return Ok(false),
-            Turn::Nothing => {}
-            Turn::Watch(input, patience) => self.watch(input, patience)?,
-            Turn::Hear(seat, most) => self.hear(seat, most)?,
-            Turn::Lines(first, events) => self.take_and_print(Some(first), events)?,
-            Turn::Checkpoint(line) => self.rewrite(line)?,
-            Turn::Stall => self.stall()?,
-            Turn::Interrupt(name) => self.interrupt(name)?,
-            Turn::Show(show) => self.show_and_heed(show)?,
+            Turn::End => Ok(false),
+            Turn::Nothing => Ok(true),
+            Turn::Watch(input, patience) => and_again(self.watch(input, patience)),
+            Turn::Hear(seat, most) => and_again(self.hear(seat, most)),
+            Turn::Lines(first, events) => and_again(self.take_and_print(Some(first), events)),
+            Turn::Checkpoint(line) => and_again(self.rewrite(line)),
+            Turn::Stall => and_again(self.stall()),
+            Turn::Interrupt(name) => and_again(self.interrupt(name)),
+            Turn::Show(show) => and_again(self.show_and_heed(show)),
         }
-        Ok(true)
     }
 
     /// Asks the agenda what is next, and does it. Whether it is asked again.
@@ -340,11 +364,13 @@ impl<D: Disk, S: Sources, K: Sink, A: Agenda> Driver<D, S, K, A> {
             → Did (rules A.rules (source_rules S.after S.wakes S.clock) K.rules)
             (seen n w (parts self.old.host self.old.sources self.old.sink self.old.agenda))
             (ask ∷ []) (left_by again) result
-            (suc n , parts self.new.host self.new.sources self.new.sink self.new.agenda) }
+            (n + 1 , parts self.new.host self.new.sources self.new.sink self.new.agenda) }
     {
         let now = self.sources.now();
-        let turn = self.agenda.next(self.alloc, &self.host, now)?;
-        self.serve(turn)
+        match self.agenda.next(self.alloc, &self.host, now) {
+            Ok(turn) => self.serve(turn),
+            Err(why) => Err(why),
+        }
     }
 
     /// Does what the agenda says, one after the other, to its end.
