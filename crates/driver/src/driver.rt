@@ -64,6 +64,14 @@ fn is_uncounted(from: Option<u64>) -> bool
     }
 }
 
+/// Whether the sink failed.
+fn is_output(why: RunFault) -> bool
+    ensures yes { result ≡ true → why ≡ RunFault.Output }
+    ensures no { result ≡ false → why ≡ RunFault.Output → ⊥ }
+{
+    matches!(why, RunFault::Output)
+}
+
 /// The event that a life has stalled.
 fn stalled(seat: Seat) -> Event
     ensures { result ≡ stalls seat }
@@ -404,8 +412,10 @@ impl<D: Disk, S: Sources, K: Sink, A: Agenda> Driver<D, S, K, A> {
     {
         match self.go_on() {
             Ok(()) => Ok(()),
-            Err(RunFault::Output) => Err(RunFault::Output),
             Err(why) => {
+                if is_output(why) {
+                    return Err(why);
+                }
                 let _ = self.sink.print_fault(&self.host, why);
                 Err(why)
             }
