@@ -5,3 +5,4 @@ pub mod Order
 pub mod Fronts
 pub mod Doing
 pub mod Heard
+pub mod Overs

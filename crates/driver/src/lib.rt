@@ -6,6 +6,7 @@ pub mod agenda;
 pub mod driver;
 mod hearing;
 pub mod laws;
+pub mod over;
 pub mod report;
 pub mod sink;
 pub mod turn;
@@ -13,6 +14,7 @@ pub mod voiced;
 
 pub use agenda::Agenda;
 pub use driver::Driver;
+pub use over::{Over, run_over};
 pub use report::{Came, Show};
 pub use sink::Sink;
 pub use turn::Turn;
