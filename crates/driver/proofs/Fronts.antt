@@ -69,7 +69,7 @@ leads_to R p q todo left (s ∷ steps) (next, mid, goes, more) =
 -- What entries leave of the disk, after a course.
 
 module _ (w : World) (d : DiskView) (bs : List Beat) (m : World) (e : DiskView) (held : HoldsSheet w d) (c : Course w d bs m e) where
-  after : (cs : List Beat) (es : List Event) (os : List Outcome) (f : DiskView) → Moments m (events_of cs ++ es) (outcomes_of cs ++ os) e f → Moments w (events_of (bs ++ cs) ++ es) (outcomes_of (bs ++ cs) ++ os) d f
+  pub after : (cs : List Beat) (es : List Event) (os : List Outcome) (f : DiskView) → Moments m (events_of cs ++ es) (outcomes_of cs ++ os) e f → Moments w (events_of (bs ++ cs) ++ es) (outcomes_of (bs ++ cs) ++ os) d f
   after cs es os f later =
       subst (λ (l : List Event). Moments w l (outcomes_of (bs ++ cs) ++ os) d f) (sym (ap (λ (l : List Event). l ++ es) (events_append bs cs) ∙ append_assoc (events_of bs) (events_of cs) es))
       (subst (λ (l : List Outcome). Moments w (events_of bs ++ (events_of cs ++ es)) l d f) (sym (ap (λ (l : List Outcome). l ++ os) (outcomes_append bs cs) ∙ append_assoc (outcomes_of bs) (outcomes_of cs) os))
@@ -121,10 +121,10 @@ fails_leave R p q i beats why held (unprinted s w k is tries) = nothing_done p q
 
 -- After a fault no event is taken, and the disk stays.
 
-record StaysThere {A C K : Type 0} (p q : Place A C K) (steps : List Step) : Type 0 where
-  world : q.world ≡ p.world
-  disk : q.disk ≡ p.disk
-  none : trace steps ≡ []
+pub record StaysThere {A C K : Type 0} (p q : Place A C K) (steps : List Step) : Type 0 where
+  pub world : q.world ≡ p.world
+  pub disk : q.disk ≡ p.disk
+  pub none : trace steps ≡ []
 
 stays_at : {A C K : Type 0} (p q : Place A C K) → q ≡ p → StaysThere p q []
 stays_at p q is = record { world = ap (λ (x : Place _ _ _). x.world) is; disk = ap (λ (x : Place _ _ _). x.disk) is; none = refl }
@@ -140,7 +140,7 @@ fault_line_stays R p q why left (s ∷ steps) (next, mid, prints_fault w whole k
     record { world = so.world; disk = so.disk; none = so.none }
 fault_line_stays R p q why left (s ∷ steps) (next, mid, breaks i beats w x rest fails, more) = absurd (elim fails [ ])
 
-fault_stays : {A C K : Type 0} (R : Rules A C K) (p q : Place A C K) (why : RunFault) (next left : List Item) (steps : List Step) → next ≡ after_fault why → Run R p next steps left q → StaysThere p q steps
+pub fault_stays : {A C K : Type 0} (R : Rules A C K) (p q : Place A C K) (why : RunFault) (next left : List Item) (steps : List Step) → next ≡ after_fault why → Run R p next steps left q → StaysThere p q steps
 fault_stays R p q why next left steps is r = by (after_is why)
   where
     by : ((after_fault why ≡ halt why ∷ []) ⊎ (after_fault why ≡ print_fault why ∷ [])) → StaysThere p q steps

@@ -92,25 +92,29 @@ no_words {A = A} {C = C} {K = K} R p q why next left before after s is r = by (a
     by (inl e) = halted R p q why left before after s (subst (λ (t : List Item). Run R p t (before ++ printed s ∷ after) left q) (is ∙ e) r)
     by (inr e) = fault_only R p q why left before after s (subst (λ (t : List Item). Run R p t (before ++ printed s ∷ after) left q) (is ∙ e) r)
 
--- This was printed there, and the steps before led there.
-record PrintedThere {A C K : Type 0} (R : Rules A C K) (p : Place A C K) (before : List Step) (s : Report) : Type 0 where
-  there : Place A C K
-  course : Course p.world p.disk (trace before) there.world there.disk
-  sink : K
-  tries : Tries R.sink there.sink there.disk (text_of R.sink.voice there.world s) true sink
+-- This was printed there, the steps before led there, and the others go on from there.
+pub record PrintedThere {A C K : Type 0} (R : Rules A C K) (p q : Place A C K) (left : List Item) (before after : List Step) (s : Report) : Type 0 where
+  pub there : Place A C K
+  pub course : Course p.world p.disk (trace before) there.world there.disk
+  pub sink : K
+  pub tries : Tries R.sink there.sink there.disk (text_of R.sink.voice there.world s) true sink
+  pub then_to_do : List Item
+  pub goes_on : Run R (record there { sink = sink }) then_to_do after left q
 
-printed_there : {A C K : Type 0} (R : Rules A C K) (p q : Place A C K) (todo left : List Item) (before after : List Step) (s : Report)
-    → Run R p todo (before ++ printed s ∷ after) left q → PrintedThere R p before s
+pub printed_there : {A C K : Type 0} (R : Rules A C K) (p q : Place A C K) (todo left : List Item) (before after : List Step) (s : Report)
+    → Run R p todo (before ++ printed s ∷ after) left q → PrintedThere R p q left before after s
 printed_there R p q todo left [] after s (next, mid, prints x k rest tries, more) =
-    record { there = p; course = no_step p.world p.disk; sink = k; tries = tries }
+    record { there = p; course = no_step p.world p.disk; sink = k; tries = tries; then_to_do = next; goes_on = more }
 printed_there R p q todo left (x ∷ before) after s (next, mid, goes, more) = by (printed_there R mid q next left before after s more) (step_course R p mid todo next x goes)
   where
-    by : PrintedThere R mid before s → (Course p.world p.disk (beats_of x) mid.world mid.disk ⊎ Broke R p x next mid) → PrintedThere R p (x ∷ before) s
+    by : PrintedThere R mid q left before after s → (Course p.world p.disk (beats_of x) mid.world mid.disk ⊎ Broke R p x next mid) → PrintedThere R p q left (x ∷ before) after s
     by so (inl c) = record {
           there = so.there;
           course = course_on p.world p.disk (beats_of x) mid.world mid.disk (trace before) so.there.world so.there.disk c so.course;
           sink = so.sink;
           tries = so.tries;
+          then_to_do = so.then_to_do;
+          goes_on = so.goes_on;
         }
     by so (inr b) = absurd (no_words R mid q b.why next left before after s b.left more)
 
