@@ -1,6 +1,6 @@
 -- What a place of files went through when a worksheet's two files were made or opened. The place is
 -- followed from each call to the next one, so nothing else was done there, and each answer is said.
-use Rattle.std.specs.Prelude.{◌≡◌, ◌≤◌, ◌⊎◌, ◌++◌, ℕ, List, Bool, false, Option, Some, None, Result, Ok, Err, OnOk, codes}
+use Rattle.std.specs.Prelude.{◌≡◌, ◌≤◌, ◌⊎◌, ◌++◌, ℕ, List, Bool, false, true, Option, Some, None, Result, Ok, Err, OnOk, codes}
 use Rattle.std.specs.IoError.{error_kind}
 use Rattle.std.specs.declared.io.Error.{Error}
 use Rattle.std.specs.declared.io.ErrorKind.TheVariants.{NotFound}
