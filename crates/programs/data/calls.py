@@ -5,6 +5,10 @@ it is listed, the number of the one among them that fails, and its error: `fdata
     fsync FILE              and fdatasync FILE, write FILE
     told                    a write on standard output
 
+and of those as well
+
+    kill NUMBER             a signal to a process, or `kill NUMBER group` to several
+
 Where the system has no such filter of calls the status is 77, and the program isn't run."""
 
 import array
@@ -19,8 +23,8 @@ import struct
 import sys
 
 CALLS = {
-    "x86_64": {"seccomp": 317, "write": 1, "pwrite64": 18, "flock": 73, "fsync": 74, "fdatasync": 75},
-    "aarch64": {"seccomp": 277, "write": 64, "pwrite64": 68, "flock": 32, "fsync": 82, "fdatasync": 83},
+    "x86_64": {"seccomp": 317, "write": 1, "pwrite64": 18, "kill": 62, "flock": 73, "fsync": 74, "fdatasync": 75},
+    "aarch64": {"seccomp": 277, "write": 64, "pwrite64": 68, "kill": 129, "flock": 32, "fsync": 82, "fdatasync": 83},
 }
 LOAD, EQUALS, RETURN = 0x20, 0x15, 0x06  # of the filter's language: a word of the call, a comparison, an answer
 ASKED, ALLOWED = 0x7FC00000, 0x7FFF0000
@@ -39,7 +43,8 @@ class Program(ctypes.Structure):
 
 
 def start(numbers, seccomp, words, line):
-    """Becomes the program, once the place where its calls are asked about was handed out."""
+    """Becomes the program, in a session of its own, once the place where its calls are asked about was handed out."""
+    os.setsid()
     code = filter_of(numbers)
     steps = ctypes.create_string_buffer(code, len(code))
     program = Program(len(code) // 8, ctypes.cast(steps, ctypes.c_void_p))
@@ -65,6 +70,8 @@ def mode_of(process, descriptor):
 
 def listed(process, call, first, second):
     """A call as it is listed; nothing of a write that goes elsewhere."""
+    if call == "kill":
+        return f"kill {second}" if 0 < first < 1 << 31 else f"kill {second} group"
     if call == "write":
         return "told" if first == 1 else None
     if call == "flock":
@@ -77,7 +84,7 @@ def answer(asked, process, names, fails, out):
     question = bytearray(80)
     fcntl.ioctl(asked, RECEIVE, question)
     number, caller, _, call, _, _, first, second = struct.unpack_from("=QIIiIQQQ", question)
-    line = listed(process, names[call], first, second) if caller == process else None
+    line = listed(process, names[call], first, second) if caller == process or names[call] == "kill" else None
     failure = 0
     if line is not None:
         if line.split()[0] == fails[0]:

@@ -395,7 +395,8 @@ def answer(text):
 signal.signal(signal.SIGINT, interrupted)
 answer("")
 for line in sys.stdin:
-    while line == "loop\n" and not over:
+    patience = time.monotonic() + 10
+    while line == "loop\n" and not over and time.monotonic() < patience:
         time.sleep(0.01)
     answer("interrupted" if over else line[:-1])
     over = False
@@ -484,5 +485,16 @@ END_OF_CHILD
 script 'an interrupt is one signal' 'session a plain python3 counts.py\nsession b plain python3 counts.py\nnew 0 a x\nnew 1 b x\nnew 2 a one\neval 1\nwait\neval 2\nwait\neval 3\ninterrupt a\nwait\neval 2\nwait\n' \
     'ok\nok\nfield 1\nfield 2\nfield 3\nasked\nbanner a\nanswered 1\nasked\nbanner b\nanswered 2\nasked\ninterrupted a\nanswered 3\nasked\nanswered 2\n' \
     '#1 a\n> x\n0\n#2 b\n> x\n0\n#3 a\n> one\n1\n'
+
+# These are its signals, and those of the two ends: two that come together are one to whoever counts them.
+python3 calls.py list - true
+if [ $? = 0 ]; then
+    rm -f sheet sheet.alt
+    "$tmhost" create sheet
+    python3 calls.py list - "$tmhost" run sheet <given >text
+    compare 'the signals of one interrupt and two ends' "$(grep '^kill' list)" "$(printf 'kill 2\nkill 9\nkill 9')"
+else
+    cases=$((cases + 1))
+fi
 
 counted children
