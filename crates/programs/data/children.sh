@@ -497,4 +497,25 @@ else
     cases=$((cases + 1))
 fi
 
+# An interpreter that answers lines which it doesn't read, and never ends: sixteen lines of the greatest length fill its pipe, and the next one isn't
+# waited with.
+cat >p.sh <<'END_OF_CHILD'
+echo $$ >>lives
+printf '\002verbatim:\005'
+while :; do
+    sleep 0.05
+    printf '\002verbatim:A\005'
+done
+END_OF_CHILD
+rm -f lives sheet sheet.alt
+"$tmhost" create sheet
+{
+    printf 'session a plain sh p.sh\nnew 0 a %s\n' "$(repeated 4095 x)"
+    seq 17 | sed 's/.*/eval 1\nwait/'
+} >given
+compare 'one that never reads' "$(timeout 10 "$tmhost" run sheet <given; echo "status $?")" \
+    "$(printf 'ok\nfield 1\nasked\nbanner a\nanswered 1\n'; seq 15 | sed 's/.*/asked\nanswered 1/'; printf 'asked\nended a SendFault lost 1\nstatus 0')"
+ended 'one that never reads' 1
+kill -9 $(cat lives) 2>/dev/null
+
 counted children
