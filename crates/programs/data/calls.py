@@ -11,6 +11,8 @@ and of those as well
 
 Where the system has no such filter of calls the status is 77, and the program isn't run."""
 
+from __future__ import annotations
+
 import array
 import ctypes
 import errno
@@ -21,6 +23,7 @@ import select
 import socket
 import struct
 import sys
+from typing import NoReturn, TextIO
 
 CALLS = {
     "x86_64": {"seccomp": 317, "write": 1, "pwrite64": 18, "kill": 62, "flock": 73, "fsync": 74, "fdatasync": 75},
@@ -32,7 +35,7 @@ RECEIVE, SEND = 0xC0502100, 0xC0182101
 KINDS = {1: "SH", 2: "EX"}
 
 
-def filter_of(numbers):
+def filter_of(numbers: list[int]) -> bytes:
     """The filter: these calls are asked about, and all others are allowed."""
     checks = [(EQUALS, len(numbers) - at, 0, number) for at, number in enumerate(numbers)]
     return b"".join(struct.pack("=HBBI", *it) for it in [(LOAD, 0, 0, 0), *checks, (RETURN, 0, 0, ALLOWED), (RETURN, 0, 0, ASKED)])
@@ -42,7 +45,7 @@ class Program(ctypes.Structure):
     _fields_ = [("length", ctypes.c_ushort), ("steps", ctypes.c_void_p)]
 
 
-def start(numbers, seccomp, words, line):
+def start(numbers: list[int], seccomp: int, words: list[str], line: socket.socket) -> NoReturn:
     """Becomes the program, in a session of its own, once the place where its calls are asked about was handed out."""
     os.setsid()
     code = filter_of(numbers)
@@ -57,18 +60,18 @@ def start(numbers, seccomp, words, line):
     os.execvp(words[0], words)
 
 
-def name_of(process, descriptor):
+def name_of(process: int, descriptor: int) -> str:
     path = os.readlink(f"/proc/{process}/fd/{descriptor}")
     return os.path.relpath(path) if path.startswith("/") else path
 
 
-def mode_of(process, descriptor):
+def mode_of(process: int, descriptor: int) -> str:
     with open(f"/proc/{process}/fdinfo/{descriptor}", encoding="ascii") as lines:
         flags = next(int(it.split()[1], 8) for it in lines if it.startswith("flags:"))
     return ("r", "w", "rw")[flags & 3]
 
 
-def listed(process, call, first, second):
+def listed(process: int, call: str, first: int, second: int) -> str | None:
     """A call as it is listed; nothing of a write that goes elsewhere."""
     if call == "kill":
         return f"kill {second}" if 0 < first < 1 << 31 else f"kill {second} group"
@@ -79,33 +82,41 @@ def listed(process, call, first, second):
     return f"{'write' if call == 'pwrite64' else call} {name_of(process, first)}"
 
 
-def answer(asked, process, names, fails, out):
+class Failing:
+    """Which call fails: by its name, the how many-th from here on, and with which error."""
+
+    def __init__(self, given: str) -> None:
+        self.call, self.left, self.error = "", 0, 0
+        if given != "-":
+            self.call, at, error = given.split(":")
+            self.left, self.error = int(at), getattr(errno, error)
+
+    def fails(self, line: str) -> bool:
+        if line.split()[0] != self.call:
+            return False
+        self.left -= 1
+        return self.left == 0
+
+
+def answer(asked: int, process: int, names: dict[int, str], failing: Failing, out: TextIO) -> None:
     """Lists one call, and lets it go on or fail."""
     question = bytearray(80)
     fcntl.ioctl(asked, RECEIVE, question)
     number, caller, _, call, _, _, first, second = struct.unpack_from("=QIIiIQQQ", question)
     line = listed(process, names[call], first, second) if caller == process or names[call] == "kill" else None
-    failure = 0
+    failure = failing.error if line is not None and failing.fails(line) else 0
     if line is not None:
-        if line.split()[0] == fails[0]:
-            fails[1] -= 1
-            if fails[1] == 0:
-                failure = fails[2]
-                line += f" {errno.errorcode[failure]}"
-        out.write(line + "\n")
+        out.write(f"{line} {errno.errorcode[failure]}\n" if failure else line + "\n")
     fcntl.ioctl(asked, SEND, struct.pack("=QqiI", number, 0, -failure, 0 if failure else 1))
 
 
-def main():
+def main() -> NoReturn:
     path, given, *words = sys.argv[1:]
     calls = CALLS.get(platform.machine())
     if calls is None:
         sys.exit(77)
     names = {number: name for name, number in calls.items() if name != "seccomp"}
-    fails = ["", 0, 0]
-    if given != "-":
-        call, at, error = given.split(":")
-        fails = [call, int(at), getattr(errno, error)]
+    failing = Failing(given)
     here, there = socket.socketpair()
     process = os.fork()
     if process == 0:
@@ -120,7 +131,7 @@ def main():
         with open(path, "w", encoding="utf-8") as out:
             while turns.poll()[0][1] & select.POLLIN:
                 try:
-                    answer(asked, process, names, fails, out)
+                    answer(asked, process, names, failing, out)
                 except FileNotFoundError:
                     continue
     status = os.waitstatus_to_exitcode(os.waitpid(process, 0)[1])
