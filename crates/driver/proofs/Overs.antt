@@ -16,11 +16,11 @@ use Rattle.offline_programs.specs.declared.fault.RunFault.{RunFault}
 use Rattle.driver.specs.Items.{ask}
 use Rattle.driver.specs.Place.{Rules}
 use Rattle.driver.specs.Steps.{Run}
-use Rattle.driver.specs.Runs.{Did, Parts, Stands, StandsBy, left_at_end, lost_there, parts, seen, stopped, works}
-use Rattle.driver.specs.Over.{Opened, Outside, Over, RanOver, begins, outside, ran_over}
+use Rattle.driver.specs.Runs.{DidSteps, Parts, Stands, StandsBy, left_at_end, lost_there, parts, seen, stopped, works}
+use Rattle.driver.specs.Over.{SheetOpened, ProgramParts, Over, RanOver, first_place, program_parts, ran_over}
 
 abbrev pub opened_by : (disk : DiskView) (h : HostView) (ops : List Op) → IsHost h (world_at_opening ops disk.room h.store.end) → SameDisk disk h.store.disk
-    → InModel disk (IsSheetImage h.store.sheet.contents (bytes_on disk)) → InModel disk (EndsAt (bytes_on disk) h.store.end) → InModel disk (Looks disk.history h.store.disk.history) → Opened disk
+    → InModel disk (IsSheetImage h.store.sheet.contents (bytes_on disk)) → InModel disk (EndsAt (bytes_on disk) h.store.end) → InModel disk (Looks disk.history h.store.disk.history) → SheetOpened disk
 opened_by disk h ops is same found ends looks = record {
   ops = ops;
   end = h.store.end;
@@ -48,9 +48,9 @@ module _ {A C K : Type 0} (R : Rules A C K) (h : HostView) (w : World) (c d : C)
   stops_by (Ok done) is = (w, is.stands.contents, working w is)
   stops_by (Err why) is = stops_at is
 
-pub over_ran : {A C K : Type 0} (R : Rules A C K) (disk back : DiskView) (o : Opened disk) (c d e : C) (k l : K) (a b : A) (answer : Result (Unit {0}) RunFault) (n : ℕ) (h : HostView)
-    → (did : Did R (begins (outside disk c k a) o) (ask ∷ []) left_at_end answer (n , parts h d l b)) → back ≡ h.store.disk
-    → ((v : World) × (h.store.sheet.contents ≡ sheet_in v) × Stops R.sources.after (running v) d e) → Over R (outside disk c k a) (outside back e l b) answer
+pub over_ran : {A C K : Type 0} (R : Rules A C K) (disk back : DiskView) (o : SheetOpened disk) (c d e : C) (k l : K) (a b : A) (answer : Result (Unit {0}) RunFault) (n : ℕ) (h : HostView)
+    → (did : DidSteps R (first_place (program_parts disk c k a) o) (ask ∷ []) left_at_end answer (n , parts h d l b)) → back ≡ h.store.disk
+    → ((v : World) × (h.store.sheet.contents ≡ sheet_in v) × Stops R.sources.after (running v) d e) → Over R (program_parts disk c k a) (program_parts back e l b) answer
 over_ran R disk back o c d e k l a b answer n h did is (v, in_memory, stops) = ran_over answer (record {
   opened = o;
   steps = did.steps;
@@ -58,7 +58,7 @@ over_ran R disk back o c d e k l a b answer n h did is (v, in_memory, stops) = r
   world = did.world;
   sources = d;
   host = h;
-  ran = subst (λ (x : DiskView). Run R (begins (outside disk c k a) o) (ask ∷ []) did.steps (left_at_end answer) (record { asked = n; agenda = b; world = did.world; disk = x; sources = d; sink = l })) (sym is) did.ran;
+  ran = subst (λ (x : DiskView). Run R (first_place (program_parts disk c k a) o) (ask ∷ []) did.steps (left_at_end answer) (record { asked = n; agenda = b; world = did.world; disk = x; sources = d; sink = l })) (sym is) did.ran;
   stands = did.stands;
   disk_is = is;
   alive = v;

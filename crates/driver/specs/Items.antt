@@ -17,7 +17,7 @@ use Rattle.offline_programs.specs.declared.fault.RunFault.{RunFault}
 use Rattle.offline_programs.specs.declared.fault.RunFault.TheVariants as fault
 use Rattle.driver.specs.declared.turn.Turn.{Turn}
 use Rattle.driver.specs.declared.turn.Turn.TheVariants as turn
-use Rattle.driver.specs.Reports.{Came, Report, came}
+use Rattle.driver.specs.Reports.{TurnCame, Report, came}
 use Rattle.driver.specs.Reports as report
 use Rattle.driver.specs.declared.report.Show.TheVariants as show
 
@@ -40,39 +40,39 @@ pub data Item : Type 0 where
   -- this is printed
   print : Report → Item
   -- the agenda heeds what came
-  heed : Came → Item
+  heed : TurnCame → Item
   -- this fault is printed
   print_fault : RunFault → Item
   -- no more is done, by this fault
   halt : RunFault → Item
 
 -- what was done
-pub data Step : Type 0 where
-  chose : Turn → Step
-  watched : Asked → Woken → Step
-  heard : List Event → Step
-  took : List Event → List Outcome → List Followed → Step
-  rewrote : Beat → Step
-  stalled : List Seat → Step
-  interrupted : List ℕ → Interrupted → Step
-  printed : Report → Step
-  heeded : Came → Option Note → Step
+pub data RunStep : Type 0 where
+  chose : Turn → RunStep
+  watched : Asked → Woken → RunStep
+  heard : List Event → RunStep
+  took : List Event → List Outcome → List Followed → RunStep
+  rewrote : Beat → RunStep
+  stalled : List Seat → RunStep
+  interrupted : List ℕ → Interrupted → RunStep
+  printed : Report → RunStep
+  heeded : TurnCame → Option Note → RunStep
   -- the item at the head failed, after these events were taken
-  broke : List Beat → RunFault → Step
+  broke : List Beat → RunFault → RunStep
   -- the fault was printed last of all, or that was tried
-  printed_fault : RunFault → Bool → Step
+  printed_fault : RunFault → Bool → RunStep
 
 -- what the agenda asked for, and then it is asked again; at the end it is not
-abbrev pub items_of : Turn → List Item
-items_of turn.End = []
-items_of turn.Nothing = ask ∷ []
-items_of (turn.Watch input patience) = watch (asked input patience) ∷ ask ∷ []
-items_of (turn.Hear seat most) = hear seat most ∷ ask ∷ []
-items_of (turn.Lines first events) = take (Some first) events.items ∷ ask ∷ []
-items_of (turn.Checkpoint line) = rewrite line ∷ ask ∷ []
-items_of turn.Stall = stall ∷ ask ∷ []
-items_of (turn.Interrupt name) = interrupt name ∷ ask ∷ []
-items_of (turn.Show s) = print (report.shown s) ∷ heed (came [] []) ∷ ask ∷ []
+abbrev pub items_by : Turn → List Item
+items_by turn.End = []
+items_by turn.Nothing = ask ∷ []
+items_by (turn.Watch input patience) = watch (asked input patience) ∷ ask ∷ []
+items_by (turn.Hear seat most) = hear seat most ∷ ask ∷ []
+items_by (turn.Lines first events) = take (Some first) events.items ∷ ask ∷ []
+items_by (turn.Checkpoint line) = rewrite line ∷ ask ∷ []
+items_by turn.Stall = stall ∷ ask ∷ []
+items_by (turn.Interrupt name) = interrupt name ∷ ask ∷ []
+items_by (turn.Show s) = print (report.shown s) ∷ heed (came [] []) ∷ ask ∷ []
 
 -- what events gave that were taken as one group is printed, lines by their numbers, and then what followed; the agenda heeds it
 abbrev pub group_of : Option ℕ → List Outcome → Report
@@ -97,7 +97,7 @@ abbrev pub stalls : Seat → Event
 stalls seat = Child seat.name seat.life child.Stalled
 
 -- the entries of the trace
-abbrev pub beats_of : Step → List Beat
+abbrev pub beats_of : RunStep → List Beat
 beats_of (chose t) = []
 beats_of (watched q w) = []
 beats_of (heard events) = []

@@ -25,34 +25,34 @@ pub data Report : Type 0 where
   shown : Show → Report
 
 -- what lives gave: the replies but Nothing, in order
-abbrev pub lives_text : Voice → Contents → List Outcome → List ℕ
-lives_text V contents outcomes = flat_map (λ o. came_text V contents (spoken o.reply)) outcomes
+abbrev pub lives_report : Voice → Contents → List Outcome → List ℕ
+lives_report V contents outcomes = flat_map (λ o. came_text V contents (spoken o.reply)) outcomes
 
 -- its text, where events led to this world
-abbrev pub text_of : Voice → World → Report → List ℕ
-text_of V w (lines first outcomes) = numbered_text V first (sheet_in w) outcomes
-text_of V w (lives outcomes) = lives_text V (sheet_in w) outcomes
-text_of V w (followed replies) = came_text V (sheet_in w) replies
-text_of V w (shown (show.Note n)) = V.note n
-text_of V w (shown (show.Sheet line)) = V.sheet line w
-text_of V w (shown (show.Field line id)) = V.field line id w
-text_of V w (shown (show.Export line format)) = V.exported line format (sheet_in w)
+abbrev pub printed_text : Voice → World → Report → List ℕ
+printed_text V w (lines first outcomes) = numbered_text V first (sheet_in w) outcomes
+printed_text V w (lives outcomes) = lives_report V (sheet_in w) outcomes
+printed_text V w (followed replies) = came_text V (sheet_in w) replies
+printed_text V w (shown (show.Note n)) = V.note n
+printed_text V w (shown (show.Sheet line)) = V.sheet line w
+printed_text V w (shown (show.Field line id)) = V.field line id w
+printed_text V w (shown (show.Export line format)) = V.exported line format (sheet_in w)
 
 -- What came of a turn: the outcomes of its events, the replies to what followed, and what came of an interrupt, where it was one.
-pub record Came : Type 0 where
+pub record TurnCame : Type 0 where
   pub outcomes : List Outcome
   pub replies : List Reply
   pub interrupted : Option Interrupted
 
 -- of events that were taken
-abbrev pub came : List Outcome → List Reply → Came
+abbrev pub came : List Outcome → List Reply → TurnCame
 came outcomes replies = record { outcomes = outcomes; replies = replies; interrupted = None }
 
-abbrev pub interrupt_came : Interrupted → Came
+abbrev pub interrupt_came : Interrupted → TurnCame
 interrupt_came result = record { outcomes = []; replies = []; interrupted = Some result }
 
 -- as the code has it
-abbrev pub came_of : GivenCame → Came
+abbrev pub came_of : GivenCame → TurnCame
 came_of (given.Gave gave) = came gave.outcomes.items gave.replies.items
 came_of (given.Rewrote o) = came (o ∷ []) []
 came_of (given.Interrupted result) = interrupt_came result

@@ -4,11 +4,11 @@ ghost use Rattle.disk_model.specs.Disk.{SameDisk};
 ghost use Rattle.session_engine.specs.World.{World};
 ghost use Rattle.session_engine.specs.Host.{IsHost};
 ghost use Rattle.driver.specs.Place.{rules, source_rules};
-ghost use Rattle.driver.specs.Items.{Item, ask, group_of, heed as heeding, hear as hearing, interrupt as interrupting, items_of, rewrite as rewriting, stall as stalling, stalls, take as taking, print as to_print, printing, watch as watching};
+ghost use Rattle.driver.specs.Items.{Item, ask, group_of, heed as heeding, hear as hearing, interrupt as interrupting, items_by, rewrite as rewriting, stall as stalling, stalls, take as taking, print as to_print, printing, watch as watching};
 ghost use Rattle.driver.specs.Steps.{fault_at_gate, most_together};
 ghost use Rattle.driver.specs.Reports.{came as came_by, came_of};
 ghost use Rattle.driver.specs.Reports as report;
-ghost use Rattle.driver.specs.Runs.{Did, again, again_by, left_at_end, left_by, parts, seen};
+ghost use Rattle.driver.specs.Runs.{DidSteps, again, again_by, left_at_end, left_by_answer, parts, seen};
 ghost use Rattle.child_edge.specs.Seats.{waits};
 ghost use Rattle.arrivals.specs.Watching.{asked};
 
@@ -109,10 +109,10 @@ impl<D: Disk, S: Sources, K: Sink, A: Agenda> Driver<D, S, K, A> {
     fn take(&mut self, from: Option<u64>, events: Vec<Event>) -> Result<GaveTogether, RunFault>
         ensures same { SameDisk self.old.host.store.disk self.new.host.store.disk }
         ensures did { (n : ℕ) (rest : List Item) (w : World) → IsHost self.old.host w
-            → Did (rules A.rules (source_rules S.after S.wakes S.clock) K.rules)
+            → DidSteps (rules A.rules (source_rules S.after S.wakes S.clock) K.rules)
             (seen n w (parts self.old.host self.old.sources self.old.sink self.old.agenda))
             (taking from events.items ∷ rest)
-            (left_by (λ gave. printing from gave.outcomes.items gave.replies.items ++ rest)) result
+            (left_by_answer (λ gave. printing from gave.outcomes.items gave.replies.items ++ rest)) result
             (n , parts self.new.host self.new.sources self.new.sink self.new.agenda) }
         ensures few { IfOk result (λ gave. length gave.outcomes.items ≤ most_together) }
         ensures counted { IfOk result (λ gave. IfSome from (λ number. number + most_together + 1 < 2 ^ 64)) }
@@ -141,9 +141,9 @@ impl<D: Disk, S: Sources, K: Sink, A: Agenda> Driver<D, S, K, A> {
         requires counted { IfSome from (λ number. number + most_together + 1 < 2 ^ 64) }
         ensures same { SameDisk self.old.host.store.disk self.new.host.store.disk }
         ensures did { (n : ℕ) (rest : List Item) (w : World) → IsHost self.old.host w
-            → Did (rules A.rules (source_rules S.after S.wakes S.clock) K.rules)
+            → DidSteps (rules A.rules (source_rules S.after S.wakes S.clock) K.rules)
             (seen n w (parts self.old.host self.old.sources self.old.sink self.old.agenda))
-            (to_print (group_of from outcomes.now) ∷ rest) (left_by (λ done. rest)) result
+            (to_print (group_of from outcomes.now) ∷ rest) (left_by_answer (λ done. rest)) result
             (n , parts self.new.host self.new.sources self.new.sink self.new.agenda) }
     {
         match from {
@@ -156,9 +156,9 @@ impl<D: Disk, S: Sources, K: Sink, A: Agenda> Driver<D, S, K, A> {
     fn print_followed(&mut self, replies: &[Reply]) -> Result<(), RunFault>
         ensures same { SameDisk self.old.host.store.disk self.new.host.store.disk }
         ensures did { (n : ℕ) (rest : List Item) (w : World) → IsHost self.old.host w
-            → Did (rules A.rules (source_rules S.after S.wakes S.clock) K.rules)
+            → DidSteps (rules A.rules (source_rules S.after S.wakes S.clock) K.rules)
             (seen n w (parts self.old.host self.old.sources self.old.sink self.old.agenda))
-            (to_print (report.followed replies.now) ∷ rest) (left_by (λ done. rest)) result
+            (to_print (report.followed replies.now) ∷ rest) (left_by_answer (λ done. rest)) result
             (n , parts self.new.host self.new.sources self.new.sink self.new.agenda) }
     {
         self.sink.followed(&self.host, replies)
@@ -168,9 +168,9 @@ impl<D: Disk, S: Sources, K: Sink, A: Agenda> Driver<D, S, K, A> {
     fn show(&mut self, show: Show) -> Result<(), RunFault>
         ensures same { SameDisk self.old.host.store.disk self.new.host.store.disk }
         ensures did { (n : ℕ) (rest : List Item) (w : World) → IsHost self.old.host w
-            → Did (rules A.rules (source_rules S.after S.wakes S.clock) K.rules)
+            → DidSteps (rules A.rules (source_rules S.after S.wakes S.clock) K.rules)
             (seen n w (parts self.old.host self.old.sources self.old.sink self.old.agenda))
-            (to_print (report.shown show) ∷ rest) (left_by (λ done. rest)) result
+            (to_print (report.shown show) ∷ rest) (left_by_answer (λ done. rest)) result
             (n , parts self.new.host self.new.sources self.new.sink self.new.agenda) }
     {
         self.sink.show(&self.host, show)
@@ -180,9 +180,9 @@ impl<D: Disk, S: Sources, K: Sink, A: Agenda> Driver<D, S, K, A> {
     fn heed(&mut self, came: &Came) -> Result<(), RunFault>
         ensures same { SameDisk self.old.host.store.disk self.new.host.store.disk }
         ensures did { (n : ℕ) (rest : List Item) (w : World) → IsHost self.old.host w
-            → Did (rules A.rules (source_rules S.after S.wakes S.clock) K.rules)
+            → DidSteps (rules A.rules (source_rules S.after S.wakes S.clock) K.rules)
             (seen n w (parts self.old.host self.old.sources self.old.sink self.old.agenda))
-            (heeding (came_of came.now) ∷ rest) (left_by (λ done. rest)) result
+            (heeding (came_of came.now) ∷ rest) (left_by_answer (λ done. rest)) result
             (n , parts self.new.host self.new.sources self.new.sink self.new.agenda) }
     {
         let now = self.sources.now();
@@ -198,9 +198,9 @@ impl<D: Disk, S: Sources, K: Sink, A: Agenda> Driver<D, S, K, A> {
         requires counted { IfSome from (λ number. number + most_together + 1 < 2 ^ 64) }
         ensures same { SameDisk self.old.host.store.disk self.new.host.store.disk }
         ensures did { (n : ℕ) (rest : List Item) (w : World) → IsHost self.old.host w
-            → Did (rules A.rules (source_rules S.after S.wakes S.clock) K.rules)
+            → DidSteps (rules A.rules (source_rules S.after S.wakes S.clock) K.rules)
             (seen n w (parts self.old.host self.old.sources self.old.sink self.old.agenda))
-            (printing from gave.outcomes.items gave.replies.items ++ rest) (left_by (λ done. rest)) result
+            (printing from gave.outcomes.items gave.replies.items ++ rest) (left_by_answer (λ done. rest)) result
             (n , parts self.new.host self.new.sources self.new.sink self.new.agenda) }
     {
         if let Err(why) = self.print_outcomes(from, gave.outcomes.as_slice()) {
@@ -216,9 +216,9 @@ impl<D: Disk, S: Sources, K: Sink, A: Agenda> Driver<D, S, K, A> {
     fn take_and_print(&mut self, from: Option<u64>, events: Vec<Event>) -> Result<(), RunFault>
         ensures same { SameDisk self.old.host.store.disk self.new.host.store.disk }
         ensures did { (n : ℕ) (rest : List Item) (w : World) → IsHost self.old.host w
-            → Did (rules A.rules (source_rules S.after S.wakes S.clock) K.rules)
+            → DidSteps (rules A.rules (source_rules S.after S.wakes S.clock) K.rules)
             (seen n w (parts self.old.host self.old.sources self.old.sink self.old.agenda))
-            (taking from events.items ∷ rest) (left_by (λ done. rest)) result
+            (taking from events.items ∷ rest) (left_by_answer (λ done. rest)) result
             (n , parts self.new.host self.new.sources self.new.sink self.new.agenda) }
     {
         match self.take(from, events) {
@@ -231,9 +231,9 @@ impl<D: Disk, S: Sources, K: Sink, A: Agenda> Driver<D, S, K, A> {
     fn hear(&mut self, seat: Seat, most: u64) -> Result<(), RunFault>
         ensures same { SameDisk self.old.host.store.disk self.new.host.store.disk }
         ensures did { (n : ℕ) (rest : List Item) (w : World) → IsHost self.old.host w
-            → Did (rules A.rules (source_rules S.after S.wakes S.clock) K.rules)
+            → DidSteps (rules A.rules (source_rules S.after S.wakes S.clock) K.rules)
             (seen n w (parts self.old.host self.old.sources self.old.sink self.old.agenda))
-            (hearing seat most ∷ rest) (left_by (λ done. rest)) result
+            (hearing seat most ∷ rest) (left_by_answer (λ done. rest)) result
             (n , parts self.new.host self.new.sources self.new.sink self.new.agenda) }
     {
         match hear_ready(self.alloc, &mut self.sources, seat, most) {
@@ -247,9 +247,9 @@ impl<D: Disk, S: Sources, K: Sink, A: Agenda> Driver<D, S, K, A> {
         requires { line + most_together + 1 < 2 ^ 64 }
         ensures same { SameDisk self.old.host.store.disk self.new.host.store.disk }
         ensures did { (n : ℕ) (rest : List Item) (w : World) → IsHost self.old.host w
-            → Did (rules A.rules (source_rules S.after S.wakes S.clock) K.rules)
+            → DidSteps (rules A.rules (source_rules S.after S.wakes S.clock) K.rules)
             (seen n w (parts self.old.host self.old.sources self.old.sink self.old.agenda))
-            (printing (Some line) (outcome ∷ []) [] ++ rest) (left_by (λ done. rest)) result
+            (printing (Some line) (outcome ∷ []) [] ++ rest) (left_by_answer (λ done. rest)) result
             (n , parts self.new.host self.new.sources self.new.sink self.new.agenda) }
     {
         if let Err(why) = self.print_outcomes(Some(line), slice::from_ref(&outcome)) {
@@ -265,9 +265,9 @@ impl<D: Disk, S: Sources, K: Sink, A: Agenda> Driver<D, S, K, A> {
     fn rewrite(&mut self, line: u64) -> Result<(), RunFault>
         ensures same { SameDisk self.old.host.store.disk self.new.host.store.disk }
         ensures did { (n : ℕ) (rest : List Item) (w : World) → IsHost self.old.host w
-            → Did (rules A.rules (source_rules S.after S.wakes S.clock) K.rules)
+            → DidSteps (rules A.rules (source_rules S.after S.wakes S.clock) K.rules)
             (seen n w (parts self.old.host self.old.sources self.old.sink self.old.agenda))
-            (rewriting line ∷ rest) (left_by (λ done. rest)) result
+            (rewriting line ∷ rest) (left_by_answer (λ done. rest)) result
             (n , parts self.new.host self.new.sources self.new.sink self.new.agenda) }
     {
         if line > MOST_COUNTED {
@@ -283,9 +283,9 @@ impl<D: Disk, S: Sources, K: Sink, A: Agenda> Driver<D, S, K, A> {
     fn stall(&mut self) -> Result<(), RunFault>
         ensures same { SameDisk self.old.host.store.disk self.new.host.store.disk }
         ensures did { (n : ℕ) (rest : List Item) (w : World) → IsHost self.old.host w
-            → Did (rules A.rules (source_rules S.after S.wakes S.clock) K.rules)
+            → DidSteps (rules A.rules (source_rules S.after S.wakes S.clock) K.rules)
             (seen n w (parts self.old.host self.old.sources self.old.sink self.old.agenda))
-            (stalling ∷ rest) (left_by (λ done. rest)) result
+            (stalling ∷ rest) (left_by_answer (λ done. rest)) result
             (n , parts self.new.host self.new.sources self.new.sink self.new.agenda) }
     {
         let Ok(seats) = waiting_lives(self.alloc, &self.host) else {
@@ -301,9 +301,9 @@ impl<D: Disk, S: Sources, K: Sink, A: Agenda> Driver<D, S, K, A> {
     fn interrupt(&mut self, name: Name) -> Result<(), RunFault>
         ensures same { SameDisk self.old.host.store.disk self.new.host.store.disk }
         ensures did { (n : ℕ) (rest : List Item) (w : World) → IsHost self.old.host w
-            → Did (rules A.rules (source_rules S.after S.wakes S.clock) K.rules)
+            → DidSteps (rules A.rules (source_rules S.after S.wakes S.clock) K.rules)
             (seen n w (parts self.old.host self.old.sources self.old.sink self.old.agenda))
-            (interrupting name ∷ rest) (left_by (λ done. rest)) result
+            (interrupting name ∷ rest) (left_by_answer (λ done. rest)) result
             (n , parts self.new.host self.new.sources self.new.sink self.new.agenda) }
     {
         let result = interrupt(&self.host, &mut self.sources, name);
@@ -314,9 +314,9 @@ impl<D: Disk, S: Sources, K: Sink, A: Agenda> Driver<D, S, K, A> {
     fn watch(&mut self, input: Input, patience: Option<u64>) -> Result<(), RunFault>
         ensures same { SameDisk self.old.host.store.disk self.new.host.store.disk }
         ensures did { (n : ℕ) (rest : List Item) (w : World) → IsHost self.old.host w
-            → Did (rules A.rules (source_rules S.after S.wakes S.clock) K.rules)
+            → DidSteps (rules A.rules (source_rules S.after S.wakes S.clock) K.rules)
             (seen n w (parts self.old.host self.old.sources self.old.sink self.old.agenda))
-            (watching (asked input patience) ∷ rest) (left_by (λ done. rest)) result
+            (watching (asked input patience) ∷ rest) (left_by_answer (λ done. rest)) result
             (n , parts self.new.host self.new.sources self.new.sink self.new.agenda) }
     {
         match self.sources.watch(input, patience) {
@@ -332,9 +332,9 @@ impl<D: Disk, S: Sources, K: Sink, A: Agenda> Driver<D, S, K, A> {
     fn show_and_heed(&mut self, show: Show) -> Result<(), RunFault>
         ensures same { SameDisk self.old.host.store.disk self.new.host.store.disk }
         ensures did { (n : ℕ) (rest : List Item) (w : World) → IsHost self.old.host w
-            → Did (rules A.rules (source_rules S.after S.wakes S.clock) K.rules)
+            → DidSteps (rules A.rules (source_rules S.after S.wakes S.clock) K.rules)
             (seen n w (parts self.old.host self.old.sources self.old.sink self.old.agenda))
-            (to_print (report.shown show) ∷ heeding (came_by [] []) ∷ rest) (left_by (λ done. rest)) result
+            (to_print (report.shown show) ∷ heeding (came_by [] []) ∷ rest) (left_by_answer (λ done. rest)) result
             (n , parts self.new.host self.new.sources self.new.sink self.new.agenda) }
     {
         match self.show(show) {
@@ -347,9 +347,9 @@ impl<D: Disk, S: Sources, K: Sink, A: Agenda> Driver<D, S, K, A> {
     fn serve(&mut self, turn: Turn) -> Result<bool, RunFault>
         ensures same { SameDisk self.old.host.store.disk self.new.host.store.disk }
         ensures did { (n : ℕ) (w : World) → IsHost self.old.host w
-            → Did (rules A.rules (source_rules S.after S.wakes S.clock) K.rules)
+            → DidSteps (rules A.rules (source_rules S.after S.wakes S.clock) K.rules)
             (seen n w (parts self.old.host self.old.sources self.old.sink self.old.agenda))
-            (items_of turn) (left_by again) result
+            (items_by turn) (left_by_answer again) result
             (n , parts self.new.host self.new.sources self.new.sink self.new.agenda) }
     {
         match turn {
@@ -369,9 +369,9 @@ impl<D: Disk, S: Sources, K: Sink, A: Agenda> Driver<D, S, K, A> {
     fn step(&mut self) -> Result<bool, RunFault>
         ensures same { SameDisk self.old.host.store.disk self.new.host.store.disk }
         ensures did { (n : ℕ) (w : World) → IsHost self.old.host w
-            → Did (rules A.rules (source_rules S.after S.wakes S.clock) K.rules)
+            → DidSteps (rules A.rules (source_rules S.after S.wakes S.clock) K.rules)
             (seen n w (parts self.old.host self.old.sources self.old.sink self.old.agenda))
-            (ask ∷ []) (left_by again) result
+            (ask ∷ []) (left_by_answer again) result
             (n + 1 , parts self.new.host self.new.sources self.new.sink self.new.agenda) }
     {
         let now = self.sources.now();
@@ -385,9 +385,9 @@ impl<D: Disk, S: Sources, K: Sink, A: Agenda> Driver<D, S, K, A> {
     fn go_on(&mut self) -> Result<(), RunFault>
         ensures same { SameDisk self.old.host.store.disk self.new.host.store.disk }
         ensures did { (w : World) → IsHost self.old.host w → (n : ℕ)
-            × Did (rules A.rules (source_rules S.after S.wakes S.clock) K.rules)
+            × DidSteps (rules A.rules (source_rules S.after S.wakes S.clock) K.rules)
             (seen 0 w (parts self.old.host self.old.sources self.old.sink self.old.agenda))
-            (ask ∷ []) (left_by (λ done. [])) result
+            (ask ∷ []) (left_by_answer (λ done. [])) result
             (n , parts self.new.host self.new.sources self.new.sink self.new.agenda) }
     {
         for _ in 0..u64::MAX {
@@ -405,7 +405,7 @@ impl<D: Disk, S: Sources, K: Sink, A: Agenda> Driver<D, S, K, A> {
     pub fn drive(&mut self) -> Result<(), RunFault>
         ensures same { SameDisk self.old.host.store.disk self.new.host.store.disk }
         ensures did { (w : World) → IsHost self.old.host w → (n : ℕ)
-            × Did (rules A.rules (source_rules S.after S.wakes S.clock) K.rules)
+            × DidSteps (rules A.rules (source_rules S.after S.wakes S.clock) K.rules)
             (seen 0 w (parts self.old.host self.old.sources self.old.sink self.old.agenda))
             (ask ∷ []) left_at_end result
             (n , parts self.new.host self.new.sources self.new.sink self.new.agenda) }

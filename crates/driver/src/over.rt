@@ -6,7 +6,7 @@ ghost use Rattle.session_engine.specs.Host.{number_in};
 ghost use Rattle.child_edge.specs.Seats.{running};
 ghost use Rattle.child_edge.specs.Stops.{Stops};
 ghost use Rattle.driver.specs.Place.{rules, source_rules};
-ghost use Rattle.driver.specs.Over.{Over as IsOver, outside};
+ghost use Rattle.driver.specs.Over.{Over as IsOver, program_parts};
 
 use crate::agenda::Agenda;
 use crate::driver::Driver;
@@ -42,8 +42,8 @@ pub fn run_over<D: Disk, S: Sources, K: Sink, A: Agenda>(
 ) -> Over<D, S, K, A>
     ensures same { SameDisk (D.view disk) (D.view result.disk) }
     ensures over { IsOver (rules A.rules (source_rules S.after S.wakes S.clock) K.rules)
-        (outside (D.view disk) sources sink agenda)
-        (outside (D.view result.disk) result.sources result.sink result.agenda) result.answer }
+        (program_parts (D.view disk) sources sink agenda)
+        (program_parts (D.view result.disk) result.sources result.sink result.agenda) result.answer }
 {
     let host = match Host::open(alloc, disk) {
         Ok(host) => host,

@@ -3,7 +3,7 @@ ghost use Rattle.std.specs.Prelude.{◌⊎◌, IfErr, OnOk};
 ghost use Rattle.std.specs.Io.KnownBytes.{Appends};
 ghost use Rattle.tellings.specs.Voice.{IsUntold, came_text};
 ghost use Rattle.child_edge.specs.Told.{spoken};
-ghost use Rattle.driver.specs.Reports.{lives_text};
+ghost use Rattle.driver.specs.Reports.{lives_report};
 
 use crate::report::Show;
 use crate::sink::Sink;
@@ -48,7 +48,7 @@ fn print_lives<T: Tells, W: Write>(
     writer: &mut W,
 ) -> Result<(), RunFault>
     ensures ok { OnOk result (Appends (W.contents writer.old) (W.contents writer.new)
-        (lives_text T.voice sheet.now.contents outcomes.now)) }
+        (lives_report T.voice sheet.now.contents outcomes.now)) }
     ensures err { IfErr result (IsUntold T.voice) }
 {
     for outcome in outcomes {

@@ -1,5 +1,5 @@
 use Rattle.std.proofs.Common.{[], ◌∷◌, ◌++◌, ap, arith, inl, length, refl, subst, sym, ◌∙◌}
-use Rattle.driver.specs.Hearing.{HeardSoFar}
+use Rattle.driver.specs.Hearing.{HeardUpTo}
 use Rattle.driver.specs.Place.{source_rules}
 use Rattle.driver.proofs.Heard.{heard_few, heard_first, heard_more}
 use Rattle.driver.proofs.hearing.hear_ready.Goals as goal
@@ -14,7 +14,7 @@ pub returns-then-not-hear_next-clause-ok : goal.returns-then-not-hear_next-claus
 returns-then-not-hear_next-clause-ok g c =
     let none = c.hear_next.ensures.none c.if-not-hear_next.true in
     let so = heard_few (source_rules g.S.Children.after g.S.Sources.wakes g.S.Sources.clock) c.args.seat c.loop.counter c.args.most c.args.sources.now c.loop.sources c.loop.events.items (omega (arith, c.loop-test.true)) c.loop.invariant in
-    (c.loop.sources, subst (λ l. HeardSoFar (source_rules g.S.Children.after g.S.Sources.wakes g.S.Sources.clock) c.args.seat c.args.most c.args.sources.now l c.loop.sources) (sym none.1) so, none.0)
+    (c.loop.sources, subst (λ l. HeardUpTo (source_rules g.S.Children.after g.S.Sources.wakes g.S.Sources.clock) c.args.seat c.args.most c.args.sources.now l c.loop.sources) (sym none.1) so, none.0)
 
 pub returns-clause-ok : goal.returns-clause-ok
 returns-clause-ok g c =
