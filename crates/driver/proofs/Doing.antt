@@ -31,7 +31,7 @@ use Rattle.offline_programs.specs.declared.fault.RunFault.{RunFault}
 use Rattle.offline_programs.specs.declared.fault.RunFault.TheVariants as fault
 use Rattle.driver.specs.declared.turn.Turn.{Turn}
 use Rattle.driver.specs.Reports.{TurnCame, Report, interrupt_came, printed_text}
-use Rattle.driver.specs.Items.{Item, RunStep, after_fault, ask, chose, halt, hear, heard, heed, heeded, interrupt, interrupted, items_by, notes, print, print_fault, printed, printed_fault, printing, rewrite, rewrote, stall, stalled, stalls, take, took, watch, watched}
+use Rattle.driver.specs.Items.{Item, after_fault, ask, chose, halt, hear, heard, heed, heeded, interrupt, interrupted, items_by, notes, print, print_fault, printed, printed_fault, printing, rewrite, rewrote, stall, stalled, stalls, take, took, watch, watched}
 use Rattle.driver.specs.Hearing.{HeardReady}
 use Rattle.driver.specs.Place.{RunPlace, Rules, Tries}
 use Rattle.driver.specs.Steps.{Fails, Goes, Run, asks, broken, fault_at_gate, hears, heeds, interrupts, lost, most_together, prints, prints_fault, rewrites, stalls_all, takes, too_many, uncounted, unheard, unnumbered, unprinted, unsaid, unstalled, untaken, unwatched, unwritten, watches}

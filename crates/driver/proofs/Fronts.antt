@@ -1,5 +1,5 @@
 -- Where a run leads, and what it leaves of the disk at every moment.
-use Rattle.std.proofs.Common.{◌≡◌, inl, inr, ℕ, List, [], ◌∷◌, ◌++◌, refl, sym, ap, subst, append-nil, append_assoc, ◌∙◌}
+use Rattle.std.proofs.Common.{◌≡◌, inl, inr, List, [], ◌∷◌, ◌++◌, refl, sym, ap, subst, append-nil, append_assoc, ◌∙◌}
 use Rattle.std.specs.Prelude.{◌⊎◌}
 use Rattle.disk_model.specs.Disk.{DiskView}
 use Rattle.host_events.specs.declared.event.Event.{Event}
@@ -17,7 +17,7 @@ use Rattle.child_edge.specs.Together.{LostTogether}
 use Rattle.host_events.specs.declared.outcome.HostFault.{HostFault}
 use Rattle.host_events.specs.declared.outcome.HostFault.TheVariants as faults
 use Rattle.offline_programs.specs.declared.fault.RunFault.{RunFault}
-use Rattle.driver.specs.Items.{Item, RunStep, after_fault, beats_of, broke, print_fault, halt}
+use Rattle.driver.specs.Items.{Item, RunStep, after_fault, beats_of, print_fault, halt}
 use Rattle.driver.specs.Place.{RunPlace, Rules, run_at}
 use Rattle.driver.specs.Steps.{Fails, Goes, Run, asks, breaks, broken, prints_fault, hears, heeds, interrupts, lost, rewrites, stalls_all, takes, prints, too_many, uncounted, unheard, unnumbered, unsaid, unstalled, untaken, unprinted, unwatched, unwritten, watches}
 use Rattle.driver.specs.Laws.{LeavesFrontsOf, all_printed, broke_at, lost_at, trace}

@@ -1,10 +1,10 @@
 -- Lives that were heard one after another.
-use Rattle.std.proofs.Common.{◌≡◌, ℕ, ◌+◌, ◌≤◌, List, [], ◌∷◌, ◌++◌, refl, ap, sym, ◌∙◌, length, length-append, arith}
+use Rattle.std.proofs.Common.{◌≡◌, ℕ, ◌+◌, ◌≤◌, List, [], ◌∷◌, ◌++◌, refl, ap, ◌∙◌, length-append, arith}
 use Rattle.host_events.specs.declared.event.Event.{Event}
 use Rattle.child_calls.specs.declared.seat.Seat.{Seat}
 use Rattle.child_edge.specs.Together.{HearsOne}
 use Rattle.driver.specs.Place.{SourceRules}
-use Rattle.driver.specs.Hearing.{HeardAfter, HeardUpTo, HearsNext, no_other, one_more}
+use Rattle.driver.specs.Hearing.{HeardUpTo, HearsNext, no_other, one_more}
 
 module _ {C : Type 0} (R : SourceRules C) (seat : Seat) where
   pub heard_first : (c d : C) (first : Event) (events : List Event) → HearsOne R.after seat c first d → events ≡ first ∷ [] → HeardUpTo R seat 0 c events d

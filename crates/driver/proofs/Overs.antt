@@ -1,5 +1,5 @@
 -- A program over a disk.
-use Rattle.std.proofs.Common.{◌≡◌, ℕ, List, [], ◌∷◌, refl, sym, subst, Ok, Err}
+use Rattle.std.proofs.Common.{◌≡◌, ℕ, List, [], ◌∷◌, sym, subst, Ok, Err}
 use Rattle.std.specs.Prelude.{Result, option_map}
 use Rattle.disk_model.specs.Disk.{DiskView, InModel, Looks, SameDisk, bytes_on}
 use Rattle.host_events.specs.declared.event.Event.{Event}
@@ -16,8 +16,8 @@ use Rattle.offline_programs.specs.declared.fault.RunFault.{RunFault}
 use Rattle.driver.specs.Items.{ask}
 use Rattle.driver.specs.Place.{Rules}
 use Rattle.driver.specs.Steps.{Run}
-use Rattle.driver.specs.Runs.{DidSteps, Parts, Stands, StandsBy, left_at_end, lost_there, parts, seen, stopped, works}
-use Rattle.driver.specs.Over.{SheetOpened, ProgramParts, Over, RanOver, first_place, program_parts, ran_over}
+use Rattle.driver.specs.Runs.{DidSteps, Stands, StandsBy, left_at_end, lost_there, parts, stopped, works}
+use Rattle.driver.specs.Over.{SheetOpened, Over, first_place, program_parts, ran_over}
 
 abbrev pub opened_by : (disk : DiskView) (h : HostView) (ops : List Op) → IsHost h (world_at_opening ops disk.room h.store.end) → SameDisk disk h.store.disk
     → InModel disk (IsSheetImage h.store.sheet.contents (bytes_on disk)) → InModel disk (EndsAt (bytes_on disk) h.store.end) → InModel disk (Looks disk.history h.store.disk.history) → SheetOpened disk

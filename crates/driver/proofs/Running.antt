@@ -4,7 +4,7 @@ use Rattle.std.specs.Prelude.{Result}
 use Rattle.session_engine.specs.World.{World}
 use Rattle.child_edge.specs.Faithful.{Beat}
 use Rattle.offline_programs.specs.declared.fault.RunFault.{RunFault}
-use Rattle.driver.specs.Items.{Item, RunStep, after_fault, broke}
+use Rattle.driver.specs.Items.{Item, RunStep, broke}
 use Rattle.driver.specs.Place.{RunPlace, Rules}
 use Rattle.driver.specs.Steps.{Fails, Goes, Run, breaks}
 use Rattle.driver.specs.Runs.{DidSteps, Parts, Stands, StandsBy, left_by_answer, seen}

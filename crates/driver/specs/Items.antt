@@ -1,5 +1,5 @@
 -- What is to be done, and what was done.
-use Rattle.std.specs.Prelude.{ℕ, Bool, List, [], ◌∷◌, ◌++◌, Option, Some, None, map}
+use Rattle.std.specs.Prelude.{ℕ, Bool, List, [], ◌∷◌, Option, Some, None}
 use Rattle.host_events.specs.declared.event.Event.{Event}
 use Rattle.host_events.specs.declared.event.Event.TheVariants.{Child}
 use Rattle.host_events.specs.declared.event.ChildEvent.TheVariants as child
@@ -7,8 +7,7 @@ use Rattle.host_events.specs.declared.outcome.Outcome.{Outcome}
 use Rattle.host_events.specs.declared.reply.Reply.{Reply}
 use Rattle.child_calls.specs.declared.seat.Seat.{Seat}
 use Rattle.child_edge.specs.Faithful.{Beat}
-use Rattle.child_edge.specs.Together.{Followed, beats_behind, trace_of}
-use Rattle.child_edge.specs.Told.{told}
+use Rattle.child_edge.specs.Together.{Followed, trace_of}
 use Rattle.child_edge.specs.declared.interrupting.Interrupted.{Interrupted}
 use Rattle.arrivals.specs.Watching.{Asked, asked}
 use Rattle.arrivals.specs.declared.sources.Woken.{Woken}

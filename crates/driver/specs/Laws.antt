@@ -1,11 +1,8 @@
 -- Laws of all runs.
-use Rattle.std.specs.Prelude.{◌≡◌, ◌⊎◌, ℕ, Bool, true, List, [], ◌∷◌, ◌++◌, Option}
+use Rattle.std.specs.Prelude.{◌≡◌, true, List, ◌∷◌, ◌++◌}
 use Rattle.std.specs.List.{flat_map}
-use Rattle.std.specs.Io.KnownBytes.{Appends}
 use Rattle.disk_model.specs.Disk.{DiskView}
 use Rattle.host_events.specs.declared.event.Event.{Event}
-use Rattle.host_events.specs.declared.outcome.Outcome.{Outcome}
-use Rattle.session_engine.specs.World.{World}
 use Rattle.session_engine.specs.Does.{Runs}
 use Rattle.child_edge.specs.Faithful.{Beat}
 use Rattle.child_edge.specs.Kept.{HoldsSheet}
@@ -15,7 +12,6 @@ use Rattle.child_edge.specs.Moments.{LeavesFronts, LeavesFrontsUpTo, events_of, 
 use Rattle.host_events.specs.declared.outcome.HostFault.{HostFault}
 use Rattle.session_engine.specs.Crash.{Moments}
 use Rattle.session_engine.specs.Host.{HostView}
-use Rattle.offline_programs.specs.declared.fault.RunFault.{RunFault}
 use Rattle.driver.specs.Reports.{Report, printed_text}
 use Rattle.driver.specs.Items.{Item, RunStep, beats_of, printed}
 use Rattle.driver.specs.Place.{RunPlace, Rules, Tries}

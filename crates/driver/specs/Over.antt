@@ -1,5 +1,5 @@
 -- A program over a disk: it is opened, the agenda is driven to its end or to a fault, each life that goes on is stopped, and all is given back.
-use Rattle.std.specs.Prelude.{◌≡◌, ℕ, List, [], ◌∷◌, Result, Ok, Err}
+use Rattle.std.specs.Prelude.{◌≡◌, ℕ, List, [], ◌∷◌, Result, Err}
 use Rattle.disk_model.specs.Disk.{DiskView, InModel, Looks, SameDisk, bytes_on}
 use Rattle.worksheet.specs.declared.op.Op.{Op}
 use Rattle.worksheet.specs.Ops.{sheet_of}

@@ -12,11 +12,11 @@ use Rattle.session_engine.specs.Does.{Gives}
 use Rattle.session_engine.specs.Host.{HostView}
 use Rattle.child_calls.specs.declared.seat.Seat.{Seat}
 use Rattle.child_edge.specs.Edge.{Stopped}
-use Rattle.child_edge.specs.Faithful.{At, Beat, at}
+use Rattle.child_edge.specs.Faithful.{Beat, at}
 use Rattle.child_edge.specs.Interrupts.{Interrupts}
 use Rattle.child_edge.specs.Kept.{Kept}
 use Rattle.child_edge.specs.Seats.{waits}
-use Rattle.child_edge.specs.Together.{Followed, LostTogether, Together, TogetherUpTo, beats_behind, trace_of}
+use Rattle.child_edge.specs.Together.{Followed, LostTogether, Together, TogetherUpTo, beats_behind}
 use Rattle.child_edge.specs.Told.{told}
 use Rattle.child_edge.specs.declared.together.TogetherFault.{TogetherFault}
 use Rattle.child_edge.specs.declared.together.TogetherFault.TheVariants as at_gate

@@ -1,4 +1,4 @@
-use Rattle.std.proofs.Common.{[], ◌∷◌, ◌++◌, ap, arith, inl, length, refl, subst, sym, ◌∙◌}
+use Rattle.std.proofs.Common.{[], ◌∷◌, ◌++◌, ap, arith, inl, refl, subst, sym, ◌∙◌}
 use Rattle.driver.specs.Hearing.{HeardUpTo}
 use Rattle.driver.specs.Place.{source_rules}
 use Rattle.driver.proofs.Heard.{heard_few, heard_first, heard_more}

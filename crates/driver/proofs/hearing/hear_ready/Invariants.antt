@@ -1,4 +1,3 @@
-use Rattle.std.proofs.Common.{◌≤◌, length}
 use Rattle.driver.specs.Place.{source_rules}
 use Rattle.driver.specs.Hearing.{HeardUpTo}
 use Rattle.driver.proofs.hearing.hear_ready.Given as goal

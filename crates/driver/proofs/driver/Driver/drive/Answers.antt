@@ -1,6 +1,5 @@
-use Rattle.std.proofs.Common.{List, [], ◌∷◌, Err, subst, sym}
+use Rattle.std.proofs.Common.{[], ◌∷◌, Err, subst, sym}
 use Rattle.offline_programs.specs.declared.fault.RunFault.{RunFault}
-use Rattle.offline_programs.specs.declared.fault.RunFault.TheVariants as fault
 use Rattle.driver.specs.Place.{rules, source_rules}
 use Rattle.driver.specs.Items.{ask}
 use Rattle.driver.specs.Runs.{DidSteps, left_at_end, left_by_answer, parts, seen}

@@ -1,5 +1,5 @@
-use Rattle.std.proofs.Common.{ℕ, ◌+◌, List, [], ◌∷◌, subst, Ok, Err, true, false, arith}
-use Rattle.std.specs.Prelude.{Bool, Result}
+use Rattle.std.proofs.Common.{◌+◌, [], ◌∷◌, subst, Ok, Err, true, arith}
+use Rattle.std.specs.Prelude.{Bool}
 use Rattle.driver.specs.Place.{rules, source_rules}
 use Rattle.child_edge.proofs.Faulting.{same-at, same-on}
 use Rattle.driver.specs.Items.{ask}

@@ -1,4 +1,4 @@
-use Rattle.std.proofs.Common.{List, [], ◌∷◌, Ok, true}
+use Rattle.std.proofs.Common.{[], ◌∷◌, Ok, true}
 use Rattle.disk_model.specs.Disk.{SameDisk}
 use Rattle.session_engine.specs.World.{World}
 use Rattle.session_engine.specs.Host.{IsHost}

@@ -1,4 +1,4 @@
-use Rattle.std.proofs.Common.{Option, ℕ, List, ◌∷◌, sym, subst}
+use Rattle.std.proofs.Common.{Option, ℕ, ◌∷◌, sym, subst}
 use Rattle.driver.specs.Place.{rules, source_rules}
 use Rattle.driver.specs.Reports.{lines, lives}
 use Rattle.driver.specs.Items.{group_of, print}

@@ -1,9 +1,8 @@
-use Rattle.std.proofs.Common.{List, [], ◌∷◌, Ok, Err, Some, subst}
+use Rattle.std.proofs.Common.{List, [], ◌∷◌, Ok, Err, subst}
 use Rattle.host_events.specs.declared.outcome.Outcome.{Outcome}
-use Rattle.host_events.specs.declared.reply.Reply.{Reply}
 use Rattle.driver.specs.Place.{rules, source_rules}
 use Rattle.driver.specs.Reports.{came, followed, lines}
-use Rattle.driver.specs.Items.{group_of, heed, print}
+use Rattle.driver.specs.Items.{heed, print}
 use Rattle.driver.specs.Runs.{DidSteps, left_by_answer, parts, seen}
 use Rattle.driver.proofs.Running.{did_fail, did_then}
 use Rattle.driver.proofs.driver.Driver.print_rewritten.Goals as goal

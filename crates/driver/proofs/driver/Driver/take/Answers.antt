@@ -1,7 +1,7 @@
-use Rattle.std.proofs.Common.{◌≡◌, ℕ, inl, inr, subst, sym, arith, length}
+use Rattle.std.proofs.Common.{inl, inr, subst, sym, arith}
 use Rattle.offline_programs.specs.declared.fault.RunFault.{RunFault}
 use Rattle.driver.specs.Place.{rules, source_rules}
-use Rattle.std.proofs.Common.{◌++◌, ◌∷◌, List, Err}
+use Rattle.std.proofs.Common.{◌++◌, ◌∷◌, Err}
 use Rattle.child_edge.specs.declared.together.GaveTogether.{GaveTogether}
 use Rattle.child_edge.proofs.Gates.{as_many}
 use Rattle.driver.specs.Items.{printing, take}

@@ -1,8 +1,8 @@
-use Rattle.std.proofs.Common.{List, ◌∷◌, ◌++◌}
+use Rattle.std.proofs.Common.{◌∷◌, ◌++◌}
 use Rattle.driver.specs.Place.{rules, source_rules}
 use Rattle.child_edge.specs.declared.together.GaveTogether.{GaveTogether}
 use Rattle.driver.specs.Items.{printing, take}
-use Rattle.driver.specs.Runs.{DidSteps, left_by_answer, parts, seen}
+use Rattle.driver.specs.Runs.{left_by_answer, parts, seen}
 use Rattle.driver.proofs.Running.{did_fail, did_then}
 use Rattle.driver.proofs.driver.Driver.take_and_print.Goals as goal
 
