@@ -40,16 +40,16 @@ use Rattle.driver.proofs.Running.{did_break, did_more, did_one, run_join}
 
 module _ {A C K : Type 0} (R : Rules A C K) (n : ℕ) (rest : List Item) (w : World) (h : HostView) (stands : IsHost h w) where
   pub did_print : (c : C) (k l : K) (a : A) (s : Report) (r : Result (Unit {0}) RunFault) → Tries R.sink k h.store.disk (printed_text R.sink.voice w s) (is_ok r) l → IfErr r (IsUntold R.sink.voice)
-      → DidSteps R (seen n w (parts h c k a)) (print s ∷ rest) (left_by_answer (λ done. rest)) r (n , parts h c l a)
+      → DidSteps R (seen n w (parts h c k a)) (print s ∷ rest) (left_by_answer (λ done. rest)) r (n, parts h c l a)
   did_print c k l a s (Ok done) tries is =
-      did_one R (seen n w (parts h c k a)) (print s ∷ rest) (printed s) (left_by_answer (λ done. rest)) (Ok done) w (n , parts h c l a) (prints s l rest tries) stands
+      did_one R (seen n w (parts h c k a)) (print s ∷ rest) (printed s) (left_by_answer (λ done. rest)) (Ok done) w (n, parts h c l a) (prints s l rest tries) stands
   did_print c k l a s (Err why) tries is =
-      did_break R (seen n w (parts h c k a)) (print s) rest [] (λ done. rest) why w (n , parts h c l a) (unprinted s why l is tries) (works stands)
+      did_break R (seen n w (parts h c k a)) (print s) rest [] (λ done. rest) why w (n, parts h c l a) (unprinted s why l is tries) (works stands)
 
   pub did_heed : (c : C) (k : K) (a b : A) (x : TurnCame) (now : ℕ) (done : Unit {0}) → R.sources.clock c now → R.agenda.heeds a w now x None b
-      → DidSteps R (seen n w (parts h c k a)) (heed x ∷ rest) (left_by_answer (λ done. rest)) (Ok done) (n , parts h c k b)
+      → DidSteps R (seen n w (parts h c k a)) (heed x ∷ rest) (left_by_answer (λ done. rest)) (Ok done) (n, parts h c k b)
   did_heed c k a b x now done clock is =
-      did_one R (seen n w (parts h c k a)) (heed x ∷ rest) (heeded x None) (left_by_answer (λ done. rest)) (Ok done) w (n , parts h c k b) (heeds x now None b rest clock is) stands
+      did_one R (seen n w (parts h c k a)) (heed x ∷ rest) (heeded x None) (left_by_answer (λ done. rest)) (Ok done) w (n, parts h c k b) (heeds x now None b rest clock is) stands
 
   pub did_note : (c : C) (k : K) (a b : A) (x : TurnCame) (now : ℕ) (note : Note) (r : Result (Unit {0}) RunFault) (last : ℕ × Parts A C K) → R.sources.clock c now → R.agenda.heeds a w now x (Some note) b
       → DidSteps R (seen n w (parts h c k b)) (notes (Some note) ++ rest) (left_by_answer (λ done. rest)) r last
@@ -59,13 +59,13 @@ module _ {A C K : Type 0} (R : Rules A C K) (n : ℕ) (rest : List Item) (w : Wo
       (heeds x now (Some note) b rest clock is) d
 
   pub did_watch : (c d : C) (k : K) (a b : A) (q : Asked) (woken : Woken) (done : Unit {0}) → R.sources.wakes c q (Some woken) d → R.agenda.woken a woken b
-      → DidSteps R (seen n w (parts h c k a)) (watch q ∷ rest) (left_by_answer (λ done. rest)) (Ok done) (n , parts h d k b)
+      → DidSteps R (seen n w (parts h c k a)) (watch q ∷ rest) (left_by_answer (λ done. rest)) (Ok done) (n, parts h d k b)
   did_watch c d k a b q woken done wakes is =
-      did_one R (seen n w (parts h c k a)) (watch q ∷ rest) (watched q woken) (left_by_answer (λ done. rest)) (Ok done) w (n , parts h d k b) (watches q woken d b rest wakes is) stands
+      did_one R (seen n w (parts h c k a)) (watch q ∷ rest) (watched q woken) (left_by_answer (λ done. rest)) (Ok done) w (n, parts h d k b) (watches q woken d b rest wakes is) stands
 
   pub watch_failed : {T : Type 0} (c d : C) (k : K) (a : A) (q : Asked) (left : T → List Item) → R.sources.wakes c q None d
-      → DidSteps R (seen n w (parts h c k a)) (watch q ∷ rest) (left_by_answer left) (Err fault.Input) (n , parts h d k a)
-  watch_failed c d k a q left wakes = did_break R (seen n w (parts h c k a)) (watch q) rest [] left fault.Input w (n , parts h d k a) (unwatched q d wakes) (works stands)
+      → DidSteps R (seen n w (parts h c k a)) (watch q ∷ rest) (left_by_answer left) (Err fault.Input) (n, parts h d k a)
+  watch_failed c d k a q left wakes = did_break R (seen n w (parts h c k a)) (watch q) rest [] left fault.Input w (n, parts h d k a) (unwatched q d wakes) (works stands)
 
 module _ {A C K : Type 0} (R : Rules A C K) (n : ℕ) (w : World) (h : HostView) (stands : IsHost h w) where
   -- the agenda was asked, and what it asked for was done
@@ -75,9 +75,9 @@ module _ {A C K : Type 0} (R : Rules A C K) (n : ℕ) (w : World) (h : HostView)
       did_more R (seen n w (parts h c k a)) (ask ∷ []) (chose t) (items_by t) (seen (n + 1) w (parts h c k b)) (left_by_answer again) r last (asks now t b clock says) d
 
   pub ask_failed : (c : C) (k : K) (a b : A) (now : ℕ) (why : RunFault) → R.sources.clock c now → R.agenda.says a w now (Err why) b
-      → DidSteps R (seen n w (parts h c k a)) (ask ∷ []) (left_by_answer again) (Err why) (n + 1 , parts h c k b)
+      → DidSteps R (seen n w (parts h c k a)) (ask ∷ []) (left_by_answer again) (Err why) (n + 1, parts h c k b)
   ask_failed c k a b now why clock says =
-      did_break R (seen n w (parts h c k a)) ask [] [] again why w (n + 1 , parts h c k b) (unsaid now why b clock says) (works stands)
+      did_break R (seen n w (parts h c k a)) ask [] [] again why w (n + 1, parts h c k b) (unsaid now why b clock says) (works stands)
 
 -- Events that are taken as one group.
 
@@ -86,27 +86,27 @@ module _ {A C K : Type 0} (R : Rules A C K) (n : ℕ) (rest : List Item) (w : Wo
   p = seen n w (parts h c k a)
 
   pub took_together : (d : C) (g : HostView) (gave : GaveTogether) → RanTogether R.sources.after (at w c h.store.disk) events g d gave
-      → DidSteps R p (take from events ∷ rest) (left_by_answer (λ (x : GaveTogether). printing from x.outcomes.items x.replies.items ++ rest)) (Ok gave) (n , parts g d k a)
+      → DidSteps R p (take from events ∷ rest) (left_by_answer (λ (x : GaveTogether). printing from x.outcomes.items x.replies.items ++ rest)) (Ok gave) (n, parts g d k a)
   took_together d g gave r =
-      did_one R p (take from events ∷ rest) (took events gave.outcomes.items r.followed) (left_by_answer (λ (x : GaveTogether). printing from x.outcomes.items x.replies.items ++ rest)) (Ok gave) r.leads (n , parts g d k a)
+      did_one R p (take from events ∷ rest) (took events gave.outcomes.items r.followed) (left_by_answer (λ (x : GaveTogether). printing from x.outcomes.items x.replies.items ++ rest)) (Ok gave) r.leads (n, parts g d k a)
       (subst (λ (rs : List Reply). Goes R p (take from events ∷ rest) (took events gave.outcomes.items r.followed) (printing from gave.outcomes.items rs ++ rest) (seen n r.leads (parts g d k a))) (sym r.replied)
       (takes from events gave.outcomes.items r.followed r.leads d g.store.disk rest r.run)) r.stands
 
   pub too_many_events : (left : GaveTogether → List Item) → (most_together < length events) ⊎ IsSomeAnd from (λ x. 2 ^ 64 ≤ x + most_together + 1)
-      → DidSteps R p (take from events ∷ rest) (left_by_answer left) (Err fault.InputTooLong) (n , parts h c k a)
-  too_many_events left many = did_break R p (take from events) rest [] left fault.InputTooLong w (n , parts h c k a) (too_many from events many) (works stands)
+      → DidSteps R p (take from events ∷ rest) (left_by_answer left) (Err fault.InputTooLong) (n, parts h c k a)
+  too_many_events left many = did_break R p (take from events) rest [] left fault.InputTooLong w (n, parts h c k a) (too_many from events many) (works stands)
 
   pub failed_together : (left : GaveTogether → List Item) (d : C) (g : HostView) (f : TogetherFault) → FailsTogether R.sources.after (at w c h.store.disk) events g d f
-      → DidSteps R p (take from events ∷ rest) (left_by_answer left) (Err (fault_at_gate f)) (n , parts g d k a)
+      → DidSteps R p (take from events ∷ rest) (left_by_answer left) (Err (fault_at_gate f)) (n, parts g d k a)
   failed_together left d g at_gate.OutOfMemory (goes_on, disk, same) =
-      subst (λ (y : C). DidSteps R p (take from events ∷ rest) (left_by_answer left) (Err fault.OutOfMemory) (n , parts g y k a)) (sym same)
-      (did_break R p (take from events) rest [] left fault.OutOfMemory w (n , parts g c k a)
+      subst (λ (y : C). DidSteps R p (take from events ∷ rest) (left_by_answer left) (Err fault.OutOfMemory) (n, parts g y k a)) (sym same)
+      (did_break R p (take from events) rest [] left fault.OutOfMemory w (n, parts g c k a)
       (subst (λ (x : DiskView). Fails R p (take from events) [] fault.OutOfMemory (record p { disk = x })) (sym disk) (untaken from events)) (works goes_on))
   failed_together left d g at_gate.Lost (l, same) =
-      subst (λ (y : C). DidSteps R p (take from events ∷ rest) (left_by_answer left) (Err (fault.Host hosts.Disk)) (n , parts g y k a)) (sym same)
-      (did_break R p (take from events) rest [] left (fault.Host hosts.Disk) w (n , parts g c k a) (lost from events g l) (lost_there events h.store.disk l))
+      subst (λ (y : C). DidSteps R p (take from events ∷ rest) (left_by_answer left) (Err (fault.Host hosts.Disk)) (n, parts g y k a)) (sym same)
+      (did_break R p (take from events) rest [] left (fault.Host hosts.Disk) w (n, parts g c k a) (lost from events g l) (lost_there events h.store.disk l))
   failed_together left d g (at_gate.Host f) (beats, e, v, disk, up_to, gone) =
-      did_break R p (take from events) rest beats left (fault.Host f) v (n , parts g d k a) (broken from events beats e f v d disk g up_to gone) (stopped disk e f gone)
+      did_break R p (take from events) rest beats left (fault.Host f) v (n, parts g d k a) (broken from events beats e f v d disk g up_to gone) (stopped disk e f gone)
 
 module _ {A C K : Type 0} (R : Rules A C K) (n : ℕ) (rest : List Item) (w : World) (h : HostView) (stands : IsHost h w) (c : C) (k : K) (a : A) where
   pub did_hear : {T : Type 0} (seat : Seat) (most : ℕ) (events : List Event) (d : C) (left : Result T RunFault → List Item) (r : Result T RunFault) (last : ℕ × Parts A C K) → HeardReady R.sources seat most c events d
@@ -114,10 +114,10 @@ module _ {A C K : Type 0} (R : Rules A C K) (n : ℕ) (rest : List Item) (w : Wo
   did_hear seat most events d left r last was did =
       did_more R (seen n w (parts h c k a)) (hear seat most ∷ rest) (heard events) (take None events ∷ rest) (seen n w (parts h d k a)) left r last (hears seat most events d rest was) did
 
-  pub hear_failed : {T : Type 0} (seat : Seat) (most : ℕ) (d : C) (left : T → List Item) → d ≡ c → DidSteps R (seen n w (parts h c k a)) (hear seat most ∷ rest) (left_by_answer left) (Err fault.OutOfMemory) (n , parts h d k a)
+  pub hear_failed : {T : Type 0} (seat : Seat) (most : ℕ) (d : C) (left : T → List Item) → d ≡ c → DidSteps R (seen n w (parts h c k a)) (hear seat most ∷ rest) (left_by_answer left) (Err fault.OutOfMemory) (n, parts h d k a)
   hear_failed seat most d left same =
-      subst (λ (y : C). DidSteps R (seen n w (parts h c k a)) (hear seat most ∷ rest) (left_by_answer left) (Err fault.OutOfMemory) (n , parts h y k a)) (sym same)
-      (did_break R (seen n w (parts h c k a)) (hear seat most) rest [] left fault.OutOfMemory w (n , parts h c k a) (unheard seat most) (works stands))
+      subst (λ (y : C). DidSteps R (seen n w (parts h c k a)) (hear seat most ∷ rest) (left_by_answer left) (Err fault.OutOfMemory) (n, parts h y k a)) (sym same)
+      (did_break R (seen n w (parts h c k a)) (hear seat most) rest [] left fault.OutOfMemory w (n, parts h c k a) (unheard seat most) (works stands))
 
   pub did_stall : {T : Type 0} (events : List Event) (left : Result T RunFault → List Item) (r : Result T RunFault) (last : ℕ × Parts A C K) → events ≡ map stalls (waits w)
       → DidSteps R (seen n w (parts h c k a)) (take None events ∷ rest) left r last → DidSteps R (seen n w (parts h c k a)) (stall ∷ rest) left r last
@@ -125,8 +125,8 @@ module _ {A C K : Type 0} (R : Rules A C K) (n : ℕ) (rest : List Item) (w : Wo
       did_more R (seen n w (parts h c k a)) (stall ∷ rest) (stalled (waits w)) (take None (map stalls (waits w)) ∷ rest) (seen n w (parts h c k a)) left r last (stalls_all rest)
       (subst (λ (es : List Event). DidSteps R (seen n w (parts h c k a)) (take None es ∷ rest) left r last) are did)
 
-  pub stall_failed : {T : Type 0} (left : T → List Item) → DidSteps R (seen n w (parts h c k a)) (stall ∷ rest) (left_by_answer left) (Err fault.OutOfMemory) (n , parts h c k a)
-  stall_failed left = did_break R (seen n w (parts h c k a)) stall rest [] left fault.OutOfMemory w (n , parts h c k a) unstalled (works stands)
+  pub stall_failed : {T : Type 0} (left : T → List Item) → DidSteps R (seen n w (parts h c k a)) (stall ∷ rest) (left_by_answer left) (Err fault.OutOfMemory) (n, parts h c k a)
+  stall_failed left = did_break R (seen n w (parts h c k a)) stall rest [] left fault.OutOfMemory w (n, parts h c k a) unstalled (works stands)
 
   pub did_interrupt : {T : Type 0} (name : List ℕ) (result : Interrupted) (d : C) (left : Result T RunFault → List Item) (r : Result T RunFault) (last : ℕ × Parts A C K) → Interrupts R.sources.after w name c result d
       → DidSteps R (seen n w (parts h d k a)) (heed (interrupt_came result) ∷ rest) left r last → DidSteps R (seen n w (parts h c k a)) (interrupt name ∷ rest) left r last
@@ -142,13 +142,13 @@ module _ {A C K : Type 0} (R : Rules A C K) (n : ℕ) (rest : List Item) (w : Wo
       (rewrites line o (behind w t.did) g.store.disk rest (t.did, t.may, t.told, refl) (record { same = same; moments = t.disk; holds = t.stands.stands.images })) did
 
   pub rewrite_failed : {T : Type 0} (line : ℕ) (g : HostView) (f : HostFault) (left : T → List Item) → SameDisk h.store.disk g.store.disk → g.closed ≡ true → Failed w (event.Command command.Checkpoint) h g f
-      → DidSteps R (seen n w (parts h c k a)) (rewrite line ∷ rest) (left_by_answer left) (Err (fault.Host f)) (n , parts g c k a)
+      → DidSteps R (seen n w (parts h c k a)) (rewrite line ∷ rest) (left_by_answer left) (Err (fault.Host f)) (n, parts g c k a)
   rewrite_failed line g f left same shut failed =
       let gone = stopped_if {T = Unit {0}} (Err f) w (event.Command command.Checkpoint) h g stands failed same shut in
-      did_break R (seen n w (parts h c k a)) (rewrite line) rest [] left (fault.Host f) w (n , parts g c k a) (unwritten line f g gone) (stopped h.store.disk (event.Command command.Checkpoint) f gone)
+      did_break R (seen n w (parts h c k a)) (rewrite line) rest [] left (fault.Host f) w (n, parts g c k a) (unwritten line f g gone) (stopped h.store.disk (event.Command command.Checkpoint) f gone)
 
-  pub rewrite_uncounted : {T : Type 0} (line : ℕ) (left : T → List Item) → 2 ^ 64 ≤ line + most_together + 1 → DidSteps R (seen n w (parts h c k a)) (rewrite line ∷ rest) (left_by_answer left) (Err fault.InputTooLong) (n , parts h c k a)
-  rewrite_uncounted line left many = did_break R (seen n w (parts h c k a)) (rewrite line) rest [] left fault.InputTooLong w (n , parts h c k a) (unnumbered line many) (works stands)
+  pub rewrite_uncounted : {T : Type 0} (line : ℕ) (left : T → List Item) → 2 ^ 64 ≤ line + most_together + 1 → DidSteps R (seen n w (parts h c k a)) (rewrite line ∷ rest) (left_by_answer left) (Err fault.InputTooLong) (n, parts h c k a)
+  rewrite_uncounted line left many = did_break R (seen n w (parts h c k a)) (rewrite line) rest [] left fault.InputTooLong w (n, parts h c k a) (unnumbered line many) (works stands)
 
 -- The loop.
 
@@ -177,7 +177,7 @@ module _ {A C K : Type 0} (R : Rules A C K) (p : RunPlace A C K) (todo : List It
   sink_failed left now d = record { steps = d.steps; world = d.world; ran = d.ran; stands = d.stands }
 
   pub did_print_fault : {T : Type 0} (left : T → List Item) (why : RunFault) (n : ℕ) (h : HostView) (c : C) (k l : K) (a : A) (whole : Bool) → (why ≡ fault.Output → ⊥) → Tries R.sink k h.store.disk (R.sink.voice.fault why) whole l
-      → DidSteps R p todo (left_by_answer left) (Err why) (n , parts h c k a) → DidSteps {T = T} R p todo left_at_end (Err why) (n , parts h c l a)
+      → DidSteps R p todo (left_by_answer left) (Err why) (n, parts h c k a) → DidSteps {T = T} R p todo left_at_end (Err why) (n, parts h c l a)
   did_print_fault left why n h c k l a whole other tries d = record {
     steps = d.steps ++ printed_fault why whole ∷ [];
     world = d.world;
@@ -187,8 +187,8 @@ module _ {A C K : Type 0} (R : Rules A C K) (p : RunPlace A C K) (todo : List It
     stands = d.stands;
   }
 
-pub not_begun : {A C K : Type 0} (R : Rules A C K) (w : World) (x : Parts A C K) → IsHost x.host w → DidSteps R (seen 0 w x) (ask ∷ []) (left_by_answer again) (Ok true) (0 , x)
+pub not_begun : {A C K : Type 0} (R : Rules A C K) (w : World) (x : Parts A C K) → IsHost x.host w → DidSteps R (seen 0 w x) (ask ∷ []) (left_by_answer again) (Ok true) (0, x)
 not_begun R w x stands = record { steps = []; world = w; ran = (refl, refl); stands = stands }
 
-pub asked_too_often : {A C K : Type 0} (R : Rules A C K) (n : ℕ) (w : World) (x : Parts A C K) (left : Unit {0} → List Item) → IsHost x.host w → 2 ^ 64 ≤ n + 1 → DidSteps R (seen n w x) (ask ∷ []) (left_by_answer left) (Err fault.InputTooLong) (n , x)
-asked_too_often R n w x left stands many = did_break R (seen n w x) ask [] [] left fault.InputTooLong w (n , x) (uncounted many) (works stands)
+pub asked_too_often : {A C K : Type 0} (R : Rules A C K) (n : ℕ) (w : World) (x : Parts A C K) (left : Unit {0} → List Item) → IsHost x.host w → 2 ^ 64 ≤ n + 1 → DidSteps R (seen n w x) (ask ∷ []) (left_by_answer left) (Err fault.InputTooLong) (n, x)
+asked_too_often R n w x left stands many = did_break R (seen n w x) ask [] [] left fault.InputTooLong w (n, x) (uncounted many) (works stands)

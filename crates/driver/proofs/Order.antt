@@ -109,13 +109,13 @@ printed_there R p q todo left (x ∷ before) after s (next, mid, goes, more) = b
   where
     by : PrintedThere R mid q left before after s → (Course p.world p.disk (beats_of x) mid.world mid.disk ⊎ Broke R p x next mid) → PrintedThere R p q left (x ∷ before) after s
     by so (inl c) = record {
-          there = so.there;
-          course = course_on p.world p.disk (beats_of x) mid.world mid.disk (trace before) so.there.world so.there.disk c so.course;
-          sink = so.sink;
-          tries = so.tries;
-          then_to_do = so.then_to_do;
-          goes_on = so.goes_on;
-        }
+      there = so.there;
+      course = course_on p.world p.disk (beats_of x) mid.world mid.disk (trace before) so.there.world so.there.disk c so.course;
+      sink = so.sink;
+      tries = so.tries;
+      then_to_do = so.then_to_do;
+      goes_on = so.goes_on;
+    }
     by so (inr b) = absurd (no_words R mid q b.why next left before after s b.left more)
 
 pub replies_follow : {A C K : Type 0} (R : Rules A C K) (p q : RunPlace A C K) (todo left : List Item) (before after : List RunStep) (s : Report)

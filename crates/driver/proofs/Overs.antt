@@ -49,7 +49,7 @@ module _ {A C K : Type 0} (R : Rules A C K) (h : HostView) (w : World) (c d : C)
   stops_by (Err why) is = stops_at is
 
 pub over_ran : {A C K : Type 0} (R : Rules A C K) (disk back : DiskView) (o : SheetOpened disk) (c d e : C) (k l : K) (a b : A) (answer : Result (Unit {0}) RunFault) (n : ℕ) (h : HostView)
-    → (did : DidSteps R (first_place (program_parts disk c k a) o) (ask ∷ []) left_at_end answer (n , parts h d l b)) → back ≡ h.store.disk
+    → (did : DidSteps R (first_place (program_parts disk c k a) o) (ask ∷ []) left_at_end answer (n, parts h d l b)) → back ≡ h.store.disk
     → ((v : World) × (h.store.sheet.contents ≡ sheet_in v) × Stops R.sources.after (running v) d e) → Over R (program_parts disk c k a) (program_parts back e l b) answer
 over_ran R disk back o c d e k l a b answer n h did is (v, in_memory, stops) = ran_over answer (record {
   opened = o;

@@ -49,5 +49,5 @@ did_break R p i rest beats f why w now fails stands =
 
 -- nothing was to be done
 pub did_none : {A C K T : Type 0} (R : Rules A C K) (w : World) (x : Parts A C K) (n : ℕ) (todo : List Item) (left : Result T RunFault → List Item) (answer : Result T RunFault) → left answer ≡ todo → StandsBy answer x.host w
-    → DidSteps R (seen n w x) todo left answer (n , x)
+    → DidSteps R (seen n w x) todo left answer (n, x)
 did_none R w x n todo left answer is stands = record { steps = []; world = w; ran = (is, refl); stands = stands }

@@ -5,7 +5,7 @@ ghost use Rattle.session_engine.specs.World.{World};
 ghost use Rattle.session_engine.specs.Host.{IsHost};
 ghost use Rattle.driver.specs.Place.{rules, source_rules};
 ghost use Rattle.driver.specs.Items.{Item, ask, group_of, heed as heeding, hear as hearing, interrupt as interrupting, items_by, rewrite as rewriting, stall as stalling, stalls, take as taking, print as to_print, printing, watch as watching};
-ghost use Rattle.driver.specs.Steps.{fault_at_gate, most_together};
+ghost use Rattle.driver.specs.Steps.{most_together};
 ghost use Rattle.driver.specs.Reports.{came as came_by, came_of};
 ghost use Rattle.driver.specs.Reports as report;
 ghost use Rattle.driver.specs.Runs.{DidSteps, again, again_by, left_at_end, left_by_answer, parts, seen};
@@ -13,20 +13,20 @@ ghost use Rattle.child_edge.specs.Seats.{waits};
 ghost use Rattle.arrivals.specs.Watching.{asked};
 
 use crate::agenda::Agenda;
+use crate::faults::{gate_fault, is_output};
 use crate::hearing::hear_ready;
 use crate::report::{Came, Show};
 use crate::sink::Sink;
+use crate::stalls::stalled_events;
 use crate::turn::Turn;
 use arrivals::{Input, Sources};
 use child_calls::Seat;
-use child_edge::{
-    GaveTogether, MOST_TOGETHER, TogetherFault, interrupt, serve_together, waiting_lives,
-};
+use child_edge::{GaveTogether, MOST_TOGETHER, interrupt, serve_together, waiting_lives};
 use disk_model::Disk;
-use host_events::{ChildEvent, Event, HostFault, Outcome, Reply};
+use host_events::{Event, Outcome, Reply};
 use offline_programs::RunFault;
 use session_engine::Host;
-use std::alloc::{AllocError, Global};
+use std::alloc::Global;
 use std::slice;
 use worksheet::Name;
 
@@ -42,17 +42,6 @@ pub struct Driver<D: Disk, S, K, A> {
     pub agenda: A,
 }
 
-/// The fault of a run, where events weren't taken as one group.
-fn gate_fault(fault: TogetherFault) -> RunFault
-    ensures { result ≡ fault_at_gate fault }
-{
-    match fault {
-        TogetherFault::OutOfMemory => RunFault::OutOfMemory,
-        TogetherFault::Lost => RunFault::Host(HostFault::Disk),
-        TogetherFault::Host(fault) => RunFault::Host(fault),
-    }
-}
-
 /// Whether the lines of a group can't be counted from this one on.
 fn is_uncounted(from: Option<u64>) -> bool
     ensures yes { result ≡ true → IsSomeAnd from (λ n. 2 ^ 64 ≤ n + most_together + 1) }
@@ -62,36 +51,6 @@ fn is_uncounted(from: Option<u64>) -> bool
         Some(number) => number > MOST_COUNTED,
         None => false,
     }
-}
-
-/// Whether the sink failed.
-fn is_output(why: RunFault) -> bool
-    ensures yes { result ≡ true → why ≡ RunFault.Output }
-    ensures no { result ≡ false → why ≡ RunFault.Output → ⊥ }
-{
-    matches!(why, RunFault::Output)
-}
-
-/// The event that a life has stalled.
-fn stalled(seat: Seat) -> Event
-    ensures { result ≡ stalls seat }
-{
-    Event::Child {
-        name: seat.name,
-        life: seat.life,
-        event: ChildEvent::Stalled,
-    }
-}
-
-/// The events that these lives have stalled.
-fn stalled_events(alloc: Global, seats: &[Seat]) -> Result<Vec<Event>, AllocError>
-    ensures { IfOk result (λ events. events.items ≡ map stalls seats.now) }
-{
-    let mut events = Vec::new(alloc);
-    for seat in seats {
-        events.push(stalled(*seat))?;
-    }
-    Ok(events)
 }
 
 /// That the agenda is asked again, where this was done.
@@ -113,7 +72,7 @@ impl<D: Disk, S: Sources, K: Sink, A: Agenda> Driver<D, S, K, A> {
             (seen n w (parts self.old.host self.old.sources self.old.sink self.old.agenda))
             (taking from events.items ∷ rest)
             (left_by_answer (λ gave. printing from gave.outcomes.items gave.replies.items ++ rest)) result
-            (n , parts self.new.host self.new.sources self.new.sink self.new.agenda) }
+            (n, parts self.new.host self.new.sources self.new.sink self.new.agenda) }
         ensures few { IfOk result (λ gave. length gave.outcomes.items ≤ most_together) }
         ensures counted { IfOk result (λ gave. IfSome from (λ number. number + most_together + 1 < 2 ^ 64)) }
     {
@@ -144,7 +103,7 @@ impl<D: Disk, S: Sources, K: Sink, A: Agenda> Driver<D, S, K, A> {
             → DidSteps (rules A.rules (source_rules S.after S.wakes S.clock) K.rules)
             (seen n w (parts self.old.host self.old.sources self.old.sink self.old.agenda))
             (to_print (group_of from outcomes.now) ∷ rest) (left_by_answer (λ done. rest)) result
-            (n , parts self.new.host self.new.sources self.new.sink self.new.agenda) }
+            (n, parts self.new.host self.new.sources self.new.sink self.new.agenda) }
     {
         match from {
             Some(number) => self.sink.lines(&self.host, number, outcomes),
@@ -159,7 +118,7 @@ impl<D: Disk, S: Sources, K: Sink, A: Agenda> Driver<D, S, K, A> {
             → DidSteps (rules A.rules (source_rules S.after S.wakes S.clock) K.rules)
             (seen n w (parts self.old.host self.old.sources self.old.sink self.old.agenda))
             (to_print (report.followed replies.now) ∷ rest) (left_by_answer (λ done. rest)) result
-            (n , parts self.new.host self.new.sources self.new.sink self.new.agenda) }
+            (n, parts self.new.host self.new.sources self.new.sink self.new.agenda) }
     {
         self.sink.followed(&self.host, replies)
     }
@@ -171,7 +130,7 @@ impl<D: Disk, S: Sources, K: Sink, A: Agenda> Driver<D, S, K, A> {
             → DidSteps (rules A.rules (source_rules S.after S.wakes S.clock) K.rules)
             (seen n w (parts self.old.host self.old.sources self.old.sink self.old.agenda))
             (to_print (report.shown show) ∷ rest) (left_by_answer (λ done. rest)) result
-            (n , parts self.new.host self.new.sources self.new.sink self.new.agenda) }
+            (n, parts self.new.host self.new.sources self.new.sink self.new.agenda) }
     {
         self.sink.show(&self.host, show)
     }
@@ -183,7 +142,7 @@ impl<D: Disk, S: Sources, K: Sink, A: Agenda> Driver<D, S, K, A> {
             → DidSteps (rules A.rules (source_rules S.after S.wakes S.clock) K.rules)
             (seen n w (parts self.old.host self.old.sources self.old.sink self.old.agenda))
             (heeding (came_of came.now) ∷ rest) (left_by_answer (λ done. rest)) result
-            (n , parts self.new.host self.new.sources self.new.sink self.new.agenda) }
+            (n, parts self.new.host self.new.sources self.new.sink self.new.agenda) }
     {
         let now = self.sources.now();
         match self.agenda.heed(&self.host, now, came) {
@@ -201,7 +160,7 @@ impl<D: Disk, S: Sources, K: Sink, A: Agenda> Driver<D, S, K, A> {
             → DidSteps (rules A.rules (source_rules S.after S.wakes S.clock) K.rules)
             (seen n w (parts self.old.host self.old.sources self.old.sink self.old.agenda))
             (printing from gave.outcomes.items gave.replies.items ++ rest) (left_by_answer (λ done. rest)) result
-            (n , parts self.new.host self.new.sources self.new.sink self.new.agenda) }
+            (n, parts self.new.host self.new.sources self.new.sink self.new.agenda) }
     {
         if let Err(why) = self.print_outcomes(from, gave.outcomes.as_slice()) {
             return Err(why);
@@ -219,7 +178,7 @@ impl<D: Disk, S: Sources, K: Sink, A: Agenda> Driver<D, S, K, A> {
             → DidSteps (rules A.rules (source_rules S.after S.wakes S.clock) K.rules)
             (seen n w (parts self.old.host self.old.sources self.old.sink self.old.agenda))
             (taking from events.items ∷ rest) (left_by_answer (λ done. rest)) result
-            (n , parts self.new.host self.new.sources self.new.sink self.new.agenda) }
+            (n, parts self.new.host self.new.sources self.new.sink self.new.agenda) }
     {
         match self.take(from, events) {
             Ok(gave) => self.print_group(from, gave),
@@ -234,7 +193,7 @@ impl<D: Disk, S: Sources, K: Sink, A: Agenda> Driver<D, S, K, A> {
             → DidSteps (rules A.rules (source_rules S.after S.wakes S.clock) K.rules)
             (seen n w (parts self.old.host self.old.sources self.old.sink self.old.agenda))
             (hearing seat most ∷ rest) (left_by_answer (λ done. rest)) result
-            (n , parts self.new.host self.new.sources self.new.sink self.new.agenda) }
+            (n, parts self.new.host self.new.sources self.new.sink self.new.agenda) }
     {
         match hear_ready(self.alloc, &mut self.sources, seat, most) {
             Ok(events) => self.take_and_print(None, events),
@@ -250,7 +209,7 @@ impl<D: Disk, S: Sources, K: Sink, A: Agenda> Driver<D, S, K, A> {
             → DidSteps (rules A.rules (source_rules S.after S.wakes S.clock) K.rules)
             (seen n w (parts self.old.host self.old.sources self.old.sink self.old.agenda))
             (printing (Some line) (outcome ∷ []) [] ++ rest) (left_by_answer (λ done. rest)) result
-            (n , parts self.new.host self.new.sources self.new.sink self.new.agenda) }
+            (n, parts self.new.host self.new.sources self.new.sink self.new.agenda) }
     {
         if let Err(why) = self.print_outcomes(Some(line), slice::from_ref(&outcome)) {
             return Err(why);
@@ -268,7 +227,7 @@ impl<D: Disk, S: Sources, K: Sink, A: Agenda> Driver<D, S, K, A> {
             → DidSteps (rules A.rules (source_rules S.after S.wakes S.clock) K.rules)
             (seen n w (parts self.old.host self.old.sources self.old.sink self.old.agenda))
             (rewriting line ∷ rest) (left_by_answer (λ done. rest)) result
-            (n , parts self.new.host self.new.sources self.new.sink self.new.agenda) }
+            (n, parts self.new.host self.new.sources self.new.sink self.new.agenda) }
     {
         if line > MOST_COUNTED {
             return Err(RunFault::InputTooLong);
@@ -286,7 +245,7 @@ impl<D: Disk, S: Sources, K: Sink, A: Agenda> Driver<D, S, K, A> {
             → DidSteps (rules A.rules (source_rules S.after S.wakes S.clock) K.rules)
             (seen n w (parts self.old.host self.old.sources self.old.sink self.old.agenda))
             (stalling ∷ rest) (left_by_answer (λ done. rest)) result
-            (n , parts self.new.host self.new.sources self.new.sink self.new.agenda) }
+            (n, parts self.new.host self.new.sources self.new.sink self.new.agenda) }
     {
         let Ok(seats) = waiting_lives(self.alloc, &self.host) else {
             return Err(RunFault::OutOfMemory);
@@ -304,7 +263,7 @@ impl<D: Disk, S: Sources, K: Sink, A: Agenda> Driver<D, S, K, A> {
             → DidSteps (rules A.rules (source_rules S.after S.wakes S.clock) K.rules)
             (seen n w (parts self.old.host self.old.sources self.old.sink self.old.agenda))
             (interrupting name ∷ rest) (left_by_answer (λ done. rest)) result
-            (n , parts self.new.host self.new.sources self.new.sink self.new.agenda) }
+            (n, parts self.new.host self.new.sources self.new.sink self.new.agenda) }
     {
         let result = interrupt(&self.host, &mut self.sources, name);
         self.heed(&Came::Interrupted(result))
@@ -317,7 +276,7 @@ impl<D: Disk, S: Sources, K: Sink, A: Agenda> Driver<D, S, K, A> {
             → DidSteps (rules A.rules (source_rules S.after S.wakes S.clock) K.rules)
             (seen n w (parts self.old.host self.old.sources self.old.sink self.old.agenda))
             (watching (asked input patience) ∷ rest) (left_by_answer (λ done. rest)) result
-            (n , parts self.new.host self.new.sources self.new.sink self.new.agenda) }
+            (n, parts self.new.host self.new.sources self.new.sink self.new.agenda) }
     {
         match self.sources.watch(input, patience) {
             Ok(woken) => {
@@ -335,7 +294,7 @@ impl<D: Disk, S: Sources, K: Sink, A: Agenda> Driver<D, S, K, A> {
             → DidSteps (rules A.rules (source_rules S.after S.wakes S.clock) K.rules)
             (seen n w (parts self.old.host self.old.sources self.old.sink self.old.agenda))
             (to_print (report.shown show) ∷ heeding (came_by [] []) ∷ rest) (left_by_answer (λ done. rest)) result
-            (n , parts self.new.host self.new.sources self.new.sink self.new.agenda) }
+            (n, parts self.new.host self.new.sources self.new.sink self.new.agenda) }
     {
         match self.show(show) {
             Ok(()) => self.heed(&Came::Shown),
@@ -350,7 +309,7 @@ impl<D: Disk, S: Sources, K: Sink, A: Agenda> Driver<D, S, K, A> {
             → DidSteps (rules A.rules (source_rules S.after S.wakes S.clock) K.rules)
             (seen n w (parts self.old.host self.old.sources self.old.sink self.old.agenda))
             (items_by turn) (left_by_answer again) result
-            (n , parts self.new.host self.new.sources self.new.sink self.new.agenda) }
+            (n, parts self.new.host self.new.sources self.new.sink self.new.agenda) }
     {
         match turn {
             Turn::End => Ok(false),
@@ -372,7 +331,7 @@ impl<D: Disk, S: Sources, K: Sink, A: Agenda> Driver<D, S, K, A> {
             → DidSteps (rules A.rules (source_rules S.after S.wakes S.clock) K.rules)
             (seen n w (parts self.old.host self.old.sources self.old.sink self.old.agenda))
             (ask ∷ []) (left_by_answer again) result
-            (n + 1 , parts self.new.host self.new.sources self.new.sink self.new.agenda) }
+            (n + 1, parts self.new.host self.new.sources self.new.sink self.new.agenda) }
     {
         let now = self.sources.now();
         match self.agenda.next(self.alloc, &self.host, now) {
@@ -388,7 +347,7 @@ impl<D: Disk, S: Sources, K: Sink, A: Agenda> Driver<D, S, K, A> {
             × DidSteps (rules A.rules (source_rules S.after S.wakes S.clock) K.rules)
             (seen 0 w (parts self.old.host self.old.sources self.old.sink self.old.agenda))
             (ask ∷ []) (left_by_answer (λ done. [])) result
-            (n , parts self.new.host self.new.sources self.new.sink self.new.agenda) }
+            (n, parts self.new.host self.new.sources self.new.sink self.new.agenda) }
     {
         for _ in 0..u64::MAX {
             match self.step() {
@@ -408,7 +367,7 @@ impl<D: Disk, S: Sources, K: Sink, A: Agenda> Driver<D, S, K, A> {
             × DidSteps (rules A.rules (source_rules S.after S.wakes S.clock) K.rules)
             (seen 0 w (parts self.old.host self.old.sources self.old.sink self.old.agenda))
             (ask ∷ []) left_at_end result
-            (n , parts self.new.host self.new.sources self.new.sink self.new.agenda) }
+            (n, parts self.new.host self.new.sources self.new.sink self.new.agenda) }
     {
         match self.go_on() {
             Ok(()) => Ok(()),

@@ -4,11 +4,13 @@
 
 pub mod agenda;
 pub mod driver;
+mod faults;
 mod hearing;
 pub mod laws;
 pub mod over;
 pub mod report;
 pub mod sink;
+mod stalls;
 pub mod turn;
 pub mod voiced;
 

@@ -27,7 +27,12 @@ pub trait Sink {
     // has none for it.
 
     /// Prints what commands gave that were taken as one group, one of each line from this one on.
-    fn lines<D: Disk>(&mut self, host: &Host<D>, first: u64, outcomes: &[Outcome]) -> Result<(), RunFault>
+    fn lines<D: Disk>(
+        &mut self,
+        host: &Host<D>,
+        first: u64,
+        outcomes: &[Outcome],
+    ) -> Result<(), RunFault>
         requires { first + length outcomes.now < 2 ^ 64 }
         ensures tries { (w : World) → IsHost host.now w
             → Tries rules self.old host.now.store.disk (printed_text rules.voice w (report.lines first outcomes.now)) (is_ok result) self.new }

@@ -71,7 +71,8 @@ impl<T: Tells, W: Write> Sink for Voiced<T, W> {
         first: u64,
         outcomes: &[Outcome],
     ) -> Result<(), RunFault> {
-        self.tells.outcomes(first, host.sheet(), outcomes, &mut self.writer)
+        self.tells
+            .outcomes(first, host.sheet(), outcomes, &mut self.writer)
     }
 
     fn lives<D: Disk>(&mut self, host: &Host<D>, outcomes: &[Outcome]) -> Result<(), RunFault> {
@@ -88,7 +89,8 @@ impl<T: Tells, W: Write> Sink for Voiced<T, W> {
             Show::Sheet(line) => self.tells.sheet(line, host, &mut self.writer),
             Show::Field(line, id) => self.tells.field(line, id, host, &mut self.writer),
             Show::Export(line, format) => {
-                self.tells.export(line, format, host.sheet(), &mut self.writer)
+                self.tells
+                    .export(line, format, host.sheet(), &mut self.writer)
             }
         }
     }

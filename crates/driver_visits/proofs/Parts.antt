@@ -74,8 +74,11 @@ at_loss w d events h l = record {
   course = no_step w d;
   events = l.taken ++ l.dropped;
   ended = in_group l.taken l.dropped l.untold l.leads h.store.disk l.runs l.same l.moments;
-  moments = λ held. (l.untold ++ [], λ model. weakens (LeftAmong w l.taken l.untold) (LeftAmong w (l.taken ++ l.dropped) (l.untold ++ [])) d.history h.store.disk.history
-      (λ i x. left_within w l.taken l.dropped l.untold [] i x) (either_moments w l.taken l.untold l.leads d h.store.disk l.runs l.moments model));
+  moments = λ held. (
+    l.untold ++ [],
+    λ model. weakens (LeftAmong w l.taken l.untold) (LeftAmong w (l.taken ++ l.dropped) (l.untold ++ [])) d.history h.store.disk.history
+        (λ i x. left_within w l.taken l.dropped l.untold [] i x) (either_moments w l.taken l.untold l.leads d h.store.disk l.runs l.moments model),
+  );
 }
 
 fails_parted : {A C K : Type 0} (R : Rules A C K) (p q : RunPlace A C K) (i : Item) (beats : List Beat) (why : RunFault) → Fails R p i beats why q → Parted p.world p.disk beats q.disk

@@ -75,7 +75,7 @@ module _ {A C K : Type 0} (R : Rules A C K) (first last : ProgramParts A C K) (a
   pub durable_at : (before after : List RunStep) (r : Report) → it.steps ≡ before ++ printed r ∷ after → DurableAt R first last answer it before r
   durable_at before after r is =
       let so = printed_there R (first_place first it.opened) at_end (ask ∷ []) (left_at_end answer) before after r
-          (subst (λ (x : List RunStep). Run R (first_place first it.opened) (ask ∷ []) x (left_at_end answer) at_end) is it.ran) in
+      (subst (λ (x : List RunStep). Run R (first_place first it.opened) (ask ∷ []) x (left_at_end answer) at_end) is it.ran) in
       let there = so.there in
       let tail = parted R (record there { sink = so.sink }) at_end so.then_to_do (left_at_end answer) after so.goes_on in
       let same : trace it.steps ≡ trace before ++ trace after = ap trace is ∙ flat_map-append beats_of before (printed r ∷ after) in

@@ -22,4 +22,4 @@ pub returns-else-len-gt-MOST_TOGETHER-2-clause-did : goal.returns-else-len-gt-MO
 returns-else-len-gt-MOST_TOGETHER-2-clause-did g c = λ n rest w h. took_together (rules g.A.Agenda.rules (source_rules g.S.Children.after g.S.Sources.wakes g.S.Sources.clock) g.K.Sink.rules) n rest w c.args.self.now.host h c.args.from c.args.events.items c.args.self.now.sources c.args.self.now.sink c.args.self.now.agenda c.serve_together.new.children c.serve_together.new.host c.in-Ok.gave (c.in-Ok.ensures.ok w h)
 
 pub returns-in-Err-clause-did : goal.returns-in-Err-clause-did
-returns-in-Err-clause-did g c = λ n rest w h. subst (λ (why : RunFault). DidSteps (rules g.A.Agenda.rules (source_rules g.S.Children.after g.S.Sources.wakes g.S.Sources.clock) g.K.Sink.rules) (seen n w (parts c.args.self.now.host c.args.self.now.sources c.args.self.now.sink c.args.self.now.agenda)) (take c.args.from c.args.events.items ∷ rest) (left_by_answer (λ (x : GaveTogether). printing c.args.from x.outcomes.items x.replies.items ++ rest)) (Err why) (n , parts c.serve_together.new.host c.serve_together.new.children c.args.self.now.sink c.args.self.now.agenda)) (sym c.gate_fault.ensures) (failed_together (rules g.A.Agenda.rules (source_rules g.S.Children.after g.S.Sources.wakes g.S.Sources.clock) g.K.Sink.rules) n rest w c.args.self.now.host h c.args.from c.args.events.items c.args.self.now.sources c.args.self.now.sink c.args.self.now.agenda _ c.serve_together.new.children c.serve_together.new.host c.in-Err.fault (c.in-Err.ensures.err w h))
+returns-in-Err-clause-did g c = λ n rest w h. subst (λ (why : RunFault). DidSteps (rules g.A.Agenda.rules (source_rules g.S.Children.after g.S.Sources.wakes g.S.Sources.clock) g.K.Sink.rules) (seen n w (parts c.args.self.now.host c.args.self.now.sources c.args.self.now.sink c.args.self.now.agenda)) (take c.args.from c.args.events.items ∷ rest) (left_by_answer (λ (x : GaveTogether). printing c.args.from x.outcomes.items x.replies.items ++ rest)) (Err why) (n, parts c.serve_together.new.host c.serve_together.new.children c.args.self.now.sink c.args.self.now.agenda)) (sym c.gate_fault.ensures) (failed_together (rules g.A.Agenda.rules (source_rules g.S.Children.after g.S.Sources.wakes g.S.Sources.clock) g.K.Sink.rules) n rest w c.args.self.now.host h c.args.from c.args.events.items c.args.self.now.sources c.args.self.now.sink c.args.self.now.agenda _ c.serve_together.new.children c.serve_together.new.host c.in-Err.fault (c.in-Err.ensures.err w h))
