@@ -27,6 +27,11 @@ KINDS = {
         "IFS= read -r l; printf '\\002verbatim:hal'\n",
         most=3,
     ),
+    # Its blocks have the line at both ends, and lie on several pages of a file.
+    "long": Kind(
+        "z=$(printf %03000d 0)\n" + BANNER + "while IFS= read -r l; do printf '\\002verbatim:%s%s%s\\005' \"$l\" \"$z\" \"$l\"; done\n",
+        answer=lambda count, given: ("> ", given + "0" * 3000 + given),
+    ),
     # Its prompts stand in its blocks.
     "prompts": Kind(
         "printf '\\002verbatim:Hello\\002prompt#Input 1] \\005\\005'\nn=1\n"
