@@ -3,13 +3,15 @@
 import json
 import re
 import subprocess
+from collections.abc import Iterable
 
 from model import Difference
+from program import Program
 
 STARTS = ("eval ", "complete ", "wait", "print", "stop ")
 
 
-def evaluations(program, script):
+def evaluations(program: Program, script: Iterable[str]) -> tuple[list[str], list[str]]:
     """The lines of a script that start no interpreter, and those by which `eval` evaluates the worksheet that they make."""
     script = [line for line in script if not line.startswith(STARTS)]
     model = program.create("model")
@@ -20,7 +22,7 @@ def evaluations(program, script):
     return script, [line for id in ids for line in (f"eval {id}", "wait")]
 
 
-def counted(output, lines):
+def counted(output: list[str], lines: list[str]) -> list[str]:
     """What an evaluation wrote, without its last line, which counts the answers."""
     if not output or not re.fullmatch(r"answered \d+ unanswered \d+", output[-1]):
         return output

@@ -6,9 +6,9 @@ from __future__ import annotations
 import ctypes
 import fcntl
 import os
-import shutil
 import struct
 import subprocess
+import sys
 import time
 from typing import NamedTuple
 
@@ -49,21 +49,18 @@ class Missing(Exception):
 
 def call(*words: str) -> None:
     """Runs a program of the system that must end well."""
-    ran = subprocess.run(words, stdin=subprocess.DEVNULL, capture_output=True, text=True)
+    try:
+        ran = subprocess.run(words, stdin=subprocess.DEVNULL, capture_output=True, text=True)
+    except FileNotFoundError as error:
+        raise Missing(f"there is no {words[0]}") from error
     if ran.returncode:
-        raise Missing(f"{' '.join(words)}: {ran.stderr.strip() or ran.returncode}")
-
-
-def look_for_programs() -> None:
-    """The programs that make and mount file systems; Debian keeps them where a user's PATH doesn't lead."""
-    os.environ["PATH"] += ":/usr/sbin:/sbin"
-    for program in ("mkfs.ext4", "mkfs.xfs", "mount", "umount"):
-        if not shutil.which(program):
-            raise Missing(f"there is no {program}")
+        raise Missing(f"{words[0]}: {ran.stderr.strip() or ran.returncode}")
 
 
 def leave_mounts() -> None:
     """Takes this program into a mount namespace of its own: what it mounts no other program sees, and goes with it."""
+    # What makes and mounts file systems lies where a user's PATH may not lead.
+    os.environ["PATH"] += ":/usr/sbin:/sbin"
     if os.geteuid():
         raise Missing("it wants root")
     if ctypes.CDLL(None, use_errno=True).unshare(CLONE_NEWNS):
@@ -77,15 +74,18 @@ class FileSystem:
     """A new file system in a file, mounted in a folder of its own."""
 
     def __init__(self, kind: Kind, folder: str) -> None:
-        self.kind, self.image, self.place = kind, f"{folder}/image", f"{folder}/place"
+        self.kind, self.image, self.place, self.is_mounted = kind, f"{folder}/image", f"{folder}/place", False
         os.makedirs(self.place, exist_ok=True)
         with open(self.image, "wb") as file:
             file.truncate(kind.mebibytes << 20)
-        call(*kind.makes, self.image)
+
+    def make(self) -> None:
+        call(*self.kind.makes, self.image)
 
     def mount(self) -> None:
         options = ["loop", self.kind.options] if self.kind.options else ["loop"]
         call("mount", "-o", ",".join(options), self.image, self.place)
+        self.is_mounted = True
 
     def cut_off(self) -> None:
         """Lets nothing more come to the device: each later sync and write fails."""
@@ -104,9 +104,29 @@ class FileSystem:
             if time.monotonic() > until:
                 raise Missing(f"{self.place} stays in use")
             time.sleep(0.02)
+        self.is_mounted = False
 
     def remove(self) -> None:
         """Takes it away, mounted or not."""
-        if os.path.ismount(self.place):
+        if self.is_mounted:
             self.unmount()
         os.remove(self.image)
+
+
+def usable(folder: str) -> list[Kind]:
+    """The kinds that can be made, mounted and cut off on this machine; the others are told."""
+    kinds = []
+    for kind in KINDS:
+        system = FileSystem(kind, folder)
+        try:
+            system.make()
+            system.mount()
+            system.cut_off()
+            kinds.append(kind)
+        except Missing as missing:
+            print(f"left out: {kind.name}: {missing}", file=sys.stderr)
+        finally:
+            system.remove()
+    if not kinds:
+        raise Missing("no file system can be cut off")
+    return kinds
