@@ -51,8 +51,8 @@ def call(*words: str) -> None:
     """Runs a program of the system that must end well."""
     try:
         ran = subprocess.run(words, stdin=subprocess.DEVNULL, capture_output=True, text=True)
-    except FileNotFoundError as error:
-        raise Missing(f"there is no {words[0]}") from error
+    except OSError as error:
+        raise Missing(f"{words[0]}: {error.strerror}") from error
     if ran.returncode:
         raise Missing(f"{words[0]}: {ran.stderr.strip() or ran.returncode}")
 

@@ -1,13 +1,17 @@
-// Loaded into a program by LD_PRELOAD, so that each so many-th `fdatasync` of it does nothing and says that all is on the disk. The variable
-// UNSYNCED says which: 1 means each, 2 the second, the fourth and so on.
+// Loaded into a program by LD_PRELOAD, so that one in so many calls of `fdatasync`, by chance, does nothing and says that all is on the disk.
+// The variable UNSYNCED says in how many; 1 means each.
 
 #define _GNU_SOURCE
 #include <dlfcn.h>
 #include <stdlib.h>
+#include <unistd.h>
 
 int fdatasync(int fd) {
-    static int calls;
-    int (*real)(int) = (int (*)(int))dlsym(RTLD_NEXT, "fdatasync");
+    static int (*real)(int);
     const char *every = getenv("UNSYNCED");
-    return ++calls % (every ? atoi(every) : 1) ? real(fd) : 0;
+    if (!real) {
+        real = (int (*)(int))dlsym(RTLD_NEXT, "fdatasync");
+        srandom(getpid());
+    }
+    return random() % (every ? atoi(every) : 1) ? real(fd) : 0;
 }
