@@ -50,6 +50,29 @@ printf 'set 1 z\n' >given
 asks 'the calls of a run in the second file' 0 'ok\n' \
     'lock EX rw w\nlock EX rw w.alt\nfsync .\nfdatasync w\nfdatasync w.alt\nwrite w.alt\nfdatasync w.alt\nwrite w.alt\nfdatasync w.alt\ntold\n' - run w
 
+# What is rescued is on the disk before it is reported, and so is what is accepted; a check and an export write nothing.
+printf '\002verbatim:\005' >banner
+cat >p.sh <<'END_OF_CHILD'
+cat banner
+read -r line
+cat answer
+read -r line
+END_OF_CHILD
+rm -f w w.alt saved saved.alt
+"$tmhost" create w
+printf 'session a plain sh p.sh\nnew 0 a x\neval 1\nwait\n' >given
+printf '\002verbatim:A\005' >answer
+"$tmhost" run w <given >text
+: >given
+asks 'the calls of a rescue' 0 'kept 4, whole\n' \
+    'lock SH r w\nlock SH r w.alt\nfdatasync w\nlock EX rw saved\nlock EX rw saved.alt\nfsync saved\nfsync saved.alt\nfsync .\nwrite saved\nfdatasync saved\nwrite saved.alt\nwrite saved.alt\nfdatasync saved.alt\nwrite saved\nfdatasync saved\ntold\n' \
+    - rescue w saved
+asks 'the calls of a check' 0 'same 1 differ 0 unanswered 0\n' 'lock SH r w\nlock SH r w.alt\nfdatasync w\nkill 9\ntold\n' - check w
+printf '\002verbatim:B\005' >answer
+asks 'the calls of what is accepted' 0 '#1 a\n> x\n- A\n+ B\naccepted 1\nsame 0 accepted 1 unanswered 0\n' "${written}told\nkill 9\ntold\n" - check --accept w
+asks 'the calls of an export' 0 'session a plain sh p.sh\nnew 0 a x\n' "$shown" - export script w
+rm -f w w.alt saved saved.alt banner answer
+
 # By a link, and from another folder: the second file is the one beside what the link leads to, and its folder is brought onto the disk.
 rm -rf far near
 mkdir far
