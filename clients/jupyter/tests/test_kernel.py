@@ -144,5 +144,5 @@ class Input(Case):
         self.install("--name", "kernel", "--session", "py", os.path.join(ROOT, "adapters", "python"))
         with Front(self.folder) as front:
             reply, outputs = front.execute("input('n? ')")
-            self.assertIn("a line has no input", str([reply, outputs]))
+            self.assertIn("EOF when reading a line", str([reply, outputs]))
             self.assertEqual(front.text("6 * 7"), "42")
