@@ -129,7 +129,7 @@ class Lessons(Case):
         super().setUp()
         self.install("--name", "kernel", "--session", "py", os.path.join(ROOT, "adapters", "python"))
         self.sheet = self.path("lesson.tmhost")
-        self.set_environment(TMHOST_SHEET=self.sheet)
+        self.set_environment(TMHOST_SHEET=self.sheet, PYTHONHASHSEED="0")  # the order of sympy's sets is part of answers
 
     def answers(self) -> Dict[int, List[Tuple[str, Told]]]:
         """What the worksheet has for the cells, which are its fields in their order."""
@@ -171,6 +171,7 @@ class Lessons(Case):
                 self.assertEqual({at: found.get(at) for at in held}, held)
                 self.assertEqual(found, {at: wanted[at] for at in found})
                 held = found
+                print(f"kill {number + 1}, of {kind} at cell {asked + 1}: {len(held)} answers in the worksheet", flush=True)
         print(f"{KILLS} kills, {acknowledged} answers acknowledged, {len(held)} in the worksheet at last, seed {seed}")
         self.assertEqual(self.whole(), wanted)
         self.exported()

@@ -28,6 +28,14 @@ class Outputs(unittest.TestCase):
         self.assertEqual([message.kind for message in told.messages], ["error"])
         self.assertEqual(told.error and told.error.content, {"ename": "Error", "evalue": "KeyboardInterrupt", "traceback": ["KeyboardInterrupt"]})
 
+    def test_an_output_in_an_output_is_an_error(self) -> None:
+        inner = Block("output", "channel", ("NameError: name 'x' is not defined\n",))
+        told = shown("before\n", Block("output", "channel", (inner,)))
+        self.assertEqual([message.kind for message in told.messages], ["stream", "error"])
+        self.assertEqual(told.error and told.error[:2], ("NameError", "name 'x' is not defined"))
+        told = shown("before\n", Block("output", "channel", (Block("verbatim", "format", (inner,)),)))
+        self.assertIsNone(told.error)
+
     def test_a_format_error_is_no_error(self) -> None:
         self.assertIsNone(shown("x", tag="error", kind="format").error)
 

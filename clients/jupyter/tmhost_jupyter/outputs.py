@@ -6,8 +6,8 @@ from tmhost import Answer, Block, readable
 
 Content = Dict[str, Any]
 
-BARE = (("format", "verbatim"), ("channel", "output"))  # whose tags `tmhost show` leaves out, too
-ERROR = ("channel", "error")
+OUTPUT, ERROR = ("channel", "output"), ("channel", "error")
+BARE = (("format", "verbatim"), OUTPUT)  # whose tags `tmhost show` leaves out, too
 TEXT, FORMULA = "text/plain", "text/latex"
 # The formats of pictures, and what Jupyter calls them.
 PICTURES = {"image/png;base64": "image/png", "image/jpeg;base64": "image/jpeg", "image/svg+xml": "image/svg+xml"}
@@ -66,16 +66,18 @@ def of_one_text(block: Block, tag: str) -> Optional[Part]:
     return Part(FORMULA, text) if tag == "latex" else None
 
 
-def parts(block: Block) -> List[Part]:
+def parts(block: Block, is_in_output: bool = False) -> List[Part]:
+    """The parts of a block. An error is one of the channel `error`, or of the channel `output` in another one."""
     tag = readable(block.tag)
-    if (block.kind, tag) == ERROR:
+    is_output = (block.kind, tag) == OUTPUT
+    if (block.kind, tag) == ERROR or is_output and is_in_output:
         return [Part("error", readable(block.plain))]
     if one := of_one_text(block, tag):
         return [one]
     is_bare = (block.kind, tag) in BARE
     found = [] if is_bare else [Part(TEXT, "{" + tag + (":" if block.kind == "format" else "#"))]
     for item in block.items:
-        found += parts(item) if isinstance(item, Block) else [Part(TEXT, readable(item))]
+        found += parts(item, is_output) if isinstance(item, Block) else [Part(TEXT, readable(item))]
     return joined(found if is_bare else [*found, Part(TEXT, "}")])
 
 
