@@ -17,7 +17,7 @@ import jupyter  # noqa: E402
 MODULES = subprocess.run(["python3", "-c", "import sympy, matplotlib"], stderr=subprocess.DEVNULL).returncode == 0
 CELLS = [
     "import sympy\nx = sympy.symbols('x')\nsympy.integrate(x ** 2 * sympy.exp(-x), x)",
-    "import matplotlib.pyplot as plt\nplt.figure(figsize=(4, 1.6))\nplt.plot([n * n for n in range(9)])\nplt.show()",
+    "import matplotlib.pyplot as plt\nplt.figure(figsize=(4, 2))\nplt.plot([n * n for n in range(9)])\nplt.show()",
     "print('squares')\nsum(n * n for n in range(9))",
 ]
 OUTPUTS = "Jupyter.notebook.get_cell(%d).output_area.element[0]"
@@ -30,6 +30,7 @@ SET = "Jupyter.notebook.get_cell(%d).set_text(%r)"
 @unittest.skipUnless(chromium.find_chromium() and jupyter.PROGRAM and MODULES, "there is no Chromium, no Jupyter Notebook, or no sympy and matplotlib")
 class Page(Case):
     def test_a_notebook(self) -> None:
+        self.set_environment(MPLCONFIGDIR=os.path.expanduser("~/.cache/matplotlib"))
         self.install("--name", "kernel", "--session", "py", "--title", "Python (tmhost)", "--tab", os.path.join(ROOT, "adapters", "python"))
         browser = chromium.Browser()
         self.addCleanup(browser.kill)

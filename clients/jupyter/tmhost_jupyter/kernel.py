@@ -77,7 +77,7 @@ class WorksheetKernel(Kernel):
             name = refused.name if isinstance(refused, Refused) else "BadInput"
             return self.failed(failure(name, WHY_REFUSED.get(name, str(refused)).format(longest=LONGEST, bytes=len(code.encode()))), silent)
         except Lost as lost:
-            return self.failed(failure(lost.reason, WHY_LOST.get(lost.reason, "the interpreter ended").format(words=" ".join(self.given.words))), silent)
+            return self.failed(failure(lost.reason, WHY_LOST.get(lost.reason, "the interpreter ended").format(words=" ".join(self.sheet.words))), silent)
         except TmhostError as error:
             return self.failed(failure(type(error).__name__, str(error)), silent)
 

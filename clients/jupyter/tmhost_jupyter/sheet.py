@@ -117,6 +117,10 @@ class Sheet:
                 f"`tmhost-jupyter-kernel install --sheet {self.path} --session {name}` makes a kernel for that session")
 
     @property
+    def words(self) -> Tuple[str, ...]:
+        return self.worksheet.sessions[self.given.session].words if self.worksheet else self.given.words
+
+    @property
     def answers_completions(self) -> bool:
         return self.worksheet is not None and self.worksheet.sessions[self.given.session].tab
 
