@@ -37,6 +37,10 @@ class Fields(Case):
         self.assertEqual(cells.field("two", "v", False).id, 5)  # since nobody's field has that text any more
         self.assertEqual(self.inputs(cells), ["other", "new", "again", "two", "three"])
 
+    def test_a_copy_of_a_cell(self) -> None:
+        cells = self.opened()
+        self.assertEqual([cells.field("same", name, False).id for name in ("x", "y", "", "x")], [1, 2, 3, 1])
+
     def test_the_file_of_names_is_lost(self) -> None:
         cells = self.opened()
         ids = [cells.field(text, text, False).id for text in ("one", "two", "one ", "two ")]

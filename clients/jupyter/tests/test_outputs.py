@@ -23,6 +23,12 @@ class Outputs(unittest.TestCase):
         self.assertEqual([message.kind for message in told.messages], ["stream", "display_data", "execute_result"])
         self.assertEqual([message.content.get("text") or message.content["data"]["text/plain"] for message in told.messages], ["a{html:<b>\n", "x", "</b>}c"])
 
+    def test_what_stands_behind_an_error(self) -> None:
+        told = shown("before\n", Block("error", "channel", ("E: x",)), "after", Block("image/png;base64", "format", ("iV\nBO",)))
+        self.assertEqual([message.kind for message in told.messages], ["stream", "error", "stream", "display_data"])
+        self.assertEqual(told.messages[3].content["data"], {"image/png": "iVBO", "text/plain": "<image/png>"})
+        self.assertEqual([message.kind for message in shown(Block("error", "channel", ("E: x",)), "after").messages], ["error", "stream"])
+
     def test_an_error_alone(self) -> None:
         told = shown("KeyboardInterrupt", tag="error", kind="channel")
         self.assertEqual([message.kind for message in told.messages], ["error"])
