@@ -7,6 +7,7 @@ from typing import Dict, List, Optional, Sequence, Tuple
 
 import gp_lines
 from completion_cases import COMPLETING, Completing
+from error_cases import ERRORS
 import jupyter_lines
 from gp_lines import MESSAGE, NO_INPUT, Line as Case, ones
 from odd_lines import ODD_LINES
@@ -27,6 +28,7 @@ class Trial:
     drawing: Sequence[Tuple[str, str]] = ()  # lines that draw, and what their answers are, with a picture's format in braces for each
     module: str = ""  # of Python that has to be here, too
     completing: Optional[Completing] = None  # where it answers requests of completions
+    failing: Sequence[Tuple[str, str]] = ()  # lines, and what of their answers is marked as an error
 
 
 # From the manual of gp: 2.1 (errors), 2.5 (lines), 2.7 (metacommands), 2.12 (defaults), 3 (functions).
@@ -328,7 +330,7 @@ DRAWING: Dict[str, List[Tuple[str, str]]] = {
 
 def trial(words: str, program: str, leaving: str, busy: str, cases: List[Case]) -> Trial:
     name = words.split()[1 if words.startswith("prompted.py") else 0]
-    return Trial(words, program, leaving, busy, cases, ODD_LINES[name], *NUMBERS[name], DRAWING.get(words.removeprefix("prompted.py "), ()), completing=COMPLETING.get(words))
+    return Trial(words, program, leaving, busy, cases, ODD_LINES[name], *NUMBERS[name], DRAWING.get(words.removeprefix("prompted.py "), ()), completing=COMPLETING.get(words), failing=ERRORS.get(words, ()))
 
 
 def by_matplotlib(words: str) -> Trial:
@@ -343,7 +345,7 @@ def by_prompted(profile: str, program: str, leaving: str, busy: str, cases: List
 def by_jupyter(words: str, cases: List[Case]) -> Trial:
     """The kernel of Python. A line that forks is left out, which would go on as a second kernel."""
     odd_lines = [line for line in ODD_LINES["python"] if "fork" not in line]
-    return Trial(f"jupyter {words}", "/usr/share/jupyter/kernels/python3/kernel.json", "os._exit(0)", "while True: pass", cases, odd_lines, *NUMBERS["python"])
+    return Trial(f"jupyter {words}", "/usr/share/jupyter/kernels/python3/kernel.json", "os._exit(0)", "while True: pass", cases, odd_lines, *NUMBERS["python"], failing=ERRORS.get(f"jupyter {words}", ()))
 
 
 TRIALS = {
