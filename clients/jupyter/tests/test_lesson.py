@@ -15,6 +15,7 @@ from tmhost_jupyter.outputs import Shown
 try:
     import nbformat
     from nbclient.client import NotebookClient
+    from nbclient.exceptions import CellExecutionError
 except ImportError as error:
     raise unittest.SkipTest(f"there is no nbclient: {error}")
 
@@ -175,6 +176,18 @@ class Lessons(Case):
         print(f"{KILLS} kills, {acknowledged} answers acknowledged, {len(held)} in the worksheet at last, seed {seed}")
         self.assertEqual(self.whole(), wanted)
         self.exported()
+
+    def test_an_error_ends_a_run(self) -> None:
+        notebook = lesson()
+        cells = [cell for cell in notebook.cells if cell.cell_type == "code"][:3]
+        for cell, text in zip(cells, ("6 * 7", "print('before')\n1 / 0", "8")):
+            cell.source = text
+        notebook.cells = cells
+        client: Any = NotebookClient(notebook, kernel_name="kernel", timeout=None, startup_timeout=int(SECONDS), resources={"metadata": {"path": self.folder}})
+        with self.assertRaisesRegex(CellExecutionError, "ZeroDivisionError: division by zero"):
+            client.execute()
+        self.assertEqual([kind for kind, _ in plain(notebook.cells[1].outputs)], ["stream", "error"])
+        self.assertEqual([(field.lines[-1], field.state) for field in fields_of(self.sheet)], [("6 * 7", "answered"), ("1 / 0", "answered")])
 
     def exported(self) -> None:
         """The notebook that comes back."""
