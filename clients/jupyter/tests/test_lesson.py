@@ -55,13 +55,20 @@ def execute(folder: str, told: Any) -> None:
         told.send(f"{type(error).__name__}: {error}")
 
 
+def parents() -> Dict[int, int]:
+    """The parent of each process. It takes no program, in whose time a run would go on."""
+    found: Dict[int, int] = {}
+    for name in filter(str.isdigit, os.listdir("/proc")):
+        with contextlib.suppress(OSError), open(f"/proc/{name}/stat", encoding="utf-8", errors="replace") as file:
+            found[int(name)] = int(file.read().rpartition(")")[2].split()[1])
+    return found
+
+
 def below(pid: int) -> List[int]:
     """A process and all that come from it."""
-    found, left = [pid], [pid]
-    while left:
-        told = subprocess.run(["ps", "-o", "pid=", "--ppid", str(left.pop())], stdout=subprocess.PIPE, text=True).stdout.split()
-        found += map(int, told)
-        left += map(int, told)
+    known, found = parents(), [pid]
+    for one in found:
+        found += [child for child, parent in known.items() if parent == one]
     return found
 
 
