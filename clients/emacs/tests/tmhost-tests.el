@@ -21,10 +21,12 @@
 (defconst tmhost-tests-interpreter (concat "python3 " tmhost-tests-file)
   "The words of an interpreter.")
 
-(defconst tmhost-tests-python
-  (expand-file-name "../../../adapters/python"
-                    (file-name-directory tmhost-tests-file))
+(defconst tmhost-tests-python "tmhost-python"
   "The adapter of Python.")
+
+(setq tmhost-talk-adapters
+      (expand-file-name "../../../adapters/bin"
+                        (file-name-directory tmhost-tests-file)))
 
 (defun tmhost-tests-until (condition &optional what)
   "Wait for the function CONDITION to give true; WHAT is its name."

@@ -209,10 +209,10 @@ class Weaving(Case):
         """With what it has, since a session may have another name than its fences."""
         quarto = "```{python}\nx\n```\n```{r, echo=FALSE}\ny\n```\n```{python}\nz\n```\n"
         for text, sessions, found in (
-            (quarto, "none, as `sessions: {py: [adapters/python]}`", "{python} (2), {r, echo=FALSE} (1)"),
+            (quarto, "none, as `sessions: {py: [tmhost-python]}`", "{python} (2), {r, echo=FALSE} (1)"),
             (self.front("py", "r") + quarto, "py, r", "{python} (2), {r, echo=FALSE} (1)"),
             (self.front("a") + "```\nx\n```\n", "a", "without a word (1)"),
-            ("text\n", "none, as `sessions: {py: [adapters/python]}`", "none"),
+            ("text\n", "none, as `sessions: {py: [tmhost-python]}`", "none"),
             (self.front("a") + "".join(f"```x{number}\n```\n" for number in range(9)), "a", "x0 (1), x1 (1), x2 (1), x3 (1), x4 (1), .."),
         ):
             self.write(text)

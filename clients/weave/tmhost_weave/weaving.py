@@ -53,7 +53,7 @@ def first_other_line(old: bytes, new: bytes) -> int:
 
 def why_nothing(document: Document) -> str:
     """What is said of a text of which no fence is a session's: an author has most likely named a session otherwise than its fences."""
-    sessions = ", ".join(document.sessions) or "none, as `sessions: {py: [adapters/python]}`"
+    sessions = ", ".join(document.sessions) or "none, as `sessions: {py: [tmhost-python]}`"
     told = [f"{ascii(info[:LONGEST_INFO])[1:-1] or 'without a word'} ({count})" for info, count in document.others.most_common(MOST_TOLD + 1)]
     fences = ", ".join([*told[:MOST_TOLD], *([".."] if len(told) > MOST_TOLD else [])]) or "none"
     return f"no fence is of a session, so nothing is evaluated. Sessions in the front matter: {sessions}. Fences: {fences}"
