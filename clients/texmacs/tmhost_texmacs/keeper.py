@@ -1,0 +1,150 @@
+"""The program that keeps a worksheet open for all its sessions in TeXmacs, which each have a process of their own.
+
+It ends with the last of them, and so do the interpreters. A connection begins with a line of JSON, who it is; then come the lines of TeXmacs, and an
+interrupt as a line that is the byte 3. Back go blocks, behind a line of JSON that says whether it was joined.
+"""
+
+import json
+import os
+import socket
+import sys
+import threading
+from typing import BinaryIO, Dict, List, Optional, Tuple
+
+from tmhost import InUse, TmhostError, Worksheet
+
+from .offered import ensured, none_of
+from .places import folder_of_pictures
+from .speech import Speech, whole
+from .talk import Gone, Interrupt, Left, Talk
+
+INTERRUPT = b"\x03\n"
+READY = "ready"
+Owner = Tuple[int, str]  # a process of TeXmacs, and a document in it
+
+
+class Keeper:
+    def __init__(self, sheet: Worksheet) -> None:
+        self.sheet, self.speech = sheet, Speech(folder_of_pictures())
+        self.lock = threading.Lock()
+        self.joined: Dict[int, Owner] = {}
+        self.is_over = threading.Event()
+
+    def serve(self, listener: socket.socket) -> None:
+        threading.Thread(target=self._accept, args=(listener,), daemon=True).start()
+        self.is_over.wait()
+
+    def _accept(self, listener: socket.socket) -> None:
+        number = 0
+        while True:
+            connection, _ = listener.accept()
+            number += 1
+            threading.Thread(target=self._one, args=(number, connection), daemon=True).start()
+
+    def _one(self, number: int, connection: socket.socket) -> None:
+        with connection, connection.makefile("rb") as lines:
+            try:
+                self._joined(number, json.loads(lines.readline()), connection, lines)
+            except (OSError, ValueError):
+                pass  # its process has ended
+            except TmhostError as error:
+                self._say_the_end(connection, error)
+        self._leave(number)
+
+    def _joined(self, number: int, hello: Dict[str, str], connection: socket.socket, lines: BinaryIO) -> None:
+        full_name, document = hello["session"], hello["document"]
+        name = full_name.partition(":")[0]
+        why = self._why_not(number, (int(hello["texmacs"]), document))
+        if why is None and ensured(self.sheet, name) is None:
+            why = none_of(self.sheet, name)
+        connection.sendall(json.dumps({"refused": why}).encode() + b"\n")
+        if why is None:
+            talk = Talk(self.sheet, name, full_name, self.speech, connection.sendall)
+            connection.sendall(talk.banner())
+            threading.Thread(target=hear, args=(lines, talk), daemon=True).start()
+            answer_lines(talk)
+
+    def _why_not(self, number: int, owner: Owner) -> Optional[str]:
+        """Two documents at a worksheet would each show a part of it as the whole, and change the other's fields."""
+        with self.lock:
+            others = [one for one in self.joined.values() if one != owner]
+            if not others:
+                self.joined[number] = owner
+                return None
+        place = f"the document {others[0][1] or 'without a name'}" + ("" if others[0][0] == owner[0] else f" of another TeXmacs (process {others[0][0]})")
+        return f"the worksheet {self.sheet.path} is at work for {place}; close that, or insert a session into this document by the menu: it gets a worksheet of its own"
+
+    def _leave(self, number: int) -> None:
+        with self.lock:
+            was_joined = self.joined.pop(number, None) is not None
+            if was_joined and not self.joined:
+                self.is_over.set()
+
+    def _say_the_end(self, connection: socket.socket, error: TmhostError) -> None:
+        """The program has died: nothing more goes here, and the next line of TeXmacs starts another keeper."""
+        try:
+            connection.sendall(whole(f"? {error}"))
+        except OSError:
+            pass
+        self.is_over.set()
+
+
+def hear(lines: BinaryIO, talk: Talk) -> None:
+    try:
+        for line in lines:
+            talk.happenings.put(Interrupt() if line == INTERRUPT else line.decode("utf-8", "replace").rstrip("\n"))
+    except (OSError, ValueError):
+        pass
+    talk.happenings.put(Gone())
+
+
+def answer_lines(talk: Talk) -> None:
+    while True:
+        happening = talk.happenings.get()
+        if isinstance(happening, Gone):
+            return
+        if isinstance(happening, str):
+            try:
+                talk.say(happening)
+            except Left:
+                continue
+
+
+def bound(path: str) -> socket.socket:
+    """The listening socket of a worksheet that this process holds: a file of that name is one that ended."""
+    listener = socket.socket(socket.AF_UNIX)
+    if os.path.lexists(path):
+        os.unlink(path)
+    listener.bind(path)
+    listener.listen()
+    return listener
+
+
+def keep(sheet: str, path: str) -> int:
+    """Keeps a worksheet until the last session leaves. The first line of the output says READY, or why it can't."""
+    try:
+        os.makedirs(os.path.dirname(os.path.abspath(sheet)), exist_ok=True)
+        with Worksheet(sheet, create=True) as worksheet:
+            listener = bound(path)
+            tell(READY)
+            Keeper(worksheet).serve(listener)
+            listener.close()
+            os.unlink(path)
+    except InUse:
+        tell(f"{sheet} is in use by another program")
+        return 1
+    except (OSError, TmhostError) as error:
+        tell(str(error))
+        return 1
+    return 0
+
+
+def tell(text: str) -> None:
+    """To the process that has started this one, which waits for it; it may have ended, too."""
+    lines: List[str] = text.splitlines() or [""]
+    try:
+        print(lines[0], flush=True)
+    except OSError:
+        pass
+    sys.stdout = open(os.devnull, "w", encoding="utf-8")
+    os.dup2(sys.stdout.fileno(), 1)
