@@ -49,7 +49,8 @@ class Keeper:
                 pass  # its process has ended
             except TmhostError as error:
                 self._say_the_end(connection, error)
-        self._leave(number)
+            finally:
+                self._leave(number)
 
     def _joined(self, number: int, hello: Dict[str, str], connection: socket.socket, lines: BinaryIO) -> None:
         full_name, document = hello["session"], hello["document"]
