@@ -55,6 +55,7 @@ class Plugin:
     skips: bool = False
     needs: str = ""  # the program that it stands on
     request: bytes = b""  # what is sent behind an input, whose answer has the MARK
+    more: bytes = b""  # the prompt at which it waits for the rest of an input
 
 
 def tmpy(name: str, needs: str, request: bytes = b"") -> Plugin:
@@ -76,7 +77,7 @@ KNOWN: Dict[str, Plugin] = {
     "eukleides": Plugin((sys.executable, f"{PLUGINS}/eukleides/python/tm_eukleides.py"), framed, "block", "prompt", True, "eukleides"),
     "octave": Plugin(("octave", "--no-gui", "-qi", f"{PLUGINS}/octave/octave/tmstart.m"), framed, "prompt", needs="octave"),
     "maxima": Plugin((f"{BIN}/tm_maxima", "VERSION", "LISP"), closed, "prompt", needs="maxima"),
-    "r": Plugin((f"{BIN}/tm_r",), in_r, "prompt", "text", needs="R"),
+    "r": Plugin((f"{BIN}/tm_r",), in_r, "prompt", "text", needs="R", more=b"+ "),
     "shell": Plugin((f"{BIN}/tm_shell",), in_one, "block", "text", needs="sh"),
     "pari": Plugin(("gp", "--texmacs"), in_one, "request", "text", needs="gp", request=b'print("MARK")\n'),
     "yacas": Plugin(("yacas", "--texmacs"), in_one, "block", "text", True, needs="yacas"),

@@ -1,16 +1,19 @@
-"""GNU TeXmacs itself, on a screen of its own (Xvfb), driven by Scheme that it reads from a file."""
-import glob
+"""GNU TeXmacs itself, on a screen of its own (Xvfb), driven by Scheme that it reads from a file.
+
+TMHOST_TEXMACS_HOME names a home whose TeXmacs was started before: the first start makes fonts for minutes. TMHOST_SCREENSHOTS names a folder for pictures of
+the screen.
+"""
 import os
 import shutil
 import signal
 import subprocess
 import time
-from typing import Dict, List
+from typing import Dict
 
 from .support import COMMAND, HERE, PROGRAM
 
 PLUGIN = os.path.join(os.path.dirname(HERE), "plugins", "tmhost")
-WITHIN = 180.0  # seconds for what TeXmacs is asked
+WITHIN = 300.0  # seconds for what TeXmacs is asked
 DRIVER = """
 (define (tmhost-drive)
   (with u (system->url "%(folder)s/do.scm")
@@ -21,6 +24,7 @@ DRIVER = """
           (string-save (object->string (if (tree? r) (tree->stree r) r)) (system->url "%(folder)s/done.part"))
           (system-move (system->url "%(folder)s/done.part") (system->url "%(folder)s/done"))))))
   (delayed (:pause 50) (tmhost-drive)))
+(lazy-plugin-force)
 (tmhost-drive)
 """
 
@@ -33,8 +37,8 @@ def lacking() -> str:
 
 class RealTeXmacs:
     def __init__(self, folder: str, number: int, document: str = "") -> None:
-        self.folder, self.display = os.path.join(folder, f"texmacs{number}"), f":{90 + number}"
-        self.home = os.path.join(folder, "home")
+        self.folder, self.display = os.path.join(folder, f"texmacs{number}"), f":{100 + os.getpid() % 400 + number}"
+        self.home = os.environ.get("TMHOST_TEXMACS_HOME") or os.path.join(folder, "home")
         os.makedirs(self.folder, exist_ok=True)
         os.makedirs(os.path.join(self.home, ".TeXmacs", "plugins"), exist_ok=True)
         link = os.path.join(self.home, ".TeXmacs", "plugins", "tmhost")
@@ -46,6 +50,8 @@ class RealTeXmacs:
         for name in ("do.scm", "done", "done.part"):
             if os.path.exists(os.path.join(self.folder, name)):
                 os.remove(os.path.join(self.folder, name))
+        if os.path.exists(document + "~"):  # of one that was killed, about which it would ask
+            os.remove(document + "~")
         driver = os.path.join(self.folder, "driver.scm")
         with open(driver, "w", encoding="utf-8") as file:
             file.write(DRIVER % {"folder": self.folder})
@@ -75,7 +81,7 @@ class RealTeXmacs:
     def types(self, text: str) -> None:
         """Writes into the input where the cursor is, and gives it to be evaluated."""
         quoted = text.replace("\\", "\\\\").replace('"', '\\"')
-        self.does(f'(begin (insert "{quoted}") (session-evaluate) "typed")')
+        self.does(f'(begin (insert (utf8->cork "{quoted}")) (session-evaluate) "typed")')
 
     def waits(self, session: str) -> None:
         """Until a session has nothing more to answer."""
@@ -90,11 +96,14 @@ class RealTeXmacs:
 
     def saves(self, path: str) -> str:
         self.does(f'(begin (buffer-export (current-buffer) (system->url "{path}") "texmacs") "saved")')
-        with open(path, encoding="utf-8") as file:
+        with open(path, encoding="latin-1") as file:
             return file.read()
 
-    def shoots(self, path: str) -> None:
-        subprocess.run(["import", "-window", "root", path], env=self.environment, check=True)
+    def shoots(self, name: str) -> None:
+        """A picture of the screen, where one is wanted."""
+        folder = os.environ.get("TMHOST_SCREENSHOTS")
+        if folder:
+            subprocess.run(["import", "-window", "root", os.path.join(folder, name + ".png")], env=self.environment, check=True)
 
     def kill(self) -> None:
         """With -9, and what it was started by: not what it has started itself."""
@@ -107,6 +116,3 @@ class RealTeXmacs:
         self.screen.kill()
         self.screen.wait()
 
-
-def logs(folder: str) -> List[str]:
-    return glob.glob(os.path.join(folder, "texmacs*", "log"))

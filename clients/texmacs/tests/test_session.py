@@ -78,21 +78,31 @@ class Lines(Case):
         texmacs.begin("loop")
         time.sleep(1)
         texmacs.interrupt()
-        texmacs.answer()
+        self.assertEqual(texmacs.answer().text, "interrupted")
         self.assertEqual(texmacs.evaluate("count").text, "2")
         texmacs.interrupt()  # between lines it does nothing
         self.assertEqual(texmacs.evaluate("count").text, "3")
         self.assertEqual([answer for _, answer in self.kept().values()], ["one", "interrupted", "2", "3"])
 
-    def test_the_next_line_has_its_own_answer_behind_an_interrupt_that_is_not_heeded(self) -> None:
+    def test_an_interrupt_that_is_not_heeded(self) -> None:
         self.make()
         texmacs = self.texmacs()
         texmacs.begin("stuck 3")
         time.sleep(1)
         texmacs.interrupt()
-        self.assertEqual(texmacs.answer().text, "")
+        self.assertEqual(texmacs.answer().text, "slept")
         self.assertEqual(texmacs.evaluate("say mine").text, "mine")
-        self.assertEqual([answer for _, answer in self.kept().values()], ["slept", "mine"])
+
+    def test_a_closed_session_has_no_interpreter(self) -> None:
+        self.make()
+        texmacs, other = self.texmacs(), self.texmacs("sh:x")
+        texmacs.evaluate("count")
+        texmacs.begin("stuck 60")
+        time.sleep(1)
+        texmacs.kill()
+        other.evaluate("sleep 1")
+        again = self.texmacs()
+        self.assertEqual(again.evaluate("count").text, "0")
 
 
 class Documents(Case):
@@ -114,6 +124,15 @@ class Documents(Case):
         time.sleep(0.5)
         self.assertEqual(other.evaluate("say two").text, "two")
         self.assertEqual(list(self.kept()), ["1", "2"])
+
+    def test_a_second_document_at_a_session_is_refused(self) -> None:
+        """Two documents of one TeXmacs that have the same session share its program."""
+        self.make()
+        texmacs = self.texmacs()
+        first = texmacs.evaluate("say one")
+        texmacs.document = "/d/copy.tm"
+        self.assertIn("not taken: the worksheet", texmacs.evaluate("say two", first.id).text)
+        self.assertEqual(self.kept(), {"1": ("say one", "one")})
 
     def test_another_texmacs_is_refused(self) -> None:
         self.make()

@@ -16,7 +16,7 @@ from tmhost import InUse, TmhostError, Worksheet
 from .offered import ensured, none_of
 from .places import folder_of_pictures
 from .speech import Speech, whole
-from .talk import Gone, Interrupt, Left, Talk
+from .talk import Gone, Interrupt, Left, Talk, at_work
 
 INTERRUPT = b"\x03\n"
 READY = "ready"
@@ -27,7 +27,7 @@ class Keeper:
     def __init__(self, sheet: Worksheet) -> None:
         self.sheet, self.speech = sheet, Speech(folder_of_pictures())
         self.lock = threading.Lock()
-        self.joined: Dict[int, Owner] = {}
+        self.joined: Dict[int, Tuple[Owner, str]] = {}  # who has joined, for which session
         self.is_over = threading.Event()
 
     def serve(self, listener: socket.socket) -> None:
@@ -55,25 +55,33 @@ class Keeper:
     def _joined(self, number: int, hello: Dict[str, str], connection: socket.socket, lines: BinaryIO) -> None:
         full_name, document = hello["session"], hello["document"]
         name = full_name.partition(":")[0]
-        why = self._why_not(number, (int(hello["texmacs"]), document))
+        why = self._why_not(number, (int(hello["texmacs"]), document), name)
         if why is None and ensured(self.sheet, name) is None:
             why = none_of(self.sheet, name)
         connection.sendall(json.dumps({"refused": why}).encode() + b"\n")
         if why is None:
-            talk = Talk(self.sheet, name, full_name, self.speech, connection.sendall)
+            talk = Talk(self.sheet, full_name, document, self.speech, connection.sendall)
             connection.sendall(talk.banner())
             threading.Thread(target=hear, args=(lines, talk), daemon=True).start()
             answer_lines(talk)
+            self._end_interpreter(number, name)
 
-    def _why_not(self, number: int, owner: Owner) -> Optional[str]:
-        """Two documents at a worksheet would each show a part of it as the whole, and change the other's fields."""
+    def _end_interpreter(self, number: int, name: str) -> None:
+        """A session that TeXmacs has closed has no interpreter any more, unless another one of that name is open."""
         with self.lock:
-            others = [one for one in self.joined.values() if one != owner]
+            is_shared = any(other == name for one, (_, other) in self.joined.items() if one != number)
+        if not is_shared:
+            self.sheet.stop(name)
+
+    def _why_not(self, number: int, owner: Owner, name: str) -> Optional[str]:
+        """Why a session can't join: another document, or the same in another TeXmacs, is at work."""
+        with self.lock:
+            others = [one for one, _ in self.joined.values() if one != owner]
             if not others:
-                self.joined[number] = owner
+                self.joined[number] = owner, name
                 return None
-        place = f"the document {others[0][1] or 'without a name'}" + ("" if others[0][0] == owner[0] else f" of another TeXmacs (process {others[0][0]})")
-        return f"the worksheet {self.sheet.path} is at work for {place}; close that, or insert a session into this document by the menu: it gets a worksheet of its own"
+        whose = "" if others[0][0] == owner[0] else f" of another TeXmacs (process {others[0][0]})"
+        return at_work(self.sheet.path, others[0][1], whose)
 
     def _leave(self, number: int) -> None:
         with self.lock:

@@ -207,8 +207,8 @@ def words_given(words: List[str]) -> argparse.Namespace:
                                      "`plugins/tmhost` into ~/.TeXmacs/plugins.")
     parser.add_argument("--list", action="store_true", help="print the names of the sessions that are offered, as a list of Scheme")
     parser.add_argument("--keep", nargs=2, metavar=("SHEET", "SOCKET"), help="keep a worksheet open for its sessions (it is started so by itself)")
-    parser.add_argument("session", metavar="SESSION", nargs="?", default=os.environ.get(SESSION, ""), help=f"else the one that {SESSION} names")
-    parser.add_argument("sheet", metavar="SHEET", nargs="?", default=os.environ.get(SHEET, ""), help=f"else the one that {SHEET} names")
+    parser.add_argument("session", metavar="SESSION", nargs="?", default="sh", help=f"where {SESSION} names none")
+    parser.add_argument("sheet", metavar="SHEET", nargs="?", default="", help=f"where {SHEET} names none; else one in ~/tmhost")
     return parser.parse_args(words)
 
 
@@ -219,9 +219,10 @@ def main(words: List[str]) -> int:
         return 0
     if given.keep:
         return keeper.keep(*given.keep)
-    session = given.session or "sh"
+    session = os.environ.get(SESSION) or given.session
+    sheet = os.environ.get(SHEET) or given.sheet or sheet_of(session)
     try:
-        Bridge(given.sheet or sheet_of(session), session, os.environ.get(DOCUMENT, "")).run()
+        Bridge(sheet, session, os.environ.get(DOCUMENT, "")).run()
     except (BrokenPipeError, KeyboardInterrupt):
         os.dup2(os.open(os.devnull, os.O_WRONLY), 1)
     return 0

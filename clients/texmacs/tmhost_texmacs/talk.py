@@ -62,12 +62,13 @@ class Left(Exception):
 
 
 class Talk:
-    """`write` sends to TeXmacs, and `full_name` is the name that it has for the session."""
+    """`write` sends to TeXmacs, `full_name` is the name that it has for the session, and `document` that in which the session is."""
 
-    def __init__(self, sheet: Worksheet, name: str, full_name: str, speech: Speech, write: Callable[[bytes], None]) -> None:
-        self.sheet, self.name, self.full_name, self.speech, self.write = sheet, name, full_name, speech, write
+    def __init__(self, sheet: Worksheet, full_name: str, document: str, speech: Speech, write: Callable[[bytes], None]) -> None:
+        self.sheet, self.full_name, self.document, self.speech, self.write = sheet, full_name, document, speech, write
+        self.name = full_name.partition(":")[0]
         self.happenings: "queue.SimpleQueue[Happening]" = queue.SimpleQueue()
-        self.prompt: Text = next((next_prompt(field.answer.prompt) for field in reversed(self.fields) if field.answer), f"{name}> ")
+        self.prompt: Text = next((next_prompt(field.answer.prompt) for field in reversed(self.fields) if field.answer), f"{self.name}> ")
 
     @property
     def fields(self) -> List[Field]:
@@ -112,6 +113,9 @@ class Talk:
             from .commands import Commands
 
             Commands(self).do(asked)
+            return
+        if asked.document and asked.document != self.document:
+            self.write(whole(f"not taken: {at_work(self.sheet.path, self.document)}", self.prompt))
             return
         cell = self._cell(asked)
         evaluation = cell.eval()
@@ -165,17 +169,13 @@ class Talk:
         return self.shown(answer)
 
     def wait_for(self, evaluation: Evaluation) -> None:
-        """Waits until an evaluation is at its end. An interrupt is passed on, and ends the waiting: TeXmacs drops what comes later, and the worksheet
-        has it all the same."""
+        """Waits until an evaluation is at its end. An interrupt is passed on: what the interpreter says to it is the answer."""
         evaluation.add_done_callback(lambda _: self.happenings.put(Answered()))
         put_off: List[Happening] = []
         while not evaluation.done():
             happening = self.happenings.get()
             if isinstance(happening, Interrupt):
                 self.sheet.interrupt(self.name)
-                self.write(closed(""))
-                self._put_back(put_off)
-                raise Left
             if isinstance(happening, Gone):
                 self._put_back([happening])
                 raise Left
@@ -214,6 +214,12 @@ class Talk:
             return NO_COMPLETIONS
         words = scheme.written([Name("tuple"), *(readable(one) for one in (told.root, *told.rest))])
         return BEGIN + b"scheme:" + escaped(words) + END
+
+
+def at_work(sheet: str, document: str, whose: str = "") -> str:
+    """Two documents at a worksheet would each show a part of it as the whole, and change the other's fields."""
+    return (f"the worksheet {sheet} is at work for the document {document or 'without a name'}{whose}; "
+            "close that, or insert a session into a new document by the menu: it gets a worksheet of its own")
 
 
 def asked_by(form: List[scheme.Form]) -> Asked:
