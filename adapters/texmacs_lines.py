@@ -28,7 +28,7 @@ GRAPHVIZ = ["digraph { a -> b }", "graph { a -- b }", "nonsense", "digraph {", "
 
 LINES: Dict[str, Lines] = {
     "python": Lines(
-        [("1 + 1", "2"), ("print('a')", "a"), ("x = 5", ""), ("x", "5"), ("for i in range(2):\u2028    print(i)", "0\n1"), ("1/0", "..ZeroDivisionError"), ("", ""), ("input()", ".." + SAID)],
+        [("1 + 1", "2"), ("print('a')", "a"), ("x = 5", ""), ("x", "5"), ("for i in range(2):\u2028    print(i)", "0\n1"), ("1/0", "..ZeroDivisionError"), ("", ""), ("input()", "..")],
         "'n%d'", "n%d", "while True: pass", "import os; os._exit(0)", "python"),
     "sympy": Lines(
         [("from sympy import Symbol", ""), ("x = Symbol('x')", ""), ("x**2/3", "{latex:$\\frac{x^{2}}{3}$}"), ("1/0", "..ZeroDivisionError"), ("", "")],
@@ -46,7 +46,7 @@ LINES: Dict[str, Lines] = {
         [("echo hi", "hi"), ("ls /nonexistent", "..No such file"), ("x=5", ""), ("echo $x", "5"), ("if true", ".." + SAID), ("cat", ".." + SAID), ("echo again", "again")],
         "echo n%d", "n%d", "while :; do :; done", "", "sh"),
     "pari": Lines(
-        [("1 + 1", "{latex:$\\%1 = 2$}"), ("1/0", "..impossible inverse"), ("[1, 2; 3, 4]", "{latex:$\\%2 = \\begin{pmatrix}1&2\\\\3&4\\end{pmatrix}$}"), ("print(\"a\")", "a"), ("{1 +", ".." + SAID), ("", "")],
+        [("1 + 1", "{latex:$\\%1 = 2$}"), ("1/0", "..impossible inverse"), ("[1, 2; 3, 4]", "..\\begin{pmatrix}1&2\\\\3&4\\end{pmatrix}"), ("print(\"a\")", "a"), ("{1 +", ".." + SAID), ("", "")],
         "print(\"n%d\")", "n%d", "while (1, )", "\\q", "gp"),
     "yacas": Lines(
         [("1 + 1", "{latex:$2$}"), ("x^2 / 3", "..\\frac{x ^{2}}{3}"), ("(1 +", "..Error"), ("", "")],
@@ -58,7 +58,7 @@ LINES: Dict[str, Lines] = {
         [("1 + 1", "{latex:$2$}"), ("x^2 / 3", "{latex:$\\frac{x^{2}}{3}$}"), ("[[1, 2], [3, 4]]", "{latex:$\\begin{pmatrix}1&2\\\\ 3&4\\end{pmatrix}$}"), ("(1 +", "..syntax error"), ("", "..")],
         "%d + 1000000", "", "while (true) { a := 1 }", "", "giac"),
     "gnuplot": Lines(
-        [("plot sin(x)", "..{image/")], "print 1", "", "while (1) { x = 1 }", "", "", ["plot x", "plot x**2", "foo", "plot [0:"]),
+        [("plot sin(x)", "..{image/")], "set title \"n%d\"; plot x", "..n%d", "while (1) { x = 1 }", "", "", ["plot x", "plot x**2", "foo", "plot [0:", "print 1", "%gnuplot -output png\u2028plot x", "splot x*y", "reset", "# a remark", "plot 'nothing'"]),
     "graphviz": Lines([("digraph { a -> b }", "..{image/")], "digraph { n%d }", "", "", "", "", GRAPHVIZ),
     "macaulay2": Lines([("1 + 1", "..2"), ("1/0", ".."), ("R = QQ[x, y]", "..R")], "print \"n%d\"", "..n%d", "while true do 0", "exit 0", "M2"),
 }
@@ -72,4 +72,4 @@ def odd_lines(name: str) -> List[str]:
 
 def expected(name: str) -> str:
     """The answer to a numbered line that is a value."""
-    return {"yacas": "{latex:$1%06d$}", "giac": "{latex:$1%06d$}", "fricas": "..n%d", "gnuplot": "..{image/", "graphviz": "..{image/"}[name]
+    return {"yacas": "{latex:$1%06d$}", "giac": "{latex:$1%06d$}", "fricas": "..n%d", "graphviz": "..{image/"}[name]

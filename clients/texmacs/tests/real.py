@@ -61,6 +61,13 @@ class RealTeXmacs:
         with open(os.path.join(self.folder, "log"), "wb") as log:
             self.process = subprocess.Popen(words, stdin=subprocess.DEVNULL, stdout=log, stderr=log, env=self.environment, start_new_session=True)
 
+    def shows(self, document: str) -> None:
+        """Waits until a document is there."""
+        until = time.monotonic() + WITHIN
+        while self.does("(url->system (current-buffer))") != f'"{document}"':
+            if time.monotonic() > until:
+                raise AssertionError(f"TeXmacs doesn't show {document}")
+
     def does(self, text: str, seconds: float = WITHIN) -> str:
         """Has TeXmacs evaluate Scheme, and gives the value as it is written."""
         with open(os.path.join(self.folder, "do.part"), "w", encoding="utf-8") as file:

@@ -31,7 +31,7 @@ class Real(Case):
         self.number += 1
         texmacs = RealTeXmacs(self.folder, self.number, document or self.document)
         self.addCleanup(texmacs.end)
-        self.assertEqual(texmacs.does("(+ 1 2)"), "3")
+        texmacs.shows(document or self.document)
         return texmacs
 
     def begins(self, texmacs: RealTeXmacs, name: str) -> str:
