@@ -37,8 +37,8 @@ LINES: Dict[str, Lines] = {
         [("1 + 1", "{latex:$2$}"), ("[1 2; 3 4]", "{latex:$\\begin{pmatrix}1&2\\\\ 3&4\\end{pmatrix}$}"), ("error (\"boo\")", "..boo"), ("nothing", "..undefined"), ("if true", "..parse error"), ("disp (5)", "..5"), ("", "")],
         "printf (\"n%d\\n\")", "n%d", "while true, end", "exit", "octave"),
     "maxima": Lines(
-        [("1 + 1", "{latex:$\\displaystyle (\\mathtt{\\%o1})\\;2$}"), ("1/0", "..expt: undefined: 0 to a negative exponent."), ("a: 5$", ""), ("(1 +", "..incorrect syntax"), ("matrix([1, 2], [3, 4])", "..\\begin{pmatrix}1&2\\\\3&4\\end{pmatrix}"), ("nonsense(", "..incorrect syntax")],
-        "print(\"n%d\")$", "{latex:$\\displaystyle \\mbox{ n%d }\\mbox{ }$}", "while true do 0;", "quit();", "maxima"),
+        [("1 + 1", "{latex:$\\displaystyle (\\mathtt{\\%o1})\\;2$}"), ("1/0", "..expt: undefined: 0 to a negative exponent."), ("a: 5$", ""), ("(1 +", "..incorrect syntax"), ("matrix([1, 2], [3, 4])", "..\\begin{pmatrix}1"), ("nonsense(", "..incorrect syntax")],
+        "print(\"n%d\")$", "..{ n%d }", "while true do 0;", "quit();", "maxima"),
     "r": Lines(
         [("1 + 1", "[1] 2"), ("stop(\"boo\")", "..Error: boo"), ("x <- 5", ""), ("x", "[1] 5"), ("f(", ".." + SAID), ("nothing", "..not found")],
         "cat(\"n%d\\n\")", "n%d", "while (TRUE) 0", "q(\"no\")", "R"),

@@ -55,7 +55,7 @@ class Plugin:
     skips: bool = False
     needs: str = ""  # the program that it stands on
     request: bytes = b""  # what is sent behind an input, whose answer has the MARK
-    more: bytes = b""  # the prompt at which it waits for the rest of an input
+    ready: bytes = b""  # a pattern of the prompt at which it waits for a new input, and for no answer or rest of one
 
 
 def tmpy(name: str, needs: str, request: bytes = b"") -> Plugin:
@@ -75,15 +75,15 @@ KNOWN: Dict[str, Plugin] = {
     "dratex": tmpy("dratex", "latex"),
     "plantuml": tmpy("plantuml", "plantuml"),
     "eukleides": Plugin((sys.executable, f"{PLUGINS}/eukleides/python/tm_eukleides.py"), framed, "block", "prompt", True, "eukleides"),
-    "octave": Plugin(("octave", "--no-gui", "-qi", f"{PLUGINS}/octave/octave/tmstart.m"), framed, "prompt", needs="octave"),
-    "maxima": Plugin((f"{BIN}/tm_maxima", "VERSION", "LISP"), closed, "prompt", needs="maxima"),
-    "r": Plugin((f"{BIN}/tm_r",), in_r, "prompt", "text", needs="R", more=b"+ "),
+    "octave": Plugin(("octave", "--no-gui", "-qi", f"{PLUGINS}/octave/octave/tmstart.m"), framed, "prompt", skips=True, needs="octave"),
+    "maxima": Plugin((f"{BIN}/tm_maxima", "VERSION", "LISP"), closed, "prompt", needs="maxima", ready=rb"\(%i\d+\) "),
+    "r": Plugin((f"{BIN}/tm_r",), in_r, "prompt", "text", needs="R", ready=rb"> "),
     "shell": Plugin((f"{BIN}/tm_shell",), in_one, "block", "text", needs="sh"),
     "pari": Plugin(("gp", "--texmacs"), in_one, "request", "text", needs="gp", request=b'print("MARK")\n'),
     "yacas": Plugin(("yacas", "--texmacs"), in_one, "block", "text", True, needs="yacas"),
     "fricas": Plugin(("fricas", "-texmacs"), in_one, "prompt", needs="fricas"),
     "giac": Plugin(("giac", "--texmacs"), in_one, "prompt", needs="giac"),
-    "macaulay2": Plugin(("M2", "--texmacs"), in_one, "block", needs="M2"),
+    "macaulay2": Plugin(("M2", "--texmacs"), in_one, "request", "block", needs="M2", request=b'<< "MARK" << endl;\n'),
     "scilab": Plugin(("scilab", "--texmacs", "-texmacs", "-f", f"{PLUGINS}/scilab/scilab/init-scilab.sce"), in_one, "prompt", needs="scilab"),
     "qcl": Plugin(("qcl", "--texmacs"), in_one, "block", needs="qcl"),
     "coq": Plugin((f"{BIN}/tm_coq",), in_one, "prompt", needs="coqtop"),

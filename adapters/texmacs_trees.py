@@ -87,7 +87,7 @@ def letters(text: str) -> str:
             shown += letter(found[1])
         else:
             plain = SPECIAL.sub(lambda one: "\\" + one[0], word.replace("\\", "\x00").replace("~", "\\sim ").replace("^", "\\hat{}"))
-            shown += re.sub(r"[A-Za-z]{2,}", lambda one: "\\mathrm{" + one[0] + "}", plain).replace("\x00", "\\backslash ")
+            shown += re.sub(r"([A-Za-z]{2,})", r"\\mathrm{\1}", plain).replace("\x00", "\\backslash ")
     return shown
 
 

@@ -175,7 +175,7 @@ class Documents(Case):
         self.make(True, "say one", "say two", "formula")
         texmacs = self.texmacs()
         told = texmacs.evaluate("%tmhost restore", shown=(("2", "x", "say two"),))
-        self.assertEqual(told.commands, [["tmhost-restore", "t:x", ["1", "say one", ""], ["3", "formula", "2"]]])
+        self.assertEqual(told.commands, [["tmhost-restore", "t:x", "1", "say one", "", "3", "formula", "2"]])
         kept = texmacs.asks('(kept "3")')
         self.assertEqual((kept.text, kept.id), ("{latex:$x$}", "3"))
 

@@ -72,14 +72,14 @@ class Commands:
     def _restore(self, asked: Asked, words: List[str]) -> None:
         """Orders TeXmacs to put each field that the document lacks behind the one before it; it asks for their answers then."""
         there = {one.id for one in asked.shown or ()}
-        lacking: List[scheme.Form] = []
+        lacking: List[str] = []  # of each field the number, the input, and the number of the one before it
         before = ""
         for field in self.talk.fields:
             if str(field.id) not in there:
-                lacking.append([str(field.id), field.input.replace(LINE_END, "\n"), before])
+                lacking += [str(field.id), field.input.replace(LINE_END, "\n"), before]
             before = str(field.id)
         order = command(scheme.written([Name("tmhost-restore"), self.talk.full_name, *lacking])) if lacking else b""
-        said = f"{len(lacking)} fields were put in" if lacking else "this document has all fields of the session"
+        said = f"{len(lacking) // 3} fields were put in" if lacking else "this document has all fields of the session"
         self.talk.write(OPENED + order + escaped(said) + closed(self.talk.prompt))
 
     def _interrupt(self, asked: Asked, words: List[str]) -> None:
