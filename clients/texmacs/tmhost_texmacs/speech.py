@@ -1,4 +1,5 @@
-"""Answers as blocks that TeXmacs reads: texts under `utf8`, pictures by the names of files."""
+"""Answers as blocks that TeXmacs reads: texts under `verbatim`, pictures by the names of files. (Under `utf8` TeXmacs 2.1.4 reads letters of two texts twice: `\u00e9<b>` as
+`\u00e9<less>b<gtr>`.)"""
 
 import base64
 import hashlib
@@ -12,7 +13,7 @@ Text = Union[str, bytes]
 
 BEGIN, END = b"\x02", b"\x05"
 PICTURES = {"image/png;base64": "png", "image/jpeg;base64": "jpg", "image/svg+xml": "svg"}
-OPENED = BEGIN + b"utf8:"  # an answer is one block, which is open from when its line was taken on
+OPENED = BEGIN + b"verbatim:"  # an answer is one block, which is open from when its line was taken on
 
 
 def data_of(text: Text) -> bytes:
@@ -59,8 +60,8 @@ class Speech:
         if picture is not None:
             return picture
         if tag == b"command":  # a worksheet orders nothing
-            tag = b"utf8"
-        return BEGIN + (b"utf8" if tag == b"verbatim" else tag) + b":" + self._inside(block) + END
+            tag = b"verbatim"
+        return BEGIN + (b"verbatim" if tag == b"utf8" else tag) + b":" + self._inside(block) + END
 
     def _picture(self, block: Block) -> Optional[bytes]:
         """A picture as a file in the folder: TeXmacs reads it there, and takes it into the document."""
