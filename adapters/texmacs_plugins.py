@@ -1,4 +1,4 @@
-"""The plugins that GNU TeXmacs ships: what starts each, what it is sent for an input, and where its answer ends."""
+"""Plugins that GNU TeXmacs ships: what starts each, what it is sent for an input, and where its answer ends."""
 import dataclasses
 import glob
 import os
@@ -29,17 +29,13 @@ def in_one(line: bytes) -> bytes:
 
 
 def closed(line: bytes) -> bytes:
-    """As Maxima's and REDUCE's plugins send it."""
+    """As Maxima's plugin sends it."""
     line = line.rstrip()
     return in_one(b"0;" if not line else line if line.endswith((b";", b"$")) else line + b";")
 
 
 def in_r(line: bytes) -> bytes:
     return line.replace(b"\n", b";;") + b"\n"
-
-
-def in_texgraph(line: bytes) -> bytes:
-    return line.replace(b"\n", b"~") + b"\n"
 
 
 @dataclasses.dataclass(frozen=True)
@@ -68,13 +64,7 @@ KNOWN: Dict[str, Plugin] = {
     "sympy": tmpy("sympy", "python3", COMPLETES),
     "gnuplot": tmpy("gnuplot", "gnuplot"),
     "graphviz": tmpy("graphviz", "dot"),
-    "graph": tmpy("graph", "python3"),
     "asymptote": tmpy("asy", "asy"),
-    "tikz": tmpy("tikz", "pdflatex"),
-    "xypic": tmpy("xypic", "pdflatex"),
-    "dratex": tmpy("dratex", "latex"),
-    "plantuml": tmpy("plantuml", "plantuml"),
-    "eukleides": Plugin((sys.executable, f"{PLUGINS}/eukleides/python/tm_eukleides.py"), framed, "block", "prompt", True, "eukleides"),
     "octave": Plugin(("octave", "--no-gui", "-qi", f"{PLUGINS}/octave/octave/tmstart.m"), framed, "prompt", skips=True, needs="octave"),
     "maxima": Plugin((f"{BIN}/tm_maxima", "VERSION", "LISP"), closed, "prompt", needs="maxima", ready=rb"\(%i\d+\) "),
     "r": Plugin((f"{BIN}/tm_r",), in_r, "prompt", "text", needs="R", ready=rb"> "),
@@ -84,15 +74,6 @@ KNOWN: Dict[str, Plugin] = {
     "fricas": Plugin(("fricas", "-texmacs"), in_one, "prompt", needs="fricas"),
     "giac": Plugin(("giac", "--texmacs"), in_one, "prompt", needs="giac"),
     "macaulay2": Plugin(("M2", "--texmacs"), in_one, "request", "block", needs="M2", request=b'<< "MARK" << endl;\n'),
-    "scilab": Plugin(("scilab", "--texmacs", "-texmacs", "-f", f"{PLUGINS}/scilab/scilab/init-scilab.sce"), in_one, "prompt", needs="scilab"),
-    "qcl": Plugin(("qcl", "--texmacs"), in_one, "block", needs="qcl"),
-    "coq": Plugin((f"{BIN}/tm_coq",), in_one, "prompt", needs="coqtop"),
-    "lisp": Plugin((f"{BIN}/tm_lisp", "Clisp"), in_one, "prompt", needs="clisp"),
-    "cadabra": Plugin(("cadabra", "--texmacs"), in_one, "prompt", needs="cadabra"),
-    "reduce": Plugin((f"{BIN}/tm_reduce",), closed, "prompt", needs="redpsl"),
-    "axiom": Plugin((f"{BIN}/tm_axiom",), in_one, "prompt", needs="axiom"),
-    "feynmf": Plugin((f"{BIN}/tm_feynmf", "--texmacs"), in_one, "prompt", needs="latex"),
-    "texgraph": Plugin((f"{BIN}/tm_texgraph", "--texmacs"), in_texgraph, "prompt", needs="CmdTeXgraph"),
 }
 
 
