@@ -41,7 +41,7 @@ LINES: Dict[str, Lines] = {
         "print(\"n%d\")$", "..{ n%d }", "while true do 0;", "quit();", "maxima"),
     "r": Lines(
         [("1 + 1", "[1] 2"), ("stop(\"boo\")", "..Error: boo"), ("x <- 5", ""), ("x", "[1] 5"), ("f(", ".." + SAID), ("nothing", "..not found")],
-        "cat(\"n%d\\n\")", "n%d", "while (TRUE) 0", "q(\"no\")", "R"),
+        "cat(\"n%d\\n\")", "n%d", "while (TRUE) 0", "q(\"no\")", "", ODD_LINES["R"][34:70]),
     "shell": Lines(
         [("echo hi", "hi"), ("ls /nonexistent", "..No such file"), ("x=5", ""), ("echo $x", "5"), ("if true", ".." + SAID), ("cat", ".." + SAID), ("echo again", "again")],
         "echo n%d", "n%d", "while :; do :; done", "", "sh"),

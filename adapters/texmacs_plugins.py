@@ -51,6 +51,7 @@ class Plugin:
     skips: bool = False
     needs: str = ""  # the program that it stands on
     request: bytes = b""  # what is sent behind an input, whose answer has the MARK
+    heeds: bool = True  # an interrupt; one that doesn't ends by it
     ready: bytes = b""  # a pattern of the prompt at which it waits for a new input, and for no answer or rest of one
 
 
@@ -68,7 +69,7 @@ KNOWN: Dict[str, Plugin] = {
     "octave": Plugin(("octave", "--no-gui", "-qi", f"{PLUGINS}/octave/octave/tmstart.m"), framed, "prompt", skips=True, needs="octave"),
     "maxima": Plugin((f"{BIN}/tm_maxima", "VERSION", "LISP"), closed, "prompt", needs="maxima", ready=rb"\(%i\d+\) "),
     "r": Plugin((f"{BIN}/tm_r",), in_r, "prompt", "text", needs="R", ready=rb"> "),
-    "shell": Plugin((f"{BIN}/tm_shell",), in_one, "block", "text", needs="sh"),
+    "shell": Plugin((f"{BIN}/tm_shell",), in_one, "block", "text", needs="sh", heeds=False),
     "pari": Plugin(("gp", "--texmacs"), in_one, "request", "text", needs="gp", request=b'print("MARK")\n'),
     "yacas": Plugin(("yacas", "--texmacs"), in_one, "block", "text", True, needs="yacas"),
     "fricas": Plugin(("fricas", "-texmacs"), in_one, "prompt", needs="fricas"),

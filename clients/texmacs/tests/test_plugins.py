@@ -63,7 +63,7 @@ class Plugins(unittest.TestCase):
         words = [sys.executable, "-B", os.path.join(ADAPTERS, "texmacs"), "octave", sys.executable, self.plugin]
         with subprocess.Popen(words, stdin=subprocess.PIPE, stdout=subprocess.PIPE, env={**os.environ, "HOME": self.folder}) as adapter:
             assert adapter.stdin and adapter.stdout
-            shown = []
+            shown: List[str] = []
             for line in ("", *lines):
                 if shown:
                     adapter.stdin.write(line.encode() + b"\n")

@@ -4,14 +4,16 @@ It ends with the last of them, and so do the interpreters. A connection begins w
 interrupt as a line that is the byte 3. Back go blocks, behind a line of JSON that says whether it was joined.
 """
 
+import itertools
 import json
 import os
 import socket
 import sys
 import threading
+import time
 from typing import BinaryIO, Dict, List, Optional, Tuple
 
-from tmhost import InUse, TmhostError, Worksheet
+from tmhost import Event, Finished, InUse, TmhostError, Worksheet
 
 from .offered import ensured, none_of
 from .places import folder_of_pictures
@@ -20,25 +22,35 @@ from .talk import Gone, Interrupt, Left, Talk, at_work
 
 INTERRUPT = b"\x03\n"
 READY = "ready"
+LAST_WORDS = 0.2  # seconds in which it is said in a line why that has no answer
 Owner = Tuple[int, str]  # a process of TeXmacs, and a document in it
 
 
 class Keeper:
-    def __init__(self, sheet: Worksheet) -> None:
-        self.sheet, self.speech = sheet, Speech(folder_of_pictures())
+    def __init__(self, sheet: Worksheet, door: "Door") -> None:
+        self.sheet, self.door, self.speech = sheet, door, Speech(folder_of_pictures())
         self.lock = threading.Lock()
         self.joined: Dict[int, Tuple[Owner, str]] = {}  # who has joined, for which session
         self.is_over = threading.Event()
 
-    def serve(self, listener: socket.socket) -> None:
-        threading.Thread(target=self._accept, args=(listener,), daemon=True).start()
+    def _heard(self, event: Event) -> None:
+        """A program that has died between lines is noticed before the next one."""
+        if isinstance(event, Finished):
+            self.door.close()
+            time.sleep(LAST_WORDS)
+            self.is_over.set()
+
+    def serve(self) -> None:
+        self.sheet.listen(self._heard)
+        threading.Thread(target=self._accept, daemon=True).start()
         self.is_over.wait()
 
-    def _accept(self, listener: socket.socket) -> None:
-        number = 0
-        while True:
-            connection, _ = listener.accept()
-            number += 1
+    def _accept(self) -> None:
+        for number in itertools.count():
+            try:
+                connection, _ = self.door.listener.accept()
+            except OSError:  # it was closed
+                return
             threading.Thread(target=self._one, args=(number, connection), daemon=True).start()
 
     def _one(self, number: int, connection: socket.socket) -> None:
@@ -92,7 +104,7 @@ class Keeper:
     def _say_the_end(self, connection: socket.socket, error: TmhostError) -> None:
         """The program has died: nothing more goes here, and the next line of TeXmacs starts another keeper."""
         try:
-            connection.sendall(whole(f"? {error}"))
+            connection.sendall(whole(f"? {error}; evaluate the line again"))
         except OSError:
             pass
         self.is_over.set()
@@ -119,14 +131,26 @@ def answer_lines(talk: Talk) -> None:
                 continue
 
 
-def bound(path: str) -> socket.socket:
-    """The listening socket of a worksheet that this process holds: a file of that name is one that ended."""
-    listener = socket.socket(socket.AF_UNIX)
-    if os.path.lexists(path):
-        os.unlink(path)
-    listener.bind(path)
-    listener.listen()
-    return listener
+class Door:
+    """The socket at which sessions come to a worksheet that this process holds: a file of that name is one of a process that ended. It is closed once, and the
+    file goes where it is still this one."""
+
+    def __init__(self, path: str) -> None:
+        self.path, self.listener = path, socket.socket(socket.AF_UNIX)
+        if os.path.lexists(path):
+            os.unlink(path)
+        self.listener.bind(path)
+        self.listener.listen()
+        self.file = os.stat(path).st_ino
+
+    def close(self) -> None:
+        try:
+            if os.stat(self.path).st_ino == self.file:
+                os.unlink(self.path)
+            self.listener.shutdown(socket.SHUT_RDWR)
+        except OSError:
+            pass
+        self.listener.close()
 
 
 def keep(sheet: str, path: str) -> int:
@@ -134,11 +158,10 @@ def keep(sheet: str, path: str) -> int:
     try:
         os.makedirs(os.path.dirname(os.path.abspath(sheet)), exist_ok=True)
         with Worksheet(sheet, create=True) as worksheet:
-            listener = bound(path)
+            door = Door(path)
             tell(READY)
-            Keeper(worksheet).serve(listener)
-            listener.close()
-            os.unlink(path)
+            Keeper(worksheet, door).serve()
+            door.close()
     except InUse:
         tell(f"{sheet} is in use by another program")
         return 1

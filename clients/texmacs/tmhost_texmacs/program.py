@@ -148,6 +148,8 @@ class Bridge:
         return bool(piece)
 
     def _take(self, line: bytes) -> None:
+        if self.connection and select.select([self.connection], [], [], 0)[0]:
+            self._hear()  # of one that has ended, so that the line goes to the next one
         self.owed += 1
         if self.connection is None:
             if not self._join():
