@@ -9,7 +9,7 @@ from typing import Dict, List
 
 from .lines import BUSY, COMPLETED, LINES, PROGRAMS
 from .real import RealTeXmacs, lacking
-from .support import Case
+from .support import PROGRAM, ROOT, Case, Worksheet
 
 KILLS = int(os.environ.get("TMHOST_KILLS", "2"))
 EMPTY = "<TeXmacs|2.1.4>\n\n<style|generic>\n\n<\\body>\n  \\;\n</body>\n"
@@ -138,3 +138,28 @@ class Real(Case):
         self.assertIn("is at work for the document", " ".join(said.split()))
         texmacs.end()
         self.assertEqual([field.input for field in self.fields()], ["1 + 1"])
+
+    def test_a_worksheet_is_shown(self) -> None:
+        """A document gets the sessions of a worksheet, with formulas as TeXmacs has them."""
+        if shutil.which("gp") is None:
+            self.skipTest("there is no gp")
+        sheet = os.path.join(self.folder, "old")
+        adapters = os.path.join(ROOT, "adapters")
+        with Worksheet(sheet, create=True, program=PROGRAM) as worksheet:
+            worksheet.session("a", [f"{adapters}/gp"])
+            worksheet.session("b", ["python3", f"{adapters}/python"])
+            for session, text in (("a", "1/3"), ("b", "x = 5"), ("a", "[1, 2; 3, 4]"), ("b", "print('\u00e9', x)\nx + 1"), ("a", "1/0")):
+                worksheet.new(session, text).evaluate(120)
+        texmacs = self.texmacs_of()
+        texmacs.does(f'(begin (tmhost-open (system->url "{sheet}")) "opened")')
+        until = time.monotonic() + 60
+        while set(self.noted(texmacs)) != {"1", "2", "3", "4", "5"} and time.monotonic() < until:
+            time.sleep(0.5)
+        time.sleep(1)
+        texmacs.shoots("shown")
+        text = texmacs.saves(os.path.join(self.folder, "seen.tm"))
+        self.assertEqual(set(self.noted(texmacs)), {"1", "2", "3", "4", "5"})
+        self.assertIn("<frac|1|3>", text)
+        self.assertIn("impossible inverse", text)
+        self.assertIn("\xe9 5", text)
+        self.assertEqual(text.count("<\\session|tmhost|"), 2)

@@ -12,6 +12,8 @@ import sys
 import time
 from typing import List, Optional
 
+from tmhost import TmhostError, Worksheet
+
 from . import keeper, scheme
 from .offered import adapters
 from .places import sheet_of, socket_of
@@ -208,16 +210,30 @@ def words_given(words: List[str]) -> argparse.Namespace:
     parser = argparse.ArgumentParser(prog="tmhost-texmacs", description="A session of a worksheet for GNU TeXmacs, which starts it by itself: put the folder "
                                      "`plugins/tmhost` into ~/.TeXmacs/plugins.")
     parser.add_argument("--list", action="store_true", help="print the names of the sessions that are offered, as a list of Scheme")
+    parser.add_argument("--sessions", metavar="SHEET", help="print the names of the sessions of a worksheet so; #f where it can't be opened")
     parser.add_argument("--keep", nargs=2, metavar=("SHEET", "SOCKET"), help="keep a worksheet open for its sessions (it is started so by itself)")
     parser.add_argument("session", metavar="SESSION", nargs="?", default="sh", help=f"where {SESSION} names none")
     parser.add_argument("sheet", metavar="SHEET", nargs="?", default="", help=f"where {SHEET} names none; else one in ~/tmhost")
     return parser.parse_args(words)
 
 
+def sessions_of(sheet: str) -> str:
+    """The sessions of a worksheet that have fields, as a list of Scheme."""
+    try:
+        with Worksheet(sheet) as worksheet:
+            used = {field.session for field in worksheet.fields}
+            return scheme.written([name for name in worksheet.sessions if name in used])
+    except (OSError, TmhostError):
+        return "#f"
+
+
 def main(words: List[str]) -> int:
     given = words_given(words)
     if given.list:
         print(scheme.written(list(adapters())))
+        return 0
+    if given.sessions:
+        print(sessions_of(given.sessions))
         return 0
     if given.keep:
         return keeper.keep(*given.keep)
