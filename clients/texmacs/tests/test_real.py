@@ -114,7 +114,7 @@ class Real(Case):
         texmacs.waits(session)
         self.says(texmacs, session, "%tmhost check")
         texmacs.shoots("restored")
-        self.assertEqual(sorted(self.noted(texmacs), key=int), sorted(kept, key=int))
+        self.assertEqual(list(self.noted(texmacs)), list(kept))
         print(f"{self.id().split('.')[-1]}: {KILLS} kills of TeXmacs, {len(shown)} answers shown, all there", file=sys.stderr)
 
     def enters(self, texmacs: RealTeXmacs, session: str) -> None:
@@ -158,7 +158,8 @@ class Real(Case):
         time.sleep(1)
         texmacs.shoots("shown")
         text = texmacs.saves(os.path.join(self.folder, "seen.tm"))
-        self.assertEqual(set(self.noted(texmacs)), {"1", "2", "3", "4", "5"})
+        self.assertEqual(list(self.noted(texmacs)), ["1", "3", "5", "2", "4"])
+        self.assertNotIn("in use", text)
         self.assertIn("<frac|1|3>", text)
         self.assertIn("impossible inverse", text)
         self.assertIn("\xe9 5", text)

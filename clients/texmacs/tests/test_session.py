@@ -1,5 +1,7 @@
 """A session of a worksheet, as TeXmacs talks with it."""
 import os
+import queue
+import threading
 import time
 import unittest
 
@@ -112,6 +114,17 @@ class Documents(Case):
         self.assertEqual((one.evaluate("say a").id, other.evaluate("echo b").id), ("1", "2"))
         self.assertEqual(other.evaluate("%tmhost interrupt t").text, "interrupt of t: idle")
         self.assertEqual([answer for _, answer in self.kept().values()], ["a", "b"])
+
+    def test_sessions_that_begin_at_once(self) -> None:
+        self.make()
+        found: "queue.SimpleQueue[str]" = queue.SimpleQueue()
+        threads = [threading.Thread(target=lambda name=name: found.put(self.texmacs(name).banner.text)) for name in ("t:x", "sh:x", "bc:x")]
+        for thread in threads:
+            thread.start()
+        for thread in threads:
+            thread.join()
+        for _ in threads:
+            self.assertIn("kept in " + self.sheet, found.get())
 
     def test_two_documents_are_refused(self) -> None:
         self.make()

@@ -2,6 +2,7 @@
 
 import argparse
 import contextlib
+import fcntl
 import json
 import os
 import select
@@ -10,7 +11,7 @@ import socket
 import subprocess
 import sys
 import time
-from typing import List, Optional
+from typing import List, Optional, Tuple
 
 from tmhost import TmhostError, Worksheet
 
@@ -49,30 +50,37 @@ class Refusal(Exception):
 
 
 def joined(sheet: str, session: str, document: str, texmacs: int) -> socket.socket:
-    """A connection to the program that keeps a worksheet, which is started where there is none."""
-    until = time.monotonic() + PATIENCE
-    path = socket_of(sheet)
-    while True:
-        connection = socket.socket(socket.AF_UNIX)
-        try:
-            connection.connect(path)
-            hello = {"session": session, "document": document, "texmacs": str(texmacs)}
-            connection.sendall(json.dumps(hello).encode() + b"\n")
-            told = line_of(connection)
-        except OSError:
-            told = b""
-        if told:
-            why = json.loads(told)["refused"]
-            if why is None:
+    """A connection to the program that keeps a worksheet, which is started where there is none. One session at a time looks for it, so that none finds it half
+    begun."""
+    hello = json.dumps({"session": session, "document": document, "texmacs": str(texmacs)}).encode() + b"\n"
+    path, until = socket_of(sheet), time.monotonic() + PATIENCE
+    with open(path + ".lock", "w", encoding="ascii") as lock:
+        fcntl.flock(lock, fcntl.LOCK_EX)
+        while True:
+            connection, told = greeted(path, hello)
+            if connection and told is None:
                 return connection
-            connection.close()
-            raise Refusal(why)
-        connection.close()
-        why = started(sheet, path)
-        if why is not None and time.monotonic() > until:
-            raise Refusal(why)
-        if why is not None:
-            time.sleep(0.2)
+            why = told or started(sheet, path)
+            if told or why is not None and time.monotonic() > until:
+                raise Refusal(why)
+            if why is not None:
+                time.sleep(0.2)
+
+
+def greeted(path: str, hello: bytes) -> Tuple[Optional[socket.socket], Optional[str]]:
+    """A connection that was joined; or none, and why it was refused, where somebody was there."""
+    connection = socket.socket(socket.AF_UNIX)
+    try:
+        connection.connect(path)
+        connection.sendall(hello)
+        told = line_of(connection)
+    except OSError:
+        told = b""
+    why: Optional[str] = json.loads(told)["refused"] if told else None
+    if told and why is None:
+        return connection, None
+    connection.close()
+    return None, why
 
 
 def line_of(connection: socket.socket) -> bytes:
