@@ -4,7 +4,7 @@
 import { ask } from "./talk.js";
 import { button, make, visible } from "./dom.js";
 import { OutputView } from "./output.js";
-import { answerState, textState } from "./said.js";
+import { answerState, textState, took } from "./said.js";
 import { AT_FIRST, childrenOf, copyOfShape, isOther, show } from "./shape.js";
 import { setInto } from "./setter.js";
 
@@ -56,13 +56,14 @@ export class CellView {
     this.said = AT_FIRST;
     this.box = copyOfShape();
     const [head, line, output] = childrenOf(this.box);
-    const [number, session, textState, answerState] = childrenOf(head);
+    const [number, session, textState, answerState, took] = childrenOf(head);
     const [prompt, text] = childrenOf(line);
     number.textContent = `#${this.id}`;
     this.head = head;
     this.session = session;
     this.textState = textState;
     this.answerState = answerState;
+    this.took = took;
     this.line = line;
     this.prompt = prompt;
     this.text = /** @type {HTMLTextAreaElement} */ (text);
@@ -146,6 +147,8 @@ export class CellView {
     }
     this.prompt.textContent = this.isProse ? "" : visible(cell.prompt ?? "> ");
     this.output.update(this.isProse ? null : cell.output, cell.isOld);
+    const time = took(cell);
+    if (this.took.textContent !== time) this.took.textContent = time;
     this.showProse();
     this.fit();
     this.say();
@@ -317,7 +320,10 @@ export class CellView {
    * @type {(text: string, at: number) => void}
    */
   isSavedNow(text, at) {
-    if (text !== this.base) this.cell = { ...this.cell, input: text, state: /** @type {const} */ ("empty"), reason: null, prompt: null, isOld: true };
+    if (text !== this.base) {
+      this.cell = { ...this.cell, input: text, state: /** @type {const} */ ("empty"), reason: null, prompt: null, isOld: true, took: null };
+      this.took.textContent = "";
+    }
     this.cell = { ...this.cell, draft: null };
     this.kept = null;
     this.changedAt = Math.max(this.changedAt, at);

@@ -2,6 +2,7 @@
 
 import { byId, make } from "./dom.js";
 import { CellView } from "./cell.js";
+import { Choice } from "./choice.js";
 import { toolbarOf } from "./toolbar.js";
 
 /** @typedef {import("./types").Message} Message */
@@ -19,6 +20,7 @@ export class Cells {
     this.toolbar = toolbarOf();
     /** @type {CellView | undefined} */
     this.selected = undefined;
+    this.choice = new Choice(this);
     /** @type {Map<number, (() => void)[]>} */
     this.awaited = new Map();
   }
@@ -60,8 +62,8 @@ export class Cells {
   /** @param {number[]} order */
   arrange(order) {
     const focused = document.activeElement;
-    const place = this.selected ? this.order.indexOf(this.selected.id) : -1;
     const staying = new Set(order);
+    const place = this.selected ? this.order.slice(0, this.order.indexOf(this.selected.id)).filter((id) => staying.has(id)).length : -1;
     const isFocusLost = this.order.some((id) => !staying.has(id) && this.drop(id));
     for (const id of this.order) if (!staying.has(id)) this.drop(id);
     this.order = order;
@@ -69,6 +71,7 @@ export class Cells {
     this.put(order.flatMap((id) => this.views.get(id)?.box ?? []));
     if (this.selected === undefined && order.length) this.select(this.at(Math.max(0, Math.min(place, order.length - 1))), isFocusLost);
     else if (focused instanceof HTMLElement && focused.isConnected && focused !== document.activeElement) focused.focus({ preventScroll: true });
+    this.choice.show();
   }
 
   /**
@@ -123,6 +126,7 @@ export class Cells {
   select(view, withFocus = true) {
     if (!view) return;
     if (this.selected !== view) {
+      this.choice.drop();
       this.leave();
       this.selected = view;
       view.box.classList.add("selected");

@@ -4,6 +4,7 @@
 /** @typedef {import("./cell").CellView} CellView */
 /** @typedef {import("./cells").Cells} Cells */
 /** @typedef {import("./completions").Completions} Completions */
+/** @typedef {import("./several").Several} Several */
 
 const TWICE_WITHIN = 800; // milliseconds between the two presses of D D
 
@@ -19,9 +20,18 @@ export const TABLE = [
   ["Alt-Enter", "evaluate, and make a cell below"],
   ["Up, Down, K, J", "the cell above, below"],
   ["Home, End", "the first cell, the last one"],
+  ["Shift-Up, Shift-Down, Shift-K, Shift-J", "choose several cells; also Shift with a click"],
+  ["Control-A", "choose all cells"],
   ["A, B", "new cell above, below"],
-  ["D D", "remove the cell"],
-  ["Z, Control-Z", "bring back what was removed last; in a text Control-Z takes back what was typed there"],
+  ["X, C", "cut, copy what is chosen; Control-X, Control-C too"],
+  ["V, Shift-V", "paste below, above what was cut or copied here"],
+  ["Control-V", "paste what was cut or copied anywhere: cells, or a text"],
+  ["Shift-D", "duplicate"],
+  ["D D", "remove"],
+  ["Shift-M", "make one cell of several, or of the cell and the one below"],
+  ["Control-Shift-Minus (in the text)", "cut the cell in two at the cursor"],
+  ["Z, Control-Z", "take back the last removal, cut, paste, split, merge or move; in a text Control-Z takes back what was typed there"],
+  ["Shift-Z, Control-Shift-Z, Control-Y", "do it again"],
   ["M, Y", "make it prose, make it a cell of the session that is chosen below"],
   ["Alt-Up, Alt-Down", "move the cell"],
   ["I I", "interrupt its interpreter"],
@@ -82,12 +92,14 @@ export class Keys {
   /**
    * @param {Cells} cells
    * @param {Actions} actions
+   * @param {Several} several
    * @param {Completions} completions
    * @param {() => void} showKeys
    */
-  constructor(cells, actions, completions, showKeys) {
+  constructor(cells, actions, several, completions, showKeys) {
     this.cells = cells;
     this.actions = actions;
+    this.several = several;
     this.completions = completions;
     this.showKeys = showKeys;
     this.last = { key: "", time: 0 };
@@ -101,16 +113,24 @@ export class Keys {
 
   /** @returns {Record<string, (view: CellView) => unknown>} */
   commandsOf() {
-    const { cells, actions } = this;
+    const { cells, actions, several } = this;
     /** @type {(by: number) => (view: CellView) => void} */
-    const step = (by) => (view) => cells.select(cells.beside(view, by));
+    const step = (by) => (view) => {
+      cells.choice.drop();
+      cells.select(cells.beside(view, by));
+    };
+    /** @type {(by: number) => (view: CellView) => void} */
+    const extend = (by) => (view) => cells.choice.extend(cells.beside(view, by));
     return {
       Enter: (view) => cells.edit(view),
       ArrowUp: step(-1), k: step(-1), ArrowDown: step(1), j: step(1),
       Home: () => cells.select(cells.at(0)), End: () => cells.select(cells.at(cells.order.length - 1)),
       a: (view) => actions.insertAbove(view), b: (view) => actions.insertBelow(view),
-      dd: (view) => actions.remove(view), z: () => actions.restore(null),
-      m: (view) => actions.change(view, null), y: (view) => view.isProse && actions.change(view, actions.defaultSession()),
+      "Shift+ArrowUp": extend(-1), "Shift+k": extend(-1), "Shift+ArrowDown": extend(1), "Shift+j": extend(1), Escape: () => cells.choice.drop(),
+      x: () => several.cut(), c: () => several.copy(), v: () => several.paste(), "Shift+v": () => several.paste(undefined, true),
+      "Shift+d": (view) => several.duplicate(view), "Shift+m": (view) => several.merge(view),
+      dd: () => several.remove(), z: () => several.go(true), "Shift+z": () => several.go(false),
+      m: (view) => several.change(view, null), y: (view) => view.isProse && several.change(view, actions.defaultSession()),
       ii: (view) => actions.interrupt(view), "00": (view) => actions.restart(view),
       t: (view) => actions.toggleText(view), h: () => this.showKeys(),
     };
@@ -133,7 +153,7 @@ export class Keys {
   }
 
   /**
-   * Outside of a text Control-Z does what Z does; true where it was for that.
+   * Outside of a text Control-Z does what Z does, and Control-Y what Shift-Z does; true where it was for that.
    * @param {KeyboardEvent} event
    */
   isUndo(event) {
@@ -141,7 +161,7 @@ export class Keys {
     if (!(event.ctrlKey || event.metaKey) || event.altKey || !["z", "y"].includes(key) || isText(event.target)) return false;
     event.preventDefault();
     this.last = { key: "", time: 0 };
-    if (key === "z" && !event.shiftKey && !event.repeat && !document.querySelector("dialog[open]")) this.actions.restore(null);
+    if (!event.repeat && !document.querySelector("dialog[open]")) this.several.go(key === "z" && !event.shiftKey);
     return true;
   }
 
@@ -154,8 +174,8 @@ export class Keys {
     const isControl = event.ctrlKey || event.metaKey;
     if (key === "Enter" && (shiftKey || isControl || altKey)) this.evaluate(view, shiftKey ? "next" : altKey ? "insert" : "stay");
     else if (isControl && !shiftKey && !altKey && key.toLowerCase() === "s") view.save();
-    else if (altKey && key === "ArrowUp") this.actions.moveUp(view);
-    else if (altKey && key === "ArrowDown") this.actions.moveDown(view);
+    else if (altKey && key === "ArrowUp") this.several.move(view, -1);
+    else if (altKey && key === "ArrowDown") this.several.move(view, 1);
     else return false;
     return true;
   }
@@ -163,11 +183,12 @@ export class Keys {
   /** @type {(view: CellView, then: "next" | "insert" | "stay") => Promise<void>} */
   async evaluate(view, then) {
     this.completions.close();
-    const next = then === "next" ? this.cells.beside(view, 1) : undefined;
-    const evaluated = this.actions.evaluate(view);
+    const last = this.several.of(view).at(-1) ?? view;
+    const next = then === "next" ? this.cells.beside(last, 1) : undefined;
+    const evaluated = this.several.evaluate(view);
     this.cells.select(next ?? view);
     if (next || then === "stay") return;
-    await this.actions.held.during(async () => (await evaluated) && this.actions.insertBelow(view, true));
+    await this.actions.held.during(async () => (await evaluated) && this.actions.insertBelow(last, true));
   }
 
   /** @type {(event: KeyboardEvent, view: CellView) => boolean} */
@@ -178,6 +199,10 @@ export class Keys {
     }
     if (event.key === "Tab" && !event.ctrlKey && !event.altKey) return this.tab(view, event.shiftKey);
     if (event.key === "Enter") return newLine(view);
+    if (event.ctrlKey && event.shiftKey && ["-", "_"].includes(event.key)) {
+      this.several.split(view);
+      return true;
+    }
     return event.key.startsWith("Arrow") && this.atEdge(event, view);
   }
 
@@ -209,9 +234,14 @@ export class Keys {
 
   /** @type {(event: KeyboardEvent, view: CellView) => boolean} */
   command(event, view) {
+    if (event.key === "a" && (event.ctrlKey || event.metaKey) && !event.altKey) {
+      this.cells.choice.all();
+      return true;
+    }
     if (event.ctrlKey || event.metaKey || event.altKey) return false;
-    const key = event.key.length === 1 ? event.key.toLowerCase() : event.key;
-    if (event.repeat && !STEPS.includes(key)) return true;
+    const letter = event.key.length === 1 ? event.key.toLowerCase() : event.key;
+    const key = event.shiftKey && Object.hasOwn(this.commands, `Shift+${letter}`) ? `Shift+${letter}` : letter;
+    if (event.repeat && !STEPS.includes(letter)) return true;
     const isTwice = this.last.key === key && event.timeStamp - this.last.time < TWICE_WITHIN;
     const name = isTwice ? key + key : key;
     this.last = { key: isTwice ? "" : key, time: event.timeStamp };

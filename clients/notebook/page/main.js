@@ -9,6 +9,7 @@ import { byId } from "./dom.js";
 import { listen } from "./feed.js";
 import { Keys } from "./keys.js";
 import { savePicture } from "./output.js";
+import { Several } from "./several.js";
 
 /** @typedef {import("./types").Message} Message */
 
@@ -18,6 +19,7 @@ let hasEnded = false; // the program, while the server is there
 let hasBeenThere = false; // the server: what was typed since is to be saved when it is there again
 const cells = new Cells(page);
 const actions = new Actions(cells, bars.note);
+const several = new Several(actions);
 const completions = new Completions();
 const showKeys = keysDialog();
 let isForCell = false; // whether a session is made for a new cell
@@ -25,7 +27,7 @@ const askSession = sessionDialog(async (name, words, tab) => {
   const told = await actions.ask("session", { name, words, tab });
   if (!told.refused && isForCell) await actions.make(cells.order.at(-1) ?? 0, name, true);
 }, (name) => page.sessions.has(name));
-new Keys(cells, actions, completions, showKeys);
+new Keys(cells, actions, several, completions, showKeys);
 document.body.insertBefore(emptyLine(), cells.place.nextSibling);
 
 // ---- what the server tells
@@ -86,6 +88,7 @@ const DOES = {
   stopSession: (node) => actions.stopSession(sessionOf(node)),
   restartSession: (node) => actions.restartSession(sessionOf(node)),
   evaluateAll: () => actions.evaluateAll(),
+  evaluateStale: () => actions.evaluateStale(),
   restartAll: () => actions.restartAll(),
   addCell: () => {
     isForCell = actions.defaultSession() === null;
@@ -97,18 +100,21 @@ const DOES = {
 
 /** @type {Record<string, (view: import("./cell").CellView, node: HTMLElement) => unknown>} */
 const DOES_TO_CELL = {
-  evaluate: (view) => actions.evaluate(view),
+  evaluate: (view) => several.evaluate(view),
   evaluateFrom: (view) => actions.evaluateFrom(view),
   interrupt: (view) => actions.interrupt(view),
   stop: (view) => actions.stop(view),
   restart: (view) => actions.restart(view),
   insertAbove: (view) => actions.insertAbove(view),
   insertBelow: (view) => actions.insertBelow(view),
-  moveUp: (view) => actions.moveUp(view),
-  moveDown: (view) => actions.moveDown(view),
+  moveUp: (view) => several.move(view, -1),
+  moveDown: (view) => several.move(view, 1),
+  split: (view) => several.split(view),
+  merge: (view) => several.merge(view),
+  duplicate: (view) => several.duplicate(view),
   toggleText: (view) => actions.toggleText(view),
   clear: (view) => actions.clear(view),
-  remove: (view) => actions.remove(view),
+  remove: (view) => several.remove("removal", view),
   showMore: (view) => actions.showMore(view),
   savePicture: (view, node) => savePicture(node, `cell-${view.id}`),
   keepMine: (view) => actions.keepMine(view),
@@ -123,14 +129,21 @@ document.addEventListener("click", (event) => {
   if (!(node instanceof HTMLElement)) return;
   const what = node.dataset.do ?? "";
   const view = cells.of(node);
-  if (view && event.detail > 0) cells.select(view); // by the mouse: the keys are for the cell again
+  if (view && event.detail > 0 && !view.box.classList.contains("chosen")) cells.select(view); // by the mouse: the keys are for the cell again
   if (view) DOES_TO_CELL[what]?.(view, node);
   else DOES[what]?.(node);
 });
 
 cells.place.addEventListener("mousedown", (event) => {
   const view = cells.of(event.target);
-  if (view) cells.select(view, event.target === view.box || event.target === view.head);
+  if (!view || (event.target instanceof Element && event.target.closest(".toolbar"))) return;
+  if (event.shiftKey && event.target !== view.text) {
+    event.preventDefault(); // no text is chosen by that
+    cells.choice.extend(view);
+    return;
+  }
+  cells.choice.drop();
+  cells.select(view, event.target === view.box || event.target === view.head);
 });
 
 cells.place.addEventListener("dblclick", (event) => {
@@ -163,7 +176,7 @@ cells.place.addEventListener("input", (event) => {
 
 cells.place.addEventListener("change", (event) => {
   const view = cells.of(event.target);
-  if (view && event.target instanceof HTMLSelectElement) actions.change(view, event.target.value || null);
+  if (view && event.target instanceof HTMLSelectElement) several.change(view, event.target.value || null);
 });
 
 document.addEventListener("visibilitychange", () => document.hidden && saveAll());
