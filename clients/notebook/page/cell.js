@@ -3,6 +3,8 @@
 
 import { ask } from "./talk.js";
 import { button, make, visible } from "./dom.js";
+import { Layer } from "./layer.js";
+import { languageOf } from "./languages.js";
 import { OutputView } from "./output.js";
 import { answerState, textState, took } from "./said.js";
 import { AT_FIRST, childrenOf, copyOfShape, isOther, show } from "./shape.js";
@@ -14,7 +16,7 @@ import { setInto } from "./setter.js";
 
 /**
  * What a cell knows of its page.
- * @typedef {{isThere: boolean, sessions: Map<string, Session>, note: (text: string) => void}} Page
+ * @typedef {{isThere: boolean, sessions: Map<string, Session>, note: (text: string) => void, news: import("./news").News}} Page
  */
 
 const SAVED_BEHIND = 1_000; // milliseconds without a key
@@ -68,6 +70,8 @@ export class CellView {
     this.prompt = prompt;
     this.text = /** @type {HTMLTextAreaElement} */ (text);
     this.output = new OutputView(cell.id, output);
+    /** @type {Layer | undefined} */
+    this.layer = undefined; // when it was seen
     /** @type {HTMLElement | undefined} */
     this.reading = undefined; // of prose: what it says
     /** @type {string | null} */
@@ -75,6 +79,9 @@ export class CellView {
     /** @type {HTMLElement | undefined} */
     this.conflict = undefined;
     this.box.id = `cell-${this.id}`;
+    textState.id = `text-state-${this.id}`;
+    answerState.id = `answer-state-${this.id}`;
+    this.box.setAttribute("aria-describedby", `${textState.id} ${answerState.id}`);
     this.text.setAttribute("aria-label", `Input of cell ${this.id}`);
     this.text.value = cell.input;
     this.update(cell, at);
@@ -82,6 +89,10 @@ export class CellView {
 
   get isProse() {
     return this.page.sessions.get(this.cell.session)?.isProse ?? false;
+  }
+
+  get language() {
+    return this.isProse ? "prose" : languageOf(this.page.sessions.get(this.cell.session)?.words ?? "");
   }
 
   /** Whether something stands here that is not in the file, or a draft is there that doesn't stand here. */
@@ -210,8 +221,15 @@ export class CellView {
     if (this.cell.state === "running" && this.page.isThere) this.say();
   }
 
-  /** Makes the text as high as its lines, where the browser doesn't by itself. */
+  /** The cell has come into view: from now on its text is drawn in colours. */
+  paint() {
+    this.layer ??= new Layer(this.text);
+    this.layer.draw(this.language);
+  }
+
+  /** Makes the text as high as its lines, where the browser doesn't by itself, and draws it. */
   fit() {
+    if (this.layer) this.paint();
     if (FITS_ITSELF) return;
     const rows = this.text.value.split("\n").reduce((sum, line) => sum + Math.max(1, Math.ceil(line.length / LETTERS_IN_LINE)), 0);
     if (this.text.rows !== rows) this.text.rows = rows;

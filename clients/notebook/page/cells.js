@@ -34,8 +34,10 @@ export class Cells {
     if (message.isWhole) for (const view of this.views.values()) view.begin(isOther);
     for (const cell of message.cells ?? []) {
       const view = this.views.get(cell.id);
+      const before = view?.cell.state ?? "";
       if (view) view.update(cell, message.at);
-      else this.views.set(cell.id, new CellView(this.page, cell, message.at, message.marks?.[cell.id] ?? [false, false]));
+      if (view && !message.isWhole) this.page.news.hear(view.cell, before);
+      if (!view) this.views.set(cell.id, new CellView(this.page, cell, message.at, message.marks?.[cell.id] ?? [false, false]));
     }
     const order = message.order ?? this.orderBehind(message);
     if (order) this.arrange(order);
@@ -113,7 +115,10 @@ export class Cells {
 
   /** @type {(view: CellView | undefined, by: number) => CellView | undefined} */
   beside(view, by) {
-    return view && this.at(this.order.indexOf(view.id) + by);
+    let place = view ? this.order.indexOf(view.id) : -1;
+    if (place < 0) return undefined;
+    do place += by; while (this.at(place)?.box.classList.contains("away")); // in a section that is folded
+    return this.at(place);
   }
 
   /** @type {(node: EventTarget | null) => CellView | undefined} */

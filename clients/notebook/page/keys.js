@@ -1,14 +1,20 @@
 // Keys, as in JupyterLab. A cell has two modes: its text is edited, or the cell as a whole has the focus and letters are commands.
 
+import { wordAt } from "./help.js";
+import { toggleNumbers } from "./layer.js";
+import { INDENT, comment, indent, insert, newLine } from "./typing.js";
+
 /** @typedef {import("./actions").Actions} Actions */
 /** @typedef {import("./cell").CellView} CellView */
 /** @typedef {import("./cells").Cells} Cells */
 /** @typedef {import("./completions").Completions} Completions */
+/** @typedef {import("./find").Find} Find */
+/** @typedef {import("./folds").Folds} Folds */
+/** @typedef {import("./help").Help} Help */
 /** @typedef {import("./several").Several} Several */
 
 const TWICE_WITHIN = 800; // milliseconds between the two presses of D D
 
-const INDENT = "    ";
 const STEPS = ["ArrowUp", "ArrowDown", "k", "j"]; // keys that do it again while they are held down
 
 /** What the keys do, for people. */
@@ -38,52 +44,15 @@ export const TABLE = [
   ["0 0", "restart its interpreter, and evaluate its cells"],
   ["T", "show the answer as text, or with its formulas"],
   ["Tab (in the text)", "completions after a word, where the session has them; else four blanks; before each line that is chosen"],
-  ["Shift-Tab (in the text)", "take four blanks away at the start of the line, or of each that is chosen"],
+  ["Shift-Tab (in the text)", "help on the word at the cursor; elsewhere take four blanks away at the start of the line, or of each that is chosen"],
+  ["Control-/ (in the text)", "make comments of the lines that are chosen, or take that back"],
+  ["F", "find and replace, in all cells"],
+  ["O", "fold the answer, or the section of a heading"],
+  ["Shift-O", "fold the text"],
+  ["L", "show the numbers of lines, or not"],
   ["Control-S", "save now"],
   ["H", "these keys"],
 ];
-
-/**
- * Puts a text in the place of what is chosen, as a key does: the browser can undo it.
- * @type {(view: CellView, text: string) => void}
- */
-function insert(view, text) {
-  if (document.execCommand("insertText", false, text)) return;
-  view.text.setRangeText(text, view.text.selectionStart, view.text.selectionEnd, "end");
-  view.typed();
-}
-
-/**
- * A new line begins below the first letter of the one before.
- * @type {(view: CellView) => boolean}
- */
-function newLine(view) {
-  const blanks = /^[ \t]*/.exec(view.text.value.slice(0, view.text.selectionStart).split("\n").at(-1) ?? "")?.[0];
-  if (!blanks) return false;
-  insert(view, `\n${blanks}`);
-  return true;
-}
-
-/**
- * Puts four blanks before each line that is chosen, or takes them away: one step for the browser's undo. What is chosen stays so.
- * @type {(view: CellView, isBack: boolean) => void}
- */
-function indent(view, isBack) {
-  const { value, selectionStart: start, selectionEnd: end, selectionDirection } = view.text;
-  const last = end > start && value[end - 1] === "\n" ? end - 1 : end; // of the line behind that nothing is chosen
-  const from = value.slice(0, start).lastIndexOf("\n") + 1;
-  const to = last + value.slice(last).split("\n", 1)[0].length;
-  const lines = value.slice(from, to).split("\n");
-  const changed = lines.map((line) => (isBack ? line.replace(/^(?:\t| {1,4})/, "") : INDENT + line));
-  const text = changed.join("\n");
-  if (text === value.slice(from, to)) return;
-  view.text.setSelectionRange(from, to);
-  insert(view, text);
-  const [first, rest] = [changed[0].length - lines[0].length, text.length - (to - from)];
-  const lastLine = from + text.length - (changed.at(-1) ?? "").length;
-  const newStart = start === from && end > start ? from : Math.max(from, start + first); // whole lines stay whole
-  view.text.setSelectionRange(newStart, Math.max(newStart, lastLine, end + rest), selectionDirection);
-}
 
 /** @type {(target: EventTarget | null) => boolean} */
 const isText = (target) => target instanceof Element && target.matches("textarea, input:not([type=checkbox])");
@@ -92,14 +61,16 @@ export class Keys {
   /**
    * @param {Cells} cells
    * @param {Actions} actions
-   * @param {Several} several
-   * @param {Completions} completions
+   * @param {{several: Several, completions: Completions, help: Help, find: Find, folds: Folds}} parts
    * @param {() => void} showKeys
    */
-  constructor(cells, actions, several, completions, showKeys) {
+  constructor(cells, actions, { several, completions, help, find, folds }, showKeys) {
     this.cells = cells;
     this.actions = actions;
     this.several = several;
+    this.help = help;
+    this.find = find;
+    this.folds = folds;
     this.completions = completions;
     this.showKeys = showKeys;
     this.last = { key: "", time: 0 };
@@ -113,7 +84,7 @@ export class Keys {
 
   /** @returns {Record<string, (view: CellView) => unknown>} */
   commandsOf() {
-    const { cells, actions, several } = this;
+    const { cells, actions, several, find, folds } = this;
     /** @type {(by: number) => (view: CellView) => void} */
     const step = (by) => (view) => {
       cells.choice.drop();
@@ -132,7 +103,8 @@ export class Keys {
       dd: () => several.remove(), z: () => several.go(true), "Shift+z": () => several.go(false),
       m: (view) => several.change(view, null), y: (view) => view.isProse && several.change(view, actions.defaultSession()),
       ii: (view) => actions.interrupt(view), "00": (view) => actions.restart(view),
-      t: (view) => actions.toggleText(view), h: () => this.showKeys(),
+      o: (view) => folds.toggle(several.of(view), "answer"), "Shift+o": (view) => folds.toggle(several.of(view), "input"), f: () => find.open(),
+      t: (view) => actions.toggleText(view), l: toggleNumbers, h: () => this.showKeys(),
     };
   }
 
@@ -194,11 +166,16 @@ export class Keys {
   /** @type {(event: KeyboardEvent, view: CellView) => boolean} */
   inText(event, view) {
     if (event.key === "Escape") {
-      this.cells.select(view);
+      if (this.help.isOpen) this.help.close();
+      else this.cells.select(view);
       return true;
     }
     if (event.key === "Tab" && !event.ctrlKey && !event.altKey) return this.tab(view, event.shiftKey);
     if (event.key === "Enter") return newLine(view);
+    if (event.ctrlKey && event.key === "/") {
+      comment(view);
+      return true;
+    }
     if (event.ctrlKey && event.shiftKey && ["-", "_"].includes(event.key)) {
       this.several.split(view);
       return true;
@@ -210,7 +187,8 @@ export class Keys {
   tab(view, isBack) {
     const { selectionStart: at, selectionEnd, value } = view.text;
     const isBehindWord = /\S/.test(value[at - 1] ?? "");
-    if (isBack || at !== selectionEnd) indent(view, isBack);
+    if (isBack && at === selectionEnd && !view.isProse && wordAt(value, at)) this.help.open(view);
+    else if (isBack || at !== selectionEnd) indent(view, isBack);
     else if (isBehindWord && view.page.sessions.get(view.cell.session)?.tab) this.completions.open(view);
     else insert(view, INDENT);
     return true;

@@ -9,25 +9,35 @@ import { byId } from "./dom.js";
 import { listen } from "./feed.js";
 import { Keys } from "./keys.js";
 import { savePicture } from "./output.js";
+import { Find } from "./find.js";
+import { Folds } from "./folds.js";
+import { Help } from "./help.js";
+import { showContents } from "./contents.js";
+import { showNumbers } from "./layer.js";
+import { News } from "./news.js";
 import { Several } from "./several.js";
 
 /** @typedef {import("./types").Message} Message */
 
 /** @type {import("./cell").Page} */
-const page = { isThere: false, sessions: new Map(), note: bars.note };
+const page = { isThere: false, sessions: new Map(), note: bars.note, news: new News() };
 let hasEnded = false; // the program, while the server is there
 let hasBeenThere = false; // the server: what was typed since is to be saved when it is there again
 const cells = new Cells(page);
 const actions = new Actions(cells, bars.note);
 const several = new Several(actions);
 const completions = new Completions();
+const help = new Help();
+const find = new Find(cells, several);
+const folds = new Folds(cells);
 const showKeys = keysDialog();
 let isForCell = false; // whether a session is made for a new cell
 const askSession = sessionDialog(async (name, words, tab) => {
   const told = await actions.ask("session", { name, words, tab });
   if (!told.refused && isForCell) await actions.make(cells.order.at(-1) ?? 0, name, true);
 }, (name) => page.sessions.has(name));
-new Keys(cells, actions, several, completions, showKeys);
+new Keys(cells, actions, { several, completions, help, find, folds }, showKeys);
+showNumbers();
 document.body.insertBefore(emptyLine(), cells.place.nextSibling);
 
 // ---- what the server tells
@@ -45,6 +55,7 @@ function hear(message, isFirst) {
   if (message.removed) bars.showRemoved(message.removed);
   if (message.sessions) bars.showSessions(page.sessions, page.isThere);
   cells.hear(message);
+  folds.show();
   if (message.says) bars.note(message.says.join("; "));
   if (message.ended === null && !isFirst) saveAll(); // what could not be saved while the program was gone
   if (isFirst) document.documentElement.dataset.ready = "true";
@@ -95,6 +106,13 @@ const DOES = {
     return isForCell ? askSession() : actions.addCell();
   },
   addProse: () => actions.addProse(),
+  showFind: () => find.open(),
+  showContents: () => showContents(cells),
+  findNext: () => find.go(1),
+  findLast: () => find.go(-1),
+  replace: () => find.replace(),
+  replaceAll: () => find.replaceAll(),
+  closeFind: () => find.close(),
   reopen: () => actions.reopen(),
 };
 
@@ -109,6 +127,7 @@ const DOES_TO_CELL = {
   insertBelow: (view) => actions.insertBelow(view),
   moveUp: (view) => several.move(view, -1),
   moveDown: (view) => several.move(view, 1),
+  unfold: (view) => folds.unfold(view),
   split: (view) => several.split(view),
   merge: (view) => several.merge(view),
   duplicate: (view) => several.duplicate(view),
@@ -156,13 +175,16 @@ cells.place.addEventListener("focusin", (event) => {
   if (!view) return;
   cells.select(view, false);
   view.box.classList.toggle("editing", event.target === view.text);
+  if (event.target === view.text) view.paint();
 });
 
 cells.place.addEventListener("focusout", (event) => {
   const view = cells.of(event.target);
   if (!view || event.target !== view.text) return;
   view.box.classList.remove("editing");
+  view.layer?.showBrackets();
   completions.close();
+  help.close();
   view.showProse();
   view.saveIfFit();
 });
@@ -171,8 +193,16 @@ cells.place.addEventListener("input", (event) => {
   const view = cells.of(event.target);
   if (!view || event.target !== view.text) return;
   if (completions.isOpen) completions.close();
+  if (help.isOpen) help.close();
   view.typed();
 });
+
+// A cell has colours when it has come into view.
+cells.place.addEventListener("contentvisibilityautostatechange", (event) => {
+  if (!(/** @type {any} */ (event).skipped)) cells.of(event.target)?.paint();
+}, true);
+
+document.addEventListener("selectionchange", () => cells.of(document.activeElement)?.layer?.showBrackets());
 
 cells.place.addEventListener("change", (event) => {
   const view = cells.of(event.target);

@@ -75,6 +75,7 @@ export interface Reply {
   outcome?: string;
   root?: string;
   rest?: string[];
+  output?: Output;
   text?: string;
   start?: number;
   length?: number;

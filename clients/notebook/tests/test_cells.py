@@ -5,7 +5,7 @@ import unittest
 from typing import Any, List
 
 import chromium
-from harness import IN_TEXT, READY, Case, Page, PageCase, needs_chromium, needs_program, opened
+from harness import IN_TEXT, READY, Case, Page, SharedCase, needs_chromium, needs_program
 
 ORDER = "[...document.querySelectorAll('.cell')].map((cell) => Number(cell.id.slice(5)))"
 TEXTS = "[...document.querySelectorAll('.cell textarea')].map((text) => text.value)"
@@ -19,7 +19,7 @@ INPUTS = r"(?m)^\S*> (.*)$"
 
 @needs_program
 @needs_chromium
-class Cells(PageCase):
+class Cells(SharedCase):
     def start(self, *texts: str) -> chromium.Tab:
         """Cells with these texts, which are answered."""
         self.begin()
@@ -27,7 +27,7 @@ class Cells(PageCase):
             self.page.call("new", session="s", text=text, after=after)
         self.page.call("eval_from", id=None)
         self.page.until_idle()
-        return opened(self.browser, self.server)
+        return self.open()
 
     def agree(self, tab: chromium.Tab, *texts: str) -> None:
         """Page and file have cells with these texts."""
@@ -109,7 +109,7 @@ class Cells(PageCase):
         tab.until(f"{TEXTS}.length", 3)
         self.choose(tab, 1, 3)
         tab.key("c", "Control")
-        there = opened(self.browser, other[0])
+        there = self.open(other[0])
         there.click("#cell-1 .number")
         there.key("v", "Control")
         there.until(TEXTS, ["say there", "say a\nb", "say c", "# Head"])

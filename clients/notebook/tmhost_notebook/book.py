@@ -11,6 +11,7 @@ from tmhost import Answer, Answered, BadLine, Closed, Died, Done, Ended, Event, 
 from . import prose, startable, telling
 from .drafts import Draft, Drafts, NotKept
 from .feed import Feed
+from .helping import Helper
 from .notes import Notes
 from .places import Places
 from .sayings import SAYINGS
@@ -51,7 +52,7 @@ class Book:
         self.ended: Optional[str] = None
         self.changes = 0  # that cells had by calls, counted by `order`; a message says how many of them it has seen
         self._removed_ever = 0
-        self.steps = Steps(self)
+        self.steps, self.helper = Steps(self), Helper(program)
         self._is_closed = False
         self._can_feed = threading.Event()
         self._open(create=True)
@@ -95,6 +96,7 @@ class Book:
     def close(self) -> None:
         self._is_closed = True
         self._can_feed.set()
+        self.helper.close()
         self.sheet.close()
         with self.lock:
             for watcher in self.watchers:

@@ -8,6 +8,7 @@ from tmhost import BadLine, Closed, Completions, Died, Field, Gone, Lost, Protoc
 from . import shown, startable
 from .book import Book
 from .drafts import Draft, NotKept
+from .helping import NoHelp
 from .prose import session_of_prose
 from .sayings import SAYINGS
 from .steps import Given, Made, NotFit, Step
@@ -305,6 +306,17 @@ def completion_facts(found: Optional[Completions]) -> Facts:
     return {"root": readable(found.root), "rest": [readable(one) for one in found.rest[:MOST_COMPLETIONS]]}
 
 
+def call_help(book: Book, asked: Facts) -> Facts:
+    """What an interpreter of the cell's session says of a word."""
+    field = field_of(book, number(asked, "id"))
+    session = book.sheet.sessions[field.session]
+    why = startable.why_not(session)
+    if why is not None:
+        raise NotDone("NoProgram", why)
+    above = (one for one in book.sheet.fields if one.session == field.session)
+    return {"output": shown.facts_of(book.helper.ask(session, text(asked, "language"), text(asked, "word"), above))}
+
+
 def call_output(book: Book, asked: Facts) -> Facts:
     """A further piece of a long answer."""
     id = number(asked, "id")
@@ -341,6 +353,8 @@ def do(book: Book, asked: Any) -> Facts:
         return call(book, asked)
     except Refused as refused:
         raise NotDone(refused.name, SAYINGS.get(refused.name, str(refused))) from None
+    except NoHelp as none:
+        raise NotDone("NoHelp", str(none)) from None
     except NotFit as unfit:
         raise NotDone(unfit.name, unfit.says or SAYINGS.get(unfit.name, unfit.name)) from None
     except Gone:
