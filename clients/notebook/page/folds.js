@@ -26,6 +26,7 @@ export class Folds {
     this.name = `tmhost-folds ${location.pathname}`;
     /** @type {Record<Kind, Set<number>>} */
     this.of = { answer: new Set(), input: new Set(), section: new Set() };
+    this.isShown = false; // whether anything may be folded in the page
     this.read();
   }
 
@@ -74,7 +75,8 @@ export class Folds {
   /** Shows which ones are folded. A page without any takes no time for it. */
   show() {
     const isAny = KINDS.some((kind) => this.of[kind].size > 0);
-    if (!isAny && !this.cells.place.querySelector(".unfold, .away")) return;
+    if (!isAny && !this.isShown) return;
+    this.isShown = isAny;
     let level = 0; // of the section that is folded
     /** @type {CellView | undefined} */
     let head;

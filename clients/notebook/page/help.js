@@ -13,10 +13,10 @@ const WORD = /[^\W\d][\w.]*$/u;
  * @type {(text: string, cursor: number) => string}
  */
 export function wordAt(text, cursor) {
-  const rest = /^\w*/.exec(text.slice(cursor))?.[0] ?? "";
-  const found = WORD.exec(text.slice(0, cursor).replace(/\(\s*$/, ""))?.[0] ?? "";
-  const isInWord = /\w$/.test(text.slice(0, cursor));
-  return (isInWord || !rest ? found + (isInWord ? rest : "") : rest).replace(/^\d.*|\.+$/g, "");
+  const before = text.slice(0, cursor);
+  const found = WORD.exec(before.replace(/\(\s*$/, ""))?.[0] ?? "";
+  const rest = /\w$/.test(before) ? /^\w*/.exec(text.slice(cursor))?.[0] ?? "" : "";
+  return (found + rest).replace(/\.+$/, "");
 }
 
 export class Help {

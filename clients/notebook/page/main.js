@@ -15,6 +15,7 @@ import { Help } from "./help.js";
 import { showContents } from "./contents.js";
 import { showNumbers } from "./layer.js";
 import { News } from "./news.js";
+import { fitOnPaper } from "./paper.js";
 import { Several } from "./several.js";
 
 /** @typedef {import("./types").Message} Message */
@@ -38,6 +39,7 @@ const askSession = sessionDialog(async (name, words, tab) => {
 }, (name) => page.sessions.has(name));
 new Keys(cells, actions, { several, completions, help, find, folds }, showKeys);
 showNumbers();
+fitOnPaper();
 document.body.insertBefore(emptyLine(), cells.place.nextSibling);
 
 // ---- what the server tells
@@ -55,7 +57,7 @@ function hear(message, isFirst) {
   if (message.removed) bars.showRemoved(message.removed);
   if (message.sessions) bars.showSessions(page.sessions, page.isThere);
   cells.hear(message);
-  folds.show();
+  if (message.cells || message.order || message.gone) folds.show();
   if (message.says) bars.note(message.says.join("; "));
   if (message.ended === null && !isFirst) saveAll(); // what could not be saved while the program was gone
   if (isFirst) document.documentElement.dataset.ready = "true";

@@ -1,5 +1,7 @@
 """Texts as they are written: colours, brackets, comments, indentation, numbers of lines; find and replace, folds, contents, help, and what is read out."""
 
+import base64
+import glob
 import json
 import os
 import shutil
@@ -36,13 +38,16 @@ LANGUAGES: List[Tuple[str, str, List[str]]] = [
 ]
 # The place of each letter of the text area, as its own mirror has it, is that of the layer: both have the same lines.
 SAME_LINES = """
-[...document.querySelectorAll('.painted')].map((line) => {
+[...document.querySelectorAll('.painted')].filter((line) => /[^\\n]$/.test(line.querySelector('textarea').value)).flatMap((line) => {
   const [text, layer] = [line.querySelector('textarea'), line.querySelector('.layer')];
   const range = document.createRange();
   range.selectNodeContents(layer);
-  const [one, other] = [text.getBoundingClientRect(), range.getBoundingClientRect()];
-  return [Math.abs(one.height - other.height) < 3, getComputedStyle(text).font === getComputedStyle(layer).font];
-}).every(([isHigh, isFont]) => isHigh && isFont)
+  const [one, other] = [text.getBoundingClientRect(), layer.getBoundingClientRect()];
+  const [style, own] = [getComputedStyle(text), getComputedStyle(layer)];
+  const others = ["fontFamily", "fontSize", "lineHeight", "letterSpacing", "wordSpacing", "tabSize", "paddingLeft", "direction"].filter((name) => style[name] !== own[name]);
+  const height = text.scrollHeight - range.getBoundingClientRect().height;
+  return [...(one.x === other.x && one.width === other.width && one.y === other.y ? [] : ["place"]), ...(Math.abs(height) < 10 ? [] : [height]), ...others];
+})
 """
 NOTE = "document.querySelector('#note').textContent"
 NEWS = "document.querySelector('#news').textContent"
@@ -84,7 +89,7 @@ class Colours(Written):
         self.assertEqual(tab.value("[...document.querySelectorAll('.layer')].map((one) => one.textContent)"), tab.value(TEXTS))
         for width in (1000, 360):
             tab.size(width, 700)
-            self.assertTrue(tab.value(SAME_LINES), width)
+            self.assertEqual(tab.value(SAME_LINES), [], width)
         self.edit(tab, 1, 17, 17)
         tab.until("[...document.querySelectorAll('.pair')].map((one) => one.textContent)", ["(", ")"])
         tab.type(")")
@@ -98,7 +103,7 @@ class Colours(Written):
     def test_comments_and_lines(self) -> None:
         """Control-/ makes comments and takes them back; Enter goes deeper behind what opens; L shows numbers of lines, over a reload too."""
         tab = self.start("a\n  b\n\nc")
-        self.edit(tab, 1, 0, 7)
+        self.edit(tab, 1, 0, 8)
         tab.key("/", "Control")
         tab.until(TEXTS, ["\\\\ a\n\\\\   b\n\n\\\\ c"])
         tab.key("/", "Control")
@@ -133,11 +138,11 @@ class Colours(Written):
         tab.click("#cell-5000 .number")
         tab.key("Enter")
         times = tab.value(KEYS)
-        print(f" a key is seen in {sorted(times)[len(times) // 2]:.0f} ms at 10,000 cells", end="")
-        self.assertLess(sorted(times)[len(times) // 2], 500)
+        print(f" a key takes the page {sorted(times)[len(times) // 2]:.1f} ms at 10,000 cells", end="")
+        self.assertLess(sorted(times)[len(times) // 2], 50)
 
 
-# From the key's event until the next picture of the page.
+# What is done at the event of a key, without the browser's own layout.
 KEYS = """
 new Promise((done) => {
   const text = document.activeElement, times = [];
@@ -146,7 +151,8 @@ new Promise((done) => {
     const start = performance.now();
     text.setRangeText("x", text.value.length, text.value.length, "end");
     text.dispatchEvent(new Event("input", { bubbles: true }));
-    requestAnimationFrame(() => setTimeout(() => { times.push(performance.now() - start); next(); }));
+    times.push(performance.now() - start);
+    requestAnimationFrame(next);
   };
   next();
 })
@@ -241,6 +247,22 @@ class Said(Written):
         self.assertIn("saved", told["Cell 2, s"])
         self.assertIn("lost: Ended", told["Cell 2, s"])
 
+    def test_formulas_on_paper(self) -> None:
+        """One that is wider than a page is set smaller; what is too wide for that says that it is cut."""
+        self.begin()
+        for after, count in enumerate((3, 30, 300)):
+            tex = "$\\begin{pmatrix}" + " & ".join(["x"] * count) + "\\end{pmatrix}$"
+            self.page.call("eval", id=self.page.call("new", session="s", text=f"block latex {base64.b64encode(tex.encode()).decode()}", after=after)["id"])
+        self.page.until_idle()
+        tab = self.open()
+        tab.until("document.querySelectorAll('.formula.set').length", 3)
+        tab.value("dispatchEvent(new Event('beforeprint'))")
+        found = tab.value("[...document.querySelectorAll('.formula')].map((one) => [parseFloat(one.style.fontSize), one.classList.contains('is-cut')])")
+        self.assertEqual((found[0], found[2]), ([None, False], [50, True]))
+        self.assertTrue(50 < found[1][0] < 100 and not found[1][1], found)
+        tab.value("dispatchEvent(new Event('afterprint'))")
+        self.assertEqual(tab.value("document.querySelectorAll('.formula[style*=font], .is-cut').length"), 0)
+
     def test_help(self) -> None:
         """Shift-Tab asks an interpreter of its own of the word at the cursor: nothing of the session is changed, nor of the worksheet."""
         tab = self.start("import json\njson.dumps(1)", words=f"{sys.executable} {os.path.join(REPOSITORY, 'adapters', 'python')}")
@@ -267,8 +289,8 @@ class Said(Written):
             ("gp", "gp", "gp", "factor", "factorization"), ("maxima", "prompted.py maxima", "maxima", "integrate", "Function: integrate"),
             ("R", "prompted.py R", "r", "mean", "Arithmetic Mean"), ("octave", "prompted.py octave", "octave", "fix", "Truncate fractional"),
         ):
-            if not shutil.which(name):
-                print(f" {name} isn't here", end="")
+            if not shutil.which(name) or (name == "maxima" and not glob.glob("/usr/share/info/maxima*")):
+                print(f" {name} or its manual isn't here", end="")
                 continue
             with self.subTest(name=name):
                 self.page.call("session", name=name, words=f"{sys.executable} {os.path.join(REPOSITORY, 'adapters')}/{words}", tab=False)
