@@ -29,7 +29,7 @@ os.execv(sys.argv[3], sys.argv[3:])
 """
 COMMANDS = {"c": "copy", "x": "cut", "v": "paste"}  # that a browser's window makes of keys
 WITHIN = 240.0  # seconds for a reply
-SLOW = float(__import__("os").environ.get("TMHOST_SLOW", "120"))  # seconds for what is waited for in a page, beside other work too
+SLOW = 120.0  # seconds for what is waited for in a page, beside other work too
 
 MODIFIERS = {"Alt": 1, "Control": 2, "Meta": 4, "Shift": 8}
 CODES = {

@@ -1,6 +1,7 @@
 """What an interpreter says of a word, asked of a second one with the same words, in a worksheet of the server's own that ends with it. So a question changes
 nothing: no cell, no variable, no number of an answer; and it is answered while the session is at work."""
 
+import keyword
 import os
 import re
 import shutil
@@ -55,7 +56,8 @@ class Helper:
                 if line not in self.imported.setdefault(session.name, set()):
                     self.imported[session.name].add(line)
                     self._evaluated(sheet, session.name, line)
-            answer = self._evaluated(sheet, session.name, question.format(word))
+            asked = f'"{word}"' if language == "python" and keyword.iskeyword(word) else word
+            answer = self._evaluated(sheet, session.name, question.format(asked))
         if answer is None:
             self.imported.pop(session.name, None)
             raise NoHelp("its interpreter gave no help")
