@@ -155,9 +155,14 @@ document.addEventListener("click", (event) => {
   else DOES[what]?.(node);
 });
 
+// While a button is pressed nothing moves under the pointer: its cell is selected by the click.
+let isPressed = false;
+document.addEventListener("mouseup", () => (isPressed = false));
+
 cells.place.addEventListener("mousedown", (event) => {
   const view = cells.of(event.target);
-  if (!view || (event.target instanceof Element && event.target.closest(".toolbar"))) return;
+  isPressed = event.target instanceof Element && event.target.closest("button, select") !== null;
+  if (!view || isPressed) return;
   if (event.shiftKey && event.target !== view.text) {
     event.preventDefault(); // no text is chosen by that
     cells.choice.extend(view);
@@ -174,7 +179,7 @@ cells.place.addEventListener("dblclick", (event) => {
 
 cells.place.addEventListener("focusin", (event) => {
   const view = cells.of(event.target);
-  if (!view) return;
+  if (!view || isPressed) return;
   cells.select(view, false);
   view.box.classList.toggle("editing", event.target === view.text);
   if (event.target === view.text) view.paint();
