@@ -11,6 +11,7 @@ ORDER = "[...document.querySelectorAll('.cell')].map((cell) => Number(cell.id.sl
 TEXTS = "[...document.querySelectorAll('.cell textarea')].map((text) => text.value)"
 CHOSEN = "[...document.querySelectorAll('.cell.chosen textarea')].map((text) => text.value)"
 SELECTED = "document.querySelector('.cell.selected textarea').value"
+IS_BUSY = "document.querySelector('#cells').getAttribute('aria-busy') === 'true'"
 NOTE = "document.querySelector('#note').textContent"
 OLD = "[...document.querySelectorAll('.output.old pre')].map((one) => one.textContent)"
 TOOK = "[...document.querySelectorAll('.took')].map((one) => one.textContent.replace(/[\\d.]+ s/, 'S'))"
@@ -31,7 +32,7 @@ class Cells(SharedCase):
 
     def agree(self, tab: chromium.Tab, *texts: str) -> None:
         """Page and file have cells with these texts."""
-        tab.until(TEXTS, list(texts))
+        tab.until(f"[{TEXTS}, {IS_BUSY}]", [list(texts), False])
         cells = self.page.snapshot()
         by_id = {cell["id"]: cell["input"] for cell in cells["cells"]}
         self.assertEqual([by_id[id] for id in cells["order"]], list(texts))
@@ -178,23 +179,23 @@ class Cells(SharedCase):
         self.choose(tab, 1, 2)
         tab.key("D", "Shift")
         self.agree(tab, "say a", "say b", "say a", "say b", "say c", "say d", "say e")
-        tab.until("[...document.querySelectorAll('.cell.chosen')].map((cell) => cell.id)", ["cell-6", "cell-7"])
         tab.key("ArrowDown", "Alt")
         self.agree(tab, "say a", "say b", "say c", "say a", "say b", "say d", "say e")
         tab.key("ArrowUp", "Alt")
         tab.until(f"{TEXTS}[4]", "say c")
         self.assertEqual(tab.value(CHOSEN), ["say a", "say b"])
         tab.key("m")
-        tab.until("document.querySelectorAll('.cell.prose').length", 2)
-        tab.until(NOTE, "")
-        for _ in range(4):
+        tab.until(f"[document.querySelectorAll('.cell.prose').length, {IS_BUSY}]", [2, False])
+        for count in range(4):
             tab.key("z")
+            tab.until(IS_BUSY, False)
         self.agree(tab, "say a", "say b", "say c", "say d", "say e")
         for count in (2, 1):
-            self.choose(tab, 3, count)
+            self.choose(tab, tab.value(ORDER)[2], count)
             tab.key("d")
             tab.key("d")
-        self.agree(tab, "say a", "say b", "say c", "say e")
+            tab.until(f"[{ORDER}.length, {IS_BUSY}]", [3 if count == 2 else 2, False])
+        self.agree(tab, "say a", "say b")
 
     def test_a_cell_that_waits(self) -> None:
         """It is neither cut nor merged."""
