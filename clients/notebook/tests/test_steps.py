@@ -103,6 +103,7 @@ class Steps(Case):
             with self.subTest(round=round, seed=seed):
                 killer = threading.Timer(chance.uniform(0.01, 0.3), self.kill)
                 killer.start()
+                self.addCleanup(killer.cancel)
                 while "refused" not in self.carry(page, chance):
                     done += 1
                 killer.join()
@@ -115,7 +116,9 @@ class Steps(Case):
         self.assertGreater(done, KILLS)
 
     def kill(self) -> None:
-        os.kill(self.server.program or 0, signal.SIGKILL)
+        program = self.server.program
+        if program is not None:  # else its end was seen already
+            os.kill(program, signal.SIGKILL)
 
     def carry(self, page: Page, chance: random.Random) -> Dict[str, Any]:
         """Moves cells elsewhere by making them again, makes one of two, or one into two."""
