@@ -62,6 +62,7 @@ class Steps(Case):
         cases: List[Tuple[str, Dict[str, Any]]] = [
             ("BadInput", {"new": [new, {**new, "text": "x" * 4096}]}), ("BadInput", {"new": [new], "set": [{"id": 1, "base": "b", "text": "\x07"}]}),
             ("NoSession", {"new": [new, {**new, "session": "none"}]}), ("NoField", {"new": [new], "remove": [{"id": 9}]}),
+            ("NoField", {"new": [new, {**new, "after": 9}]}),
             ("Elsewhere", {"new": [new], "set": [{"id": 1, "base": "other", "text": "x"}], "remove": [{"id": 2}]}),
             ("TooManyFields", {"new": [new] * 10_000}), ("NotUnderstood", {"new": [new, 1]}), ("NotUnderstood", {"remove": [{"id": "1"}]}),
             ("NotUnderstood", {"new": [{"after": 0}]}), ("BadInput", {"new": [{**new, "text": "\ud800"}, new]}),

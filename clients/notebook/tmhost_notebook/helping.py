@@ -51,6 +51,10 @@ class Helper:
             raise NoHelp("there is no word at the cursor")
         with self.lock:
             sheet = self._opened()
+            known = sheet.sessions.get(session.name)
+            if known is not None and known.words != session.words:
+                self.close()  # the worksheet has other words for it now
+                sheet = self._opened()
             sheet.ensure_session(session.name, session.words, session.tab)
             for line in imports(fields) if language == "python" else ():
                 if line not in self.imported.setdefault(session.name, set()):

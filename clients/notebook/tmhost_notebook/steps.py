@@ -136,6 +136,8 @@ class Steps:
             raise NotFit("NoSession")
         if len(book.places) + len(step.made) > MOST_CELLS:
             raise NotFit("TooManyFields")
+        if any(one.after and one.after not in book.places and not one.was for one in step.made):
+            raise NotFit("NoField")
         for id in (*(one.id for one in step.given), *step.removed):
             field = book.field(id)
             if field is None:
