@@ -80,6 +80,13 @@ export class Actions {
     return true;
   }
 
+  /** Evaluates what has no answer, or a stale one. */
+  async evaluateStale() {
+    if (!(await this.saveAll())) return;
+    const told = await this.ask("eval_stale", {});
+    if (told.count === 0 && !told.warning) this.note("nothing is stale");
+  }
+
   async evaluateAll() {
     if (await this.saveAll()) await this.evaluateEach(this.cells.inOrder(), "eval_from", { id: null });
   }
@@ -194,11 +201,6 @@ export class Actions {
   /** @param {CellView} view */
   moveDown(view) {
     return this.ask("move", { id: view.id, by: 1 });
-  }
-
-  /** @param {CellView} view */
-  async remove(view) {
-    if (await this.isSaved(view)) await this.ask("remove", { id: view.id });
   }
 
   /** @param {number | null} number */

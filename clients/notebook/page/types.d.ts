@@ -16,6 +16,8 @@ export interface Cell {
   state: "empty" | "queued" | "running" | "answered" | "lost" | "doubtful";
   reason: string | null;
   since: number | null;
+  took: number | null; // milliseconds
+  count: number | null; // which answer of its interpreter it is
   prompt: string | null;
   output: Output | null;
   isOld: boolean;
@@ -28,6 +30,14 @@ export interface Session {
   runs: boolean;
   waiting: number;
   isProse: boolean;
+}
+
+/** A step: new cells, then texts, then places, then cells that go. */
+export interface Change {
+  new: { after: number; session: string | null; text: string; of?: number }[];
+  set: { id: number; base: string; text: string }[];
+  move: { id: number; after: number }[];
+  remove: { id: number }[];
 }
 
 export interface Removed { number: number; session: string; input: string }
@@ -59,11 +69,13 @@ export interface Reply {
   at?: number;
   isDraft?: boolean;
   id?: number;
+  ids?: number[];
   count?: number;
   lost?: number;
   outcome?: string;
   root?: string;
   rest?: string[];
+  output?: Output;
   text?: string;
   start?: number;
   length?: number;

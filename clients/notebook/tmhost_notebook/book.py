@@ -11,9 +11,11 @@ from tmhost import Answer, Answered, BadLine, Closed, Died, Done, Ended, Event, 
 from . import prose, startable, telling
 from .drafts import Draft, Drafts, NotKept
 from .feed import Feed
+from .helping import Helper
 from .notes import Notes
 from .places import Places
 from .sayings import SAYINGS
+from .steps import Steps
 from .telling import Message, Watcher, text_of
 
 REPLY_WITHIN = 60.0  # seconds that a command may take
@@ -50,6 +52,7 @@ class Book:
         self.ended: Optional[str] = None
         self.changes = 0  # that cells had by calls, counted by `order`; a message says how many of them it has seen
         self._removed_ever = 0
+        self.steps, self.helper = Steps(self), Helper(program)
         self._is_closed = False
         self._can_feed = threading.Event()
         self._open(create=True)
@@ -60,7 +63,7 @@ class Book:
         with self.lock:
             self.sheet = sheet
             self.notes, self.places, self.feed = Notes(), Places(sheet.fields), Feed()
-            self.in_doubt: Optional[int] = None  # the cell that a call changes, until it is known that it did or didn't
+            self.in_doubt: Set[int] = set()  # the cells that a call changes, until it is known that it did or didn't
             self.ended = None
         self._read_drafts()
         sheet.listen(lambda event: self._heard(sheet, event))
@@ -93,6 +96,7 @@ class Book:
     def close(self) -> None:
         self._is_closed = True
         self._can_feed.set()
+        self.helper.close()
         self.sheet.close()
         with self.lock:
             for watcher in self.watchers:
@@ -119,13 +123,13 @@ class Book:
     def changing(self, id: int) -> Iterator[None]:
         """Does one command that changes a cell, with `order`. Where the program ends in the middle, the file may have the cell as it was or
         as it was to be, so it stays in doubt until the worksheet is opened again."""
-        self.in_doubt = id
+        self.in_doubt = {id}
         try:
             yield
         except (Refused, BadLine, Gone):
-            self.in_doubt = None
+            self.in_doubt = set()
             raise
-        self.in_doubt = None
+        self.in_doubt = set()
         self.changes += 1
         self.touch(id)
 
@@ -152,17 +156,13 @@ class Book:
         self.settle(lambda: id in self.places)
         return id
 
-    def remove(self, id: int) -> None:
-        """Removes a cell, and keeps it to be brought back."""
-        field, place = self.sheet.cell(id).field, self.places.place(id)
-        with self.changing(id):
-            self.sheet.remove(id)
-        self.settle(lambda: id not in self.places)
+    def bin(self, field: Field, place: int) -> None:
+        """Keeps a cell that was removed, to be brought back."""
         with self.lock:
-            note = self.notes.of.get(id)
+            note = self.notes.of.get(field.id)
             self._bin(field, field.answer or (note.old if note else None), place)
-            self.notes.drop(id)
-        self.bin_draft(id, place)
+            self.notes.drop(field.id)
+        self.bin_draft(field.id, place)
 
     def bin_draft(self, id: int, place: int) -> None:
         """Offers the draft of a cell that isn't there any more among the removed cells. It stays on the disk until it is brought back."""
