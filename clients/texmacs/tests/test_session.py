@@ -89,6 +89,7 @@ class Lines(Case):
     def test_an_interrupt_that_is_not_heeded(self) -> None:
         self.make()
         texmacs = self.texmacs()
+        texmacs.evaluate("say one")  # one that begins heeds no interrupt yet
         texmacs.begin("stuck 3")
         time.sleep(1)
         texmacs.interrupt()
