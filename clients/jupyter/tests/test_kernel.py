@@ -131,6 +131,7 @@ class Ends(Case):
         self.install("--name", "kernel", "--session", "a", "cat")
         with Front(self.folder) as front:
             self.assertIn("and this kernel is for `cat`; `tmhost-jupyter-kernel install --sheet kernel.tmhost --session a`", front.text("one"))
+            self.assertEqual(len(fields_of(self.path("kernel.tmhost"))), 1)  # it is open to others
 
     def test_there_is_no_such_interpreter(self) -> None:
         self.install("--name", "kernel", "--session", "b", "no-such-program", "x")

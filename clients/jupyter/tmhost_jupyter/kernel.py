@@ -79,7 +79,9 @@ class WorksheetKernel(Kernel):
         except Lost as lost:
             return self.failed(failure(lost.reason, WHY_LOST.get(lost.reason, "the interpreter ended").format(words=" ".join(self.sheet.words))), silent)
         except TmhostError as error:
-            return self.failed(failure(type(error).__name__, str(error)), silent)
+            if self.sheet.ended():
+                self.sheet.close()
+            return self.failed(failure(type(error).__name__, f"{error}: the variables are gone, and the next cell opens the worksheet again"), silent)
 
     def told_name(self) -> str:
         """The front end's name for the cell, of which an ipykernel before 6.18 doesn't tell us."""

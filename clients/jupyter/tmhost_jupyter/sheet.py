@@ -80,10 +80,13 @@ class Sheet:
         self.is_closed = False
 
     def opened(self) -> Cells:
-        """Raises Unusable."""
-        if self.cells and self.worksheet and self.worksheet.error is None:
+        """Raises Unusable, also once where its program has ended since: nobody shall take an empty interpreter for the one before."""
+        ended = self.ended()
+        if self.cells and ended is None:
             return self.cells
         self.close()
+        if ended:
+            raise Unusable(f"{ended}: the variables are gone, and the next cell opens the worksheet again")
         try:
             self.worksheet = self.tried()
             self.make_session(self.worksheet)
@@ -91,6 +94,9 @@ class Sheet:
             raise Unusable(f"another program works on the worksheet {self.path}: close it there, or run the cell again when it has ended") from None
         except (TmhostError, OSError) as error:
             raise Unusable(f"the worksheet {self.path} can't be used: {error}") from None
+        except Unusable:
+            self.close()  # others may open it
+            raise
         self.cells = Cells(self.worksheet, self.given.session, Names(self.path + CELLS))
         return self.cells
 
@@ -127,6 +133,10 @@ class Sheet:
     def interrupt(self) -> bool:
         """Whether the interpreter was at work, and was sent a signal."""
         return self.worksheet is not None and self.worksheet.interrupt(self.given.session) == "sent"
+
+    def ended(self) -> Optional[TmhostError]:
+        """Why its program has ended, where it has."""
+        return self.worksheet.error if self.worksheet else None
 
     def close(self) -> None:
         if self.worksheet:

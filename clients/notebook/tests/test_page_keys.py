@@ -8,7 +8,7 @@ from typing import Any, List
 import harness
 from harness import HOLDS, IN_TEXT, READY, SPOKEN, Page, PageCase, needs_chromium, needs_program, opened
 
-sys.path[:0] = [harness.NOTEBOOK]
+sys.path[:0] = [harness.NOTEBOOK, harness.REPOSITORY + "/clients/python"]
 
 from tmhost_notebook.suggested import kernels  # noqa: E402
 
