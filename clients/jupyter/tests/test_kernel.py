@@ -1,10 +1,12 @@
 """The kernel over the real program, as a front end has it."""
 import os
+import shutil
 import signal
 import subprocess
+import sys
 import time
 
-from tests.support import PROGRAM, ROOT, Case, Front, eventually, fields_of, needs_program
+from tests.support import INTERPRETER, PROGRAM, ROOT, Case, Front, eventually, fields_of, needs_program
 
 
 @needs_program
@@ -84,6 +86,18 @@ class Ends(Case):
             self.assertIn("its variables are gone", front.text("end", "y"))
             self.assertEqual(front.text("two", "y"), "two 1")
         self.assertEqual([str(field.answer) for field in fields_of(self.path("kernel.tmhost"))], ["one 1", "two 1"])
+
+    def test_the_interpreter_is_killed_between_cells(self) -> None:
+        shutil.copy(INTERPRETER[-1], self.path("mine.py"))
+        self.install("--name", "kernel", "--session", "a", *INTERPRETER[:-1], self.path("mine.py"))
+        with Front(self.folder) as front:
+            self.assertEqual(front.text("one"), "one 1")
+            found = subprocess.run(["pgrep", "-f", f"^{sys.executable} -S -E {self.folder}/mine.py$"], stdout=subprocess.PIPE, text=True).stdout.split()
+            self.assertEqual(len(found), 1)
+            os.kill(int(found[0]), signal.SIGKILL)
+            time.sleep(3)
+            self.assertIn("the interpreter has ended since the last cell", front.text("two"))
+            self.assertEqual(front.text("three"), "three 1")
 
     def test_the_program_is_killed(self) -> None:
         with Front(self.folder) as front:

@@ -134,6 +134,8 @@ class WorksheetKernel(Kernel):
     def completions(self, code: str, cursor_pos: int) -> Optional[Completions]:
         """What the interpreter says that can stand there; None where it doesn't say, or there is no worksheet."""
         text = code.replace("\n", LINE_END)
+        if self.sheet.has_lost_variables or self.sheet.ended():
+            return None  # the next cell is told
         try:
             cells = self.sheet.opened()
             if not self.sheet.answers_completions:

@@ -3,7 +3,7 @@ import os
 import time
 from typing import List, NamedTuple, Optional, Tuple
 
-from tmhost import InUse, TmhostError, Worksheet
+from tmhost import Ended, Event, InUse, TmhostError, Worksheet
 
 from .cells import Cells, Names
 
@@ -77,11 +77,14 @@ class Sheet:
         self.path, self.is_own = place(given)
         self.worksheet: Optional[Worksheet] = None
         self.cells: Optional[Cells] = None
-        self.is_closed = False
+        self.has_lost_variables = False  # while nothing was evaluated, so that nobody was told
 
     def opened(self) -> Cells:
         """Raises Unusable, also once where its program has ended since: nobody shall take an empty interpreter for the one before."""
         ended = self.ended()
+        if self.has_lost_variables and ended is None:
+            self.has_lost_variables = False
+            raise Unusable("the interpreter has ended since the last cell: its variables are gone, and the next cell starts it again")
         if self.cells and ended is None:
             return self.cells
         self.close()
@@ -97,8 +100,15 @@ class Sheet:
         except Unusable:
             self.close()  # others may open it
             raise
+        self.has_lost_variables = False
+        self.worksheet.listen(self.note)
         self.cells = Cells(self.worksheet, self.given.session, Names(self.path + CELLS))
         return self.cells
+
+    def note(self, event: Event) -> None:
+        """An event of the worksheet. The cell that waits is told itself."""
+        if isinstance(event, Ended) and event.session == self.given.session and not event.lost:
+            self.has_lost_variables = True
 
     def tried(self) -> Worksheet:
         until = time.monotonic() + IN_USE
