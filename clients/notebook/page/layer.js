@@ -29,7 +29,7 @@ export class Layer {
   /** @param {HTMLTextAreaElement} text */
   constructor(text) {
     this.text = text;
-    this.place = make("pre", "layer");
+    this.place = make("div", "layer");
     this.place.inert = true; // it is neither read out nor found: the text area is
     this.place.dir = "auto";
     this.drawn = "";
