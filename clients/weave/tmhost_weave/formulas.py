@@ -52,8 +52,8 @@ def printed(item: Union[str, bytes]) -> str:
 
 def error_of(item: Block) -> Optional[str]:
     """The text of a block that is an error."""
-    [error] = item.errors if len(item.errors) == 1 else [None]
-    is_all = error is not None and error.plain == item.plain and not any(isinstance(one, Block) for one in error.items)
+    errors = item.errors
+    is_all = len(errors) == 1 and errors[0].plain == item.plain and not any(isinstance(one, Block) for one in errors[0].items)
     return printed(item.plain) if is_all else None
 
 
