@@ -1,0 +1,125 @@
+//! What is made of what came.
+ghost use Rattle.std.specs.Prelude.{◌≡◌, ◌&&◌, ◌||◌, true, false};
+ghost use Rattle.std.specs.List.{list_any};
+ghost use Rattle.session_engine.specs.World.{World};
+ghost use Rattle.session_engine.specs.Host.{IsHost};
+ghost use Rattle.sheet_programs.specs.Strict as strictly;
+ghost use Rattle.live.specs.Saying as saying;
+ghost use Rattle.agendas.specs.Heeds as heeds;
+ghost use Rattle.agendas.specs.Heeds.{LifeGoesOn, interrupt_note, over_note};
+
+use crate::waits::{begun_again, is_held, stop_if, warned};
+use child_calls::Seat;
+use child_edge::{Interrupted, is_idle};
+use disk_model::Disk;
+use driver::Came;
+use host_events::{Outcome, Reply};
+use live::Hold;
+use session_engine::Host;
+use sheet_programs::{any_wrong, is_wrong};
+use tellings::Note;
+use worksheet::Name;
+
+/// Whether something closed: a banner, an answer, or completions.
+fn has_closed(reply: &Reply) -> bool
+    ensures { result ≡ saying.has_closed reply.now }
+{
+    match reply {
+        Reply::Child(told) => told.closed.is_some(),
+        Reply::Done | Reply::Field(_) | Reply::Asked(_) | Reply::Refused(_) | Reply::Nothing =>
+            false,
+    }
+}
+
+/// Whether something closed by one of these replies.
+fn any_closed(replies: &[Reply]) -> bool
+    ensures { result ≡ list_any saying.has_closed replies.now }
+{
+    replies.iter().any(|reply| has_closed(reply))
+}
+
+/// Whether something closed in one of these outcomes.
+fn any_outcome_closed(outcomes: &[Outcome]) -> bool
+    ensures { result ≡ list_any (λ o. saying.has_closed o.reply) outcomes.now }
+{
+    outcomes.iter().any(|outcome| has_closed(&outcome.reply))
+}
+
+/// Whether something was refused in one of these outcomes, or items were lost.
+fn any_outcome_wrong(outcomes: &[Outcome]) -> bool
+    ensures { result ≡ list_any (λ o. strictly.is_wrong o.reply) outcomes.now }
+{
+    outcomes.iter().any(|outcome| is_wrong(&outcome.reply))
+}
+
+/// Whether something closed.
+pub(crate) fn closed_one(came: Came<'_>) -> bool
+    ensures { result ≡ heeds.closed_one came }
+{
+    any_outcome_closed(came.outcomes) || any_closed(came.replies)
+}
+
+/// Whether something was refused, or items were lost.
+pub(crate) fn went_wrong(came: Came<'_>) -> bool
+    ensures { result ≡ heeds.went_wrong came }
+{
+    any_outcome_wrong(came.outcomes) || any_wrong(came.replies)
+}
+
+/// That the wait of this line is over is noted where it was one and isn't any more.
+pub(crate) fn note_over(number: u64, before: Hold, behind: Hold) -> Option<Note>
+    ensures { result ≡ over_note number before behind }
+{
+    if is_held(before) && !is_held(behind) {
+        Some(Note::Waited(number, false))
+    } else {
+        None
+    }
+}
+
+/// What came of the interrupt for which this line asked is noted.
+pub(crate) fn note_interrupted(number: u64, name: Name, told: Option<Interrupted>) -> Option<Note>
+    ensures { result ≡ interrupt_note (Note.Interrupted number name) told }
+{
+    match told {
+        Some(told) => Some(Note::Interrupted(number, name, told)),
+        None => None,
+    }
+}
+
+/// What came of the interrupt of this life is noted, whose time is over.
+pub(crate) fn note_warned(seat: Seat, told: Option<Interrupted>) -> Option<Note>
+    ensures { result ≡ interrupt_note (Note.Warned seat) told }
+{
+    match told {
+        Some(told) => Some(Note::Warned(seat, told)),
+        None => None,
+    }
+}
+
+/// The wait after what lives gave, of which something closed or not.
+pub(crate) fn behind_life<D: Disk>(
+    host: &Host<D>,
+    limit: Option<u32>,
+    now: u64,
+    closed: bool,
+    held: Hold,
+) -> Hold
+    ensures { (w : World) → IsHost host.now w → LifeGoesOn limit w now closed held result }
+{
+    if is_idle(host) {
+        Hold::Free
+    } else {
+        begun_again(limit, now, closed, held)
+    }
+}
+
+/// The wait behind the interrupt of a life whose time is over: after the last one there are two seconds more.
+pub(crate) fn behind_warning(strict: bool, now: u64, late: &[Seat], held: Hold) -> Hold
+    ensures { result ≡ heeds.behind_warning strict now late.now held }
+{
+    match late {
+        [] => stop_if(strict, true, warned(now)),
+        [_, ..] => held,
+    }
+}
