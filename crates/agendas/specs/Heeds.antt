@@ -46,7 +46,7 @@ LifeGoesOn limit w now closed held behind =
 
 -- the wait behind an interrupt of a life whose time is over: after the last one there are two seconds more, and a strict input stops
 abbrev pub behind_warning : Bool → ℕ → List Seat → Hold → Hold
-behind_warning strict now [] held = stop_if strict (warned now)
+behind_warning strict now [] held = stop_if (strict && true) (warned now)
 behind_warning strict now (seat ∷ rest) held = held
 
 -- What is noted of what came, and which wait goes on then, by what was done.

@@ -35,3 +35,8 @@ EndsSo held matter.Stall = StallsAtEnd held
 -- what is next where no watch told anything
 abbrev pub IsUnwatched : Bool → Hold → ℕ → Matter → Type 0
 IsUnwatched first held now m = IsMatter first held None now m
+
+-- how many lives may be taken with another: a strict input takes them one by one
+abbrev pub others : Bool → ℕ
+others true = 0
+others false = 1023

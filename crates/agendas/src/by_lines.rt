@@ -1,23 +1,20 @@
 //! The agenda of lines.
-ghost use Rattle.std.specs.Prelude.{◌≡◌, ◌+◌, ◌<◌, ◌^◌, ◌∷◌, [], IfSome, None, OnErr, Some};
+ghost use Rattle.std.specs.Prelude.{◌≡◌, ◌+◌, ◌<◌, ◌^◌, ◌&&◌, ◌∷◌, [], Bool, IfNone, IfSome, None, true};
 ghost use Rattle.session_engine.specs.World.{World};
 ghost use Rattle.session_engine.specs.Host.{IsHost};
 ghost use Rattle.sheet_programs.specs.Together.{most_commands};
+ghost use Rattle.live.specs.Saying as saying;
+ghost use Rattle.agendas.specs.Waits as waits;
+ghost use Rattle.agendas.specs.Matters.{IsMatter};
 
-use crate::alone::{Reading, bad, choose_line};
-use crate::doing::{Chosen, Doing};
-use crate::gathering::gather;
-use crate::heeding::{
-    behind_life, behind_warning, closed_one, note_interrupted, note_over, note_warned, went_wrong,
-};
-use crate::matter::{Matter, matter_of};
+use crate::doing::Doing;
+use crate::matter::{Matter, matter_of, most_others};
 use crate::waits::{input, is_stopped, patience, stop_if, warned};
-use arrivals::{InputLines, NextLine, Woken};
+use arrivals::{InputLines, Woken};
 use child_calls::Seat;
 use child_edge::waiting_lives;
 use disk_model::Disk;
 use driver::{Agenda, Came, Turn};
-use host_events::Event;
 use live::{Hold, Manner};
 use offline_programs::RunFault;
 use session_engine::Host;
@@ -29,30 +26,41 @@ use tellings::Note;
 /// The most lines after which those of another group can be counted.
 const MOST_COUNTED: u64 = u64::MAX - 1_025;
 
-/// The most lives that are heard with another.
-const MOST_OTHERS: u64 = 1_023;
-
 /// Lines that are taken as they come, or one after the other, in a manner (docs/SCRIPT.md, "Live").
 ///
 /// It reads its input, and says for each line what a driver does. A wait holds back the lines after it; a strict input stops after
 /// the first line that goes wrong.
 #[derive(Drop)]
 pub struct ByLines<R> {
-    lines: InputLines<R>,
-    manner: Manner,
+    pub(crate) lines: InputLines<R>,
+    pub(crate) manner: Manner,
     /// How many lines were taken.
-    number: u64,
-    held: Hold,
-    doing: Doing,
+    pub(crate) number: u64,
+    pub(crate) held: Hold,
+    pub(crate) doing: Doing,
     /// Whose turn a watch told.
-    due: Option<Woken>,
+    pub(crate) due: Option<Woken>,
     /// Lives that are still to be interrupted.
-    late: Vec<Seat>,
+    pub(crate) late: Vec<Seat>,
 }
 
-impl<R> ByLines<R> {
+impl<R: Read> ByLines<R> {
+    ghost use Rattle.agendas.specs.LinesAt.{doing_now, heeded, holding, stands, with_late};
+    ghost use Rattle.agendas.specs.Says.{LinesSay, SaysLimit, SaysMatter};
+    ghost use Rattle.agendas.specs.declared.doing.Doing.TheVariants as does;
+    ghost use Rattle.live.specs.Arrivals.{input_at, patience_at};
+    ghost use Rattle.arrivals.specs.Held.{Readiness};
+
     /// The lines of this input, of which none was taken yet.
-    pub fn new(alloc: Global, manner: Manner, lines: InputLines<R>) -> ByLines<R> {
+    pub fn new(alloc: Global, manner: Manner, lines: InputLines<R>) -> ByLines<R>
+        ensures input { result.lines ≡ lines }
+        ensures manner { result.manner ≡ manner }
+        ensures number { result.number ≡ 0 }
+        ensures held { result.held ≡ Hold.Free }
+        ensures doing { result.doing ≡ does.Nothing }
+        ensures due { result.due ≡ None }
+        ensures late { result.late.items ≡ [] }
+    {
         ByLines {
             lines,
             manner,
@@ -65,18 +73,23 @@ impl<R> ByLines<R> {
     }
 
     /// The number of the line after which a strict input stopped.
-    pub fn stopped_at(&self) -> Option<u64> {
+    pub fn stopped_at(&self) -> Option<u64>
+        ensures stopped { IfSome result (λ number. (self.now.held ≡ Hold.Stopped) × (number ≡ self.now.number)) }
+        ensures going { result ≡ None → self.now.held ≡ Hold.Stopped → ⊥ }
+    {
         if is_stopped(self.held) {
             Some(self.number)
         } else {
             None
         }
     }
-}
 
-impl<R: Read> ByLines<R> {
     /// The next life that is still to be interrupted.
-    fn next_late(&mut self) -> Option<Seat> {
+    fn next_late(&mut self) -> Option<Seat>
+        ensures some { IfSome result (λ seat. self.old.late.items ≡ seat ∷ self.new.late.items) }
+        ensures none { IfNone result ((self.old.late.items ≡ []) × (self.new.late.items ≡ [])) }
+        ensures stands { stands R.remaining self.new ≡ with_late (stands R.remaining self.old) self.new.late.items }
+    {
         if self.late.is_empty() {
             return None;
         }
@@ -84,10 +97,23 @@ impl<R: Read> ByLines<R> {
     }
 
     /// Interrupts this life, whose time is over.
-    fn warn(&mut self, seat: Seat) -> Turn {
+    fn warn(&mut self, seat: Seat) -> Turn
+        ensures turn { result ≡ Turn.Interrupt seat.name }
+        ensures stands { stands R.remaining self.new ≡ doing_now (stands R.remaining self.old) (does.Warning seat) }
+    {
         let name = seat.name;
         self.doing = Doing::Warning(seat);
         Turn::Interrupt(name)
+    }
+
+    /// There is none to be interrupted, and two seconds more begin.
+    fn give_respite(&mut self, now: u64) -> Turn
+        ensures turn { result ≡ Turn.Nothing }
+        ensures stands { stands R.remaining self.new ≡ holding (stands R.remaining self.old)
+            (saying.stop_if (self.old.manner.strict && true) (waits.warned now)) }
+    {
+        self.held = stop_if(self.manner.strict, true, warned(now));
+        Turn::Nothing
     }
 
     /// The time is over that a line may take: each life in which an item waits is interrupted, one after the other.
@@ -96,99 +122,47 @@ impl<R: Read> ByLines<R> {
         alloc: Global,
         host: &Host<D>,
         now: u64,
-    ) -> Result<Turn, RunFault> {
+    ) -> Result<Turn, RunFault>
+        ensures { (w : World) → self.old.late.items ≡ [] → IsHost host.now w
+            → SaysLimit (stands R.remaining self.old) w now result (stands R.remaining self.new) }
+    {
         let Ok(seats) = waiting_lives(alloc, host) else {
             return Err(RunFault::OutOfMemory);
         };
         self.late = seats;
         match self.next_late() {
             Some(seat) => Ok(self.warn(seat)),
-            None => {
-                self.held = stop_if(self.manner.strict, true, warned(now));
-                Ok(Turn::Nothing)
-            }
+            None => Ok(self.give_respite(now)),
         }
-    }
-
-    /// These commands of lines that were there together are taken behind one gate.
-    fn group(&mut self, events: Vec<Event>, count: u64) -> Turn {
-        let first = self.number + 1;
-        self.number += count;
-        self.doing = Doing::Commands;
-        Turn::Lines(first, events)
-    }
-
-    /// This was chosen for the next line.
-    fn follow(&mut self, chosen: Chosen) -> Turn {
-        let Chosen { turn, doing, held } = chosen;
-        self.doing = doing;
-        self.held = held;
-        turn
-    }
-
-    /// Takes the next line, or reads more of the input.
-    fn take_next<D: Disk>(
-        &mut self,
-        alloc: Global,
-        host: &Host<D>,
-        now: u64,
-    ) -> Result<Turn, RunFault> {
-        let at = Reading {
-            manner: self.manner,
-            number: self.number + 1,
-            now,
-        };
-        match self.lines.next() {
-            NextLine::Line => {
-                self.number += 1;
-                match choose_line(alloc, host, at, self.lines.line()) {
-                    Ok(chosen) => Ok(self.follow(chosen)),
-                    Err(_) => Err(RunFault::OutOfMemory),
-                }
-            }
-            NextLine::TooLong => {
-                self.number += 1;
-                Ok(self.follow(bad(at)))
-            }
-            NextLine::More => match self.lines.fill() {
-                Ok(()) => Ok(Turn::Nothing),
-                Err(_) => Err(RunFault::Input),
-            },
-            NextLine::End => Ok(Turn::End),
-        }
-    }
-
-    /// Takes the lines that are there already and may be behind one gate, or else the next line, or reads more of the input.
-    fn take_input<D: Disk>(
-        &mut self,
-        alloc: Global,
-        host: &Host<D>,
-        now: u64,
-    ) -> Result<Turn, RunFault> {
-        if self.manner.strict {
-            return self.take_next(alloc, host, now);
-        }
-        let events = gather(alloc, &mut self.lines);
-        let count = events.len() as u64;
-        if count == 0 {
-            return self.take_next(alloc, host, now);
-        }
-        Ok(self.group(events, count))
     }
 
     /// Hears this life, and others that are ready.
-    fn hear(&mut self, seat: Seat) -> Turn {
+    fn hear(&mut self, seat: Seat) -> Turn
+        ensures turn { result ≡ Turn.Hear seat (others self.old.manner.strict) }
+        ensures stands { stands R.remaining self.new ≡ doing_now (stands R.remaining self.old) does.Life }
+    {
         self.doing = Doing::Life;
-        let others = if self.manner.strict { 0 } else { MOST_OTHERS };
-        Turn::Hear(seat, others)
+        Turn::Hear(seat, most_others(self.manner.strict))
     }
 
     /// Watches the sources.
-    fn watch(&self, now: u64) -> Turn {
+    fn watch(&self, now: u64) -> Turn
+        ensures { (there : Bool) × Readiness self.now.lines.held there
+            × (result ≡ Turn.Watch (input_at self.now.held there) (patience_at self.now.held now)) }
+    {
         Turn::Watch(
             input(self.held, self.lines.is_ready()),
             patience(self.held, now),
         )
+    }
+
+    /// Each life in which an item waits has stalled.
+    fn stall(&mut self) -> Turn
+        ensures turn { result ≡ Turn.Stall }
+        ensures stands { stands R.remaining self.new ≡ doing_now (stands R.remaining self.old) does.Stall }
+    {
+        self.doing = Doing::Stall;
+        Turn::Stall
     }
 
     /// What this matter asks for.
@@ -198,26 +172,52 @@ impl<R: Read> ByLines<R> {
         host: &Host<D>,
         now: u64,
         matter: Matter,
-    ) -> Result<Turn, RunFault> {
+    ) -> Result<Turn, RunFault>
+        requires { self.old.number + most_commands + 1 < 2 ^ 64 }
+        ensures { (w : World) → self.old.late.items ≡ [] → IsHost host.now w
+            → SaysMatter (stands R.remaining self.old) w now matter result (stands R.remaining self.new) }
+    {
         match matter {
             Matter::Untimely => Ok(Turn::Nothing),
             Matter::Watch => Ok(self.watch(now)),
             Matter::Input => self.take_input(alloc, host, now),
             Matter::Life(seat) => Ok(self.hear(seat)),
             Matter::Limit => self.limit(alloc, host, now),
-            Matter::Stall => {
-                self.doing = Doing::Stall;
-                Ok(Turn::Stall)
-            }
+            Matter::Stall => Ok(self.stall()),
         }
     }
 
-    /// What is noted of what lives gave.
-    fn heed_life<D: Disk>(&mut self, host: &Host<D>, now: u64, came: Came<'_>) -> Option<Note> {
-        let before = self.held;
-        let on = behind_life(host, self.manner.limit, now, closed_one(came), before);
-        self.held = stop_if(self.manner.strict, went_wrong(came), on);
-        note_over(self.number, before, on)
+    /// What the next turn is about; what a watch told is heeded by that.
+    fn about(&mut self, now: u64) -> Matter
+        ensures about { IsMatter self.old.manner.lines_first self.old.held self.old.due now result }
+        ensures stands { stands R.remaining self.new ≡ heeded (stands R.remaining self.old) }
+    {
+        let due = mem::replace(&mut self.due, None);
+        matter_of(self.manner.lines_first, self.held, due, now)
+    }
+
+    /// What is next.
+    fn next_turn<D: Disk>(
+        &mut self,
+        alloc: Global,
+        host: &Host<D>,
+        now: u64,
+    ) -> Result<Turn, RunFault>
+        ensures { (w : World) → IsHost host.now w → LinesSay (stands R.remaining self.old) w now result (stands R.remaining self.new) }
+    {
+        if is_stopped(self.held) {
+            return Ok(Turn::End);
+        }
+        if self.number > MOST_COUNTED {
+            return Err(RunFault::InputTooLong);
+        }
+        match self.next_late() {
+            Some(seat) => Ok(self.warn(seat)),
+            None => {
+                let matter = self.about(now);
+                self.say(alloc, host, now, matter)
+            }
+        }
     }
 }
 
@@ -238,18 +238,7 @@ impl<R: Read> Agenda for ByLines<R> {
         host: &Host<D>,
         now: u64,
     ) -> Result<Turn, RunFault> {
-        if is_stopped(self.held) {
-            return Ok(Turn::End);
-        }
-        if self.number > MOST_COUNTED {
-            return Err(RunFault::InputTooLong);
-        }
-        if let Some(seat) = self.next_late() {
-            return Ok(self.warn(seat));
-        }
-        let due = mem::replace(&mut self.due, None);
-        let matter = matter_of(self.manner.lines_first, self.held, due, now);
-        self.say(alloc, host, now, matter)
+        self.next_turn(alloc, host, now)
     }
 
     fn wake(&mut self, woken: Woken) {
@@ -257,30 +246,7 @@ impl<R: Read> Agenda for ByLines<R> {
     }
 
     fn heed<D: Disk>(&mut self, host: &Host<D>, now: u64, came: Came<'_>) -> Option<Note> {
-        let strict = self.manner.strict;
-        match mem::replace(&mut self.doing, Doing::Nothing) {
-            Doing::Nothing => None,
-            Doing::Line(wrong) => {
-                self.held = stop_if(strict, wrong, self.held);
-                None
-            }
-            Doing::Interrupt(name, wrong) => {
-                self.held = stop_if(strict, wrong, self.held);
-                note_interrupted(self.number, name, came.interrupted)
-            }
-            Doing::Commands => {
-                self.held = stop_if(strict, went_wrong(came), self.held);
-                None
-            }
-            Doing::Life => self.heed_life(host, now, came),
-            Doing::Warning(seat) => {
-                self.held = behind_warning(strict, now, self.late.as_slice(), self.held);
-                note_warned(seat, came.interrupted)
-            }
-            Doing::Stall => {
-                self.held = stop_if(strict, went_wrong(came), Hold::Free);
-                Some(Note::Waited(self.number, true))
-            }
-        }
+        let doing = mem::replace(&mut self.doing, Doing::Nothing);
+        self.heed_done(host, now, came, doing)
     }
 }

@@ -6,8 +6,11 @@ ghost use Rattle.session_engine.specs.Host.{IsHost};
 ghost use Rattle.sheet_programs.specs.Strict as strictly;
 ghost use Rattle.live.specs.Saying as saying;
 ghost use Rattle.agendas.specs.Heeds as heeds;
+ghost use Rattle.live.specs.declared.holding.Hold.{Hold as TheHold};
 ghost use Rattle.agendas.specs.Heeds.{LifeGoesOn, interrupt_note, over_note};
 
+use crate::by_lines::ByLines;
+use crate::doing::Doing;
 use crate::waits::{begun_again, is_held, stop_if, warned};
 use child_calls::Seat;
 use child_edge::{Interrupted, is_idle};
@@ -17,6 +20,7 @@ use host_events::{Outcome, Reply};
 use live::Hold;
 use session_engine::Host;
 use sheet_programs::{any_wrong, is_wrong};
+use std::io::Read;
 use tellings::Note;
 use worksheet::Name;
 
@@ -53,21 +57,21 @@ fn any_outcome_wrong(outcomes: &[Outcome]) -> bool
 }
 
 /// Whether something closed.
-pub(crate) fn closed_one(came: Came<'_>) -> bool
+fn closed_one(came: Came<'_>) -> bool
     ensures { result ≡ heeds.closed_one came }
 {
     any_outcome_closed(came.outcomes) || any_closed(came.replies)
 }
 
 /// Whether something was refused, or items were lost.
-pub(crate) fn went_wrong(came: Came<'_>) -> bool
+fn went_wrong(came: Came<'_>) -> bool
     ensures { result ≡ heeds.went_wrong came }
 {
     any_outcome_wrong(came.outcomes) || any_wrong(came.replies)
 }
 
 /// That the wait of this line is over is noted where it was one and isn't any more.
-pub(crate) fn note_over(number: u64, before: Hold, behind: Hold) -> Option<Note>
+fn note_over(number: u64, before: Hold, behind: Hold) -> Option<Note>
     ensures { result ≡ over_note number before behind }
 {
     if is_held(before) && !is_held(behind) {
@@ -78,7 +82,7 @@ pub(crate) fn note_over(number: u64, before: Hold, behind: Hold) -> Option<Note>
 }
 
 /// What came of the interrupt for which this line asked is noted.
-pub(crate) fn note_interrupted(number: u64, name: Name, told: Option<Interrupted>) -> Option<Note>
+fn note_interrupted(number: u64, name: Name, told: Option<Interrupted>) -> Option<Note>
     ensures { result ≡ interrupt_note (Note.Interrupted number name) told }
 {
     match told {
@@ -88,7 +92,7 @@ pub(crate) fn note_interrupted(number: u64, name: Name, told: Option<Interrupted
 }
 
 /// What came of the interrupt of this life is noted, whose time is over.
-pub(crate) fn note_warned(seat: Seat, told: Option<Interrupted>) -> Option<Note>
+fn note_warned(seat: Seat, told: Option<Interrupted>) -> Option<Note>
     ensures { result ≡ interrupt_note (Note.Warned seat) told }
 {
     match told {
@@ -98,7 +102,7 @@ pub(crate) fn note_warned(seat: Seat, told: Option<Interrupted>) -> Option<Note>
 }
 
 /// The wait after what lives gave, of which something closed or not.
-pub(crate) fn behind_life<D: Disk>(
+fn behind_life<D: Disk>(
     host: &Host<D>,
     limit: Option<u32>,
     now: u64,
@@ -115,11 +119,67 @@ pub(crate) fn behind_life<D: Disk>(
 }
 
 /// The wait behind the interrupt of a life whose time is over: after the last one there are two seconds more.
-pub(crate) fn behind_warning(strict: bool, now: u64, late: &[Seat], held: Hold) -> Hold
+fn behind_warning(strict: bool, now: u64, late: &[Seat], held: Hold) -> Hold
     ensures { result ≡ heeds.behind_warning strict now late.now held }
 {
     match late {
         [] => stop_if(strict, true, warned(now)),
         [_, ..] => held,
+    }
+}
+
+impl<R: Read> ByLines<R> {
+    ghost use Rattle.agendas.specs.LinesAt.{holding, stands};
+    ghost use Rattle.agendas.specs.Heeds.{HeedsDone};
+
+    /// What is noted of what lives gave, and which wait goes on.
+    fn heed_life<D: Disk>(&mut self, host: &Host<D>, now: u64, came: Came<'_>) -> Option<Note>
+        ensures { (w : World) → IsHost host.now w → (held : TheHold)
+            × HeedsDone (stands R.remaining self.old) w now came Doing.Life result held
+            × (stands R.remaining self.new ≡ holding (stands R.remaining self.old) held) }
+    {
+        let before = self.held;
+        let on = behind_life(host, self.manner.limit, now, closed_one(came), before);
+        self.held = stop_if(self.manner.strict, went_wrong(came), on);
+        note_over(self.number, before, on)
+    }
+
+    /// What is noted of what came, and which wait goes on, where this was done.
+    pub(crate) fn heed_done<D: Disk>(
+        &mut self,
+        host: &Host<D>,
+        now: u64,
+        came: Came<'_>,
+        doing: Doing,
+    ) -> Option<Note>
+        ensures { (w : World) → IsHost host.now w → (held : TheHold)
+            × HeedsDone (stands R.remaining self.old) w now came doing result held
+            × (stands R.remaining self.new ≡ holding (stands R.remaining self.old) held) }
+    {
+        let strict = self.manner.strict;
+        match doing {
+            Doing::Nothing => None,
+            Doing::Line(wrong) => {
+                self.held = stop_if(strict, wrong, self.held);
+                None
+            }
+            Doing::Interrupt(name, wrong) => {
+                self.held = stop_if(strict, wrong, self.held);
+                note_interrupted(self.number, name, came.interrupted)
+            }
+            Doing::Commands => {
+                self.held = stop_if(strict, went_wrong(came), self.held);
+                None
+            }
+            Doing::Life => self.heed_life(host, now, came),
+            Doing::Warning(seat) => {
+                self.held = behind_warning(strict, now, self.late.as_slice(), self.held);
+                note_warned(seat, came.interrupted)
+            }
+            Doing::Stall => {
+                self.held = stop_if(strict, went_wrong(came), Hold::Free);
+                Some(Note::Waited(self.number, true))
+            }
+        }
     }
 }

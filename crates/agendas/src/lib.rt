@@ -7,6 +7,7 @@ pub mod doing;
 mod gathering;
 mod heeding;
 mod matter;
+mod taking;
 mod waits;
 
 pub use by_lines::ByLines;

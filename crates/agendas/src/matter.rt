@@ -27,6 +27,16 @@ pub enum Matter {
     Stall,
 }
 
+/// The most lives that are heard with another.
+const MOST_OTHERS: u64 = 1_023;
+
+/// How many lives are heard with another: a strict input takes them one by one.
+pub(crate) fn most_others(strict: bool) -> u64
+    ensures { result ≡ matters.others strict }
+{
+    if strict { 0 } else { MOST_OTHERS }
+}
+
 /// A wait whose time is over.
 fn over(held: Hold) -> Matter
     requires { IsTimed held }
