@@ -11,7 +11,7 @@ use Rattle.tellings.specs.declared.note.Note.TheVariants as note
 use Rattle.live.specs.declared.holding.Hold.{Hold}
 use Rattle.live.specs.declared.holding.Hold.TheVariants as hold
 use Rattle.live.specs.Saying.{has_closed, has_limit, is_held, stop_if}
-use Rattle.driver.specs.declared.report.Came.{Came}
+use Rattle.driver.specs.Reports.{Came}
 use Rattle.agendas.specs.declared.doing.Doing.{Doing}
 use Rattle.agendas.specs.declared.doing.Doing.TheVariants as doing
 use Rattle.agendas.specs.Waits.{begun_again, warned}

@@ -32,8 +32,15 @@ pub record LinesAt : Type 0 where
 -- the agenda, where this is known of its input
 abbrev pub stands : {R : Type 0} → (R → Option (List ℕ)) → ByLines R → LinesAt
 stands remaining a = record {
-  buffer = a.lines.held; remaining = remaining a.lines.reader; manner = a.manner; number = a.number; held = a.held; doing = a.doing;
-  due = a.due; late = a.late.items }
+  buffer = a.lines.held;
+  remaining = remaining a.lines.reader;
+  manner = a.manner;
+  number = a.number;
+  held = a.held;
+  doing = a.doing;
+  due = a.due;
+  late = a.late.items;
+}
 
 -- the lines still to come, where the input is known
 abbrev pub coming : LinesAt → Option (List InputLine)

@@ -12,7 +12,7 @@ use crate::doing::{Chosen, Doing};
 use crate::waits::{lacks_field, lacks_session, untimed};
 use child_edge::is_idle;
 use disk_model::Disk;
-use driver::Turn;
+use driver::{Show, Turn};
 use host_events::{Command, Event};
 use live::{Hold, LiveLine, Manner, go_on, read_live_line, wait_for};
 use session_engine::Host;
@@ -45,7 +45,7 @@ fn by_itself(turn: Turn, wrong: bool) -> Chosen
 pub(crate) fn bad(at: Reading) -> Chosen
     ensures { (w : World) → AsksAlone at.manner at.number w at.now None result }
 {
-    by_itself(Turn::Note(Note::Bad(at.number)), true)
+    by_itself(Turn::Show(Show::Note(Note::Bad(at.number))), true)
 }
 
 /// A wait begins, which is over at once where no item waits.
@@ -53,7 +53,7 @@ fn begin<D: Disk>(host: &Host<D>, number: u64, begun: Hold) -> Chosen
     ensures { (w : World) → IsHost host.now w → BeginsWait number w begun result }
 {
     if is_idle(host) {
-        by_itself(Turn::Note(Note::Waited(number, false)), false)
+        by_itself(Turn::Show(Show::Note(Note::Waited(number, false))), false)
     } else {
         Chosen {
             turn: Turn::Nothing,
@@ -111,9 +111,9 @@ fn choose_script<D: Disk>(
     ensures err { OnErr result (IsCommand (Some (LiveLine.Script said))) }
 {
     match said {
-        ScriptLine::Skip => Ok(by_itself(Turn::Note(Note::Nothing(at.number)), false)),
+        ScriptLine::Skip => Ok(by_itself(Turn::Show(Show::Note(Note::Nothing(at.number))), false)),
         ScriptLine::Wait => Ok(begin(host, at.number, untimed(at.manner.limit, at.now))),
-        ScriptLine::Print => Ok(by_itself(Turn::Sheet(at.number), false)),
+        ScriptLine::Print => Ok(by_itself(Turn::Show(Show::Sheet(at.number)), false)),
         ScriptLine::Command(command) => choose_command(alloc, at, command),
     }
 }
@@ -142,12 +142,15 @@ fn choose<D: Disk>(
     match said {
         LiveLine::Script(said) => choose_script(alloc, host, at, said),
         LiveLine::PrintField(id) => Ok(by_itself(
-            Turn::Field(at.number, id),
+            Turn::Show(Show::Field(at.number, id)),
             lacks_field(host, id),
         )),
         LiveLine::WaitFor(seconds) => Ok(begin(host, at.number, wait_for(at.now, seconds))),
         LiveLine::Interrupt(name) => Ok(choose_interrupt(host, at, name)),
-        LiveLine::Export(format) => Ok(by_itself(Turn::Export(at.number, format), false)),
+        LiveLine::Export(format) => Ok(by_itself(
+            Turn::Show(Show::Export(at.number, format)),
+            false,
+        )),
     }
 }
 

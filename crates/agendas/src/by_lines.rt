@@ -46,6 +46,7 @@ pub struct ByLines<R> {
 
 impl<R: Read> ByLines<R> {
     ghost use Rattle.agendas.specs.LinesAt.{doing_now, heeded, holding, stands, with_late};
+    ghost use Rattle.agendas.specs.Matters.{others};
     ghost use Rattle.agendas.specs.Says.{LinesSay, SaysLimit, SaysMatter};
     ghost use Rattle.agendas.specs.declared.doing.Doing.TheVariants as does;
     ghost use Rattle.live.specs.Arrivals.{input_at, patience_at};
@@ -117,12 +118,7 @@ impl<R: Read> ByLines<R> {
     }
 
     /// The time is over that a line may take: each life in which an item waits is interrupted, one after the other.
-    fn limit<D: Disk>(
-        &mut self,
-        alloc: Global,
-        host: &Host<D>,
-        now: u64,
-    ) -> Result<Turn, RunFault>
+    fn limit<D: Disk>(&mut self, alloc: Global, host: &Host<D>, now: u64) -> Result<Turn, RunFault>
         ensures { (w : World) → self.old.late.items ≡ [] → IsHost host.now w
             → SaysLimit (stands R.remaining self.old) w now result (stands R.remaining self.new) }
     {
@@ -232,12 +228,7 @@ impl<R: Read> Agenda for ByLines<R> {
         (λ a woken b. LinesWoken (stands R.remaining a) woken (stands R.remaining b))
         (λ a w now came note b. LinesHeed (stands R.remaining a) w now came note (stands R.remaining b)) };
 
-    fn next<D: Disk>(
-        &mut self,
-        alloc: Global,
-        host: &Host<D>,
-        now: u64,
-    ) -> Result<Turn, RunFault> {
+    fn next<D: Disk>(&mut self, alloc: Global, host: &Host<D>, now: u64) -> Result<Turn, RunFault> {
         self.next_turn(alloc, host, now)
     }
 
@@ -245,7 +236,7 @@ impl<R: Read> Agenda for ByLines<R> {
         self.due = Some(woken);
     }
 
-    fn heed<D: Disk>(&mut self, host: &Host<D>, now: u64, came: Came<'_>) -> Option<Note> {
+    fn heed<D: Disk>(&mut self, host: &Host<D>, now: u64, came: &Came) -> Option<Note> {
         let doing = mem::replace(&mut self.doing, Doing::Nothing);
         self.heed_done(host, now, came, doing)
     }

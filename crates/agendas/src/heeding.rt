@@ -5,6 +5,7 @@ ghost use Rattle.session_engine.specs.World.{World};
 ghost use Rattle.session_engine.specs.Host.{IsHost};
 ghost use Rattle.sheet_programs.specs.Strict as strictly;
 ghost use Rattle.live.specs.Saying as saying;
+ghost use Rattle.driver.specs.Reports.{came, came_of};
 ghost use Rattle.agendas.specs.Heeds as heeds;
 ghost use Rattle.live.specs.declared.holding.Hold.{Hold as TheHold};
 ghost use Rattle.agendas.specs.Heeds.{LifeGoesOn, interrupt_note, over_note};
@@ -13,7 +14,7 @@ use crate::by_lines::ByLines;
 use crate::doing::Doing;
 use crate::waits::{begun_again, is_held, stop_if, warned};
 use child_calls::Seat;
-use child_edge::{Interrupted, is_idle};
+use child_edge::{GaveTogether, Interrupted, is_idle};
 use disk_model::Disk;
 use driver::Came;
 use host_events::{Outcome, Reply};
@@ -56,18 +57,50 @@ fn any_outcome_wrong(outcomes: &[Outcome]) -> bool
     outcomes.iter().any(|outcome| is_wrong(&outcome.reply))
 }
 
-/// Whether something closed.
-fn closed_one(came: Came<'_>) -> bool
-    ensures { result ≡ heeds.closed_one came }
+/// Whether something closed by a group of events, or by what followed.
+fn group_closed(gave: &GaveTogether) -> bool
+    ensures { result ≡ heeds.closed_one (came gave.now.outcomes.items gave.now.replies.items) }
 {
-    any_outcome_closed(came.outcomes) || any_closed(came.replies)
+    any_outcome_closed(gave.outcomes.as_slice()) || any_closed(gave.replies.as_slice())
+}
+
+/// Whether something was refused by a group of events or by what followed, or items were lost.
+fn group_wrong(gave: &GaveTogether) -> bool
+    ensures { result ≡ heeds.went_wrong (came gave.now.outcomes.items gave.now.replies.items) }
+{
+    any_outcome_wrong(gave.outcomes.as_slice()) || any_wrong(gave.replies.as_slice())
+}
+
+/// Whether something closed.
+fn closed_one(came: &Came) -> bool
+    ensures { result ≡ heeds.closed_one (came_of came.now) }
+{
+    match came {
+        Came::Gave(gave) => group_closed(gave),
+        Came::Rewrote(outcome) => has_closed(&outcome.reply),
+        Came::Interrupted(_) | Came::Shown => false,
+    }
 }
 
 /// Whether something was refused, or items were lost.
-fn went_wrong(came: Came<'_>) -> bool
-    ensures { result ≡ heeds.went_wrong came }
+fn went_wrong(came: &Came) -> bool
+    ensures { result ≡ heeds.went_wrong (came_of came.now) }
 {
-    any_outcome_wrong(came.outcomes) || any_wrong(came.replies)
+    match came {
+        Came::Gave(gave) => group_wrong(gave),
+        Came::Rewrote(outcome) => is_wrong(&outcome.reply),
+        Came::Interrupted(_) | Came::Shown => false,
+    }
+}
+
+/// What came of an interrupt, where the turn was one.
+fn interrupt_of(came: &Came) -> Option<Interrupted>
+    ensures { result ≡ (came_of came.now).interrupted }
+{
+    match came {
+        Came::Interrupted(told) => Some(*told),
+        Came::Gave(_) | Came::Rewrote(_) | Came::Shown => None,
+    }
 }
 
 /// That the wait of this line is over is noted where it was one and isn't any more.
@@ -133,9 +166,9 @@ impl<R: Read> ByLines<R> {
     ghost use Rattle.agendas.specs.Heeds.{HeedsDone};
 
     /// What is noted of what lives gave, and which wait goes on.
-    fn heed_life<D: Disk>(&mut self, host: &Host<D>, now: u64, came: Came<'_>) -> Option<Note>
+    fn heed_life<D: Disk>(&mut self, host: &Host<D>, now: u64, came: &Came) -> Option<Note>
         ensures { (w : World) → IsHost host.now w → (held : TheHold)
-            × HeedsDone (stands R.remaining self.old) w now came Doing.Life result held
+            × HeedsDone (stands R.remaining self.old) w now (came_of came.now) Doing.Life result held
             × (stands R.remaining self.new ≡ holding (stands R.remaining self.old) held) }
     {
         let before = self.held;
@@ -149,11 +182,11 @@ impl<R: Read> ByLines<R> {
         &mut self,
         host: &Host<D>,
         now: u64,
-        came: Came<'_>,
+        came: &Came,
         doing: Doing,
     ) -> Option<Note>
         ensures { (w : World) → IsHost host.now w → (held : TheHold)
-            × HeedsDone (stands R.remaining self.old) w now came doing result held
+            × HeedsDone (stands R.remaining self.old) w now (came_of came.now) doing result held
             × (stands R.remaining self.new ≡ holding (stands R.remaining self.old) held) }
     {
         let strict = self.manner.strict;
@@ -165,7 +198,7 @@ impl<R: Read> ByLines<R> {
             }
             Doing::Interrupt(name, wrong) => {
                 self.held = stop_if(strict, wrong, self.held);
-                note_interrupted(self.number, name, came.interrupted)
+                note_interrupted(self.number, name, interrupt_of(came))
             }
             Doing::Commands => {
                 self.held = stop_if(strict, went_wrong(came), self.held);
@@ -174,7 +207,7 @@ impl<R: Read> ByLines<R> {
             Doing::Life => self.heed_life(host, now, came),
             Doing::Warning(seat) => {
                 self.held = behind_warning(strict, now, self.late.as_slice(), self.held);
-                note_warned(seat, came.interrupted)
+                note_warned(seat, interrupt_of(came))
             }
             Doing::Stall => {
                 self.held = stop_if(strict, went_wrong(came), Hold::Free);

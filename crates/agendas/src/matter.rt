@@ -42,7 +42,11 @@ fn over(held: Hold) -> Matter
     requires { IsTimed held }
     ensures { matters.EndsSo held result }
 {
-    if is_limited(held) { Matter::Limit } else { Matter::Stall }
+    if is_limited(held) {
+        Matter::Limit
+    } else {
+        Matter::Stall
+    }
 }
 
 /// What is next where no watch told whose turn it is.
@@ -65,11 +69,19 @@ pub(crate) fn matter_of(lines_first: bool, held: Hold, due: Option<Woken>, now: 
     match due {
         None => unwatched(lines_first, held, now),
         Some(Woken::Input) => {
-            if is_free(held) { Matter::Input } else { Matter::Untimely }
+            if is_free(held) {
+                Matter::Input
+            } else {
+                Matter::Untimely
+            }
         }
         Some(Woken::Life(seat)) => Matter::Life(seat),
         Some(Woken::TimeOver) => {
-            if is_timed(held) { over(held) } else { Matter::Untimely }
+            if is_timed(held) {
+                over(held)
+            } else {
+                Matter::Untimely
+            }
         }
     }
 }

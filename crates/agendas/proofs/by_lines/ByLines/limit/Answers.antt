@@ -21,4 +21,4 @@ returns-in-None g c = λ w none h.
     of_none (sym (c.in-Ok.ensures w h) ∙ c.in-None.ensures.none.0) (ap Ok c.give_respite.ensures.turn)
     (c.give_respite.ensures.stands
     ∙ ap (λ a. holding a (stop_if (a.manner.strict && true) (warned c.args.now)))
-        (c.next_late.ensures.stands ∙ ap (λ late. with_late before late) (c.in-None.ensures.none.1 ∙ sym none)))
+    (c.next_late.ensures.stands ∙ ap (λ late. with_late before late) (c.in-None.ensures.none.1 ∙ sym none)))
