@@ -1,6 +1,7 @@
 //! What a line asks for by itself.
 ghost use Rattle.std.specs.Prelude.{◌≡◌, ◌∷◌, [], IfOk, OnErr, Some, None, false};
 ghost use Rattle.host_events.specs.declared.event.Event.TheVariants as asks;
+ghost use Rattle.session_engine.specs.Gathers.{is_checkpoint};
 ghost use Rattle.session_engine.specs.World.{World};
 ghost use Rattle.session_engine.specs.Host.{IsHost};
 ghost use Rattle.live.specs.LiveLines.{live_line_of};
@@ -9,6 +10,7 @@ ghost use Rattle.agendas.specs.Alone.{Asks, AsksAlone, AsksCommand, BeginsWait};
 ghost use Rattle.agendas.specs.declared.doing.Doing.TheVariants as does;
 
 use crate::doing::{Chosen, Doing};
+use crate::gathering::add_command;
 use crate::waits::{lacks_field, lacks_session, untimed};
 use child_edge::is_idle;
 use disk_model::Disk;
@@ -63,13 +65,17 @@ fn begin<D: Disk>(host: &Host<D>, number: u64, begun: Hold) -> Chosen
     }
 }
 
-/// A command as the one event of a group.
+/// A command as the one event of a group, where it may be in one and there is memory for it.
 fn one_event(alloc: Global, command: Command) -> Result<Vec<Event>, AllocError>
-    ensures { IfOk result (λ events. events.items ≡ asks.Command command ∷ []) }
+    ensures { IfOk result (λ events. (is_checkpoint (asks.Command command) ≡ false)
+        × (events.items ≡ asks.Command command ∷ [])) }
 {
     let mut events = Vec::new(alloc);
-    events.push(Event::Command(command))?;
-    Ok(events)
+    if add_command(&mut events, command) {
+        Ok(events)
+    } else {
+        Err(AllocError)
+    }
 }
 
 /// What a command asks for: that it is taken, or that the journal is rewritten.

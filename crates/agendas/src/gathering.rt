@@ -15,7 +15,7 @@ use std::alloc::Global;
 use std::io::Read;
 
 /// Adds a command, where it may be in a group and there is memory for it. Whether it did.
-fn add_command(events: &mut Vec<Event>, command: Command) -> bool
+pub(crate) fn add_command(events: &mut Vec<Event>, command: Command) -> bool
     ensures added { result ≡ true → (is_checkpoint (asks.Command command) ≡ false)
         × (events.new.items ≡ events.old.items ++ asks.Command command ∷ []) }
     ensures kept { result ≡ false → events.new.items ≡ events.old.items }

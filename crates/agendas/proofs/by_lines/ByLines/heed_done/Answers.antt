@@ -16,19 +16,19 @@ returns-in-Nothing g c = λ w h.
 pub returns-in-Line : goal.returns-in-Line
 returns-in-Line g c = λ w h.
     let before = stands g.R.Read.remaining c.args.self.now in
-    (c.stop_if.result, subst (λ d. HeedsDone before w c.args.now (came_of c.args.came.now) d None c.stop_if.result) (sym c.in-Line.is) (refl, c.stop_if.ensures), refl)
+    (c.stop_if-self.result, subst (λ d. HeedsDone before w c.args.now (came_of c.args.came.now) d None c.stop_if-self.result) (sym c.in-Line.is) (refl, c.stop_if-self.ensures), refl)
 
 pub returns-in-Interrupt : goal.returns-in-Interrupt
 returns-in-Interrupt g c = λ w h.
     let before = stands g.R.Read.remaining c.args.self.now in
-    (c.stop_if-in-Interrupt.result, subst (λ d. HeedsDone before w c.args.now (came_of c.args.came.now) d c.note_interrupted.result c.stop_if-in-Interrupt.result) (sym c.in-Interrupt.is) (c.note_interrupted.ensures ∙ ap (λ told. interrupt_note (note.Interrupted before.number c.in-Interrupt.name) told) c.interrupt_of.ensures, c.stop_if-in-Interrupt.ensures), refl)
+    (c.stop_if-self-in-Interrupt.result, subst (λ d. HeedsDone before w c.args.now (came_of c.args.came.now) d c.note_interrupted.result c.stop_if-self-in-Interrupt.result) (sym c.in-Interrupt.is) (c.note_interrupted.ensures ∙ ap (λ told. interrupt_note (note.Interrupted before.number c.in-Interrupt.name) told) c.interrupt_of.ensures, c.stop_if-self-in-Interrupt.ensures), refl)
 
 pub returns-in-Commands : goal.returns-in-Commands
 returns-in-Commands g c = λ w h.
     let before = stands g.R.Read.remaining c.args.self.now in (
-      c.stop_if-in-Commands.result,
-      subst (λ d. HeedsDone before w c.args.now (came_of c.args.came.now) d None c.stop_if-in-Commands.result) (sym c.in-Commands.is)
-          (refl, c.stop_if-in-Commands.ensures ∙ ap (λ wrong. stop_if (before.manner.strict && wrong) before.held) c.went_wrong.ensures),
+      c.stop_if-self-in-Commands.result,
+      subst (λ d. HeedsDone before w c.args.now (came_of c.args.came.now) d None c.stop_if-self-in-Commands.result) (sym c.in-Commands.is)
+          (refl, c.stop_if-self-in-Commands.ensures ∙ ap (λ wrong. stop_if (before.manner.strict && wrong) before.held) c.went_wrong.ensures),
       refl,
     )
 
@@ -41,17 +41,17 @@ returns-in-Life g c = λ w h.
 pub returns-in-Warning : goal.returns-in-Warning
 returns-in-Warning g c = λ w h.
     let before = stands g.R.Read.remaining c.args.self.now in (
-      c.behind_warning.result,
-      subst (λ d. HeedsDone before w c.args.now (came_of c.args.came.now) d c.note_warned.result c.behind_warning.result) (sym c.in-Warning.is)
-          (c.note_warned.ensures ∙ ap (λ told. interrupt_note (note.Warned c.in-Warning.seat) told) c.interrupt_of-in-Warning.ensures, c.behind_warning.ensures ∙ ap (λ late. behind_warning before.manner.strict c.args.now late before.held) c.as_slice.ensures.value),
+      c.behind_warning-self.result,
+      subst (λ d. HeedsDone before w c.args.now (came_of c.args.came.now) d c.note_warned.result c.behind_warning-self.result) (sym c.in-Warning.is)
+          (c.note_warned.ensures ∙ ap (λ told. interrupt_note (note.Warned c.in-Warning.seat) told) c.interrupt_of-in-Warning.ensures, c.behind_warning-self.ensures ∙ ap (λ late. behind_warning before.manner.strict c.args.now late before.held) c.as_slice.ensures.value),
       refl,
     )
 
 pub returns-in-Stall : goal.returns-in-Stall
 returns-in-Stall g c = λ w h.
     let before = stands g.R.Read.remaining c.args.self.now in (
-      c.stop_if-in-Stall.result,
-      subst (λ d. HeedsDone before w c.args.now (came_of c.args.came.now) d (Some (note.Waited before.number true)) c.stop_if-in-Stall.result) (sym c.in-Stall.is)
-          (refl, c.stop_if-in-Stall.ensures ∙ ap (λ wrong. stop_if (before.manner.strict && wrong) hold.Free) c.went_wrong-in-Stall.ensures),
+      c.stop_if-self-in-Stall.result,
+      subst (λ d. HeedsDone before w c.args.now (came_of c.args.came.now) d (Some (note.Waited before.number true)) c.stop_if-self-in-Stall.result) (sym c.in-Stall.is)
+          (refl, c.stop_if-self-in-Stall.ensures ∙ ap (λ wrong. stop_if (before.manner.strict && wrong) hold.Free) c.went_wrong-in-Stall.ensures),
       refl,
     )
