@@ -1,21 +1,9 @@
-use Rattle.std.proofs.Common.{◌≡◌, ◌∙◌, ap, arith, refl, subst, sym}
+use Rattle.std.proofs.Common.{◌∙◌, ap, subst, sym}
 use Rattle.std.specs.Prelude.{Ok}
 use Rattle.agendas.specs.declared.doing.Doing.TheVariants as doing
-use Rattle.agendas.specs.LinesAt.{LinesAt, doing_now, heeded, stands, with_late}
-use Rattle.agendas.specs.Says.{IsAbout, SaysMatter, says, stopped, uncounted, warns}
+use Rattle.agendas.specs.LinesAt.{doing_now, heeded, stands, with_late}
+use Rattle.agendas.specs.Says.{IsAbout, SaysMatter, says, warns}
 use Rattle.agendas.proofs.by_lines.ByLines.next_turn.Goals as goal
-
-pub say-requires : goal.say-requires
-say-requires g c =
-    let about : c.about-matter.new.self.number ≡ c.next_late.new.self.number = ap (λ (a : LinesAt). a.number) c.about-matter.ensures.stands in
-    let late : c.next_late.new.self.number ≡ c.args.self.now.number = ap (λ (a : LinesAt). a.number) c.next_late.ensures.stands in
-    omega (arith, about, late, c.if-self-gt-MOST_COUNTED.false)
-
-pub returns-then-is_stopped : goal.returns-then-is_stopped
-returns-then-is_stopped g c = λ w h. stopped (c.is_stopped.ensures.stopped c.if-is_stopped.true) refl refl
-
-pub returns-then-self-gt-MOST_COUNTED : goal.returns-then-self-gt-MOST_COUNTED
-returns-then-self-gt-MOST_COUNTED g c = λ w h. uncounted (omega (arith, c.if-self-gt-MOST_COUNTED.true)) refl refl
 
 pub returns-in-Some : goal.returns-in-Some
 returns-in-Some g c = λ w h.

@@ -6,14 +6,11 @@ use Rattle.live.proofs.Gatherings.{nothing_gathered, some_gathered}
 use Rattle.agendas.proofs.Taken.{as_many}
 use Rattle.agendas.proofs.by_lines.ByLines.take_input.Goals as goal
 
-pub group-requires : goal.group-requires
-group-requires g c = omega (arith, c.requires, c.gather-events.ensures.few, c.len-count.ensures, c.gather-events.result.ok)
-
 pub returns-then-count-eq0 : goal.returns-then-count-eq0
 returns-then-count-eq0 g c = λ w h.
     let before = stands g.R.Read.remaining c.args.self.now in
     let k = c.gather-events.new.lines in
-    let same = nothing_gathered before.buffer k.held c.gather-events.result.items c.gather-events.ensures.gathered (omega (arith, c.if-count-eq0.true, c.len-count.ensures, c.gather-events.result.ok)) in
+    let same = nothing_gathered before.buffer k.held c.gather-events.result.items c.gather-events.ensures.gathered (omega arith) in
     subst (λ a. TakesInput a w c.args.now c.take_next-then-count-eq0.result (stands g.R.Read.remaining c.take_next-then-count-eq0.new.self))
     (ap (λ b. read_to before b (g.R.Read.remaining k.reader)) same ∙ ap (λ r. read_to before before.buffer (g.R.Read.remaining r)) c.gather-events.ensures.reader)
     (c.take_next-then-count-eq0.ensures w h)
