@@ -11,8 +11,12 @@ PAGES = crates/tmhost/out/pages
 SHARE = $(DESTDIR)$(PREFIX)/share
 # The adapters and the clients lie there as they do here, since the clients find them and each other by their folders.
 HERE = $(SHARE)/tmhost
-ADAPTERS = gp jupyter python prompted.py
-CLIENTS = import typeset notebook repl suite weave
+ADAPTERS = gp jupyter python prompted.py texmacs
+COMMANDS = $(notdir $(wildcard adapters/bin/*))
+CLIENTS = import texmacs typeset notebook repl suite weave
+OTHERS = import/tmhost-prose jupyter/tmhost-jupyter-kernel
+# Where GNU TeXmacs looks for plugins: the system's, or the user's own.
+TEXMACS_PLUGINS ?= $(if $(filter /usr /usr/local,$(PREFIX)),/etc/texmacs/plugins,$(HOME)/.TeXmacs/plugins)
 
 .PHONY: all proved check-quick dist install uninstall
 
@@ -41,7 +45,12 @@ install:
 	install -Dm 644 $(PAGES)/tmhost.fish $(SHARE)/fish/vendor_completions.d/tmhost.fish
 	install -d $(HERE)/adapters
 	install $(addprefix adapters/,$(ADAPTERS)) $(HERE)/adapters
-	install -m 644 adapters/blocks.py adapters/gp_names.py adapters/jupyter_output.py adapters/pictures.py adapters/profiles.py adapters/python_lines.py adapters/python_names.py adapters/statements.py adapters/tmhost_figures.py adapters/waiting.py $(HERE)/adapters
+	install -m 644 adapters/blocks.py adapters/errors.py adapters/gp_names.py adapters/jupyter_output.py adapters/pictures.py adapters/profiles.py adapters/python_lines.py adapters/python_names.py adapters/statements.py adapters/terminal.py adapters/texmacs_blocks.py adapters/texmacs_plugins.py adapters/texmacs_trees.py adapters/tmhost_figures.py adapters/waiting.py $(HERE)/adapters
+	install -d $(HERE)/adapters/bin
+	for command in $(COMMANDS); do \
+		cp -P adapters/bin/$$command $(HERE)/adapters/bin && \
+		ln -sf ../share/tmhost/adapters/bin/$$command $(DESTDIR)$(PREFIX)/bin/$$command || exit 1; \
+	done
 	install -d $(HERE)/adapters/octave/lines $(HERE)/adapters/octave/formulas/@sym
 	install -m 644 adapters/octave/lines/*.m $(HERE)/adapters/octave/lines
 	install -m 644 adapters/octave/formulas/@sym/*.m $(HERE)/adapters/octave/formulas/@sym
@@ -50,7 +59,7 @@ install:
 	install -m 644 clients/fences/tmhost_fences/*.py $(HERE)/clients/fences/tmhost_fences
 	install -m 644 clients/typeset/lib/*.js $(HERE)/clients/typeset/lib
 	install -m 644 clients/notebook/page/* $(HERE)/clients/notebook/page
-	for client in import notebook repl suite weave; do \
+	for client in import jupyter notebook repl suite texmacs weave; do \
 		install -d $(HERE)/clients/$$client/tmhost_$$client && \
 		install -m 644 clients/$$client/tmhost_$$client/*.py $(HERE)/clients/$$client/tmhost_$$client || exit 1; \
 	done
@@ -58,8 +67,14 @@ install:
 		install clients/$$client/tmhost-$$client $(HERE)/clients/$$client && \
 		ln -sf ../share/tmhost/clients/$$client/tmhost-$$client $(DESTDIR)$(PREFIX)/bin/tmhost-$$client || exit 1; \
 	done
-	install clients/import/tmhost-prose $(HERE)/clients/import
-	ln -sf ../share/tmhost/clients/import/tmhost-prose $(DESTDIR)$(PREFIX)/bin/tmhost-prose
+	for other in $(OTHERS); do \
+		install clients/$$other $(HERE)/clients/$$(dirname $$other) && \
+		ln -sf ../share/tmhost/clients/$$other $(DESTDIR)$(PREFIX)/bin || exit 1; \
+	done
+	install -d $(HERE)/clients/texmacs/plugins/tmhost/progs $(HERE)/clients/texmacs/plugins/tmhost/bin $(DESTDIR)$(TEXMACS_PLUGINS)
+	install -m 644 clients/texmacs/plugins/tmhost/progs/*.scm $(HERE)/clients/texmacs/plugins/tmhost/progs
+	ln -sf ../../../tmhost-texmacs $(HERE)/clients/texmacs/plugins/tmhost/bin/tmhost-texmacs
+	ln -sfn $(abspath $(PREFIX))/share/tmhost/clients/texmacs/plugins/tmhost $(DESTDIR)$(TEXMACS_PLUGINS)/tmhost
 	install -d $(SHARE)/emacs/site-lisp/tmhost
 	install -m 644 clients/emacs/*.el $(SHARE)/emacs/site-lisp/tmhost
 	@echo "installed: $$($(PROGRAM) --version)"
@@ -67,5 +82,6 @@ install:
 uninstall:
 	rm -f $(DESTDIR)$(PREFIX)/bin/tmhost $(SHARE)/man/man1/tmhost.1 $(SHARE)/bash-completion/completions/tmhost
 	rm -rf $(HERE) $(SHARE)/emacs/site-lisp/tmhost
-	rm -f $(addprefix $(DESTDIR)$(PREFIX)/bin/tmhost-,$(CLIENTS) prose)
+	rm -f $(DESTDIR)$(TEXMACS_PLUGINS)/tmhost
+	rm -f $(addprefix $(DESTDIR)$(PREFIX)/bin/,$(addprefix tmhost-,$(CLIENTS)) $(notdir $(OTHERS)) $(COMMANDS))
 	rm -f $(SHARE)/zsh/site-functions/_tmhost $(SHARE)/fish/vendor_completions.d/tmhost.fish

@@ -4,7 +4,7 @@ import sys
 from tmhost import Worksheet
 
 with Worksheet(sys.argv[1], create=True) as sheet:
-    sheet.ensure_session("py", ["adapters/python"])
+    sheet.ensure_session("py", ["tmhost-python"])
     sheet.ensure_session("sh", ["sh", "examples/echo.sh"])
     cell, quick = sheet.new("py", "n = 6"), sheet.new("sh", "hello")
     cell.evaluate(timeout=60)

@@ -182,7 +182,7 @@ class Sheet:
 
     TAKES = make_session, make_field, set_input, remove, move, clear, answer, lose, start_at  # by kind, from 1
 
-    def text(self):
+    def text(self) -> bytes:
         """The worksheet in print."""
         text = b""
         for number in self.order:
@@ -209,7 +209,7 @@ def has_header(area):
     return len(area) >= 11 and area.startswith(HEADER)
 
 
-def rescued(first, second):
+def rescued(first: bytes, second: bytes) -> tuple[int, int | None, Sheet] | None:
     """What a rescue finds in two files: how many ops, the offset of the gate where it stops if it isn't closed, and the worksheet; or
     nothing where one of them has no header."""
     if not has_header(first):

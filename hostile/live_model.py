@@ -2,7 +2,9 @@
 
 import copy
 import itertools
+import random
 import re
+from collections.abc import Iterable, Iterator, Sequence
 
 from model import VERBS, Difference, Followed, Model, refused, words_of
 
@@ -103,7 +105,7 @@ class Live:
         return sheets
 
 
-def follow_live(script, output, kinds):
+def follow_live(script: Sequence[str], output: Iterable[str], kinds: dict[str, str]) -> Followed:
     """Follows a live worksheet by the lines that it told."""
     live, told = Live(script, kinds), list(output)
     while told:
@@ -116,7 +118,7 @@ def follow_live(script, output, kinds):
     return Followed(sheets, not live.waits() and not live.take_line(), 0)
 
 
-def live_script(rng, script):
+def live_script(rng: random.Random, script: Iterable[str]) -> Iterator[str]:
     """A script as it may be told to a live worksheet: some of its waits have a time, and some of its prints a field."""
     for line in script:
         if line == "wait" and rng.random() < 0.3:

@@ -6,6 +6,7 @@ behind all that was told, and those to which the line that was being done may ha
 
 import itertools
 import random
+from collections.abc import Iterable, Sequence
 
 
 class Kind:
@@ -26,6 +27,11 @@ KINDS = {
         BANNER + "for n in 1 2 3; do IFS= read -r l || exit; printf '\\002verbatim:%s\\005' \"$l\"; done\n"
         "IFS= read -r l; printf '\\002verbatim:hal'\n",
         most=3,
+    ),
+    # Its blocks have the line at both ends, and lie on several pages of a file.
+    "long": Kind(
+        "z=$(printf %03000d 0)\n" + BANNER + "while IFS= read -r l; do printf '\\002verbatim:%s%s%s\\005' \"$l\" \"$z\" \"$l\"; done\n",
+        answer=lambda count, given: ("> ", given + "0" * 3000 + given),
     ),
     # Its prompts stand in its blocks.
     "prompts": Kind(
@@ -252,7 +258,7 @@ def words_of(line):
 class Followed:
     """How far a run came by what it wrote: the worksheets that may be on the disk, and whether it is at its end."""
 
-    def __init__(self, sheets, is_whole, refusals):
+    def __init__(self, sheets: set[str], is_whole: bool, refusals: int) -> None:
         self.sheets, self.is_whole, self.refusals = sheets, is_whole, refusals
 
 
@@ -268,7 +274,7 @@ def waited(model, told, number):
     return True
 
 
-def follow(script, output, kinds, memory=False):
+def follow(script: Sequence[str], output: Iterable[str], kinds: dict[str, str], memory: bool = False) -> Followed:
     """Follows a run of the script by the lines that it wrote. With `memory` a command may be refused for want of it, and a
     start too."""
     model, told, refusals = Model(kinds), list(output), 0
@@ -348,7 +354,7 @@ def merge(wanted, told, number):
         raise Difference(f"line {number}, a wait: told {told}, wanted {wanted}")
 
 
-def scripts(rng, length, kinds, completes):
+def scripts(rng: random.Random, length: int, kinds: dict[str, str], completes: bool) -> list[str]:
     """A script of random lines of all commands over several sessions. `kinds` has the words of each interpreter."""
     names = ["a", "b", "c"]
     words = [words for words, kind in kinds.items() if kind in ("echo", "mortal")]

@@ -5,13 +5,14 @@ import shutil
 import subprocess
 import tempfile
 import time
+from typing import Any
 
 from model import KINDS, Difference
 
 ROOT = os.path.dirname(os.path.dirname(os.path.realpath(__file__)))
 
 
-def built():
+def built() -> str:
     """The path of the program: that of this repository, proved where that is needed, or the one that TMHOST names."""
     named = os.environ.get("TMHOST")
     if not named:
@@ -23,10 +24,10 @@ class Program:
     """`path` is that of the program. `kinds` has the kind of each interpreter by the words that start it, and `completes` says whether
     the program knows completions."""
 
-    def __enter__(self):
+    def __enter__(self) -> "Program":
         self.path = built()
         self.folder = tempfile.mkdtemp(prefix="hostile.", dir=os.environ.get("FOLDER", "."))
-        self.kinds = {}
+        self.kinds: dict[str, str] = {}
         for kind, of in KINDS.items():
             file = self.write(f"{kind}.sh", of.shell)
             self.kinds[f"sh {file}"] = kind
@@ -36,25 +37,25 @@ class Program:
         self.remove(sheet)
         return self
 
-    def __exit__(self, *_):
+    def __exit__(self, *_: object) -> None:
         shutil.rmtree(self.folder)
 
-    def write(self, name, text):
+    def write(self, name: str, text: str) -> str:
         file = f"{os.path.abspath(self.folder)}/{name}"
         with open(file, "w") as it:
             it.write(text)
         return file
 
-    def create(self, name):
+    def create(self, name: str) -> str:
         """A new worksheet."""
         sheet = f"{self.folder}/{name}"
         subprocess.run([self.path, "create", sheet], check=True)
         return sheet
 
-    def run(self, sheet, script, **more):
+    def run(self, sheet: str, script: bytes, **more: Any) -> subprocess.CompletedProcess[bytes]:
         return subprocess.run([self.path, "run", sheet], input=script, capture_output=True, **more)
 
-    def show(self, sheet):
+    def show(self, sheet: str) -> str:
         """What is printed of a worksheet. An interpreter that was just being started when its host was killed may have the lock for a moment
         more."""
         for _ in range(500):
@@ -63,10 +64,10 @@ class Program:
                 break
             time.sleep(0.01)
         if shown.returncode or shown.stderr:
-            raise Difference(f"show ended with {shown.returncode} and {shown.stderr}")
+            raise Difference(f"show ended with {shown.returncode} and {shown.stderr!r}")
         return shown.stdout.decode()
 
-    def remove(self, sheet):
+    def remove(self, sheet: str) -> None:
         for file in (sheet, sheet + ".alt"):
             if os.path.exists(file):
                 os.remove(file)

@@ -22,6 +22,12 @@
   :type 'string
   :group 'tmhost)
 
+(defvar tmhost-talk-adapters
+  (expand-file-name "../../adapters/bin"
+                    (file-name-directory (or load-file-name buffer-file-name
+                                             default-directory)))
+  "The folder of the adapters' commands, where it lies beside that of this file.")
+
 (defconst tmhost-talk-protocol 2
   "The version of the protocol that is understood.")
 
@@ -74,6 +80,13 @@ Some of Emacs's readers refuse that character."
   "Whether the program of this buffer is running."
   (process-live-p tmhost-talk--process))
 
+(defun tmhost-talk--environment ()
+  "The environment of the program, in whose PATH the adapters come first."
+  (if (file-directory-p tmhost-talk-adapters)
+      (cons (concat "PATH=" tmhost-talk-adapters path-separator (getenv "PATH"))
+            process-environment)
+    process-environment))
+
 (defun tmhost-talk-start (path)
   "Start a talk of this buffer about the worksheet at PATH."
   (unless (executable-find tmhost-program)
@@ -86,6 +99,7 @@ Some of Emacs's readers refuse that character."
         tmhost-talk--is-over nil)
   (let* ((buffer (current-buffer))
          (errors (generate-new-buffer " *tmhost errors*"))
+         (process-environment (tmhost-talk--environment))
          (process
           (make-process
            :name "tmhost" :buffer nil :stderr errors :connection-type 'pipe

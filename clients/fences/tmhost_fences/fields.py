@@ -50,7 +50,7 @@ def group(at: int, lines: List[str]) -> Iterator[Group]:
 
 def language_in(words: Sequence[str]) -> str:
     """The language of which more is known here than of others, by the words of a session: that of an adapter, which has its name."""
-    names = [os.path.basename(word) for word in words]
+    names = [os.path.basename(word).removeprefix("tmhost-") for word in words]
     return next((name for name in names if name in TEXTS), "")
 
 

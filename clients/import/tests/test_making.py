@@ -167,14 +167,18 @@ class Words(Case):
     def test_an_installed_command(self) -> None:
         """It finds its parts and the adapters beside itself, also through a link."""
         share, here = self.path("share/tmhost"), os.path.dirname(COMMAND)
-        shutil.copytree(os.path.join(here, "tmhost_import"), os.path.join(share, "import/tmhost_import"))
-        shutil.copytree(os.path.join(here, "../fences/tmhost_fences"), os.path.join(share, "fences/tmhost_fences"))
-        shutil.copy(COMMAND, os.path.join(share, "import"))
-        shutil.copy(os.path.join(ROOT, "adapters/prompted.py"), share)
-        os.symlink("share/tmhost/import/tmhost-import", self.path("link"))
-        done = subprocess.run([self.path("link"), "--script"], input=notebook(code("x")).encode("utf-8"), capture_output=True)
-        words = f"python3 {os.path.realpath(share)}/prompted.py python"
-        self.assertEqual(done.stdout.decode("utf-8"), f"session python3 plain {words}\nnew 0 python3 x\n")
+        shutil.copytree(os.path.join(here, "tmhost_import"), os.path.join(share, "clients/import/tmhost_import"))
+        shutil.copytree(os.path.join(here, "../fences/tmhost_fences"), os.path.join(share, "clients/fences/tmhost_fences"))
+        shutil.copy(COMMAND, os.path.join(share, "clients/import"))
+        os.symlink("share/tmhost/clients/import/tmhost-import", self.path("link"))
+        environment = {**os.environ, "PATH": "/usr/bin:/bin"}
+        words = [self.path("link"), "--script"]
+        done = subprocess.run(words, input=notebook(code("x")).encode("utf-8"), capture_output=True, env=environment)
+        self.assertIn(b"the adapter of python is not where it was installed: say --session python=WORDS", done.stderr)
+        os.makedirs(os.path.join(share, "adapters/bin"))
+        shutil.copy(os.path.join(ROOT, "adapters/python"), os.path.join(share, "adapters/bin/tmhost-python"))
+        done = subprocess.run(words, input=notebook(code("x")).encode("utf-8"), capture_output=True, env=environment)
+        self.assertEqual(done.stdout.decode("utf-8"), "session python3 plain tmhost-python\nnew 0 python3 x\n")
 
     def test_formats(self) -> None:
         self.assertEqual(self.do("--script", data="text").errors, "tmhost-import: its name doesn't say what it is: give --format\n")

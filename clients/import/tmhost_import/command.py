@@ -6,7 +6,7 @@ import sys
 
 from tmhost_fences.troubles import Trouble
 
-from . import markdown, notebook, org
+from . import markdown, notebook, org, texmacs
 from .cells import Document
 from .fields import Sheet, told
 from .making import make, refuse_taken
@@ -14,11 +14,11 @@ from .sessions import LANGUAGES, given_session
 
 LONGEST_DOCUMENT = 67_108_864  # bytes, as of the standard input of tmhost
 MOST_KINDS = 10  # of what was left out, in a message
-FORMATS = ("notebook", "org", "markdown")
+FORMATS = ("notebook", "org", "markdown", "texmacs")
 CHUNKS = (".rmd", ".qmd")  # of texts in which code is in chunks, and other blocks are shown
-SUFFIXES = {".ipynb": "notebook", ".org": "org", ".md": "markdown", ".markdown": "markdown", ".rmd": "markdown", ".qmd": "markdown"}
+SUFFIXES = {".ipynb": "notebook", ".org": "org", ".md": "markdown", ".markdown": "markdown", ".rmd": "markdown", ".qmd": "markdown", ".tm": "texmacs"}
 NO_MARKDOWN = "the text of an Org file isn't: make Markdown of it first (pandoc --from org --to gfm)"
-ABOUT = "Makes a new worksheet of tmhost from a Jupyter notebook, an Org file or a CommonMark text with fences."
+ABOUT = "Makes a new worksheet of tmhost from a Jupyter notebook, an Org file, a CommonMark text with fences or a document of TeXmacs."
 NOTES = f"""
 Each code cell or block becomes a field, whose lines have U+2028 between them; a fence of Markdown is read as tmhost-weave
 reads it, and becomes a field for each of its statements. Nothing is evaluated. The text between them becomes fields of a
@@ -81,10 +81,17 @@ def format_of(path: str, text: str) -> str:
     return found
 
 
+def is_texmacs(given: argparse.Namespace, path: str) -> bool:
+    """Its letters aren't UTF-8."""
+    return (given.format or SUFFIXES.get(os.path.splitext(path)[1].lower())) == "texmacs"
+
+
 def read(given: argparse.Namespace, path: str) -> Document:
+    has_prose = given.prose is not False
+    if is_texmacs(given, path):
+        return texmacs.read(read_bytes(path), has_prose)
     text = text_of(read_bytes(path))
     chosen = given.format or format_of(path, text)
-    has_prose = given.prose is not False
     if chosen == "notebook":
         return notebook.read(text, given.kernel, has_prose)
     if chosen == "markdown":

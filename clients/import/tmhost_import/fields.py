@@ -10,7 +10,7 @@ from tmhost_fences.troubles import Trouble
 from . import cutting, ipython
 from .cells import Cell, Document, fenced, plain, prose_cell
 from .prose import WORDS, parts_of, size_of
-from .sessions import Sessions, language_of
+from .sessions import COMMAND, Sessions, language_of
 
 MOST_FIELDS = 10_000
 MOST_TOLD = 10  # troubles, and cells that were too long
@@ -92,7 +92,7 @@ class Sheet:
 
     def language(self, session: str) -> str:
         """The language of a session's interpreter by its words, of which an adapter's last path, or a profile, says it; else the last one."""
-        names = [os.path.basename(word) for word in self.sessions.words[session]]
+        names = [os.path.basename(word).removeprefix(COMMAND) for word in self.sessions.words[session]]
         return next((found for name in names if (found := language_of(name)) == name), names[-1])
 
     def add_python(self, cell: Cell, session: str) -> None:

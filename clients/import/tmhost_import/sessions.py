@@ -1,6 +1,7 @@
 """Which interpreter evaluates a cell, and what its session is called."""
 import os
 import re
+import shutil
 
 from tmhost_fences.troubles import Trouble
 
@@ -13,11 +14,10 @@ MOST_SESSIONS = 64
 MOST_WORDS = 16
 LONGEST_WORD = 1024  # bytes
 HERE = os.path.dirname(os.path.realpath(__file__))
-# Where the adapters lie, seen from here: in the repository, and where they may be installed.
-ADAPTERS = tuple(os.path.join(HERE, *folders) for folders in (("..", "..", "..", "adapters"), ("..", "..", "adapters"), ("..", "..")))
-WRAPPER = "prompted.py"
-PROFILES = ("bc", "gap", "giac", "gnuplot", "M2", "maxima", "octave", "python", "R", "sh", "singular", "yacas")  # of the wrapper
-LANGUAGES = tuple(sorted([*PROFILES, "gp"], key=str.lower))
+# The commands of the adapters, where they lie beside this package, in the repository and where it is installed; else they are looked for on PATH.
+COMMANDS = os.path.join(HERE, "..", "..", "..", "adapters", "bin")
+COMMAND = "tmhost-"
+LANGUAGES = ("bc", "gap", "giac", "gnuplot", "gp", "M2", "maxima", "octave", "python", "R", "sh", "singular", "yacas")
 # Other names that kernels, Org and fences have for them, in lower case.
 ALIASES = {
     "bash": "sh",
@@ -35,12 +35,6 @@ ALIASES = {
 }
 
 
-def adapter(name: str) -> str | None:
-    """The path of an adapter."""
-    files = [os.path.realpath(os.path.join(folder, name)) for folder in ADAPTERS]
-    return next((file for file in files if os.path.isfile(file)), None)
-
-
 def language_of(hint: str) -> str | None:
     """The language of the table that goes by this name, in capitals or not."""
     found = ALIASES.get(hint.lower(), hint)
@@ -48,13 +42,11 @@ def language_of(hint: str) -> str | None:
 
 
 def table_words(language: str) -> tuple[str, ...]:
-    """The words for a language of the table: its own adapter, else its profile of the wrapper. Never gp's own mode, whose answers go astray."""
-    own, wrapper = adapter(language), adapter(WRAPPER)
-    if own:
-        return ("python3", own)
-    if wrapper and language in PROFILES:
-        return ("python3", wrapper, language)
-    raise Trouble(f"the adapter of {language} is not where it was installed: say --session {language}=WORDS")
+    """The words for a language of the table: the command of its adapter. Never gp's own mode, whose answers go astray."""
+    command = COMMAND + language
+    if not os.path.isfile(os.path.join(COMMANDS, command)) and not shutil.which(command):
+        raise Trouble(f"the adapter of {language} is not where it was installed: say --session {language}=WORDS")
+    return (command,)
 
 
 def word_trouble(word: str) -> str | None:

@@ -2,6 +2,7 @@
 
 import { ask } from "./talk.js";
 import { byId } from "./dom.js";
+import { stopsAtErrors } from "./errors.js";
 import { Held } from "./held.js";
 
 /** @typedef {import("./cell").CellView} CellView */
@@ -50,7 +51,7 @@ export class Actions {
    * @type {(views: CellView[], call: string, members: Record<string, unknown>) => Promise<Reply>}
    */
   evaluateEach(views, call, members) {
-    const told = this.ask(call, members);
+    const told = this.ask(call, { ...members, stops: stopsAtErrors() });
     for (const view of views) if (!view.isProse) view.risk(EVALUATED, () => told);
     return told;
   }
@@ -77,6 +78,13 @@ export class Actions {
       return false;
     }
     return true;
+  }
+
+  /** Evaluates what has no answer, or a stale one. */
+  async evaluateStale() {
+    if (!(await this.saveAll())) return;
+    const told = await this.ask("eval_stale", {});
+    if (told.count === 0 && !told.warning) this.note("nothing is stale");
   }
 
   async evaluateAll() {
@@ -193,11 +201,6 @@ export class Actions {
   /** @param {CellView} view */
   moveDown(view) {
     return this.ask("move", { id: view.id, by: 1 });
-  }
-
-  /** @param {CellView} view */
-  async remove(view) {
-    if (await this.isSaved(view)) await this.ask("remove", { id: view.id });
   }
 
   /** @param {number | null} number */

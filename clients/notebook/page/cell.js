@@ -3,8 +3,10 @@
 
 import { ask } from "./talk.js";
 import { button, make, visible } from "./dom.js";
+import { Layer } from "./layer.js";
+import { languageOf } from "./languages.js";
 import { OutputView } from "./output.js";
-import { answerState, textState } from "./said.js";
+import { answerState, textState, took } from "./said.js";
 import { AT_FIRST, childrenOf, copyOfShape, isOther, show } from "./shape.js";
 import { setInto } from "./setter.js";
 
@@ -14,7 +16,7 @@ import { setInto } from "./setter.js";
 
 /**
  * What a cell knows of its page.
- * @typedef {{isThere: boolean, sessions: Map<string, Session>, note: (text: string) => void}} Page
+ * @typedef {{isThere: boolean, sessions: Map<string, Session>, note: (text: string) => void, news: import("./news").News}} Page
  */
 
 const SAVED_BEHIND = 1_000; // milliseconds without a key
@@ -56,17 +58,20 @@ export class CellView {
     this.said = AT_FIRST;
     this.box = copyOfShape();
     const [head, line, output] = childrenOf(this.box);
-    const [number, session, textState, answerState] = childrenOf(head);
+    const [number, session, textState, answerState, took] = childrenOf(head);
     const [prompt, text] = childrenOf(line);
     number.textContent = `#${this.id}`;
     this.head = head;
     this.session = session;
     this.textState = textState;
     this.answerState = answerState;
+    this.took = took;
     this.line = line;
     this.prompt = prompt;
     this.text = /** @type {HTMLTextAreaElement} */ (text);
     this.output = new OutputView(cell.id, output);
+    /** @type {Layer | undefined} */
+    this.layer = undefined; // when it was seen
     /** @type {HTMLElement | undefined} */
     this.reading = undefined; // of prose: what it says
     /** @type {string | null} */
@@ -74,6 +79,9 @@ export class CellView {
     /** @type {HTMLElement | undefined} */
     this.conflict = undefined;
     this.box.id = `cell-${this.id}`;
+    textState.id = `text-state-${this.id}`;
+    answerState.id = `answer-state-${this.id}`;
+    this.box.setAttribute("aria-describedby", `${textState.id} ${answerState.id}`);
     this.text.setAttribute("aria-label", `Input of cell ${this.id}`);
     this.text.value = cell.input;
     this.update(cell, at);
@@ -81,6 +89,10 @@ export class CellView {
 
   get isProse() {
     return this.page.sessions.get(this.cell.session)?.isProse ?? false;
+  }
+
+  get language() {
+    return this.isProse ? "prose" : languageOf(this.page.sessions.get(this.cell.session)?.words ?? "");
   }
 
   /** Whether something stands here that is not in the file, or a draft is there that doesn't stand here. */
@@ -146,6 +158,8 @@ export class CellView {
     }
     this.prompt.textContent = this.isProse ? "" : visible(cell.prompt ?? "> ");
     this.output.update(this.isProse ? null : cell.output, cell.isOld);
+    const time = took(cell);
+    if (this.took.textContent !== time) this.took.textContent = time;
     this.showProse();
     this.fit();
     this.say();
@@ -207,8 +221,15 @@ export class CellView {
     if (this.cell.state === "running" && this.page.isThere) this.say();
   }
 
-  /** Makes the text as high as its lines, where the browser doesn't by itself. */
+  /** The cell has come into view: from now on its text is drawn in colours. */
+  paint() {
+    this.layer ??= new Layer(this.text);
+    this.layer.draw(this.language);
+  }
+
+  /** Makes the text as high as its lines, where the browser doesn't by itself, and draws it. */
   fit() {
+    if (this.layer) this.paint();
     if (FITS_ITSELF) return;
     const rows = this.text.value.split("\n").reduce((sum, line) => sum + Math.max(1, Math.ceil(line.length / LETTERS_IN_LINE)), 0);
     if (this.text.rows !== rows) this.text.rows = rows;
@@ -317,7 +338,10 @@ export class CellView {
    * @type {(text: string, at: number) => void}
    */
   isSavedNow(text, at) {
-    if (text !== this.base) this.cell = { ...this.cell, input: text, state: /** @type {const} */ ("empty"), reason: null, prompt: null, isOld: true };
+    if (text !== this.base) {
+      this.cell = { ...this.cell, input: text, state: /** @type {const} */ ("empty"), reason: null, prompt: null, isOld: true, took: null };
+      this.took.textContent = "";
+    }
     this.cell = { ...this.cell, draft: null };
     this.kept = null;
     this.changedAt = Math.max(this.changedAt, at);

@@ -2,6 +2,7 @@
 
 import { byId, make } from "./dom.js";
 import { CellView } from "./cell.js";
+import { Choice } from "./choice.js";
 import { toolbarOf } from "./toolbar.js";
 
 /** @typedef {import("./types").Message} Message */
@@ -19,6 +20,7 @@ export class Cells {
     this.toolbar = toolbarOf();
     /** @type {CellView | undefined} */
     this.selected = undefined;
+    this.choice = new Choice(this);
     /** @type {Map<number, (() => void)[]>} */
     this.awaited = new Map();
   }
@@ -32,8 +34,10 @@ export class Cells {
     if (message.isWhole) for (const view of this.views.values()) view.begin(isOther);
     for (const cell of message.cells ?? []) {
       const view = this.views.get(cell.id);
+      const before = view?.cell.state ?? "";
       if (view) view.update(cell, message.at);
-      else this.views.set(cell.id, new CellView(this.page, cell, message.at, message.marks?.[cell.id] ?? [false, false]));
+      if (view && !message.isWhole) this.page.news.hear(view.cell, before);
+      if (!view) this.views.set(cell.id, new CellView(this.page, cell, message.at, message.marks?.[cell.id] ?? [false, false]));
     }
     const order = message.order ?? this.orderBehind(message);
     if (order) this.arrange(order);
@@ -60,8 +64,8 @@ export class Cells {
   /** @param {number[]} order */
   arrange(order) {
     const focused = document.activeElement;
-    const place = this.selected ? this.order.indexOf(this.selected.id) : -1;
     const staying = new Set(order);
+    const place = this.selected ? this.order.slice(0, this.order.indexOf(this.selected.id)).filter((id) => staying.has(id)).length : -1;
     const isFocusLost = this.order.some((id) => !staying.has(id) && this.drop(id));
     for (const id of this.order) if (!staying.has(id)) this.drop(id);
     this.order = order;
@@ -69,6 +73,7 @@ export class Cells {
     this.put(order.flatMap((id) => this.views.get(id)?.box ?? []));
     if (this.selected === undefined && order.length) this.select(this.at(Math.max(0, Math.min(place, order.length - 1))), isFocusLost);
     else if (focused instanceof HTMLElement && focused.isConnected && focused !== document.activeElement) focused.focus({ preventScroll: true });
+    this.choice.show();
   }
 
   /**
@@ -110,7 +115,10 @@ export class Cells {
 
   /** @type {(view: CellView | undefined, by: number) => CellView | undefined} */
   beside(view, by) {
-    return view && this.at(this.order.indexOf(view.id) + by);
+    let place = view ? this.order.indexOf(view.id) : -1;
+    if (place < 0) return undefined;
+    do place += by; while (this.at(place)?.box.classList.contains("away")); // in a section that is folded
+    return this.at(place);
   }
 
   /** @type {(node: EventTarget | null) => CellView | undefined} */
@@ -123,6 +131,7 @@ export class Cells {
   select(view, withFocus = true) {
     if (!view) return;
     if (this.selected !== view) {
+      this.choice.drop();
       this.leave();
       this.selected = view;
       view.box.classList.add("selected");

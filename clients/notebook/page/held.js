@@ -42,15 +42,22 @@ export class Held {
    */
   async during(make) {
     this.count += 1;
+    this.tell();
     let isThere = false;
     try {
       isThere = await make();
     } finally {
       this.count -= 1;
+      this.tell();
       if (!isThere) this.events = [];
     }
     if (this.count === 0) this.letGo();
     return isThere;
+  }
+
+  /** The cells are being changed, or aren't any more. */
+  tell() {
+    document.querySelector("#cells")?.setAttribute("aria-busy", String(this.count > 0));
   }
 
   letGo() {

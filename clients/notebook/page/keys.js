@@ -1,13 +1,20 @@
 // Keys, as in JupyterLab. A cell has two modes: its text is edited, or the cell as a whole has the focus and letters are commands.
 
+import { wordAt } from "./help.js";
+import { toggleNumbers } from "./layer.js";
+import { INDENT, comment, indent, insert, newLine } from "./typing.js";
+
 /** @typedef {import("./actions").Actions} Actions */
 /** @typedef {import("./cell").CellView} CellView */
 /** @typedef {import("./cells").Cells} Cells */
 /** @typedef {import("./completions").Completions} Completions */
+/** @typedef {import("./find").Find} Find */
+/** @typedef {import("./folds").Folds} Folds */
+/** @typedef {import("./help").Help} Help */
+/** @typedef {import("./several").Several} Several */
 
 const TWICE_WITHIN = 800; // milliseconds between the two presses of D D
 
-const INDENT = "    ";
 const STEPS = ["ArrowUp", "ArrowDown", "k", "j"]; // keys that do it again while they are held down
 
 /** What the keys do, for people. */
@@ -19,61 +26,33 @@ export const TABLE = [
   ["Alt-Enter", "evaluate, and make a cell below"],
   ["Up, Down, K, J", "the cell above, below"],
   ["Home, End", "the first cell, the last one"],
+  ["Shift-Up, Shift-Down, Shift-K, Shift-J", "choose several cells; also Shift with a click"],
+  ["Control-A", "choose all cells"],
   ["A, B", "new cell above, below"],
-  ["D D", "remove the cell"],
-  ["Z, Control-Z", "bring back what was removed last; in a text Control-Z takes back what was typed there"],
+  ["X, C", "cut, copy what is chosen; Control-X, Control-C too"],
+  ["V, Shift-V", "paste below, above what was cut or copied here"],
+  ["Control-V", "paste what was cut or copied anywhere: cells, or a text"],
+  ["Shift-D", "duplicate"],
+  ["D D", "remove"],
+  ["Shift-M", "make one cell of several, or of the cell and the one below"],
+  ["Control-Shift-Minus (in the text)", "cut the cell in two at the cursor"],
+  ["Z, Control-Z", "take back the last removal, cut, paste, split, merge or move; in a text Control-Z takes back what was typed there"],
+  ["Shift-Z, Control-Shift-Z, Control-Y", "do it again"],
   ["M, Y", "make it prose, make it a cell of the session that is chosen below"],
   ["Alt-Up, Alt-Down", "move the cell"],
   ["I I", "interrupt its interpreter"],
   ["0 0", "restart its interpreter, and evaluate its cells"],
   ["T", "show the answer as text, or with its formulas"],
   ["Tab (in the text)", "completions after a word, where the session has them; else four blanks; before each line that is chosen"],
-  ["Shift-Tab (in the text)", "take four blanks away at the start of the line, or of each that is chosen"],
+  ["Shift-Tab (in the text)", "help on the word at the cursor; elsewhere take four blanks away at the start of the line, or of each that is chosen"],
+  ["Control-/ (in the text)", "make comments of the lines that are chosen, or take that back"],
+  ["F", "find and replace, in all cells"],
+  ["O", "fold the answer, or the section of a heading"],
+  ["Shift-O", "fold the text"],
+  ["L", "show the numbers of lines, or not"],
   ["Control-S", "save now"],
   ["H", "these keys"],
 ];
-
-/**
- * Puts a text in the place of what is chosen, as a key does: the browser can undo it.
- * @type {(view: CellView, text: string) => void}
- */
-function insert(view, text) {
-  if (document.execCommand("insertText", false, text)) return;
-  view.text.setRangeText(text, view.text.selectionStart, view.text.selectionEnd, "end");
-  view.typed();
-}
-
-/**
- * A new line begins below the first letter of the one before.
- * @type {(view: CellView) => boolean}
- */
-function newLine(view) {
-  const blanks = /^[ \t]*/.exec(view.text.value.slice(0, view.text.selectionStart).split("\n").at(-1) ?? "")?.[0];
-  if (!blanks) return false;
-  insert(view, `\n${blanks}`);
-  return true;
-}
-
-/**
- * Puts four blanks before each line that is chosen, or takes them away: one step for the browser's undo. What is chosen stays so.
- * @type {(view: CellView, isBack: boolean) => void}
- */
-function indent(view, isBack) {
-  const { value, selectionStart: start, selectionEnd: end, selectionDirection } = view.text;
-  const last = end > start && value[end - 1] === "\n" ? end - 1 : end; // of the line behind that nothing is chosen
-  const from = value.slice(0, start).lastIndexOf("\n") + 1;
-  const to = last + value.slice(last).split("\n", 1)[0].length;
-  const lines = value.slice(from, to).split("\n");
-  const changed = lines.map((line) => (isBack ? line.replace(/^(?:\t| {1,4})/, "") : INDENT + line));
-  const text = changed.join("\n");
-  if (text === value.slice(from, to)) return;
-  view.text.setSelectionRange(from, to);
-  insert(view, text);
-  const [first, rest] = [changed[0].length - lines[0].length, text.length - (to - from)];
-  const lastLine = from + text.length - (changed.at(-1) ?? "").length;
-  const newStart = start === from && end > start ? from : Math.max(from, start + first); // whole lines stay whole
-  view.text.setSelectionRange(newStart, Math.max(newStart, lastLine, end + rest), selectionDirection);
-}
 
 /** @type {(target: EventTarget | null) => boolean} */
 const isText = (target) => target instanceof Element && target.matches("textarea, input:not([type=checkbox])");
@@ -82,12 +61,16 @@ export class Keys {
   /**
    * @param {Cells} cells
    * @param {Actions} actions
-   * @param {Completions} completions
+   * @param {{several: Several, completions: Completions, help: Help, find: Find, folds: Folds}} parts
    * @param {() => void} showKeys
    */
-  constructor(cells, actions, completions, showKeys) {
+  constructor(cells, actions, { several, completions, help, find, folds }, showKeys) {
     this.cells = cells;
     this.actions = actions;
+    this.several = several;
+    this.help = help;
+    this.find = find;
+    this.folds = folds;
     this.completions = completions;
     this.showKeys = showKeys;
     this.last = { key: "", time: 0 };
@@ -101,18 +84,27 @@ export class Keys {
 
   /** @returns {Record<string, (view: CellView) => unknown>} */
   commandsOf() {
-    const { cells, actions } = this;
+    const { cells, actions, several, find, folds } = this;
     /** @type {(by: number) => (view: CellView) => void} */
-    const step = (by) => (view) => cells.select(cells.beside(view, by));
+    const step = (by) => (view) => {
+      cells.choice.drop();
+      cells.select(cells.beside(view, by));
+    };
+    /** @type {(by: number) => (view: CellView) => void} */
+    const extend = (by) => (view) => cells.choice.extend(cells.beside(view, by));
     return {
       Enter: (view) => cells.edit(view),
       ArrowUp: step(-1), k: step(-1), ArrowDown: step(1), j: step(1),
       Home: () => cells.select(cells.at(0)), End: () => cells.select(cells.at(cells.order.length - 1)),
       a: (view) => actions.insertAbove(view), b: (view) => actions.insertBelow(view),
-      dd: (view) => actions.remove(view), z: () => actions.restore(null),
-      m: (view) => actions.change(view, null), y: (view) => view.isProse && actions.change(view, actions.defaultSession()),
+      "Shift+ArrowUp": extend(-1), "Shift+k": extend(-1), "Shift+ArrowDown": extend(1), "Shift+j": extend(1), Escape: () => cells.choice.drop(),
+      x: () => several.cut(), c: () => several.copy(), v: () => several.paste(), "Shift+v": () => several.paste(undefined, true),
+      "Shift+d": (view) => several.duplicate(view), "Shift+m": (view) => several.merge(view),
+      dd: () => several.remove(), z: () => several.go(true), "Shift+z": () => several.go(false),
+      m: (view) => several.change(view, null), y: (view) => view.isProse && several.change(view, actions.defaultSession()),
       ii: (view) => actions.interrupt(view), "00": (view) => actions.restart(view),
-      t: (view) => actions.toggleText(view), h: () => this.showKeys(),
+      o: (view) => folds.toggle(several.of(view), "answer"), "Shift+o": (view) => folds.toggle(several.of(view), "input"), f: () => find.open(),
+      t: (view) => actions.toggleText(view), l: toggleNumbers, h: () => this.showKeys(),
     };
   }
 
@@ -133,7 +125,7 @@ export class Keys {
   }
 
   /**
-   * Outside of a text Control-Z does what Z does; true where it was for that.
+   * Outside of a text Control-Z does what Z does, and Control-Y what Shift-Z does; true where it was for that.
    * @param {KeyboardEvent} event
    */
   isUndo(event) {
@@ -141,7 +133,7 @@ export class Keys {
     if (!(event.ctrlKey || event.metaKey) || event.altKey || !["z", "y"].includes(key) || isText(event.target)) return false;
     event.preventDefault();
     this.last = { key: "", time: 0 };
-    if (key === "z" && !event.shiftKey && !event.repeat && !document.querySelector("dialog[open]")) this.actions.restore(null);
+    if (!event.repeat && !document.querySelector("dialog[open]")) this.several.go(key === "z" && !event.shiftKey);
     return true;
   }
 
@@ -154,8 +146,8 @@ export class Keys {
     const isControl = event.ctrlKey || event.metaKey;
     if (key === "Enter" && (shiftKey || isControl || altKey)) this.evaluate(view, shiftKey ? "next" : altKey ? "insert" : "stay");
     else if (isControl && !shiftKey && !altKey && key.toLowerCase() === "s") view.save();
-    else if (altKey && key === "ArrowUp") this.actions.moveUp(view);
-    else if (altKey && key === "ArrowDown") this.actions.moveDown(view);
+    else if (altKey && key === "ArrowUp") this.several.move(view, -1);
+    else if (altKey && key === "ArrowDown") this.several.move(view, 1);
     else return false;
     return true;
   }
@@ -163,21 +155,31 @@ export class Keys {
   /** @type {(view: CellView, then: "next" | "insert" | "stay") => Promise<void>} */
   async evaluate(view, then) {
     this.completions.close();
-    const next = then === "next" ? this.cells.beside(view, 1) : undefined;
-    const evaluated = this.actions.evaluate(view);
+    const last = this.several.of(view).at(-1) ?? view;
+    const next = then === "next" ? this.cells.beside(last, 1) : undefined;
+    const evaluated = this.several.evaluate(view);
     this.cells.select(next ?? view);
     if (next || then === "stay") return;
-    await this.actions.held.during(async () => (await evaluated) && this.actions.insertBelow(view, true));
+    await this.actions.held.during(async () => (await evaluated) && this.actions.insertBelow(last, true));
   }
 
   /** @type {(event: KeyboardEvent, view: CellView) => boolean} */
   inText(event, view) {
     if (event.key === "Escape") {
-      this.cells.select(view);
+      if (this.help.isOpen) this.help.close();
+      else this.cells.select(view);
       return true;
     }
     if (event.key === "Tab" && !event.ctrlKey && !event.altKey) return this.tab(view, event.shiftKey);
     if (event.key === "Enter") return newLine(view);
+    if (event.ctrlKey && event.key === "/") {
+      comment(view);
+      return true;
+    }
+    if (event.ctrlKey && event.shiftKey && ["-", "_"].includes(event.key)) {
+      this.several.split(view);
+      return true;
+    }
     return event.key.startsWith("Arrow") && this.atEdge(event, view);
   }
 
@@ -185,7 +187,8 @@ export class Keys {
   tab(view, isBack) {
     const { selectionStart: at, selectionEnd, value } = view.text;
     const isBehindWord = /\S/.test(value[at - 1] ?? "");
-    if (isBack || at !== selectionEnd) indent(view, isBack);
+    if (isBack && at === selectionEnd && !view.isProse && wordAt(value, at)) this.help.open(view);
+    else if (isBack || at !== selectionEnd) indent(view, isBack);
     else if (isBehindWord && view.page.sessions.get(view.cell.session)?.tab) this.completions.open(view);
     else insert(view, INDENT);
     return true;
@@ -209,9 +212,14 @@ export class Keys {
 
   /** @type {(event: KeyboardEvent, view: CellView) => boolean} */
   command(event, view) {
+    if (event.key === "a" && (event.ctrlKey || event.metaKey) && !event.altKey) {
+      this.cells.choice.all();
+      return true;
+    }
     if (event.ctrlKey || event.metaKey || event.altKey) return false;
-    const key = event.key.length === 1 ? event.key.toLowerCase() : event.key;
-    if (event.repeat && !STEPS.includes(key)) return true;
+    const letter = event.key.length === 1 ? event.key.toLowerCase() : event.key;
+    const key = event.shiftKey && Object.hasOwn(this.commands, `Shift+${letter}`) ? `Shift+${letter}` : letter;
+    if (event.repeat && !STEPS.includes(letter)) return true;
     const isTwice = this.last.key === key && event.timeStamp - this.last.time < TWICE_WITHIN;
     const name = isTwice ? key + key : key;
     this.last = { key: isTwice ? "" : key, time: event.timeStamp };

@@ -6,26 +6,41 @@ import { Cells, emptyLine } from "./cells.js";
 import { Completions } from "./completions.js";
 import { keysDialog, sessionDialog } from "./dialogs.js";
 import { byId } from "./dom.js";
+import { beginStopBox } from "./errors.js";
 import { listen } from "./feed.js";
 import { Keys } from "./keys.js";
 import { savePicture } from "./output.js";
+import { Find } from "./find.js";
+import { Folds } from "./folds.js";
+import { Help } from "./help.js";
+import { showContents } from "./contents.js";
+import { showNumbers } from "./layer.js";
+import { News } from "./news.js";
+import { fitOnPaper } from "./paper.js";
+import { Several } from "./several.js";
 
 /** @typedef {import("./types").Message} Message */
 
 /** @type {import("./cell").Page} */
-const page = { isThere: false, sessions: new Map(), note: bars.note };
+const page = { isThere: false, sessions: new Map(), note: bars.note, news: new News() };
 let hasEnded = false; // the program, while the server is there
 let hasBeenThere = false; // the server: what was typed since is to be saved when it is there again
 const cells = new Cells(page);
 const actions = new Actions(cells, bars.note);
+const several = new Several(actions);
 const completions = new Completions();
+const help = new Help();
+const find = new Find(cells, several);
+const folds = new Folds(cells);
 const showKeys = keysDialog();
 let isForCell = false; // whether a session is made for a new cell
 const askSession = sessionDialog(async (name, words, tab) => {
   const told = await actions.ask("session", { name, words, tab });
   if (!told.refused && isForCell) await actions.make(cells.order.at(-1) ?? 0, name, true);
 }, (name) => page.sessions.has(name));
-new Keys(cells, actions, completions, showKeys);
+new Keys(cells, actions, { several, completions, help, find, folds }, showKeys);
+showNumbers();
+fitOnPaper();
 document.body.insertBefore(emptyLine(), cells.place.nextSibling);
 
 // ---- what the server tells
@@ -43,6 +58,7 @@ function hear(message, isFirst) {
   if (message.removed) bars.showRemoved(message.removed);
   if (message.sessions) bars.showSessions(page.sessions, page.isThere);
   cells.hear(message);
+  if (message.cells || message.order || message.gone) folds.show();
   if (message.says) bars.note(message.says.join("; "));
   if (message.ended === null && !isFirst) saveAll(); // what could not be saved while the program was gone
   if (isFirst) document.documentElement.dataset.ready = "true";
@@ -62,6 +78,7 @@ function saveAll() {
   for (const view of cells.views.values()) view.saveIfFit();
 }
 
+beginStopBox();
 listen({ hear, connect });
 setInterval(() => cells.views.forEach((view) => view.tick()), 1_000);
 
@@ -86,29 +103,41 @@ const DOES = {
   stopSession: (node) => actions.stopSession(sessionOf(node)),
   restartSession: (node) => actions.restartSession(sessionOf(node)),
   evaluateAll: () => actions.evaluateAll(),
+  evaluateStale: () => actions.evaluateStale(),
   restartAll: () => actions.restartAll(),
   addCell: () => {
     isForCell = actions.defaultSession() === null;
     return isForCell ? askSession() : actions.addCell();
   },
   addProse: () => actions.addProse(),
+  showFind: () => find.open(),
+  showContents: () => showContents(cells),
+  findNext: () => find.go(1),
+  findLast: () => find.go(-1),
+  replace: () => find.replace(),
+  replaceAll: () => find.replaceAll(),
+  closeFind: () => find.close(),
   reopen: () => actions.reopen(),
 };
 
 /** @type {Record<string, (view: import("./cell").CellView, node: HTMLElement) => unknown>} */
 const DOES_TO_CELL = {
-  evaluate: (view) => actions.evaluate(view),
+  evaluate: (view) => several.evaluate(view),
   evaluateFrom: (view) => actions.evaluateFrom(view),
   interrupt: (view) => actions.interrupt(view),
   stop: (view) => actions.stop(view),
   restart: (view) => actions.restart(view),
   insertAbove: (view) => actions.insertAbove(view),
   insertBelow: (view) => actions.insertBelow(view),
-  moveUp: (view) => actions.moveUp(view),
-  moveDown: (view) => actions.moveDown(view),
+  moveUp: (view) => several.move(view, -1),
+  moveDown: (view) => several.move(view, 1),
+  unfold: (view) => folds.unfold(view),
+  split: (view) => several.split(view),
+  merge: (view) => several.merge(view),
+  duplicate: (view) => several.duplicate(view),
   toggleText: (view) => actions.toggleText(view),
   clear: (view) => actions.clear(view),
-  remove: (view) => actions.remove(view),
+  remove: (view) => several.remove("removal", view),
   showMore: (view) => actions.showMore(view),
   savePicture: (view, node) => savePicture(node, `cell-${view.id}`),
   keepMine: (view) => actions.keepMine(view),
@@ -123,14 +152,26 @@ document.addEventListener("click", (event) => {
   if (!(node instanceof HTMLElement)) return;
   const what = node.dataset.do ?? "";
   const view = cells.of(node);
-  if (view && event.detail > 0) cells.select(view); // by the mouse: the keys are for the cell again
+  if (view && event.detail > 0 && !view.box.classList.contains("chosen")) cells.select(view); // by the mouse: the keys are for the cell again
   if (view) DOES_TO_CELL[what]?.(view, node);
   else DOES[what]?.(node);
 });
 
+// While a button is pressed nothing moves under the pointer: its cell is selected by the click.
+let isPressed = false;
+document.addEventListener("mouseup", () => (isPressed = false));
+
 cells.place.addEventListener("mousedown", (event) => {
   const view = cells.of(event.target);
-  if (view) cells.select(view, event.target === view.box || event.target === view.head);
+  isPressed = event.target instanceof Element && event.target.closest("button, select") !== null;
+  if (!view || isPressed) return;
+  if (event.shiftKey && event.target !== view.text) {
+    event.preventDefault(); // no text is chosen by that
+    cells.choice.extend(view);
+    return;
+  }
+  cells.choice.drop();
+  cells.select(view, event.target === view.box || event.target === view.head);
 });
 
 cells.place.addEventListener("dblclick", (event) => {
@@ -140,16 +181,19 @@ cells.place.addEventListener("dblclick", (event) => {
 
 cells.place.addEventListener("focusin", (event) => {
   const view = cells.of(event.target);
-  if (!view) return;
+  if (!view || isPressed) return;
   cells.select(view, false);
   view.box.classList.toggle("editing", event.target === view.text);
+  if (event.target === view.text) view.paint();
 });
 
 cells.place.addEventListener("focusout", (event) => {
   const view = cells.of(event.target);
   if (!view || event.target !== view.text) return;
   view.box.classList.remove("editing");
+  view.layer?.showBrackets();
   completions.close();
+  help.close();
   view.showProse();
   view.saveIfFit();
 });
@@ -158,12 +202,20 @@ cells.place.addEventListener("input", (event) => {
   const view = cells.of(event.target);
   if (!view || event.target !== view.text) return;
   if (completions.isOpen) completions.close();
+  if (help.isOpen) help.close();
   view.typed();
 });
 
+// A cell has colours when it has come into view.
+cells.place.addEventListener("contentvisibilityautostatechange", (event) => {
+  if (!(/** @type {any} */ (event).skipped)) cells.of(event.target)?.paint();
+}, true);
+
+document.addEventListener("selectionchange", () => cells.of(document.activeElement)?.layer?.showBrackets());
+
 cells.place.addEventListener("change", (event) => {
   const view = cells.of(event.target);
-  if (view && event.target instanceof HTMLSelectElement) actions.change(view, event.target.value || null);
+  if (view && event.target instanceof HTMLSelectElement) several.change(view, event.target.value || null);
 });
 
 document.addEventListener("visibilitychange", () => document.hidden && saveAll());

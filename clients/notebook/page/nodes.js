@@ -25,7 +25,7 @@ const IN_MATHML = {
   movablelimits: isFlag,
   accent: isFlag, accentunder: isFlag, displaystyle: isFlag, scriptlevel: like(/^[+-]?\d$/), lspace: isLength, rspace: isLength,
   minsize: isLength, maxsize: isLength, width: isLength, height: isLength, depth: isLength, voffset: isLength, linethickness: isLength,
-  columnalign: like(/^[a-z ]{1,200}$/), rowspacing: like(/^[\d.em ]{1,400}$/), columnspacing: like(/^[\d.em ]{1,400}$/),
+  columnalign: like(/^[a-z ]{1,4000}$/), rowspacing: like(/^[\d.em ]{1,8000}$/), columnspacing: like(/^[\d.em ]{1,8000}$/),
   columnlines: like(/^[a-z ]{1,200}$/), rowlines: like(/^[a-z ]{1,200}$/), mathcolor: isColour, display: like(/^(block|inline)$/),
   notation: like(/^[a-z ]{1,60}$/), mathsize: isLength, mathbackground: isColour, side: like(/^[a-z]{1,10}$/),
 };

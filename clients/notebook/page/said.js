@@ -22,6 +22,15 @@ function lasting(milliseconds) {
   return seconds < 3600 ? `${Math.floor(seconds / 60)} min ${seconds % 60} s` : `${Math.floor(seconds / 3600)} h ${Math.floor(seconds / 60) % 60} min`;
 }
 
+/**
+ * Which answer of its interpreter it is, and how long that worked for it.
+ * @type {(cell: Cell) => string}
+ */
+export function took({ took: time, count }) {
+  if (time === null || count === null) return "";
+  return `answer ${count}, ${time < 59_950 ? `${(time / 1000).toFixed(time < 9_995 ? 2 : 1)} s` : lasting(time)}`;
+}
+
 /** @type {(since: number) => string} */
 export function running(since) {
   const clock = new Date(since).toLocaleTimeString([], { hour: "2-digit", minute: "2-digit", second: "2-digit", hour12: false });

@@ -19,7 +19,7 @@ function shape() {
   textState.dataset.state = box.dataset.text = AT_FIRST.text[0];
   answerState.dataset.state = AT_FIRST.answer[0];
   box.dataset.state = AT_FIRST.state;
-  head.append(make("span", "number"), make("bdi", "session"), textState, answerState);
+  head.append(make("span", "number"), make("bdi", "session"), textState, answerState, make("span", "took"));
   text.dir = "auto";
   text.spellcheck = false;
   text.tabIndex = -1; // Enter goes into it: Tab would not go on from there

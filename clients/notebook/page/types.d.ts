@@ -1,9 +1,9 @@
 // What the server tells; tmhost_notebook/book.py writes it.
 
-/** A text, a formula, or a picture: an address that has all of it, which the server has looked at, and the text that stands for it. */
-export interface Part { text?: string; tex?: string; picture?: string }
+/** A text, an error, a formula, or a picture: an address that has all of it, which the server has looked at, and the text that stands for it. */
+export interface Part { text?: string; error?: string; tex?: string; picture?: string }
 
-export interface Output { parts: Part[]; text: string; isCut: boolean; length: number }
+export interface Output { parts: Part[]; isError: boolean; text: string; isCut: boolean; length: number }
 
 /** A text that is kept until its cell can have it, and the cell's text that it was typed over. */
 export interface Draft { base: string; text: string }
@@ -16,6 +16,8 @@ export interface Cell {
   state: "empty" | "queued" | "running" | "answered" | "lost" | "doubtful";
   reason: string | null;
   since: number | null;
+  took: number | null; // milliseconds
+  count: number | null; // which answer of its interpreter it is
   prompt: string | null;
   output: Output | null;
   isOld: boolean;
@@ -28,6 +30,14 @@ export interface Session {
   runs: boolean;
   waiting: number;
   isProse: boolean;
+}
+
+/** A step: new cells, then texts, then places, then cells that go. */
+export interface Change {
+  new: { after: number; session: string | null; text: string; of?: number }[];
+  set: { id: number; base: string; text: string }[];
+  move: { id: number; after: number }[];
+  remove: { id: number }[];
 }
 
 export interface Removed { number: number; session: string; input: string }
@@ -59,11 +69,13 @@ export interface Reply {
   at?: number;
   isDraft?: boolean;
   id?: number;
+  ids?: number[];
   count?: number;
   lost?: number;
   outcome?: string;
   root?: string;
   rest?: string[];
+  output?: Output;
   text?: string;
   start?: number;
   length?: number;

@@ -27,6 +27,7 @@ ours = [fcntl.fcntl(int(word), fcntl.F_DUPFD, 10) for word in sys.argv[1:3]]
 os.dup2(ours[0], 3), os.dup2(ours[1], 4)
 os.execv(sys.argv[3], sys.argv[3:])
 """
+COMMANDS = {"c": "copy", "x": "cut", "v": "paste"}  # that a browser's window makes of keys
 WITHIN = 240.0  # seconds for a reply
 SLOW = 120.0  # seconds for what is waited for in a page, beside other work too
 
@@ -185,6 +186,8 @@ class Tab:
         text = "\r" if key == "Enter" else key if len(key) == 1 else ""
         if text and not {"Control", "Alt", "Meta"} & set(modifiers):
             event["text"] = text
+        if bits == MODIFIERS["Control"] and key in COMMANDS:
+            event["commands"] = [COMMANDS[key]]
         self.ask("Input.dispatchKeyEvent", {**event, "type": "keyDown"})
         self.ask("Input.dispatchKeyEvent", {**event, "type": "keyUp"})
 

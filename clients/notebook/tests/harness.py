@@ -219,6 +219,26 @@ class PageCase(Case):
         self.page.call("remove", id=next(id for id, cell in cells.items() if cell["input"] == "say 1"))
 
 
+class SharedCase(PageCase):
+    """The same, with one browser for all tests of a class."""
+
+    shared: Optional["chromium.Browser"] = None
+
+    def browse(self) -> "chromium.Browser":
+        kind = type(self)
+        if kind.shared is None:
+            kind.shared = chromium.Browser()
+            kind.addClassCleanup(kind.shared.kill)
+        kind.shared.trouble.clear()
+        return kind.shared
+
+    def open(self, server: Optional[Server] = None) -> "chromium.Tab":
+        """A page in a tab of its own, which is closed behind the test."""
+        tab = opened(self.browser, server or self.server)
+        self.addCleanup(tab.close)
+        return tab
+
+
 READY = "document.documentElement.dataset.ready"
 IN_TEXT = "document.activeElement.localName === 'textarea' && document.activeElement.closest('.cell').id"
 PROSE = """# Head

@@ -94,7 +94,7 @@ class Requests(Case):
             self.assertEqual(self.post({"Content-Type": kind}), 403, kind)
         self.assertEqual(self.post({}, path="other"), 403)
         self.assertEqual(self.post({}, path="call?x"), 200)
-        for length in ("-1", "x", "131073", "99999999999999999999", "\u00b2"):
+        for length in ("-1", "x", "67108865", "99999999999999999999", "\u00b2"):
             self.assertEqual(self.post({"Content-Length": length}), 403, length)
 
     def test_nonsense_is_told_as_such(self) -> None:

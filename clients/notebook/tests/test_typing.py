@@ -135,7 +135,7 @@ class Undo(PageCase):
         self.assertEqual(tab.value(TEXTS), [*self.texts[:10], "say 11", "say 12"])
         self.assertEqual(tab.value("document.querySelector('.cell.selected').id"), "cell-13")
         tab.key("z", "Control")
-        tab.until("document.querySelector('#note').textContent", "there is no removed cell")
+        tab.until("document.querySelector('#note').textContent", "there is nothing to take back")
         self.assertEqual(tab.value("document.activeElement.localName"), "section")
         tab.key("m")
         tab.until("document.querySelectorAll('.cell.prose').length", 1)

@@ -11,9 +11,11 @@ from tmhost import Answer, Answered, BadLine, Closed, Died, Done, Ended, Event, 
 from . import prose, startable, telling
 from .drafts import Draft, Drafts, NotKept
 from .feed import Feed
+from .helping import Helper
 from .notes import Notes
 from .places import Places
 from .sayings import SAYINGS
+from .steps import Steps
 from .telling import Message, Watcher, text_of
 
 REPLY_WITHIN = 60.0  # seconds that a command may take
@@ -50,6 +52,7 @@ class Book:
         self.ended: Optional[str] = None
         self.changes = 0  # that cells had by calls, counted by `order`; a message says how many of them it has seen
         self._removed_ever = 0
+        self.steps, self.helper = Steps(self), Helper(program)
         self._is_closed = False
         self._can_feed = threading.Event()
         self._open(create=True)
@@ -60,7 +63,7 @@ class Book:
         with self.lock:
             self.sheet = sheet
             self.notes, self.places, self.feed = Notes(), Places(sheet.fields), Feed()
-            self.in_doubt: Optional[int] = None  # the cell that a call changes, until it is known that it did or didn't
+            self.in_doubt: Set[int] = set()  # the cells that a call changes, until it is known that it did or didn't
             self.ended = None
         self._read_drafts()
         sheet.listen(lambda event: self._heard(sheet, event))
@@ -93,6 +96,7 @@ class Book:
     def close(self) -> None:
         self._is_closed = True
         self._can_feed.set()
+        self.helper.close()
         self.sheet.close()
         with self.lock:
             for watcher in self.watchers:
@@ -119,13 +123,13 @@ class Book:
     def changing(self, id: int) -> Iterator[None]:
         """Does one command that changes a cell, with `order`. Where the program ends in the middle, the file may have the cell as it was or
         as it was to be, so it stays in doubt until the worksheet is opened again."""
-        self.in_doubt = id
+        self.in_doubt = {id}
         try:
             yield
         except (Refused, BadLine, Gone):
-            self.in_doubt = None
+            self.in_doubt = set()
             raise
-        self.in_doubt = None
+        self.in_doubt = set()
         self.changes += 1
         self.touch(id)
 
@@ -152,17 +156,13 @@ class Book:
         self.settle(lambda: id in self.places)
         return id
 
-    def remove(self, id: int) -> None:
-        """Removes a cell, and keeps it to be brought back."""
-        field, place = self.sheet.cell(id).field, self.places.place(id)
-        with self.changing(id):
-            self.sheet.remove(id)
-        self.settle(lambda: id not in self.places)
+    def bin(self, field: Field, place: int) -> None:
+        """Keeps a cell that was removed, to be brought back."""
         with self.lock:
-            note = self.notes.of.get(id)
+            note = self.notes.of.get(field.id)
             self._bin(field, field.answer or (note.old if note else None), place)
-            self.notes.drop(id)
-        self.bin_draft(id, place)
+            self.notes.drop(field.id)
+        self.bin_draft(field.id, place)
 
     def bin_draft(self, id: int, place: int) -> None:
         """Offers the draft of a cell that isn't there any more among the removed cells. It stays on the disk until it is brought back."""
@@ -200,12 +200,12 @@ class Book:
         else:
             self.touch(id)
 
-    def evaluate_each(self, fields: Iterable[Field]) -> int:
-        """Has these cells evaluated, one of each session at a time."""
+    def evaluate_each(self, fields: Iterable[Field], stops: bool = False) -> int:
+        """Has these cells evaluated, one of each session at a time; `stops` says that the rest isn't asked where one is an error."""
         with self.lock:
             fed = {field.id: field.session for field in fields if not self.waits(field)}
             for id, session in fed.items():
-                self.feed.add(id, session)
+                self.feed.add(id, session, stops)
             telling.touch(self.watchers, set(fed))
         self._can_feed.set()
         return len(fed)
@@ -233,14 +233,22 @@ class Book:
         found = self.sheet.sessions.get(session)
         return startable.why_not(found) if found and found.life is None else None
 
-    def _ask(self, field: Field) -> None:
+    def _stop_at_errors(self) -> None:
+        """What is to stop at the error of a cell isn't asked any more, with the book's lock."""
+        failed = self.feed.failed()
+        dropped = self.feed.drop_stopping() if failed else []
+        telling.touch(self.watchers, set(dropped))
+        for watcher in self.watchers if dropped else ():
+            watcher.says.append(f"stopped at an error, of cell {failed[0]}: {cells(len(dropped))} {'was' if len(dropped) == 1 else 'were'} not asked")
+
+    def _ask(self, field: Field, stops: bool = False) -> None:
         with self.lock:
             self.notes.keep(field)
             self.notes.ask(field.id, self.places.chain(field.id))
         with self.changing(field.id):
             evaluation = self.sheet.eval(field.id)
         with self.lock:
-            self.feed.asked(field.session, evaluation)
+            self.feed.asked(field.id, field.session, evaluation, stops)
         evaluation.add_done_callback(lambda _: self._can_feed.set())
 
     def _feed_on(self) -> None:
@@ -254,13 +262,16 @@ class Book:
                 self.drop_fed(session, "its interpreter ended")
             while self._feed_one():
                 pass
+            self.wake()
 
     def _feed_one(self) -> bool:
         """Asks one cell, if one can be asked."""
         with self.order:
             with self.lock:
+                self._stop_at_errors()
                 id = self.feed.next() if self.ended is None else None
                 field = None if id is None else self.field(id)
+                stops = id is not None and self.feed.stops(id)
                 if id is not None:
                     self.feed.take(id)
             if field is None:
@@ -268,7 +279,7 @@ class Book:
             try:
                 why = self.why_not(field.session)
                 if why is None:
-                    self._ask(field)
+                    self._ask(field, stops)
             except Refused as refused:
                 why = SAYINGS.get(refused.name, str(refused))
             except (BadLine, Gone, TimedOut, Died, Closed, ProtocolError, OSError) as error:

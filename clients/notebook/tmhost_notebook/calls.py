@@ -1,15 +1,17 @@
 """What a page may ask for: each call returns when what it did is on the disk."""
 
 import contextlib
-from typing import Any, Callable, Dict, Optional, Sequence, TypeVar
+from typing import Any, Callable, Dict, List, Optional, Sequence, TypeVar
 
 from tmhost import BadLine, Closed, Completions, Died, Field, Gone, Lost, ProtocolError, Refused, TimedOut, readable
 
 from . import shown, startable
 from .book import Book
 from .drafts import Draft, NotKept
+from .helping import NoHelp
 from .prose import session_of_prose
 from .sayings import SAYINGS
+from .steps import Given, Made, NotFit, Step
 from .telling import text_of
 
 Facts = Dict[str, Any]
@@ -104,8 +106,43 @@ def call_new(book: Book, asked: Facts) -> Facts:
 
 def call_remove(book: Book, asked: Facts) -> Facts:
     with book.order:
-        book.remove(idle_field(book, number(asked, "id")).id)
+        book.steps.do(Step("removal", removed=[idle_field(book, number(asked, "id")).id]))
     return {}
+
+
+def members(asked: Facts, name: str) -> List[Facts]:
+    found: List[Any] = member(asked, name, list, list)
+    if not all(isinstance(one, dict) for one in found):
+        raise NotDone("NotUnderstood", f"{name} has something of another kind")
+    return found
+
+
+def made(book: Book, asked: Facts) -> Made:
+    """A cell that is to be made; where it is said of which one it is a copy, it shows the answer of that in grey."""
+    session = session_of_prose(book.sheet) if asked.get("session") is None else text(asked, "session")
+    of = book.steps.id_now(number(asked, "of")) if "of" in asked else 0
+    note = book.notes.of.get(of)
+    old = next((one["old"] for one in book.removed if one["field"].id == of), note.old if note else None)
+    field = book.field(of)
+    return Made(number(asked, "after"), session, text(asked, "text"), old=field.answer or old if field else old)
+
+
+def call_step(book: Book, asked: Facts) -> Facts:
+    """Changes several cells in one step: new ones, then texts, then places, then removals. Gives the cells that were made or changed."""
+    with book.order:
+        given = [Given(number(one, "id"), text(one, "base"), text(one, "text")) for one in members(asked, "set")]
+        moved = [(number(one, "id"), number(one, "after")) for one in members(asked, "move")]
+        removed = [number(one, "id") for one in members(asked, "remove")]
+        ids = book.steps.do(Step(text(asked, "what")[:40], [made(book, one) for one in members(asked, "new")], given, moved, removed))
+        return {"ids": ids, "at": book.changes}
+
+
+def call_undo(book: Book, asked: Facts) -> Facts:
+    """Takes the last step back, or does again what was taken back last."""
+    is_back = member(asked, "isBack", bool, bool)
+    with book.order:
+        what, ids = book.steps.go(is_back)
+        return {"ids": ids, "says": f"{'taken back' if is_back else 'done again'}: {what}"}
 
 
 def call_restore(book: Book, asked: Facts) -> Facts:
@@ -116,9 +153,11 @@ def call_restore(book: Book, asked: Facts) -> Facts:
         if found is None:
             raise NotDone("NotThere", "there is no removed cell")
         field = found["field"]
+        book.steps.returned.add(found["number"])
         try:
             id = book.new(field.session, text_of(field), book.places.at(min(found["place"], len(book.places)) - 1))
         except Exception:
+            book.steps.returned.discard(found["number"])
             with book.lock:
                 book.removed.append(found)
             raise
@@ -139,9 +178,7 @@ def call_change(book: Book, asked: Facts) -> Facts:
         if field_of(book, id).session == session:
             return {"id": id}
         field = idle_field(book, id)
-        made = book.new(session, text_of(field), id)
-        book.remove(id)
-        return {"id": made}
+        return {"id": book.steps.do(Step("another session", [Made(id, session, text_of(field))], removed=[id]))[0]}
 
 
 def call_move(book: Book, asked: Facts) -> Facts:
@@ -152,9 +189,7 @@ def call_move(book: Book, asked: Facts) -> Facts:
         old = book.places.place(field_of(book, id).id)
         new = max(0, min(len(book.places) - 1, old + by))
         if new != old:
-            after = book.places.at(new if new > old else new - 1)
-            book.sheet.move(id, after)
-            book.settle(lambda: book.places.before(id) == after)
+            book.steps.do(Step("move", moved=[(id, book.places.at(new if new > old else new - 1))]))
     return {}
 
 
@@ -183,11 +218,12 @@ def call_eval(book: Book, asked: Facts) -> Facts:
         return {"at": book.changes}
 
 
-def evaluate_each(book: Book, fields: Sequence[Field], missing: Dict[str, str]) -> Facts:
-    """Has these cells evaluated, but those of prose and of sessions that can't be started: `missing` says why, and so does a warning."""
+def evaluate_each(book: Book, fields: Sequence[Field], missing: Dict[str, str], stops: bool) -> Facts:
+    """Has these cells evaluated, but those of prose and of sessions that can't be started: `missing` says why, and so does a warning.
+    `stops` says that the rest isn't asked where one is an error."""
     named = {field.session for field in fields} - book.prose
     missing = {**{name: why for name, why in ((name, book.why_not(name)) for name in named) if why}, **missing}
-    count = book.evaluate_each(field for field in fields if field.session in named and field.session not in missing)
+    count = book.evaluate_each((field for field in fields if field.session in named and field.session not in missing), stops)
     told = "; ".join(missing[name] for name in sorted(missing))
     return {"count": count, **({"warning": f"{told}. Nothing was asked there, and no answer is lost"} if missing else {})}
 
@@ -197,7 +233,26 @@ def call_eval_from(book: Book, asked: Facts) -> Facts:
     start = None if asked.get("id") is None else number(asked, "id")
     fields = book.sheet.fields
     first = next((place for place, field in enumerate(fields) if field.id == start), 0)
-    return evaluate_each(book, fields[first:], {})
+    return evaluate_each(book, fields[first:], {}, asked.get("stops") is True)
+
+
+def call_eval_stale(book: Book, asked: Facts) -> Facts:
+    """Evaluates the cells whose answers are stale, or that have none, and those above them whose interpreter has ended, whose variables they may need."""
+    return evaluate_each(book, stale(book), {})
+
+
+def stale(book: Book) -> List[Field]:
+    wanted: Dict[int, Field] = {}
+    with book.lock:
+        ended: Dict[str, List[Field]] = {}  # of each session the cells above that have to be evaluated again, if one below is
+        for field in book.sheet.fields:
+            if field.id not in book.places or not field.input.strip():
+                continue
+            if field.state != "answered" or book.places.is_stale(field.id):
+                wanted.update((one.id, one) for one in (*ended.pop(field.session, ()), field))
+            elif book.notes.has_ended(field.id, field.session):
+                ended.setdefault(field.session, []).append(field)
+    return list(wanted.values())
 
 
 def call_restart(book: Book, asked: Facts) -> Facts:
@@ -212,7 +267,7 @@ def call_restart(book: Book, asked: Facts) -> Facts:
                 continue
             with book.order:
                 book.stop(name)
-    return evaluate_each(book, [field for field in book.sheet.fields if wanted in (None, field.session)], missing)
+    return evaluate_each(book, [field for field in book.sheet.fields if wanted in (None, field.session)], missing, asked.get("stops") is True)
 
 
 def call_stop(book: Book, asked: Facts) -> Facts:
@@ -252,6 +307,17 @@ def completion_facts(found: Optional[Completions]) -> Facts:
     return {"root": readable(found.root), "rest": [readable(one) for one in found.rest[:MOST_COMPLETIONS]]}
 
 
+def call_help(book: Book, asked: Facts) -> Facts:
+    """What an interpreter of the cell's session says of a word."""
+    field = field_of(book, number(asked, "id"))
+    session = book.sheet.sessions[field.session]
+    why = startable.why_not(session)
+    if why is not None:
+        raise NotDone("NoProgram", why)
+    above = (one for one in book.sheet.fields if one.session == field.session)
+    return {"output": shown.facts_of(book.helper.ask(session, text(asked, "language"), text(asked, "word"), above))}
+
+
 def call_output(book: Book, asked: Facts) -> Facts:
     """A further piece of a long answer."""
     id = number(asked, "id")
@@ -288,6 +354,10 @@ def do(book: Book, asked: Any) -> Facts:
         return call(book, asked)
     except Refused as refused:
         raise NotDone(refused.name, SAYINGS.get(refused.name, str(refused))) from None
+    except NoHelp as none:
+        raise NotDone("NoHelp", str(none)) from None
+    except NotFit as unfit:
+        raise NotDone(unfit.name, unfit.says or SAYINGS.get(unfit.name, unfit.name)) from None
     except Gone:
         raise NotDone("NoField", SAYINGS["NoField"]) from None
     except BadLine:

@@ -4,7 +4,7 @@ is, what its inputs were when it was asked, and the answer that it had before.""
 import collections
 import dataclasses
 import time
-from typing import Deque, Dict, Optional, Sequence, Set, Tuple
+from typing import Counter, Deque, Dict, Optional, Sequence, Set, Tuple
 
 from tmhost import Answer, Answered, Completed, Done, Ended, Event, Field, LostItem, Stopped
 
@@ -17,6 +17,8 @@ class Note:
     life: Optional[int] = None  # the process that answered
     asked: Optional[Chain] = None  # the inputs when it was asked last
     old: Optional[Answer] = None  # the answer that an edit or an evaluation took away
+    took: Optional[float] = None  # seconds that its interpreter worked for its answer
+    count: Optional[int] = None  # which answer of that process it is
 
 
 class Notes:
@@ -26,6 +28,7 @@ class Notes:
         self.of: Dict[int, Note] = collections.defaultdict(Note)
         # What each interpreter has to answer, in order: cells, and requests of completions.
         self._rows: Dict[str, Deque[Tuple[int, bool]]] = collections.defaultdict(collections.deque)
+        self._counts: Counter[str] = collections.Counter()  # answers of the process that a session has now
         self._lives: Dict[str, Optional[int]] = {}
         self._answered: Dict[str, Set[int]] = collections.defaultdict(set)  # by the process that a session has now
 
@@ -39,7 +42,7 @@ class Notes:
 
     def ask(self, id: int, chain: Optional[Chain]) -> None:
         note = self.of[id]
-        note.asked, note.since = chain, None
+        note.asked, note.since, note.took, note.count = chain, None, None, None
 
     def drop(self, id: int) -> None:
         self.of.pop(id, None)
@@ -54,6 +57,9 @@ class Notes:
         if isinstance(event, Answered):
             note = self.of[event.id]
             note.life, note.old = event.life, None
+            note.took = None if note.since is None else time.time() - note.since
+            self._counts[event.session] += 1
+            note.count = self._counts[event.session]
             if self._lives.get(event.session) == event.life:
                 self._answered[event.session].add(event.id)
             return self._is_done(event.session, event.id)
@@ -93,6 +99,7 @@ class Notes:
         if self._lives.get(session) == life:
             return set()
         self._lives[session] = life
+        self._counts[session] = 0
         return self._answered.pop(session, set())
 
     def has_ended(self, id: int, session: str) -> bool:

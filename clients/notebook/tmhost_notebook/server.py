@@ -25,7 +25,7 @@ from .files import Files
 from .suggested import suggestions
 
 ADDRESS = "127.0.0.1"
-LONGEST = 131_072  # bytes of a request; an input has 4,095
+LONGEST = 67_108_864  # bytes of a request; an input has 4,095, and 10,000 may be pasted at once
 IDLE = 30  # seconds that a connection may be silent in the middle of a request
 SAFE = {
     "Content-Security-Policy": "default-src 'none'; script-src 'self'; worker-src 'self'; style-src 'self'; connect-src 'self'; "

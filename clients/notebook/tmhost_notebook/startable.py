@@ -5,8 +5,7 @@ import os
 from typing import Optional
 
 from tmhost import Session
-
-DEFAULT_PATH = "/bin:/usr/bin"  # where there is no PATH
+from tmhost.program import search_path
 
 
 def can_be_run(path: str) -> bool:
@@ -17,7 +16,7 @@ def is_found(word: str) -> bool:
     """As `execvp` looks for a program: a word with a slash is a path, seen from the folder in which the host runs, which is this program's own."""
     if "/" in word:
         return can_be_run(word)
-    return any(can_be_run(os.path.join(folder or ".", word)) for folder in os.environ.get("PATH", DEFAULT_PATH).split(":"))
+    return any(can_be_run(os.path.join(folder or ".", word)) for folder in search_path().split(":"))
 
 
 def why_not(session: Session) -> Optional[str]:

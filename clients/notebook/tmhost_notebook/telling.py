@@ -127,6 +127,8 @@ def cell_facts(book: "Book", field: Field) -> Message:
         "state": state_of(book, field, note),
         "reason": field.reason,
         "since": None if note.since is None else int(note.since * 1000),
+        "took": None if note.took is None or field.state != "answered" else int(note.took * 1000),
+        "count": note.count if field.state == "answered" else None,
         "prompt": readable(field.answer.prompt) if field.answer else None,
         "output": shown.facts_of(answer) if answer else None,
         "isOld": field.answer is None,
@@ -136,7 +138,7 @@ def cell_facts(book: "Book", field: Field) -> Message:
 def state_of(book: "Book", field: Field, note: Note) -> str:
     """A cell that isn't asked yet waits for its turn, and has its old answer in the file."""
     if book.ended:
-        return "doubtful" if field.id == book.in_doubt else "empty" if field.state == "waiting" else field.state
+        return "doubtful" if field.id in book.in_doubt else "empty" if field.state == "waiting" else field.state
     if field.state == "waiting":
         return "queued" if note.since is None else "running"
     return "queued" if field.id in book.feed else field.state

@@ -1,7 +1,7 @@
 """Worksheets of `tmhost` in Python: `Worksheet` for blocking calls from any thread, `AsyncWorksheet` for asyncio.
 
     with Worksheet("notes", create=True) as sheet:
-        sheet.ensure_session("py", ["adapters/python"])
+        sheet.ensure_session("py", ["tmhost-python"])
         print(sheet.new("py", "6 * 7").evaluate(timeout=5).text)
 
 What a call returned is on the disk: a crash of this process, of the program or of the machine leaves it.

@@ -20,6 +20,15 @@ GRACE = 10.0  # seconds that it has for its end behind that of its output
 
 Program = Union[None, str, Sequence[str]]
 
+# The commands of the adapters, in a repository and where it is installed.
+COMMANDS = os.path.join(os.path.dirname(os.path.dirname(os.path.dirname(os.path.dirname(os.path.realpath(__file__))))), "adapters", "bin")
+
+
+def search_path() -> str:
+    """Where the program looks for interpreters: as it is given here, and first among the commands of the adapters that lie beside this package."""
+    path = os.environ.get("PATH", os.defpath)
+    return os.pathsep.join([COMMANDS, path]) if os.path.isdir(COMMANDS) else path
+
 
 def find_program() -> str:
     """The program that the environment variable TMHOST names, or the one on PATH."""
@@ -88,7 +97,9 @@ class Child:
         self._errors = tempfile.TemporaryFile()
         pipe = subprocess.PIPE
         try:
-            self.process = subprocess.Popen(words, bufsize=0, stdin=given or pipe, stdout=pipe, stderr=self._errors, start_new_session=True)
+            self.process = subprocess.Popen(
+                words, bufsize=0, stdin=given or pipe, stdout=pipe, stderr=self._errors, start_new_session=True,
+                env={**os.environ, "PATH": search_path()})
         except BaseException:
             self._errors.close()
             raise

@@ -17,7 +17,7 @@ TEXT_OF_GP = re.compile(r'"(?:\\.|[^"\\])*"|\\\\.*')  # a string, or a remark: n
 
 
 def is_of_gp(session: Session) -> bool:
-    return any(os.path.basename(word) == "gp" for word in session.words)
+    return any(os.path.basename(word) in ("gp", "tmhost-gp") for word in session.words)
 
 
 class Lines:

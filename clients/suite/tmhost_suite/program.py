@@ -26,7 +26,7 @@ from .text import Text, names_sessions
 
 ABOUT = "Runs test suites that are texts: evaluates the code in their fences, and compares what comes with the answers behind them."
 NOTES = """
-The front matter of SUITE names the sessions, as `sessions: {py: [adapters/python]}`, and may have `normal`, `tolerance` and
+The front matter of SUITE names the sessions, as `sessions: {py: [tmhost-python]}`, and may have `normal`, `tolerance` and
 `timeout`. A fence of a session is a case, and a fence `answer` behind it what is wanted. Behind the session may stand {setup},
 {teardown}, {xfail REASON}, {skip REASON}, {timeout SECONDS}, {tags A B}, {flaky N} and {whole}.
 What came is kept in the worksheet SUITE.run while the suite runs, so --resume goes on where a run was cut off.
@@ -66,7 +66,7 @@ def arguments(words: List[str]) -> argparse.Namespace:
     parser.add_argument("--slowest", type=positive, default=0, metavar="N", help="list the N cases that took longest")
     parser.add_argument("--verbose", action="store_true", help="list all cases, and what the rules made of what came")
     parser.add_argument("--runs", metavar="FOLDER", help="where the worksheets of runs lie (beside the suites)")
-    parser.add_argument("--words", metavar="WORDS", help="the interpreter of suites of another form, as 'adapters/prompted.py R'")
+    parser.add_argument("--words", metavar="WORDS", help="the interpreter of suites of another form, as 'tmhost-R'")
     parser.add_argument("--convert", action="store_true", help="run nothing, and write the text form of a suite of another form")
     for format in FORMATS:
         parser.add_argument(f"--{format}", metavar="FILE", help=f"write a report in the form of {format} (-: standard output)")

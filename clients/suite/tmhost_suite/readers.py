@@ -15,7 +15,6 @@ from tmhost_fences.troubles import Trouble
 from .cases import Case, Marks, Suite
 from .rules import ANY_LINES, BY_GLOB, BY_PATTERN, Rules
 
-ADAPTERS = os.path.join(os.path.dirname(os.path.realpath(__file__)), "..", "..", "..", "adapters")
 CRAM_CODE, CRAM_MORE = re.compile(r"  \$ (.*)"), re.compile(r"  > (.*)")
 NO_END, ESCAPED = " (no-eol)", " (esc)"
 CONTROL = re.compile(r"[\x00-\x08\x0a-\x1f\x7f]")
@@ -23,18 +22,14 @@ PARI_TIME = ("Total time spent:", '? print("Total time spent: "')
 TELLS_STATUS = 'tmhost_status=$?; [ $tmhost_status = 0 ] || echo "[$tmhost_status]"'
 
 
-def adapter(*words: str) -> Tuple[str, ...]:
-    return (os.path.normpath(os.path.join(ADAPTERS, words[0])), *words[1:])
-
-
 class Session(NamedTuple):
     name: str
     words: Tuple[str, ...]
 
 
-PYTHON = Session("py", adapter("python"))
-SHELL = Session("sh", adapter("prompted.py", "sh"))
-GP = Session("gp", adapter("gp", "--text", "--no-numbers"))
+PYTHON = Session("py", ("tmhost-python",))
+SHELL = Session("sh", ("tmhost-sh",))
+GP = Session("gp", ("tmhost-gp", "--text", "--no-numbers"))
 
 
 def session_of(words: str) -> Session:
@@ -42,7 +37,8 @@ def session_of(words: str) -> Session:
     found = tuple(words.split())
     if not found:
         raise Trouble("--words names no interpreter")
-    return Session(re.sub(r"\W", "_", os.path.basename(next((word for word in reversed(found) if word[0] != "-"), found[0])), flags=re.ASCII)[:20], found)
+    name = os.path.basename(next((word for word in reversed(found) if word[0] != "-"), found[0])).removeprefix("tmhost-")
+    return Session(re.sub(r"\W", "_", name, flags=re.ASCII)[:20], found)
 
 
 def whole_case(session: str, source: str, wanted: Optional[str], line: int, marks: Marks) -> Case:

@@ -106,7 +106,7 @@ class Text:
         contents = [cut(line)[0] for line in self.lines]
         self.sessions = front_of(contents).sessions
         if not self.sessions:
-            raise Trouble("the text names no sessions: its first lines must be as `---`, `sessions: {py: [adapters/python]}`, `---`")
+            raise Trouble("the text names no sessions: its first lines must be as `---`, `sessions: {py: [tmhost-python]}`, `---`")
         first = matter_end(contents)
         yaml = needed("yaml", "python3-yaml")
         front = yaml.load("\n".join(contents[1 : first - 1]), Loader=yaml.BaseLoader)

@@ -12,7 +12,7 @@ from .weaving import Weave
 
 ABOUT = "Evaluates the code in a CommonMark text, and puts each answer behind its fence."
 NOTES = """
-The front matter of TEXT names the sessions, as `sessions: {py: [adapters/python]}`. Behind the session of a fence may
+The front matter of TEXT names the sessions, as `sessions: {py: [tmhost-python]}`. Behind the session of a fence may
 stand {whole}, {pure}, {hide} and {fold}. The answers are kept in the worksheet beside TEXT, whose name ends in .sheet.
 The program is the one that TMHOST names, or tmhost on PATH. The status is 0 where all fields are answered, 1 where one
 isn't, where --check says that something would change, or where something went wrong, and 2 where the words are refused.

@@ -1,5 +1,5 @@
 -- Where entries of a run led, what they left of the disk, and how such runs go on one after another.
-use Rattle.std.proofs.Common.{◌≡◌, ⊎_elim, inl, inr, ℕ, List, [], ◌∷◌, ◌++◌, refl, ap, sym, ◌∙◌, subst, append_assoc, append-nil}
+use Rattle.std.proofs.Common.{◌≡◌, ⊎_elim, List, [], ◌∷◌, ◌++◌, refl, ap, sym, ◌∙◌, subst, append_assoc, append-nil}
 use Rattle.std.specs.Bool.{IsTrue}
 use Rattle.disk_model.specs.Disk.{DiskView, Image, SameDisk}
 use Rattle.disk_model.specs.inside.Moments.{goes_on, weakens}

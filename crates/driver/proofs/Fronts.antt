@@ -1,5 +1,5 @@
 -- Where a run leads, and what it leaves of the disk at every moment.
-use Rattle.std.proofs.Common.{◌≡◌, inl, inr, ℕ, List, [], ◌∷◌, ◌++◌, refl, sym, ap, subst, append-nil, append_assoc, ◌∙◌}
+use Rattle.std.proofs.Common.{◌≡◌, inl, inr, List, [], ◌∷◌, ◌++◌, refl, sym, ap, subst, append-nil, append_assoc, ◌∙◌}
 use Rattle.std.specs.Prelude.{◌⊎◌}
 use Rattle.disk_model.specs.Disk.{DiskView}
 use Rattle.host_events.specs.declared.event.Event.{Event}
@@ -17,8 +17,8 @@ use Rattle.child_edge.specs.Together.{LostTogether}
 use Rattle.host_events.specs.declared.outcome.HostFault.{HostFault}
 use Rattle.host_events.specs.declared.outcome.HostFault.TheVariants as faults
 use Rattle.offline_programs.specs.declared.fault.RunFault.{RunFault}
-use Rattle.driver.specs.Items.{Item, Step, after_fault, beats_of, broke, print_fault, halt}
-use Rattle.driver.specs.Place.{Place, Rules, run_at}
+use Rattle.driver.specs.Items.{Item, RunStep, after_fault, beats_of, print_fault, halt}
+use Rattle.driver.specs.Place.{RunPlace, Rules, run_at}
 use Rattle.driver.specs.Steps.{Fails, Goes, Run, asks, breaks, broken, prints_fault, hears, heeds, interrupts, lost, rewrites, stalls_all, takes, prints, too_many, uncounted, unheard, unnumbered, unsaid, unstalled, untaken, unprinted, unwatched, unwritten, watches}
 use Rattle.driver.specs.Laws.{LeavesFrontsOf, all_printed, broke_at, lost_at, trace}
 use Rattle.driver.proofs.Courses.{Course, course_up_to, either_moments, events_append, moments_on, outcomes_append, runs_on}
@@ -27,7 +27,7 @@ use Rattle.driver.proofs.Order.{Broke, after_halt, after_is, no_step, step_cours
 
 -- Where a step leads.
 
-fails_lead : {A C K : Type 0} (R : Rules A C K) (p q : Place A C K) (i : Item) (beats : List Beat) (why : RunFault) → Fails R p i beats why q → Runs p.world (events_of beats) (outcomes_of beats) q.world
+fails_lead : {A C K : Type 0} (R : Rules A C K) (p q : RunPlace A C K) (i : Item) (beats : List Beat) (why : RunFault) → Fails R p i beats why q → Runs p.world (events_of beats) (outcomes_of beats) q.world
 fails_lead R p q i beats why (unsaid now w a clock says) = refl
 fails_lead R p q i beats why (uncounted many) = refl
 fails_lead R p q i beats why (unwatched x c wakes) = refl
@@ -41,7 +41,7 @@ fails_lead R p q i beats why (unnumbered line many) = refl
 fails_lead R p q i beats why unstalled = refl
 fails_lead R p q i beats why (unprinted s w k is tries) = refl
 
-step_leads : {A C K : Type 0} (R : Rules A C K) (p mid : Place A C K) (todo next : List Item) (s : Step) → Goes R p todo s next mid → Runs p.world (events_of (beats_of s)) (outcomes_of (beats_of s)) mid.world
+step_leads : {A C K : Type 0} (R : Rules A C K) (p mid : RunPlace A C K) (todo next : List Item) (s : RunStep) → Goes R p todo s next mid → Runs p.world (events_of (beats_of s)) (outcomes_of (beats_of s)) mid.world
 step_leads R p mid todo next s (asks now t a c says) = refl
 step_leads R p mid todo next s (watches q w c a rest wakes woken) = refl
 step_leads R p mid todo next s (hears seat most events c rest h) = refl
@@ -61,15 +61,15 @@ appended w bs m cs v p q =
     (subst (λ (os : List Outcome). Runs w (events_of bs ++ events_of cs) os v) (sym (outcomes_append bs cs))
     (runs_on w (events_of bs) (outcomes_of bs) m (events_of cs) (outcomes_of cs) v p q))
 
-pub leads_to : {A C K : Type 0} (R : Rules A C K) (p q : Place A C K) (todo left : List Item) (steps : List Step) → Run R p todo steps left q → Runs p.world (events_of (trace steps)) (outcomes_of (trace steps)) q.world
-leads_to R p q todo left [] r = ap (λ (x : Place _ _ _). x.world) r.1
+pub leads_to : {A C K : Type 0} (R : Rules A C K) (p q : RunPlace A C K) (todo left : List Item) (steps : List RunStep) → Run R p todo steps left q → Runs p.world (events_of (trace steps)) (outcomes_of (trace steps)) q.world
+leads_to R p q todo left [] r = ap (λ (x : RunPlace _ _ _). x.world) r.1
 leads_to R p q todo left (s ∷ steps) (next, mid, goes, more) =
     appended p.world (beats_of s) mid.world (trace steps) q.world (step_leads R p mid todo next s goes) (leads_to R mid q next left steps more)
 
 -- What entries leave of the disk, after a course.
 
 module _ (w : World) (d : DiskView) (bs : List Beat) (m : World) (e : DiskView) (held : HoldsSheet w d) (c : Course w d bs m e) where
-  after : (cs : List Beat) (es : List Event) (os : List Outcome) (f : DiskView) → Moments m (events_of cs ++ es) (outcomes_of cs ++ os) e f → Moments w (events_of (bs ++ cs) ++ es) (outcomes_of (bs ++ cs) ++ os) d f
+  pub after : (cs : List Beat) (es : List Event) (os : List Outcome) (f : DiskView) → Moments m (events_of cs ++ es) (outcomes_of cs ++ os) e f → Moments w (events_of (bs ++ cs) ++ es) (outcomes_of (bs ++ cs) ++ os) d f
   after cs es os f later =
       subst (λ (l : List Event). Moments w l (outcomes_of (bs ++ cs) ++ os) d f) (sym (ap (λ (l : List Event). l ++ es) (events_append bs cs) ∙ append_assoc (events_of bs) (events_of cs) es))
       (subst (λ (l : List Outcome). Moments w (events_of bs ++ (events_of cs ++ es)) l d f) (sym (ap (λ (l : List Outcome). l ++ os) (outcomes_append bs cs) ∙ append_assoc (outcomes_of bs) (outcomes_of cs) os))
@@ -93,17 +93,17 @@ module _ (w : World) (d : DiskView) (bs : List Beat) (m : World) (e : DiskView) 
   up_to_after cs x faults.OutOfMemory f later = unprinted_after cs x f later
   up_to_after cs x faults.JournalFull f later = unprinted_after cs x f later
 
-behind : {A C K : Type 0} (p mid q : Place A C K) (bs cs : List Beat) → HoldsSheet p.world p.disk → Course p.world p.disk bs mid.world mid.disk → LeavesFrontsOf mid cs q → LeavesFrontsOf p (bs ++ cs) q
+behind : {A C K : Type 0} (p mid q : RunPlace A C K) (bs cs : List Beat) → HoldsSheet p.world p.disk → Course p.world p.disk bs mid.world mid.disk → LeavesFrontsOf mid cs q → LeavesFrontsOf p (bs ++ cs) q
 behind p mid q bs cs held c (all_printed m) = all_printed (fronts_after p.world p.disk bs mid.world mid.disk held c cs q.disk m)
 behind p mid q bs cs held c (broke_at d h e f stopped is m) = broke_at d h e f stopped is (up_to_after p.world p.disk bs mid.world mid.disk held c cs e f q.disk m)
 behind p mid q bs cs held c (lost_at events d h l is m) = lost_at events d h l is (after p.world p.disk bs mid.world mid.disk held c cs l.taken l.untold q.disk m)
 
 -- What an item leaves that failed.
 
-nothing_done : {A C K : Type 0} (p q : Place A C K) → HoldsSheet p.world p.disk → q.disk ≡ p.disk → LeavesFrontsOf p [] q
+nothing_done : {A C K : Type 0} (p q : RunPlace A C K) → HoldsSheet p.world p.disk → q.disk ≡ p.disk → LeavesFrontsOf p [] q
 nothing_done p q held is = all_printed (subst (λ (d : DiskView). LeavesFronts p.world [] p.disk d) (sym is) ((no_step p.world p.disk).moments held))
 
-fails_leave : {A C K : Type 0} (R : Rules A C K) (p q : Place A C K) (i : Item) (beats : List Beat) (why : RunFault) → HoldsSheet p.world p.disk → Fails R p i beats why q → LeavesFrontsOf p beats q
+fails_leave : {A C K : Type 0} (R : Rules A C K) (p q : RunPlace A C K) (i : Item) (beats : List Beat) (why : RunFault) → HoldsSheet p.world p.disk → Fails R p i beats why q → LeavesFrontsOf p beats q
 fails_leave R p q i beats why held (unsaid now w a clock says) = nothing_done p q held refl
 fails_leave R p q i beats why held (uncounted many) = nothing_done p q held refl
 fails_leave R p q i beats why held (unwatched x c wakes) = nothing_done p q held refl
@@ -121,33 +121,33 @@ fails_leave R p q i beats why held (unprinted s w k is tries) = nothing_done p q
 
 -- After a fault no event is taken, and the disk stays.
 
-record StaysThere {A C K : Type 0} (p q : Place A C K) (steps : List Step) : Type 0 where
-  world : q.world ≡ p.world
-  disk : q.disk ≡ p.disk
-  none : trace steps ≡ []
+pub record StaysThere {A C K : Type 0} (p q : RunPlace A C K) (steps : List RunStep) : Type 0 where
+  pub world : q.world ≡ p.world
+  pub disk : q.disk ≡ p.disk
+  pub none : trace steps ≡ []
 
-stays_at : {A C K : Type 0} (p q : Place A C K) → q ≡ p → StaysThere p q []
-stays_at p q is = record { world = ap (λ (x : Place _ _ _). x.world) is; disk = ap (λ (x : Place _ _ _). x.disk) is; none = refl }
+stays_at : {A C K : Type 0} (p q : RunPlace A C K) → q ≡ p → StaysThere p q []
+stays_at p q is = record { world = ap (λ (x : RunPlace _ _ _). x.world) is; disk = ap (λ (x : RunPlace _ _ _). x.disk) is; none = refl }
 
-halt_stays : {A C K : Type 0} (R : Rules A C K) (p q : Place A C K) (why : RunFault) (left : List Item) (steps : List Step) → Run R p (halt why ∷ []) steps left q → StaysThere p q steps
+halt_stays : {A C K : Type 0} (R : Rules A C K) (p q : RunPlace A C K) (why : RunFault) (left : List Item) (steps : List RunStep) → Run R p (halt why ∷ []) steps left q → StaysThere p q steps
 halt_stays R p q why left [] r = stays_at p q r.1
 halt_stays R p q why left (s ∷ steps) (next, mid, goes, more) = absurd (after_halt R p mid why s next goes)
 
-fault_line_stays : {A C K : Type 0} (R : Rules A C K) (p q : Place A C K) (why : RunFault) (left : List Item) (steps : List Step) → Run R p (print_fault why ∷ []) steps left q → StaysThere p q steps
+fault_line_stays : {A C K : Type 0} (R : Rules A C K) (p q : RunPlace A C K) (why : RunFault) (left : List Item) (steps : List RunStep) → Run R p (print_fault why ∷ []) steps left q → StaysThere p q steps
 fault_line_stays R p q why left [] r = stays_at p q r.1
 fault_line_stays R p q why left (s ∷ steps) (next, mid, prints_fault w whole k tries, more) =
     let so = halt_stays R mid q why left steps more in
     record { world = so.world; disk = so.disk; none = so.none }
 fault_line_stays R p q why left (s ∷ steps) (next, mid, breaks i beats w x rest fails, more) = absurd (elim fails [ ])
 
-fault_stays : {A C K : Type 0} (R : Rules A C K) (p q : Place A C K) (why : RunFault) (next left : List Item) (steps : List Step) → next ≡ after_fault why → Run R p next steps left q → StaysThere p q steps
+pub fault_stays : {A C K : Type 0} (R : Rules A C K) (p q : RunPlace A C K) (why : RunFault) (next left : List Item) (steps : List RunStep) → next ≡ after_fault why → Run R p next steps left q → StaysThere p q steps
 fault_stays R p q why next left steps is r = by (after_is why)
   where
     by : ((after_fault why ≡ halt why ∷ []) ⊎ (after_fault why ≡ print_fault why ∷ [])) → StaysThere p q steps
     by (inl e) = halt_stays R p q why left steps (subst (λ (t : List Item). Run R p t steps left q) (is ∙ e) r)
     by (inr e) = fault_line_stays R p q why left steps (subst (λ (t : List Item). Run R p t steps left q) (is ∙ e) r)
 
-same_there : {A C K : Type 0} (p mid q : Place A C K) (beats : List Beat) → q.world ≡ mid.world → q.disk ≡ mid.disk → LeavesFrontsOf p beats mid → LeavesFrontsOf p beats q
+same_there : {A C K : Type 0} (p mid q : RunPlace A C K) (beats : List Beat) → q.world ≡ mid.world → q.disk ≡ mid.disk → LeavesFrontsOf p beats mid → LeavesFrontsOf p beats q
 same_there p mid q beats world disk (all_printed m) = all_printed (subst (λ (d : DiskView). LeavesFronts p.world beats p.disk d) (sym disk) m)
 same_there p mid q beats world disk (broke_at d h e f stopped is m) =
     broke_at d h e f (subst (λ (w : World). Stopped d h w e f) (sym world) stopped) (disk ∙ is) (subst (λ (x : DiskView). LeavesFrontsUpTo p.world beats e f p.disk x) (sym disk) m)
@@ -155,13 +155,13 @@ same_there p mid q beats world disk (lost_at events d h l is m) =
     subst (λ (w : World). (x : LostTogether w events d h) → Moments p.world (events_of beats ++ x.taken) (outcomes_of beats ++ x.untold) p.disk q.disk → LeavesFrontsOf p beats q) world
     (λ x y. lost_at events d h x (disk ∙ is) y) l (subst (λ (x : DiskView). Moments p.world (events_of beats ++ l.taken) (outcomes_of beats ++ l.untold) p.disk x) (sym disk) m)
 
-pub leave_fronts : {A C K : Type 0} (R : Rules A C K) (p q : Place A C K) (todo left : List Item) (steps : List Step) → HoldsSheet p.world p.disk → Run R p todo steps left q → LeavesFrontsOf p (trace steps) q
-leave_fronts R p q todo left [] held r = nothing_done p q held (ap (λ (x : Place _ _ _). x.disk) r.1)
-leave_fronts R p q todo left (s ∷ steps) held (next, mid, goes, more) = by (step_course R p mid todo next s goes)
+pub leave_fronts : {A C K : Type 0} (R : Rules A C K) (p q : RunPlace A C K) (todo left : List Item) (steps : List RunStep) → HoldsSheet p.world p.disk → Run R p todo steps left q → LeavesFrontsOf p (trace steps) q
+leave_fronts R p q todo left [] held r = nothing_done p q held (ap (λ (x : RunPlace _ _ _). x.disk) r.1)
+leave_fronts R p q todo left (s ∷ steps) held (next, mid, goes, more) = by (λ h. leave_fronts R mid q next left steps h more) (step_course R p mid todo next s goes)
   where
-    by : (Course p.world p.disk (beats_of s) mid.world mid.disk ⊎ Broke R p s next mid) → LeavesFrontsOf p (trace (s ∷ steps)) q
-    by (inl c) = behind p mid q (beats_of s) (trace steps) held c (leave_fronts R mid q next left steps (c.holds held) more)
-    by (inr b) =
+    by : (HoldsSheet mid.world mid.disk → LeavesFrontsOf mid (trace steps) q) → (Course p.world p.disk (beats_of s) mid.world mid.disk ⊎ Broke R p s next mid) → LeavesFrontsOf p (trace (s ∷ steps)) q
+    by on (inl c) = behind p mid q (beats_of s) (trace steps) held c (on (c.holds held))
+    by on (inr b) =
         let so = fault_stays R mid q b.why next left steps b.left more in
-        subst (λ (l : List Beat). LeavesFrontsOf p l q) (sym (append-nil b.beats) ∙ ap (λ (l : List Beat). b.beats ++ l) (sym so.none) ∙ ap (λ (x : Step). beats_of x ++ trace steps) (sym b.step))
+        subst (λ (l : List Beat). LeavesFrontsOf p l q) (sym (append-nil b.beats) ∙ ap (λ (l : List Beat). b.beats ++ l) (sym so.none) ∙ ap (λ (x : RunStep). beats_of x ++ trace steps) (sym b.step))
         (same_there p mid q b.beats so.world so.disk (fails_leave R p mid b.item b.beats b.why held b.fails))

@@ -3,3 +3,6 @@ pub mod Gates
 pub mod Running
 pub mod Order
 pub mod Fronts
+pub mod Doing
+pub mod Heard
+pub mod Overs

@@ -1,5 +1,5 @@
 -- The order of what is durable and what is printed.
-use Rattle.std.proofs.Common.{◌≡◌, inl, inr, ℕ, List, [], ◌∷◌, ◌++◌, None, refl, sym, ap, subst, append-nil, ◌∙◌, true}
+use Rattle.std.proofs.Common.{◌≡◌, inl, inr, List, [], ◌∷◌, ◌++◌, refl, subst, ◌∙◌, true}
 use Rattle.std.specs.Prelude.{◌⊎◌}
 use Rattle.disk_model.specs.Disk.{DiskView}
 use Rattle.session_engine.specs.World.{World}
@@ -7,16 +7,15 @@ use Rattle.child_edge.specs.Faithful.{Beat, at}
 use Rattle.child_edge.specs.Kept.{HoldsSheet}
 use Rattle.offline_programs.specs.declared.fault.RunFault.{RunFault}
 use Rattle.offline_programs.specs.declared.fault.RunFault.TheVariants as fault
-use Rattle.driver.specs.declared.report.Report.{Report}
-use Rattle.driver.specs.Reports.{text_of}
-use Rattle.driver.specs.Items.{Item, Step, after_fault, beats_of, broke, print_fault, halt, printed}
-use Rattle.driver.specs.Place.{Place, Rules, Tries, run_at}
+use Rattle.driver.specs.Reports.{Report, printed_text}
+use Rattle.driver.specs.Items.{Item, RunStep, after_fault, beats_of, broke, print_fault, halt, printed}
+use Rattle.driver.specs.Place.{RunPlace, Rules, Tries, run_at}
 use Rattle.driver.specs.Steps.{Fails, Goes, Run, asks, breaks, prints_fault, hears, heeds, interrupts, rewrites, stalls_all, takes, prints, watches}
 use Rattle.driver.specs.Laws.{CutAt, PrintedAfter, trace}
 use Rattle.driver.proofs.Courses.{Course, course_on, goes_course}
 use Rattle.driver.proofs.Gates.{together_course}
 
-pub cut_anywhere : {A C K : Type 0} (R : Rules A C K) (p q : Place A C K) (todo left : List Item) (first last : List Step)
+pub cut_anywhere : {A C K : Type 0} (R : Rules A C K) (p q : RunPlace A C K) (todo left : List Item) (first last : List RunStep)
     → Run R p todo (first ++ last) left q → CutAt R p todo first last left q
 cut_anywhere R p q todo left [] last r = record { there = p; then_to_do = todo; ran = (refl, refl); goes_on = r }
 cut_anywhere R p q todo left (s ∷ first) last (next, mid, goes, more) =
@@ -29,7 +28,7 @@ pub no_step : (w : World) (d : DiskView) → Course w d [] w d
 no_step w d = goes_course w d [] w d (refl, refl)
 
 -- an item failed at this step
-pub record Broke {A C K : Type 0} (R : Rules A C K) (p : Place A C K) (s : Step) (next : List Item) (mid : Place A C K) : Type 0 where
+pub record Broke {A C K : Type 0} (R : Rules A C K) (p : RunPlace A C K) (s : RunStep) (next : List Item) (mid : RunPlace A C K) : Type 0 where
   pub item : Item
   pub beats : List Beat
   pub why : RunFault
@@ -37,7 +36,7 @@ pub record Broke {A C K : Type 0} (R : Rules A C K) (p : Place A C K) (s : Step)
   pub step : s ≡ broke beats why
   pub left : next ≡ after_fault why
 
-pub step_course : {A C K : Type 0} (R : Rules A C K) (p mid : Place A C K) (todo next : List Item) (s : Step) → Goes R p todo s next mid
+pub step_course : {A C K : Type 0} (R : Rules A C K) (p mid : RunPlace A C K) (todo next : List Item) (s : RunStep) → Goes R p todo s next mid
     → Course p.world p.disk (beats_of s) mid.world mid.disk ⊎ Broke R p s next mid
 step_course R p mid todo next s (asks now t a c says) = inl (no_step p.world p.disk)
 step_course R p mid todo next s (watches q w c a rest wakes woken) = inl (no_step p.world p.disk)
@@ -54,22 +53,22 @@ step_course R p mid todo next s (prints_fault why whole k tries) = inl (no_step 
 
 -- After a fault nothing is printed but it.
 
-pub after_halt : {A C K : Type 0} (R : Rules A C K) (p mid : Place A C K) (why : RunFault) (s : Step) (next : List Item) → Goes R p (halt why ∷ []) s next mid → ⊥
+pub after_halt : {A C K : Type 0} (R : Rules A C K) (p mid : RunPlace A C K) (why : RunFault) (s : RunStep) (next : List Item) → Goes R p (halt why ∷ []) s next mid → ⊥
 after_halt R p mid why s next (breaks i beats w q rest fails) = elim fails [ ]
 
-halted : {A C K : Type 0} (R : Rules A C K) (p q : Place A C K) (why : RunFault) (left : List Item) (before after : List Step) (s : Report)
+halted : {A C K : Type 0} (R : Rules A C K) (p q : RunPlace A C K) (why : RunFault) (left : List Item) (before after : List RunStep) (s : Report)
     → Run R p (halt why ∷ []) (before ++ printed s ∷ after) left q → ⊥
 halted R p q why left [] after s (next, mid, goes, more) = after_halt R p mid why (printed s) next goes
 halted R p q why left (x ∷ before) after s (next, mid, goes, more) = after_halt R p mid why x next goes
 
-fault_first : {A C K : Type 0} (R : Rules A C K) (p mid : Place A C K) (why : RunFault) (s : Report) (next : List Item) → Goes R p (print_fault why ∷ []) (printed s) next mid → ⊥
+fault_first : {A C K : Type 0} (R : Rules A C K) (p mid : RunPlace A C K) (why : RunFault) (s : Report) (next : List Item) → Goes R p (print_fault why ∷ []) (printed s) next mid → ⊥
 fault_first R p mid why s next goes = elim goes [ ]
 
-fault_next : {A C K : Type 0} (R : Rules A C K) (p mid : Place A C K) (why : RunFault) (s : Step) (next : List Item) → Goes R p (print_fault why ∷ []) s next mid → next ≡ halt why ∷ []
+fault_next : {A C K : Type 0} (R : Rules A C K) (p mid : RunPlace A C K) (why : RunFault) (s : RunStep) (next : List Item) → Goes R p (print_fault why ∷ []) s next mid → next ≡ halt why ∷ []
 fault_next R p mid why s next (prints_fault w whole k tries) = refl
 fault_next R p mid why s next (breaks i beats w q rest fails) = absurd (elim fails [ ])
 
-fault_only : {A C K : Type 0} (R : Rules A C K) (p q : Place A C K) (why : RunFault) (left : List Item) (before after : List Step) (s : Report)
+fault_only : {A C K : Type 0} (R : Rules A C K) (p q : RunPlace A C K) (why : RunFault) (left : List Item) (before after : List RunStep) (s : Report)
     → Run R p (print_fault why ∷ []) (before ++ printed s ∷ after) left q → ⊥
 fault_only R p q why left [] after s (next, mid, goes, more) = fault_first R p mid why s next goes
 fault_only R p q why left (x ∷ before) after s (next, mid, goes, more) =
@@ -85,7 +84,7 @@ after_is (fault.Open cause) = inr refl
 after_is fault.InUse = inr refl
 after_is fault.SecondFile = inr refl
 
-no_words : {A C K : Type 0} (R : Rules A C K) (p q : Place A C K) (why : RunFault) (next left : List Item) (before after : List Step) (s : Report)
+no_words : {A C K : Type 0} (R : Rules A C K) (p q : RunPlace A C K) (why : RunFault) (next left : List Item) (before after : List RunStep) (s : Report)
     → next ≡ after_fault why → Run R p next (before ++ printed s ∷ after) left q → ⊥
 no_words {A = A} {C = C} {K = K} R p q why next left before after s is r = by (after_is why)
   where
@@ -93,30 +92,33 @@ no_words {A = A} {C = C} {K = K} R p q why next left before after s is r = by (a
     by (inl e) = halted R p q why left before after s (subst (λ (t : List Item). Run R p t (before ++ printed s ∷ after) left q) (is ∙ e) r)
     by (inr e) = fault_only R p q why left before after s (subst (λ (t : List Item). Run R p t (before ++ printed s ∷ after) left q) (is ∙ e) r)
 
--- This was printed there, and the steps before led there.
-record PrintedThere {A C K : Type 0} (R : Rules A C K) (p : Place A C K) (before : List Step) (s : Report) : Type 0 where
-  there : Place A C K
-  course : Course p.world p.disk (trace before) there.world there.disk
-  sink : K
-  tries : Tries R.sink there.sink there.disk (text_of R.sink.voice there.world s) true sink
+-- This was printed there, the steps before led there, and the others go on from there.
+pub record PrintedThere {A C K : Type 0} (R : Rules A C K) (p q : RunPlace A C K) (left : List Item) (before after : List RunStep) (s : Report) : Type 0 where
+  pub there : RunPlace A C K
+  pub course : Course p.world p.disk (trace before) there.world there.disk
+  pub sink : K
+  pub tries : Tries R.sink there.sink there.disk (printed_text R.sink.voice there.world s) true sink
+  pub then_to_do : List Item
+  pub goes_on : Run R (record there { sink = sink }) then_to_do after left q
 
-printed_there : {A C K : Type 0} (R : Rules A C K) (p q : Place A C K) (todo left : List Item) (before after : List Step) (s : Report)
-    → Run R p todo (before ++ printed s ∷ after) left q → PrintedThere R p before s
+pub printed_there : {A C K : Type 0} (R : Rules A C K) (p q : RunPlace A C K) (todo left : List Item) (before after : List RunStep) (s : Report)
+    → Run R p todo (before ++ printed s ∷ after) left q → PrintedThere R p q left before after s
 printed_there R p q todo left [] after s (next, mid, prints x k rest tries, more) =
-    record { there = p; course = no_step p.world p.disk; sink = k; tries = tries }
-printed_there R p q todo left (x ∷ before) after s (next, mid, goes, more) = by (step_course R p mid todo next x goes)
+    record { there = p; course = no_step p.world p.disk; sink = k; tries = tries; then_to_do = next; goes_on = more }
+printed_there R p q todo left (x ∷ before) after s (next, mid, goes, more) = by (printed_there R mid q next left before after s more) (step_course R p mid todo next x goes)
   where
-    by : (Course p.world p.disk (beats_of x) mid.world mid.disk ⊎ Broke R p x next mid) → PrintedThere R p (x ∷ before) s
-    by (inl c) =
-        let so = printed_there R mid q next left before after s more in record {
-          there = so.there;
-          course = course_on p.world p.disk (beats_of x) mid.world mid.disk (trace before) so.there.world so.there.disk c so.course;
-          sink = so.sink;
-          tries = so.tries;
-        }
-    by (inr b) = absurd (no_words R mid q b.why next left before after s b.left more)
+    by : PrintedThere R mid q left before after s → (Course p.world p.disk (beats_of x) mid.world mid.disk ⊎ Broke R p x next mid) → PrintedThere R p q left (x ∷ before) after s
+    by so (inl c) = record {
+      there = so.there;
+      course = course_on p.world p.disk (beats_of x) mid.world mid.disk (trace before) so.there.world so.there.disk c so.course;
+      sink = so.sink;
+      tries = so.tries;
+      then_to_do = so.then_to_do;
+      goes_on = so.goes_on;
+    }
+    by so (inr b) = absurd (no_words R mid q b.why next left before after s b.left more)
 
-pub replies_follow : {A C K : Type 0} (R : Rules A C K) (p q : Place A C K) (todo left : List Item) (before after : List Step) (s : Report)
+pub replies_follow : {A C K : Type 0} (R : Rules A C K) (p q : RunPlace A C K) (todo left : List Item) (before after : List RunStep) (s : Report)
     → HoldsSheet p.world p.disk → Run R p todo (before ++ printed s ∷ after) left q → PrintedAfter R p before s
 replies_follow R p q todo left before after s held r =
     let so = printed_there R p q todo left before after s r in

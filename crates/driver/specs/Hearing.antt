@@ -22,17 +22,19 @@ pub data HeardAfter {C : Type 0} (R : SourceRules C) (c : C) : List Event → C 
   one_more : (events before : List Event) (event : Event) (mid d : C) → HeardAfter R c before mid → HearsNext R mid event d → events ≡ before ++ event ∷ [] → HeardAfter R c events d
 
 -- The sources were left alone, or they were watched once more and nothing that they have was received.
-abbrev pub WatchedOnce : {C : Type 0} → SourceRules C → C → C → Type 0
-WatchedOnce R c d = (d ≡ c) ⊎ ((woken : Option Woken) × R.wakes c (asked input.HeldBack None) woken d)
+abbrev pub WatchedAgain : {C : Type 0} → SourceRules C → C → C → Type 0
+WatchedAgain R c d = (d ≡ c) ⊎ ((woken : Option Woken) × R.wakes c (asked input.HeldBack None) woken d)
 
--- This life gave an event, and others that were ready gave the later ones: so many in all at most.
-pub record Heard {C : Type 0} (R : SourceRules C) (seat : Seat) (most : ℕ) (c : C) (events : List Event) (d : C) : Type 0 where
+-- This life gave an event, and so many others at most that were ready gave the later ones.
+pub record HeardUpTo {C : Type 0} (R : SourceRules C) (seat : Seat) (most : ℕ) (c : C) (events : List Event) (d : C) : Type 0 where
   pub first : Event
   pub mid : C
   pub later : List Event
-  pub last : C
   pub hears : HearsOne R.after seat c first mid
-  pub others : HeardAfter R mid later last
-  pub rests : WatchedOnce R last d
+  pub others : HeardAfter R mid later d
   pub are : events ≡ first ∷ later
   pub few : length later ≤ most
+
+-- That came, and then the sources may have been watched once more.
+abbrev pub HeardReady : {C : Type 0} → SourceRules C → Seat → ℕ → C → List Event → C → Type 0
+HeardReady {C = C} R seat most c events d = (last : C) × HeardUpTo R seat most c events last × WatchedAgain R last d

@@ -1,5 +1,5 @@
 -- What is to be done, and what was done.
-use Rattle.std.specs.Prelude.{ℕ, Bool, List, [], ◌∷◌, ◌++◌, Option, Some, None, map}
+use Rattle.std.specs.Prelude.{ℕ, Bool, List, [], ◌∷◌, Option, Some, None}
 use Rattle.host_events.specs.declared.event.Event.{Event}
 use Rattle.host_events.specs.declared.event.Event.TheVariants.{Child}
 use Rattle.host_events.specs.declared.event.ChildEvent.TheVariants as child
@@ -7,8 +7,7 @@ use Rattle.host_events.specs.declared.outcome.Outcome.{Outcome}
 use Rattle.host_events.specs.declared.reply.Reply.{Reply}
 use Rattle.child_calls.specs.declared.seat.Seat.{Seat}
 use Rattle.child_edge.specs.Faithful.{Beat}
-use Rattle.child_edge.specs.Together.{Followed, beats_behind, trace_of}
-use Rattle.child_edge.specs.Told.{told}
+use Rattle.child_edge.specs.Together.{Followed, trace_of}
 use Rattle.child_edge.specs.declared.interrupting.Interrupted.{Interrupted}
 use Rattle.arrivals.specs.Watching.{Asked, asked}
 use Rattle.arrivals.specs.declared.sources.Woken.{Woken}
@@ -17,9 +16,9 @@ use Rattle.offline_programs.specs.declared.fault.RunFault.{RunFault}
 use Rattle.offline_programs.specs.declared.fault.RunFault.TheVariants as fault
 use Rattle.driver.specs.declared.turn.Turn.{Turn}
 use Rattle.driver.specs.declared.turn.Turn.TheVariants as turn
-use Rattle.driver.specs.declared.report.Report.{Report}
-use Rattle.driver.specs.declared.report.Report.TheVariants as report
-use Rattle.driver.specs.declared.report.Came.{Came}
+use Rattle.driver.specs.Reports.{TurnCame, Report, came}
+use Rattle.driver.specs.Reports as report
+use Rattle.driver.specs.declared.report.Show.TheVariants as show
 
 -- what is to be done
 pub data Item : Type 0 where
@@ -40,62 +39,52 @@ pub data Item : Type 0 where
   -- this is printed
   print : Report → Item
   -- the agenda heeds what came
-  heed : Came → Item
+  heed : TurnCame → Item
   -- this fault is printed
   print_fault : RunFault → Item
   -- no more is done, by this fault
   halt : RunFault → Item
 
 -- what was done
-pub data Step : Type 0 where
-  chose : Turn → Step
-  watched : Asked → Woken → Step
-  heard : List Event → Step
-  took : List Event → List Outcome → List Followed → Step
-  rewrote : Beat → Step
-  stalled : List Seat → Step
-  interrupted : List ℕ → Interrupted → Step
-  printed : Report → Step
-  heeded : Came → Option Note → Step
+pub data RunStep : Type 0 where
+  chose : Turn → RunStep
+  watched : Asked → Woken → RunStep
+  heard : List Event → RunStep
+  took : List Event → List Outcome → List Followed → RunStep
+  rewrote : Beat → RunStep
+  stalled : List Seat → RunStep
+  interrupted : List ℕ → Interrupted → RunStep
+  printed : Report → RunStep
+  heeded : TurnCame → Option Note → RunStep
   -- the item at the head failed, after these events were taken
-  broke : List Beat → RunFault → Step
+  broke : List Beat → RunFault → RunStep
   -- the fault was printed last of all, or that was tried
-  printed_fault : RunFault → Bool → Step
-
--- what comes of a turn
-abbrev pub came : List Outcome → List Reply → Came
-came outcomes replies = record { outcomes = outcomes; replies = replies; interrupted = None }
-
-abbrev pub interrupt_came : Interrupted → Came
-interrupt_came result = record { outcomes = []; replies = []; interrupted = Some result }
+  printed_fault : RunFault → Bool → RunStep
 
 -- what the agenda asked for, and then it is asked again; at the end it is not
-abbrev pub items_of : Turn → List Item
-items_of turn.End = []
-items_of turn.Nothing = ask ∷ []
-items_of (turn.Watch input patience) = watch (asked input patience) ∷ ask ∷ []
-items_of (turn.Hear seat most) = hear seat most ∷ ask ∷ []
-items_of (turn.Lines first events) = take (Some first) events.items ∷ ask ∷ []
-items_of (turn.Checkpoint line) = rewrite line ∷ ask ∷ []
-items_of turn.Stall = stall ∷ ask ∷ []
-items_of (turn.Interrupt name) = interrupt name ∷ ask ∷ []
-items_of (turn.Note n) = print (report.Note n) ∷ heed (came [] []) ∷ ask ∷ []
-items_of (turn.Sheet line) = print (report.Sheet line) ∷ heed (came [] []) ∷ ask ∷ []
-items_of (turn.Field line id) = print (report.Field line id) ∷ heed (came [] []) ∷ ask ∷ []
-items_of (turn.Export line format) = print (report.Export line format) ∷ heed (came [] []) ∷ ask ∷ []
+abbrev pub items_by : Turn → List Item
+items_by turn.End = []
+items_by turn.Nothing = ask ∷ []
+items_by (turn.Watch input patience) = watch (asked input patience) ∷ ask ∷ []
+items_by (turn.Hear seat most) = hear seat most ∷ ask ∷ []
+items_by (turn.Lines first events) = take (Some first) events.items ∷ ask ∷ []
+items_by (turn.Checkpoint line) = rewrite line ∷ ask ∷ []
+items_by turn.Stall = stall ∷ ask ∷ []
+items_by (turn.Interrupt name) = interrupt name ∷ ask ∷ []
+items_by (turn.Show s) = print (report.shown s) ∷ heed (came [] []) ∷ ask ∷ []
 
 -- what events gave that were taken as one group is printed, lines by their numbers, and then what followed; the agenda heeds it
-abbrev pub report_of : Option ℕ → List Outcome → Report
-report_of None outcomes = report.Lives outcomes
-report_of (Some first) outcomes = report.Lines first outcomes
+abbrev pub group_of : Option ℕ → List Outcome → Report
+group_of None outcomes = report.lives outcomes
+group_of (Some first) outcomes = report.lines first outcomes
 
 abbrev pub printing : Option ℕ → List Outcome → List Reply → List Item
-printing from outcomes replies = print (report_of from outcomes) ∷ print (report.Followed replies) ∷ heed (came outcomes replies) ∷ []
+printing from outcomes replies = print (group_of from outcomes) ∷ print (report.followed replies) ∷ heed (came outcomes replies) ∷ []
 
 -- what is noted is printed
 abbrev pub notes : Option Note → List Item
 notes None = []
-notes (Some n) = print (report.Note n) ∷ []
+notes (Some n) = print (report.shown (show.Note n)) ∷ []
 
 -- After a fault it is printed, and no more is done; that the sink failed is not.
 abbrev pub after_fault : RunFault → List Item
@@ -107,7 +96,7 @@ abbrev pub stalls : Seat → Event
 stalls seat = Child seat.name seat.life child.Stalled
 
 -- the entries of the trace
-abbrev pub beats_of : Step → List Beat
+abbrev pub beats_of : RunStep → List Beat
 beats_of (chose t) = []
 beats_of (watched q w) = []
 beats_of (heard events) = []

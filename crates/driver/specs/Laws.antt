@@ -1,11 +1,8 @@
 -- Laws of all runs.
-use Rattle.std.specs.Prelude.{◌≡◌, ◌⊎◌, ℕ, Bool, true, List, [], ◌∷◌, ◌++◌, Option}
+use Rattle.std.specs.Prelude.{◌≡◌, true, List, ◌∷◌, ◌++◌}
 use Rattle.std.specs.List.{flat_map}
-use Rattle.std.specs.Io.KnownBytes.{Appends}
 use Rattle.disk_model.specs.Disk.{DiskView}
 use Rattle.host_events.specs.declared.event.Event.{Event}
-use Rattle.host_events.specs.declared.outcome.Outcome.{Outcome}
-use Rattle.session_engine.specs.World.{World}
 use Rattle.session_engine.specs.Does.{Runs}
 use Rattle.child_edge.specs.Faithful.{Beat}
 use Rattle.child_edge.specs.Kept.{HoldsSheet}
@@ -15,45 +12,43 @@ use Rattle.child_edge.specs.Moments.{LeavesFronts, LeavesFrontsUpTo, events_of, 
 use Rattle.host_events.specs.declared.outcome.HostFault.{HostFault}
 use Rattle.session_engine.specs.Crash.{Moments}
 use Rattle.session_engine.specs.Host.{HostView}
-use Rattle.offline_programs.specs.declared.fault.RunFault.{RunFault}
-use Rattle.driver.specs.declared.report.Report.{Report}
-use Rattle.driver.specs.Reports.{text_of}
-use Rattle.driver.specs.Items.{Item, Step, beats_of, printed}
-use Rattle.driver.specs.Place.{Place, Rules, Tries}
+use Rattle.driver.specs.Reports.{Report, printed_text}
+use Rattle.driver.specs.Items.{Item, RunStep, beats_of, printed}
+use Rattle.driver.specs.Place.{RunPlace, Rules, Tries}
 use Rattle.driver.specs.Steps.{Run}
 
 -- the entries of the trace of a run
-abbrev pub trace : List Step → List Beat
+abbrev pub trace : List RunStep → List Beat
 trace steps = flat_map beats_of steps
 
 -- The first steps of a run are a run, and the others another from where those led.
-pub record CutAt {A C K : Type 0} (R : Rules A C K) (p : Place A C K) (todo : List Item) (first last : List Step) (left : List Item) (q : Place A C K) : Type 0 where
-  pub there : Place A C K
+pub record CutAt {A C K : Type 0} (R : Rules A C K) (p : RunPlace A C K) (todo : List Item) (first last : List RunStep) (left : List Item) (q : RunPlace A C K) : Type 0 where
+  pub there : RunPlace A C K
   pub then_to_do : List Item
   pub ran : Run R p todo first then_to_do there
   pub goes_on : Run R there then_to_do last left q
 
 abbrev pub RunsAreCutAnywhere : {A C K : Type 0} → Rules A C K → Type 0
-RunsAreCutAnywhere {A = A} {C = C} {K = K} R = (p q : Place A C K) (todo left : List Item) (first last : List Step)
+RunsAreCutAnywhere {A = A} {C = C} {K = K} R = (p q : RunPlace A C K) (todo left : List Item) (first last : List RunStep)
     → Run R p todo (first ++ last) left q → CutAt R p todo first last left q
 
 -- This was printed when the events of the steps before it had led to that world, and the disk held its worksheet at every image.
-pub record PrintedAfter {A C K : Type 0} (R : Rules A C K) (p : Place A C K) (before : List Step) (s : Report) : Type 0 where
-  pub there : Place A C K
+pub record PrintedAfter {A C K : Type 0} (R : Rules A C K) (p : RunPlace A C K) (before : List RunStep) (s : Report) : Type 0 where
+  pub there : RunPlace A C K
   pub runs : Runs p.world (events_of (trace before)) (outcomes_of (trace before)) there.world
   pub holds : HoldsSheet there.world there.disk
   pub sink : K
-  pub tries : Tries R.sink there.sink there.disk (text_of R.sink.voice there.world s) true sink
+  pub tries : Tries R.sink there.sink there.disk (printed_text R.sink.voice there.world s) true sink
 
 -- A reply follows its sync: what is printed of events is printed when all that they gave is durable.
 abbrev pub RepliesFollowSyncs : {A C K : Type 0} → Rules A C K → Type 0
-RepliesFollowSyncs {A = A} {C = C} {K = K} R = (p q : Place A C K) (todo left : List Item) (before after : List Step) (s : Report)
+RepliesFollowSyncs {A = A} {C = C} {K = K} R = (p q : RunPlace A C K) (todo left : List Item) (before after : List RunStep) (s : Report)
     → HoldsSheet p.world p.disk → Run R p todo (before ++ printed s ∷ after) left q → PrintedAfter R p before s
 
 -- What a run left of the disk at every moment, from its first place to its last: each image was one of the worksheet after some of the first events of
 -- its trace. Where it broke off at an event, that had this fault; where the disk failed at a gate, an image may be one of the worksheet after events
 -- of which nothing was printed.
-pub data LeavesFrontsOf {A C K : Type 0} (p : Place A C K) (beats : List Beat) (q : Place A C K) : Type 0 where
+pub data LeavesFrontsOf {A C K : Type 0} (p : RunPlace A C K) (beats : List Beat) (q : RunPlace A C K) : Type 0 where
   all_printed : LeavesFronts p.world beats p.disk q.disk → LeavesFrontsOf p beats q
   broke_at : (d : DiskView) (h : HostView) (e : Event) (f : HostFault) → Stopped d h q.world e f → q.disk ≡ h.store.disk
       → LeavesFrontsUpTo p.world beats e f p.disk q.disk → LeavesFrontsOf p beats q
@@ -61,10 +56,10 @@ pub data LeavesFrontsOf {A C K : Type 0} (p : Place A C K) (beats : List Beat) (
       → Moments p.world (events_of beats ++ l.taken) (outcomes_of beats ++ l.untold) p.disk q.disk → LeavesFrontsOf p beats q
 
 abbrev pub RunsLeaveFronts : {A C K : Type 0} → Rules A C K → Type 0
-RunsLeaveFronts {A = A} {C = C} {K = K} R = (p q : Place A C K) (todo left : List Item) (steps : List Step)
+RunsLeaveFronts {A = A} {C = C} {K = K} R = (p q : RunPlace A C K) (todo left : List Item) (steps : List RunStep)
     → HoldsSheet p.world p.disk → Run R p todo steps left q → LeavesFrontsOf p (trace steps) q
 
 -- The events of a run's trace led from its first world to its last one.
 abbrev pub RunsLead : {A C K : Type 0} → Rules A C K → Type 0
-RunsLead {A = A} {C = C} {K = K} R = (p q : Place A C K) (todo left : List Item) (steps : List Step)
+RunsLead {A = A} {C = C} {K = K} R = (p q : RunPlace A C K) (todo left : List Item) (steps : List RunStep)
     → Run R p todo steps left q → Runs p.world (events_of (trace steps)) (outcomes_of (trace steps)) q.world

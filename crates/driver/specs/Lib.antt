@@ -4,4 +4,5 @@ pub mod Items
 pub mod Hearing
 pub mod Steps
 pub mod Runs
+pub mod Over
 pub mod Laws

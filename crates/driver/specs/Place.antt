@@ -10,10 +10,10 @@ use Rattle.tellings.specs.Voice.{Voice}
 use Rattle.tellings.specs.declared.note.Note.{Note}
 use Rattle.offline_programs.specs.declared.fault.RunFault.{RunFault}
 use Rattle.driver.specs.declared.turn.Turn.{Turn}
-use Rattle.driver.specs.declared.report.Came.{Came}
+use Rattle.driver.specs.Reports.{TurnCame}
 
 -- How often the agenda was asked, the agenda, where events led to, the disk of the host, the sources, and the sink.
-pub record Place (A C K : Type 0) : Type 0 where
+pub record RunPlace (A C K : Type 0) : Type 0 where
   pub asked : ℕ
   pub agenda : A
   pub world : World
@@ -22,7 +22,7 @@ pub record Place (A C K : Type 0) : Type 0 where
   pub sink : K
 
 -- the place as runs of events see it
-abbrev pub run_at : {A C K : Type 0} → Place A C K → At C
+abbrev pub run_at : {A C K : Type 0} → RunPlace A C K → At C
 run_at p = at p.world p.sources p.disk
 
 -- What sources may do: the calls on children, a watch, and what the clock reads.
@@ -41,7 +41,7 @@ pub record SinkRules (K : Type 0) : Type 1 where
 pub record AgendaRules (A : Type 0) : Type 1 where
   pub says : A → World → ℕ → Result Turn RunFault → A → Type 0
   pub woken : A → Woken → A → Type 0
-  pub heeds : A → World → ℕ → Came → Option Note → A → Type 0
+  pub heeds : A → World → ℕ → TurnCame → Option Note → A → Type 0
 
 pub record Rules (A C K : Type 0) : Type 1 where
   pub agenda : AgendaRules A
@@ -49,7 +49,7 @@ pub record Rules (A C K : Type 0) : Type 1 where
   pub sink : SinkRules K
 
 abbrev pub agenda_rules : {A : Type 0} → (A → World → ℕ → Result Turn RunFault → A → Type 0) → (A → Woken → A → Type 0)
-    → (A → World → ℕ → Came → Option Note → A → Type 0) → AgendaRules A
+    → (A → World → ℕ → TurnCame → Option Note → A → Type 0) → AgendaRules A
 agenda_rules says woken heeds = record { says = says; woken = woken; heeds = heeds }
 
 abbrev pub source_rules : {C : Type 0} → Relation C → (C → Asked → Option Woken → C → Type 0) → (C → ℕ → Type 0) → SourceRules C

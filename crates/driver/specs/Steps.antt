@@ -1,5 +1,5 @@
 -- One step of a run, from what is to be done to what is to be done then.
-use Rattle.std.specs.Prelude.{◌≡◌, ◌⊎◌, ℕ, suc, ◌+◌, ◌^◌, ◌≤◌, ◌<◌, Bool, true, false, List, [], ◌∷◌, ◌++◌, Option, Some, None, IsSomeAnd, Ok, Err, length, map}
+use Rattle.std.specs.Prelude.{◌≡◌, ◌⊎◌, ℕ, ◌+◌, ◌^◌, ◌≤◌, ◌<◌, Bool, true, false, List, [], ◌∷◌, ◌++◌, Option, Some, None, IsSomeAnd, Ok, Err, length, map}
 use Rattle.disk_model.specs.Disk.{DiskView}
 use Rattle.host_events.specs.declared.command.Command.TheVariants as command
 use Rattle.host_events.specs.declared.event.Event.{Event}
@@ -12,11 +12,11 @@ use Rattle.session_engine.specs.Does.{Gives}
 use Rattle.session_engine.specs.Host.{HostView}
 use Rattle.child_calls.specs.declared.seat.Seat.{Seat}
 use Rattle.child_edge.specs.Edge.{Stopped}
-use Rattle.child_edge.specs.Faithful.{At, Beat, at}
+use Rattle.child_edge.specs.Faithful.{Beat, at}
 use Rattle.child_edge.specs.Interrupts.{Interrupts}
 use Rattle.child_edge.specs.Kept.{Kept}
 use Rattle.child_edge.specs.Seats.{waits}
-use Rattle.child_edge.specs.Together.{Followed, LostTogether, Together, TogetherUpTo, beats_behind, trace_of}
+use Rattle.child_edge.specs.Together.{Followed, LostTogether, Together, TogetherUpTo, beats_behind}
 use Rattle.child_edge.specs.Told.{told}
 use Rattle.child_edge.specs.declared.together.TogetherFault.{TogetherFault}
 use Rattle.child_edge.specs.declared.together.TogetherFault.TheVariants as at_gate
@@ -28,12 +28,10 @@ use Rattle.tellings.specs.declared.note.Note.{Note}
 use Rattle.offline_programs.specs.declared.fault.RunFault.{RunFault}
 use Rattle.offline_programs.specs.declared.fault.RunFault.TheVariants as fault
 use Rattle.driver.specs.declared.turn.Turn.{Turn}
-use Rattle.driver.specs.declared.report.Report.{Report}
-use Rattle.driver.specs.declared.report.Came.{Came}
-use Rattle.driver.specs.Reports.{text_of}
-use Rattle.driver.specs.Place.{Place, Rules, Tries, run_at}
-use Rattle.driver.specs.Items.{Item, Step, after_fault, ask, broke, chose, print_fault, printed_fault, halt, hear, heard, heed, heeded, interrupt, interrupt_came, interrupted, items_of, notes, rewrite, rewrote, stall, stalled, stalls, take, print, printing, printed, took, watch, watched}
-use Rattle.driver.specs.Hearing.{Heard}
+use Rattle.driver.specs.Reports.{TurnCame, Report, interrupt_came, printed_text}
+use Rattle.driver.specs.Place.{RunPlace, Rules, Tries, run_at}
+use Rattle.driver.specs.Items.{Item, RunStep, after_fault, ask, broke, chose, print_fault, printed_fault, halt, hear, heard, heed, heeded, interrupt, interrupted, items_by, notes, rewrite, rewrote, stall, stalled, stalls, take, print, printing, printed, took, watch, watched}
+use Rattle.driver.specs.Hearing.{HeardReady}
 
 -- the most events that are taken as one group
 abbrev pub most_together : ℕ
@@ -46,10 +44,10 @@ fault_at_gate at_gate.Lost = fault.Host hosts.Disk
 fault_at_gate (at_gate.Host f) = fault.Host f
 
 -- The first item fails with this fault, after the events of these entries were taken, and leaves the run there.
-pub data Fails {A C K : Type 0} (R : Rules A C K) (p : Place A C K) : Item → List Beat → RunFault → Place A C K → Type 0 where
+pub data Fails {A C K : Type 0} (R : Rules A C K) (p : RunPlace A C K) : Item → List Beat → RunFault → RunPlace A C K → Type 0 where
   -- the agenda can't say what is next
   unsaid : (now : ℕ) (why : RunFault) (a : A) → R.sources.clock p.sources now → R.agenda.says p.agenda p.world now (Err why) a
-      → Fails R p ask [] why (record p { asked = suc p.asked; agenda = a })
+      → Fails R p ask [] why (record p { asked = p.asked + 1; agenda = a })
   -- it was asked as often as is counted
   uncounted : 2 ^ 64 ≤ p.asked + 1 → Fails R p ask [] fault.InputTooLong p
   -- the sources can't be watched
@@ -75,16 +73,16 @@ pub data Fails {A C K : Type 0} (R : Rules A C K) (p : Place A C K) : Item → L
   -- there was no memory for the lives that stall
   unstalled : Fails R p stall [] fault.OutOfMemory p
   -- the sink failed, or there was no memory for the text
-  unprinted : (s : Report) (why : RunFault) (k : K) → IsUntold R.sink.voice why → Tries R.sink p.sink p.disk (text_of R.sink.voice p.world s) false k
+  unprinted : (s : Report) (why : RunFault) (k : K) → IsUntold R.sink.voice why → Tries R.sink p.sink p.disk (printed_text R.sink.voice p.world s) false k
       → Fails R p (print s) [] why (record p { sink = k })
 
 -- One step.
-pub data Goes {A C K : Type 0} (R : Rules A C K) (p : Place A C K) : List Item → Step → List Item → Place A C K → Type 0 where
+pub data Goes {A C K : Type 0} (R : Rules A C K) (p : RunPlace A C K) : List Item → RunStep → List Item → RunPlace A C K → Type 0 where
   asks : (now : ℕ) (t : Turn) (a : A) → R.sources.clock p.sources now → R.agenda.says p.agenda p.world now (Ok t) a
-      → Goes R p (ask ∷ []) (chose t) (items_of t) (record p { asked = suc p.asked; agenda = a })
+      → Goes R p (ask ∷ []) (chose t) (items_by t) (record p { asked = p.asked + 1; agenda = a })
   watches : (q : Asked) (w : Woken) (c : C) (a : A) (rest : List Item) → R.sources.wakes p.sources q (Some w) c → R.agenda.woken p.agenda w a
       → Goes R p (watch q ∷ rest) (watched q w) rest (record p { agenda = a; sources = c })
-  hears : (seat : Seat) (most : ℕ) (events : List Event) (c : C) (rest : List Item) → Heard R.sources seat most p.sources events c
+  hears : (seat : Seat) (most : ℕ) (events : List Event) (c : C) (rest : List Item) → HeardReady R.sources seat most p.sources events c
       → Goes R p (hear seat most ∷ rest) (heard events) (take None events ∷ rest) (record p { sources = c })
   -- All that the events give is durable before an effect of theirs is carried out, and before a word of it is printed.
   takes : (from : Option ℕ) (events : List Event) (outcomes : List Outcome) (followed : List Followed) (w : World) (c : C) (d : DiskView) (rest : List Item)
@@ -95,16 +93,16 @@ pub data Goes {A C K : Type 0} (R : Rules A C K) (p : Place A C K) : List Item �
   stalls_all : (rest : List Item) → Goes R p (stall ∷ rest) (stalled (waits p.world)) (take None (map stalls (waits p.world)) ∷ rest) p
   interrupts : (name : List ℕ) (result : Interrupted) (c : C) (rest : List Item) → Interrupts R.sources.after p.world name p.sources result c
       → Goes R p (interrupt name ∷ rest) (interrupted name result) (heed (interrupt_came result) ∷ rest) (record p { sources = c })
-  prints : (s : Report) (k : K) (rest : List Item) → Tries R.sink p.sink p.disk (text_of R.sink.voice p.world s) true k
+  prints : (s : Report) (k : K) (rest : List Item) → Tries R.sink p.sink p.disk (printed_text R.sink.voice p.world s) true k
       → Goes R p (print s ∷ rest) (printed s) rest (record p { sink = k })
-  heeds : (c : Came) (now : ℕ) (n : Option Note) (a : A) (rest : List Item) → R.sources.clock p.sources now → R.agenda.heeds p.agenda p.world now c n a
+  heeds : (c : TurnCame) (now : ℕ) (n : Option Note) (a : A) (rest : List Item) → R.sources.clock p.sources now → R.agenda.heeds p.agenda p.world now c n a
       → Goes R p (heed c ∷ rest) (heeded c n) (notes n ++ rest) (record p { agenda = a })
-  breaks : (i : Item) (beats : List Beat) (why : RunFault) (q : Place A C K) (rest : List Item) → Fails R p i beats why q
+  breaks : (i : Item) (beats : List Beat) (why : RunFault) (q : RunPlace A C K) (rest : List Item) → Fails R p i beats why q
       → Goes R p (i ∷ rest) (broke beats why) (after_fault why) q
   prints_fault : (why : RunFault) (whole : Bool) (k : K) → Tries R.sink p.sink p.disk (R.sink.voice.fault why) whole k
       → Goes R p (print_fault why ∷ []) (printed_fault why whole) (halt why ∷ []) (record p { sink = k })
 
 -- These steps lead from where this is to be done to where that is.
-abbrev pub Run : {A C K : Type 0} → Rules A C K → Place A C K → List Item → List Step → List Item → Place A C K → Type 0
+abbrev pub Run : {A C K : Type 0} → Rules A C K → RunPlace A C K → List Item → List RunStep → List Item → RunPlace A C K → Type 0
 Run R p todo [] left q = (left ≡ todo) × (q ≡ p)
-Run {A = A} {C = C} {K = K} R p todo (s ∷ steps) left q = (next : List Item) × (mid : Place A C K) × Goes R p todo s next mid × Run R mid next steps left q
+Run {A = A} {C = C} {K = K} R p todo (s ∷ steps) left q = (next : List Item) × (mid : RunPlace A C K) × Goes R p todo s next mid × Run R mid next steps left q

@@ -15,6 +15,7 @@ pub trait Agenda {
     ghost use Rattle.session_engine.specs.World.{World};
     ghost use Rattle.session_engine.specs.Host.{IsHost};
     ghost use Rattle.driver.specs.Place.{AgendaRules};
+    ghost use Rattle.driver.specs.Reports.{came_of};
 
     /// What it may say, by the world and what the clock read, and how it changes.
     ghost rules: { AgendaRules Self };
@@ -29,6 +30,6 @@ pub trait Agenda {
         ensures { rules.woken self.old woken self.new };
 
     /// The turn was taken and printed. What is noted of what came of it.
-    fn heed<D: Disk>(&mut self, host: &Host<D>, now: u64, came: Came<'_>) -> Option<Note>
-        ensures { (w : World) → IsHost host.now w → rules.heeds self.old w now came result self.new };
+    fn heed<D: Disk>(&mut self, host: &Host<D>, now: u64, came: &Came) -> Option<Note>
+        ensures { (w : World) → IsHost host.now w → rules.heeds self.old w now (came_of came.now) result self.new };
 }

@@ -1,31 +1,32 @@
 //! The driver, and its loop.
-ghost use Rattle.std.specs.Prelude.{◌≡◌, ◌≤◌, ◌+◌, ◌<◌, ◌^◌, ℕ, suc, List, [], ◌∷◌, ◌++◌, Option, Some, None, IfOk, IfSome, IsSomeAnd, length, map, true, false};
+ghost use Rattle.std.specs.Prelude.{◌≡◌, ◌≤◌, ◌+◌, ◌<◌, ◌^◌, ℕ, List, [], ◌∷◌, ◌++◌, Option, Some, None, IfOk, IfSome, IsSomeAnd, length, map, true, false};
 ghost use Rattle.disk_model.specs.Disk.{SameDisk};
 ghost use Rattle.session_engine.specs.World.{World};
 ghost use Rattle.session_engine.specs.Host.{IsHost};
 ghost use Rattle.driver.specs.Place.{rules, source_rules};
-ghost use Rattle.driver.specs.Items.{Item, ask, heed as heeding, hear as hearing, interrupt as interrupting, items_of, came, rewrite as rewriting, stall as stalling, stalls, take as taking, print as to_print, printing, watch as watching};
-ghost use Rattle.driver.specs.Steps.{fault_at_gate, most_together};
-ghost use Rattle.driver.specs.Reports.{IsCounted};
-ghost use Rattle.driver.specs.Runs.{Did, again, left_at_end, left_by, parts, seen};
+ghost use Rattle.driver.specs.Items.{Item, ask, group_of, heed as heeding, hear as hearing, interrupt as interrupting, items_by, rewrite as rewriting, stall as stalling, stalls, take as taking, print as to_print, printing, watch as watching};
+ghost use Rattle.driver.specs.Steps.{most_together};
+ghost use Rattle.driver.specs.Reports.{came as came_by, came_of};
+ghost use Rattle.driver.specs.Reports as report;
+ghost use Rattle.driver.specs.Runs.{DidSteps, again, again_by, left_at_end, left_by_answer, parts, seen};
 ghost use Rattle.child_edge.specs.Seats.{waits};
 ghost use Rattle.arrivals.specs.Watching.{asked};
 
 use crate::agenda::Agenda;
+use crate::faults::{gate_fault, is_output};
 use crate::hearing::hear_ready;
-use crate::report::{Came, Report};
+use crate::report::{Came, Show};
 use crate::sink::Sink;
+use crate::stalls::stalled_events;
 use crate::turn::Turn;
 use arrivals::{Input, Sources};
 use child_calls::Seat;
-use child_edge::{
-    GaveTogether, MOST_TOGETHER, TogetherFault, interrupt, serve_together, waiting_lives,
-};
+use child_edge::{GaveTogether, MOST_TOGETHER, interrupt, serve_together, waiting_lives};
 use disk_model::Disk;
-use host_events::{ChildEvent, Event, HostFault, Outcome};
+use host_events::{Event, Outcome, Reply};
 use offline_programs::RunFault;
 use session_engine::Host;
-use std::alloc::{AllocError, Global};
+use std::alloc::Global;
 use std::slice;
 use worksheet::Name;
 
@@ -41,17 +42,6 @@ pub struct Driver<D: Disk, S, K, A> {
     pub agenda: A,
 }
 
-/// The fault of a run, where events weren't taken as one group.
-fn gate_fault(fault: TogetherFault) -> RunFault
-    ensures { result ≡ fault_at_gate fault }
-{
-    match fault {
-        TogetherFault::OutOfMemory => RunFault::OutOfMemory,
-        TogetherFault::Lost => RunFault::Host(HostFault::Disk),
-        TogetherFault::Host(fault) => RunFault::Host(fault),
-    }
-}
-
 /// Whether the lines of a group can't be counted from this one on.
 fn is_uncounted(from: Option<u64>) -> bool
     ensures yes { result ≡ true → IsSomeAnd from (λ n. 2 ^ 64 ≤ n + most_together + 1) }
@@ -63,26 +53,14 @@ fn is_uncounted(from: Option<u64>) -> bool
     }
 }
 
-/// The event that a life has stalled.
-fn stalled(seat: Seat) -> Event
-    ensures { result ≡ stalls seat }
+/// That the agenda is asked again, where this was done.
+fn and_again(done: Result<(), RunFault>) -> Result<bool, RunFault>
+    ensures { result ≡ again_by done }
 {
-    Event::Child {
-        name: seat.name,
-        life: seat.life,
-        event: ChildEvent::Stalled,
+    match done {
+        Ok(()) => Ok(true),
+        Err(why) => Err(why),
     }
-}
-
-/// The events that these lives have stalled.
-fn stalled_events(alloc: Global, seats: &[Seat]) -> Result<Vec<Event>, AllocError>
-    ensures { IfOk result (λ events. events.items ≡ map stalls seats.now) }
-{
-    let mut events = Vec::new(alloc);
-    for seat in seats {
-        events.push(stalled(*seat))?;
-    }
-    Ok(events)
 }
 
 impl<D: Disk, S: Sources, K: Sink, A: Agenda> Driver<D, S, K, A> {
@@ -90,15 +68,18 @@ impl<D: Disk, S: Sources, K: Sink, A: Agenda> Driver<D, S, K, A> {
     fn take(&mut self, from: Option<u64>, events: Vec<Event>) -> Result<GaveTogether, RunFault>
         ensures same { SameDisk self.old.host.store.disk self.new.host.store.disk }
         ensures did { (n : ℕ) (rest : List Item) (w : World) → IsHost self.old.host w
-            → Did (rules A.rules (source_rules S.after S.wakes S.clock) K.rules)
+            → DidSteps (rules A.rules (source_rules S.after S.wakes S.clock) K.rules)
             (seen n w (parts self.old.host self.old.sources self.old.sink self.old.agenda))
             (taking from events.items ∷ rest)
-            (left_by (λ gave. printing from gave.outcomes.items gave.replies.items ++ rest)) result
-            (n , parts self.new.host self.new.sources self.new.sink self.new.agenda) }
+            (left_by_answer (λ gave. printing from gave.outcomes.items gave.replies.items ++ rest)) result
+            (n, parts self.new.host self.new.sources self.new.sink self.new.agenda) }
         ensures few { IfOk result (λ gave. length gave.outcomes.items ≤ most_together) }
         ensures counted { IfOk result (λ gave. IfSome from (λ number. number + most_together + 1 < 2 ^ 64)) }
     {
-        if events.len() > MOST_TOGETHER || is_uncounted(from) {
+        if events.len() > MOST_TOGETHER {
+            return Err(RunFault::InputTooLong);
+        }
+        if is_uncounted(from) {
             return Err(RunFault::InputTooLong);
         }
         match serve_together(self.alloc, &mut self.host, &mut self.sources, events) {
@@ -113,82 +94,106 @@ impl<D: Disk, S: Sources, K: Sink, A: Agenda> Driver<D, S, K, A> {
         }
     }
 
-    /// Prints this.
-    fn print(&mut self, report: Report<'_>) -> Result<(), RunFault>
-        requires { IsCounted report }
+    /// Prints what events gave, those of lives or of lines from this one on.
+    fn print_outcomes(&mut self, from: Option<u64>, outcomes: &[Outcome]) -> Result<(), RunFault>
+        requires few { length outcomes.now ≤ most_together }
+        requires counted { IfSome from (λ number. number + most_together + 1 < 2 ^ 64) }
         ensures same { SameDisk self.old.host.store.disk self.new.host.store.disk }
         ensures did { (n : ℕ) (rest : List Item) (w : World) → IsHost self.old.host w
-            → Did (rules A.rules (source_rules S.after S.wakes S.clock) K.rules)
+            → DidSteps (rules A.rules (source_rules S.after S.wakes S.clock) K.rules)
             (seen n w (parts self.old.host self.old.sources self.old.sink self.old.agenda))
-            (to_print report ∷ rest) (left_by (λ done. rest)) result
-            (n , parts self.new.host self.new.sources self.new.sink self.new.agenda) }
+            (to_print (group_of from outcomes.now) ∷ rest) (left_by_answer (λ done. rest)) result
+            (n, parts self.new.host self.new.sources self.new.sink self.new.agenda) }
     {
-        self.sink.print(&self.host, report)
+        match from {
+            Some(number) => self.sink.lines(&self.host, number, outcomes),
+            None => self.sink.lives(&self.host, outcomes),
+        }
+    }
+
+    /// Prints the replies to what followed effects.
+    fn print_followed(&mut self, replies: &[Reply]) -> Result<(), RunFault>
+        ensures same { SameDisk self.old.host.store.disk self.new.host.store.disk }
+        ensures did { (n : ℕ) (rest : List Item) (w : World) → IsHost self.old.host w
+            → DidSteps (rules A.rules (source_rules S.after S.wakes S.clock) K.rules)
+            (seen n w (parts self.old.host self.old.sources self.old.sink self.old.agenda))
+            (to_print (report.followed replies.now) ∷ rest) (left_by_answer (λ done. rest)) result
+            (n, parts self.new.host self.new.sources self.new.sink self.new.agenda) }
+    {
+        self.sink.followed(&self.host, replies)
+    }
+
+    /// Shows this.
+    fn show(&mut self, show: Show) -> Result<(), RunFault>
+        ensures same { SameDisk self.old.host.store.disk self.new.host.store.disk }
+        ensures did { (n : ℕ) (rest : List Item) (w : World) → IsHost self.old.host w
+            → DidSteps (rules A.rules (source_rules S.after S.wakes S.clock) K.rules)
+            (seen n w (parts self.old.host self.old.sources self.old.sink self.old.agenda))
+            (to_print (report.shown show) ∷ rest) (left_by_answer (λ done. rest)) result
+            (n, parts self.new.host self.new.sources self.new.sink self.new.agenda) }
+    {
+        self.sink.show(&self.host, show)
     }
 
     /// Has the agenda heed what came, and prints what it notes of that.
-    fn heed(&mut self, came: Came<'_>) -> Result<(), RunFault>
+    fn heed(&mut self, came: &Came) -> Result<(), RunFault>
         ensures same { SameDisk self.old.host.store.disk self.new.host.store.disk }
         ensures did { (n : ℕ) (rest : List Item) (w : World) → IsHost self.old.host w
-            → Did (rules A.rules (source_rules S.after S.wakes S.clock) K.rules)
+            → DidSteps (rules A.rules (source_rules S.after S.wakes S.clock) K.rules)
             (seen n w (parts self.old.host self.old.sources self.old.sink self.old.agenda))
-            (heeding came ∷ rest) (left_by (λ done. rest)) result
-            (n , parts self.new.host self.new.sources self.new.sink self.new.agenda) }
+            (heeding (came_of came.now) ∷ rest) (left_by_answer (λ done. rest)) result
+            (n, parts self.new.host self.new.sources self.new.sink self.new.agenda) }
     {
         let now = self.sources.now();
         match self.agenda.heed(&self.host, now, came) {
-            Some(note) => self.print(Report::Note(note)),
+            Some(note) => self.show(Show::Note(note)),
             None => Ok(()),
         }
     }
 
-    /// Prints what events gave, those of lives or of lines from this one on, and has the agenda heed it.
-    fn print_group(&mut self, from: Option<u64>, gave: &GaveTogether) -> Result<(), RunFault>
-        requires few { length gave.now.outcomes.items ≤ most_together }
+    /// Prints what events gave and what followed, and has the agenda heed it.
+    fn print_group(&mut self, from: Option<u64>, gave: GaveTogether) -> Result<(), RunFault>
+        requires few { length gave.outcomes.items ≤ most_together }
         requires counted { IfSome from (λ number. number + most_together + 1 < 2 ^ 64) }
         ensures same { SameDisk self.old.host.store.disk self.new.host.store.disk }
         ensures did { (n : ℕ) (rest : List Item) (w : World) → IsHost self.old.host w
-            → Did (rules A.rules (source_rules S.after S.wakes S.clock) K.rules)
+            → DidSteps (rules A.rules (source_rules S.after S.wakes S.clock) K.rules)
             (seen n w (parts self.old.host self.old.sources self.old.sink self.old.agenda))
-            (printing from gave.now.outcomes.items gave.now.replies.items ++ rest) (left_by (λ done. rest)) result
-            (n , parts self.new.host self.new.sources self.new.sink self.new.agenda) }
+            (printing from gave.outcomes.items gave.replies.items ++ rest) (left_by_answer (λ done. rest)) result
+            (n, parts self.new.host self.new.sources self.new.sink self.new.agenda) }
     {
-        let outcomes = gave.outcomes.as_slice();
-        let replies = gave.replies.as_slice();
-        let report = match from {
-            Some(number) => Report::Lines(number, outcomes),
-            None => Report::Lives(outcomes),
-        };
-        self.print(report)?;
-        self.print(Report::Followed(replies))?;
-        self.heed(Came {
-            outcomes,
-            replies,
-            interrupted: None,
-        })
+        if let Err(why) = self.print_outcomes(from, gave.outcomes.as_slice()) {
+            return Err(why);
+        }
+        if let Err(why) = self.print_followed(gave.replies.as_slice()) {
+            return Err(why);
+        }
+        self.heed(&Came::Gave(gave))
     }
 
     /// Takes events as one group, and prints what they gave.
     fn take_and_print(&mut self, from: Option<u64>, events: Vec<Event>) -> Result<(), RunFault>
         ensures same { SameDisk self.old.host.store.disk self.new.host.store.disk }
         ensures did { (n : ℕ) (rest : List Item) (w : World) → IsHost self.old.host w
-            → Did (rules A.rules (source_rules S.after S.wakes S.clock) K.rules)
+            → DidSteps (rules A.rules (source_rules S.after S.wakes S.clock) K.rules)
             (seen n w (parts self.old.host self.old.sources self.old.sink self.old.agenda))
-            (taking from events.items ∷ rest) (left_by (λ done. rest)) result
-            (n , parts self.new.host self.new.sources self.new.sink self.new.agenda) }
+            (taking from events.items ∷ rest) (left_by_answer (λ done. rest)) result
+            (n, parts self.new.host self.new.sources self.new.sink self.new.agenda) }
     {
-        let gave = self.take(from, events)?;
-        self.print_group(from, &gave)
+        match self.take(from, events) {
+            Ok(gave) => self.print_group(from, gave),
+            Err(why) => Err(why),
+        }
     }
 
     /// Receives from this life, and from so many others at most that are ready, and takes what they have.
     fn hear(&mut self, seat: Seat, most: u64) -> Result<(), RunFault>
         ensures same { SameDisk self.old.host.store.disk self.new.host.store.disk }
         ensures did { (n : ℕ) (rest : List Item) (w : World) → IsHost self.old.host w
-            → Did (rules A.rules (source_rules S.after S.wakes S.clock) K.rules)
+            → DidSteps (rules A.rules (source_rules S.after S.wakes S.clock) K.rules)
             (seen n w (parts self.old.host self.old.sources self.old.sink self.old.agenda))
-            (hearing seat most ∷ rest) (left_by (λ done. rest)) result
-            (n , parts self.new.host self.new.sources self.new.sink self.new.agenda) }
+            (hearing seat most ∷ rest) (left_by_answer (λ done. rest)) result
+            (n, parts self.new.host self.new.sources self.new.sink self.new.agenda) }
     {
         match hear_ready(self.alloc, &mut self.sources, seat, most) {
             Ok(events) => self.take_and_print(None, events),
@@ -197,39 +202,38 @@ impl<D: Disk, S: Sources, K: Sink, A: Agenda> Driver<D, S, K, A> {
     }
 
     /// Prints what a checkpoint gave, for which this line asked, and has the agenda heed it.
-    fn print_rewritten(&mut self, line: u64, outcome: &Outcome) -> Result<(), RunFault>
+    fn print_rewritten(&mut self, line: u64, outcome: Outcome) -> Result<(), RunFault>
         requires { line + most_together + 1 < 2 ^ 64 }
         ensures same { SameDisk self.old.host.store.disk self.new.host.store.disk }
         ensures did { (n : ℕ) (rest : List Item) (w : World) → IsHost self.old.host w
-            → Did (rules A.rules (source_rules S.after S.wakes S.clock) K.rules)
+            → DidSteps (rules A.rules (source_rules S.after S.wakes S.clock) K.rules)
             (seen n w (parts self.old.host self.old.sources self.old.sink self.old.agenda))
-            (printing (Some line) (outcome.now ∷ []) [] ++ rest) (left_by (λ done. rest)) result
-            (n , parts self.new.host self.new.sources self.new.sink self.new.agenda) }
+            (printing (Some line) (outcome ∷ []) [] ++ rest) (left_by_answer (λ done. rest)) result
+            (n, parts self.new.host self.new.sources self.new.sink self.new.agenda) }
     {
-        let outcomes = slice::from_ref(outcome);
-        self.print(Report::Lines(line, outcomes))?;
-        self.print(Report::Followed(&[]))?;
-        self.heed(Came {
-            outcomes,
-            replies: &[],
-            interrupted: None,
-        })
+        if let Err(why) = self.print_outcomes(Some(line), slice::from_ref(&outcome)) {
+            return Err(why);
+        }
+        if let Err(why) = self.print_followed(&[]) {
+            return Err(why);
+        }
+        self.heed(&Came::Rewrote(outcome))
     }
 
     /// Rewrites the journal, for which this line asks.
     fn rewrite(&mut self, line: u64) -> Result<(), RunFault>
         ensures same { SameDisk self.old.host.store.disk self.new.host.store.disk }
         ensures did { (n : ℕ) (rest : List Item) (w : World) → IsHost self.old.host w
-            → Did (rules A.rules (source_rules S.after S.wakes S.clock) K.rules)
+            → DidSteps (rules A.rules (source_rules S.after S.wakes S.clock) K.rules)
             (seen n w (parts self.old.host self.old.sources self.old.sink self.old.agenda))
-            (rewriting line ∷ rest) (left_by (λ done. rest)) result
-            (n , parts self.new.host self.new.sources self.new.sink self.new.agenda) }
+            (rewriting line ∷ rest) (left_by_answer (λ done. rest)) result
+            (n, parts self.new.host self.new.sources self.new.sink self.new.agenda) }
     {
         if line > MOST_COUNTED {
             return Err(RunFault::InputTooLong);
         }
         match self.host.checkpoint() {
-            Ok(outcome) => self.print_rewritten(line, &outcome),
+            Ok(outcome) => self.print_rewritten(line, outcome),
             Err(fault) => Err(RunFault::Host(fault)),
         }
     }
@@ -238,10 +242,10 @@ impl<D: Disk, S: Sources, K: Sink, A: Agenda> Driver<D, S, K, A> {
     fn stall(&mut self) -> Result<(), RunFault>
         ensures same { SameDisk self.old.host.store.disk self.new.host.store.disk }
         ensures did { (n : ℕ) (rest : List Item) (w : World) → IsHost self.old.host w
-            → Did (rules A.rules (source_rules S.after S.wakes S.clock) K.rules)
+            → DidSteps (rules A.rules (source_rules S.after S.wakes S.clock) K.rules)
             (seen n w (parts self.old.host self.old.sources self.old.sink self.old.agenda))
-            (stalling ∷ rest) (left_by (λ done. rest)) result
-            (n , parts self.new.host self.new.sources self.new.sink self.new.agenda) }
+            (stalling ∷ rest) (left_by_answer (λ done. rest)) result
+            (n, parts self.new.host self.new.sources self.new.sink self.new.agenda) }
     {
         let Ok(seats) = waiting_lives(self.alloc, &self.host) else {
             return Err(RunFault::OutOfMemory);
@@ -256,27 +260,23 @@ impl<D: Disk, S: Sources, K: Sink, A: Agenda> Driver<D, S, K, A> {
     fn interrupt(&mut self, name: Name) -> Result<(), RunFault>
         ensures same { SameDisk self.old.host.store.disk self.new.host.store.disk }
         ensures did { (n : ℕ) (rest : List Item) (w : World) → IsHost self.old.host w
-            → Did (rules A.rules (source_rules S.after S.wakes S.clock) K.rules)
+            → DidSteps (rules A.rules (source_rules S.after S.wakes S.clock) K.rules)
             (seen n w (parts self.old.host self.old.sources self.old.sink self.old.agenda))
-            (interrupting name ∷ rest) (left_by (λ done. rest)) result
-            (n , parts self.new.host self.new.sources self.new.sink self.new.agenda) }
+            (interrupting name ∷ rest) (left_by_answer (λ done. rest)) result
+            (n, parts self.new.host self.new.sources self.new.sink self.new.agenda) }
     {
         let result = interrupt(&self.host, &mut self.sources, name);
-        self.heed(Came {
-            outcomes: &[],
-            replies: &[],
-            interrupted: Some(result),
-        })
+        self.heed(&Came::Interrupted(result))
     }
 
     /// Watches the sources, and gives the agenda whose turn it is.
     fn watch(&mut self, input: Input, patience: Option<u64>) -> Result<(), RunFault>
         ensures same { SameDisk self.old.host.store.disk self.new.host.store.disk }
         ensures did { (n : ℕ) (rest : List Item) (w : World) → IsHost self.old.host w
-            → Did (rules A.rules (source_rules S.after S.wakes S.clock) K.rules)
+            → DidSteps (rules A.rules (source_rules S.after S.wakes S.clock) K.rules)
             (seen n w (parts self.old.host self.old.sources self.old.sink self.old.agenda))
-            (watching (asked input patience) ∷ rest) (left_by (λ done. rest)) result
-            (n , parts self.new.host self.new.sources self.new.sink self.new.agenda) }
+            (watching (asked input patience) ∷ rest) (left_by_answer (λ done. rest)) result
+            (n, parts self.new.host self.new.sources self.new.sink self.new.agenda) }
     {
         match self.sources.watch(input, patience) {
             Ok(woken) => {
@@ -287,72 +287,67 @@ impl<D: Disk, S: Sources, K: Sink, A: Agenda> Driver<D, S, K, A> {
         }
     }
 
-    /// Prints what a line asks for, and has the agenda heed that it was printed.
-    fn show(&mut self, report: Report<'_>) -> Result<(), RunFault>
-        requires { IsCounted report }
+    /// Shows this, and has the agenda heed that it was shown.
+    fn show_and_heed(&mut self, show: Show) -> Result<(), RunFault>
         ensures same { SameDisk self.old.host.store.disk self.new.host.store.disk }
         ensures did { (n : ℕ) (rest : List Item) (w : World) → IsHost self.old.host w
-            → Did (rules A.rules (source_rules S.after S.wakes S.clock) K.rules)
+            → DidSteps (rules A.rules (source_rules S.after S.wakes S.clock) K.rules)
             (seen n w (parts self.old.host self.old.sources self.old.sink self.old.agenda))
-            (to_print report ∷ heeding (came [] []) ∷ rest) (left_by (λ done. rest)) result
-            (n , parts self.new.host self.new.sources self.new.sink self.new.agenda) }
+            (to_print (report.shown show) ∷ heeding (came_by [] []) ∷ rest) (left_by_answer (λ done. rest)) result
+            (n, parts self.new.host self.new.sources self.new.sink self.new.agenda) }
     {
-        self.print(report)?;
-        self.heed(Came {
-            outcomes: &[],
-            replies: &[],
-            interrupted: None,
-        })
+        match self.show(show) {
+            Ok(()) => self.heed(&Came::Shown),
+            Err(why) => Err(why),
+        }
     }
 
     /// Does what the agenda asks for. Whether it is asked again.
     fn serve(&mut self, turn: Turn) -> Result<bool, RunFault>
         ensures same { SameDisk self.old.host.store.disk self.new.host.store.disk }
         ensures did { (n : ℕ) (w : World) → IsHost self.old.host w
-            → Did (rules A.rules (source_rules S.after S.wakes S.clock) K.rules)
+            → DidSteps (rules A.rules (source_rules S.after S.wakes S.clock) K.rules)
             (seen n w (parts self.old.host self.old.sources self.old.sink self.old.agenda))
-            (items_of turn) (left_by again) result
-            (n , parts self.new.host self.new.sources self.new.sink self.new.agenda) }
+            (items_by turn) (left_by_answer again) result
+            (n, parts self.new.host self.new.sources self.new.sink self.new.agenda) }
     {
         match turn {
-            Turn::End => return Ok(false),
-            Turn::Nothing => {}
-            Turn::Watch(input, patience) => self.watch(input, patience)?,
-            Turn::Hear(seat, most) => self.hear(seat, most)?,
-            Turn::Lines(first, events) => self.take_and_print(Some(first), events)?,
-            Turn::Checkpoint(line) => self.rewrite(line)?,
-            Turn::Stall => self.stall()?,
-            Turn::Interrupt(name) => self.interrupt(name)?,
-            Turn::Note(note) => self.show(Report::Note(note))?,
-            Turn::Sheet(line) => self.show(Report::Sheet(line))?,
-            Turn::Field(line, id) => self.show(Report::Field(line, id))?,
-            Turn::Export(line, format) => self.show(Report::Export(line, format))?,
+            Turn::End => Ok(false),
+            Turn::Nothing => Ok(true),
+            Turn::Watch(input, patience) => and_again(self.watch(input, patience)),
+            Turn::Hear(seat, most) => and_again(self.hear(seat, most)),
+            Turn::Lines(first, events) => and_again(self.take_and_print(Some(first), events)),
+            Turn::Checkpoint(line) => and_again(self.rewrite(line)),
+            Turn::Stall => and_again(self.stall()),
+            Turn::Interrupt(name) => and_again(self.interrupt(name)),
+            Turn::Show(show) => and_again(self.show_and_heed(show)),
         }
-        Ok(true)
     }
 
     /// Asks the agenda what is next, and does it. Whether it is asked again.
     fn step(&mut self) -> Result<bool, RunFault>
         ensures same { SameDisk self.old.host.store.disk self.new.host.store.disk }
         ensures did { (n : ℕ) (w : World) → IsHost self.old.host w
-            → Did (rules A.rules (source_rules S.after S.wakes S.clock) K.rules)
+            → DidSteps (rules A.rules (source_rules S.after S.wakes S.clock) K.rules)
             (seen n w (parts self.old.host self.old.sources self.old.sink self.old.agenda))
-            (ask ∷ []) (left_by again) result
-            (suc n , parts self.new.host self.new.sources self.new.sink self.new.agenda) }
+            (ask ∷ []) (left_by_answer again) result
+            (n + 1, parts self.new.host self.new.sources self.new.sink self.new.agenda) }
     {
         let now = self.sources.now();
-        let turn = self.agenda.next(self.alloc, &self.host, now)?;
-        self.serve(turn)
+        match self.agenda.next(self.alloc, &self.host, now) {
+            Ok(turn) => self.serve(turn),
+            Err(why) => Err(why),
+        }
     }
 
     /// Does what the agenda says, one after the other, to its end.
     fn go_on(&mut self) -> Result<(), RunFault>
         ensures same { SameDisk self.old.host.store.disk self.new.host.store.disk }
         ensures did { (w : World) → IsHost self.old.host w → (n : ℕ)
-            × Did (rules A.rules (source_rules S.after S.wakes S.clock) K.rules)
+            × DidSteps (rules A.rules (source_rules S.after S.wakes S.clock) K.rules)
             (seen 0 w (parts self.old.host self.old.sources self.old.sink self.old.agenda))
-            (ask ∷ []) (left_by (λ done. [])) result
-            (n , parts self.new.host self.new.sources self.new.sink self.new.agenda) }
+            (ask ∷ []) (left_by_answer (λ done. [])) result
+            (n, parts self.new.host self.new.sources self.new.sink self.new.agenda) }
     {
         for _ in 0..u64::MAX {
             match self.step() {
@@ -369,15 +364,17 @@ impl<D: Disk, S: Sources, K: Sink, A: Agenda> Driver<D, S, K, A> {
     pub fn drive(&mut self) -> Result<(), RunFault>
         ensures same { SameDisk self.old.host.store.disk self.new.host.store.disk }
         ensures did { (w : World) → IsHost self.old.host w → (n : ℕ)
-            × Did (rules A.rules (source_rules S.after S.wakes S.clock) K.rules)
+            × DidSteps (rules A.rules (source_rules S.after S.wakes S.clock) K.rules)
             (seen 0 w (parts self.old.host self.old.sources self.old.sink self.old.agenda))
             (ask ∷ []) left_at_end result
-            (n , parts self.new.host self.new.sources self.new.sink self.new.agenda) }
+            (n, parts self.new.host self.new.sources self.new.sink self.new.agenda) }
     {
         match self.go_on() {
             Ok(()) => Ok(()),
-            Err(RunFault::Output) => Err(RunFault::Output),
             Err(why) => {
+                if is_output(why) {
+                    return Err(why);
+                }
                 let _ = self.sink.print_fault(&self.host, why);
                 Err(why)
             }

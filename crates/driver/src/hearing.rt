@@ -1,8 +1,8 @@
 //! What lives have that are ready at the same time.
 ghost use Rattle.std.specs.Prelude.{◌≡◌, ◌+◌, ◌≤◌, ◌++◌, ◌∷◌, [], IfOk, OnErr, length, true, false};
-ghost use Rattle.host_events.specs.declared.event.Event.{Event as Came};
+ghost use Rattle.host_events.specs.declared.event.Event.{Event as Said};
 ghost use Rattle.driver.specs.Place.{source_rules};
-ghost use Rattle.driver.specs.Hearing.{Heard, HearsNext, WatchedOnce};
+ghost use Rattle.driver.specs.Hearing.{HeardReady, HearsNext, WatchedAgain};
 
 use arrivals::{Input, Sources, Woken};
 use child_calls::Seat;
@@ -12,9 +12,9 @@ use std::alloc::{AllocError, Global};
 
 /// Receives from the next life that is ready still, where there is one and memory for what it has. Whether it did.
 fn hear_next<S: Sources>(sources: &mut S, events: &mut Vec<Event>) -> bool
-    ensures more { result ≡ true → (event : Came) × HearsNext (source_rules S.after S.wakes S.clock) sources.old event sources.new
+    ensures more { result ≡ true → (event : Said) × HearsNext (source_rules S.after S.wakes S.clock) sources.old event sources.new
         × (events.new.items ≡ events.old.items ++ event ∷ []) }
-    ensures none { result ≡ false → WatchedOnce (source_rules S.after S.wakes S.clock) sources.old sources.new
+    ensures none { result ≡ false → WatchedAgain (source_rules S.after S.wakes S.clock) sources.old sources.new
         × (events.new.items ≡ events.old.items) }
     ensures one { length events.new.items ≤ length events.old.items + 1 }
 {
@@ -42,7 +42,7 @@ pub(crate) fn hear_ready<S: Sources>(
     seat: Seat,
     most: u64,
 ) -> Result<Vec<Event>, AllocError>
-    ensures ok { IfOk result (λ events. Heard (source_rules S.after S.wakes S.clock) seat most sources.old events.items sources.new) }
+    ensures ok { IfOk result (λ events. HeardReady (source_rules S.after S.wakes S.clock) seat most sources.old events.items sources.new) }
     ensures err { OnErr result (sources.new ≡ sources.old) }
 {
     let mut events = Vec::new(alloc);

@@ -4,16 +4,20 @@
 
 pub mod agenda;
 pub mod driver;
+mod faults;
 mod hearing;
 pub mod laws;
+pub mod over;
 pub mod report;
 pub mod sink;
+mod stalls;
 pub mod turn;
 pub mod voiced;
 
 pub use agenda::Agenda;
 pub use driver::Driver;
-pub use report::{Came, Report};
+pub use over::{Over, run_over};
+pub use report::{Came, Show};
 pub use sink::Sink;
 pub use turn::Turn;
 pub use voiced::Voiced;

@@ -1,19 +1,13 @@
-//! What is printed, and what an agenda is given to heed.
+//! What is printed because a line asks for it, and what an agenda is given to heed.
 
-use child_edge::Interrupted;
-use host_events::{Outcome, Reply};
+use child_edge::{GaveTogether, Interrupted};
+use host_events::Outcome;
 use sheet_export::Format;
 use tellings::Note;
 
-/// What is printed by one call of a sink.
-#[derive(Clone, Copy)]
-pub enum Report<'a> {
-    /// What commands gave that were taken as one group, one of each line from the one with this number on.
-    Lines(u64, &'a [Outcome]),
-    /// What lives gave that were taken as one group. Not flushed: `Followed` comes next.
-    Lives(&'a [Outcome]),
-    /// The replies to what followed effects.
-    Followed(&'a [Reply]),
+/// What a line asks to be shown, or what is noted of it.
+#[derive(Clone, Copy, Debug)]
+pub enum Show {
     /// What is printed of a line, of a wait or of a limit, apart from replies.
     Note(Note),
     /// The worksheet, for which the line with this number asks.
@@ -25,12 +19,14 @@ pub enum Report<'a> {
 }
 
 /// What came of a turn.
-#[derive(Clone, Copy)]
-pub struct Came<'a> {
-    /// The outcomes of the events that were taken.
-    pub outcomes: &'a [Outcome],
-    /// The replies to what followed their effects.
-    pub replies: &'a [Reply],
-    /// What came of an interrupt, where the turn was one.
-    pub interrupted: Option<Interrupted>,
+#[derive(Drop)]
+pub enum Came {
+    /// What events gave that were taken as one group, and what followed.
+    Gave(GaveTogether),
+    /// What a checkpoint gave.
+    Rewrote(Outcome),
+    /// What came of an interrupt.
+    Interrupted(Interrupted),
+    /// It was shown.
+    Shown,
 }

@@ -1,7 +1,8 @@
 //! Where a run prints what comes of it.
 
-use crate::report::Report;
+use crate::report::Show;
 use disk_model::Disk;
+use host_events::{Outcome, Reply};
 use offline_programs::RunFault;
 use session_engine::Host;
 
@@ -11,22 +12,48 @@ use session_engine::Host;
 /// relation `tried` says: code that knows no more of a sink than this trait has it by the call alone. So an order of such facts
 /// is one of calls.
 pub trait Sink {
-    ghost use Rattle.std.specs.Prelude.{IfErr, is_ok};
+    ghost use Rattle.std.specs.Prelude.{◌+◌, ◌<◌, ◌^◌, IfErr, is_ok, length};
     ghost use Rattle.session_engine.specs.World.{World};
     ghost use Rattle.session_engine.specs.Host.{IsHost};
     ghost use Rattle.tellings.specs.Voice.{IsUntold};
     ghost use Rattle.driver.specs.Place.{SinkRules, Tries};
-    ghost use Rattle.driver.specs.Reports.{IsCounted, text_of};
+    ghost use Rattle.driver.specs.Reports.{printed_text};
+    ghost use Rattle.driver.specs.Reports as report;
 
     /// The texts that it prints, what was printed so far where that is known, and what may come of trying one.
     ghost rules: { SinkRules Self };
 
-    /// Prints this. `Output`: the stream failed, and a part may have gone out. `OutOfMemory`: a voice that takes memory has none
-    /// for it.
-    fn print<D: Disk>(&mut self, host: &Host<D>, report: Report<'_>) -> Result<(), RunFault>
-        requires { IsCounted report }
+    // Of each call: `Output` where the stream failed, and a part may have gone out; `OutOfMemory` where a voice that takes memory
+    // has none for it.
+
+    /// Prints what commands gave that were taken as one group, one of each line from this one on.
+    fn lines<D: Disk>(
+        &mut self,
+        host: &Host<D>,
+        first: u64,
+        outcomes: &[Outcome],
+    ) -> Result<(), RunFault>
+        requires { first + length outcomes.now < 2 ^ 64 }
         ensures tries { (w : World) → IsHost host.now w
-            → Tries rules self.old host.now.store.disk (text_of rules.voice w report) (is_ok result) self.new }
+            → Tries rules self.old host.now.store.disk (printed_text rules.voice w (report.lines first outcomes.now)) (is_ok result) self.new }
+        ensures err { IfErr result (IsUntold rules.voice) };
+
+    /// Prints what lives gave that were taken as one group, and flushes nothing: `followed` comes next.
+    fn lives<D: Disk>(&mut self, host: &Host<D>, outcomes: &[Outcome]) -> Result<(), RunFault>
+        ensures tries { (w : World) → IsHost host.now w
+            → Tries rules self.old host.now.store.disk (printed_text rules.voice w (report.lives outcomes.now)) (is_ok result) self.new }
+        ensures err { IfErr result (IsUntold rules.voice) };
+
+    /// Prints the replies to what followed effects.
+    fn followed<D: Disk>(&mut self, host: &Host<D>, replies: &[Reply]) -> Result<(), RunFault>
+        ensures tries { (w : World) → IsHost host.now w
+            → Tries rules self.old host.now.store.disk (printed_text rules.voice w (report.followed replies.now)) (is_ok result) self.new }
+        ensures err { IfErr result (IsUntold rules.voice) };
+
+    /// Prints this.
+    fn show<D: Disk>(&mut self, host: &Host<D>, show: Show) -> Result<(), RunFault>
+        ensures tries { (w : World) → IsHost host.now w
+            → Tries rules self.old host.now.store.disk (printed_text rules.voice w (report.shown show)) (is_ok result) self.new }
         ensures err { IfErr result (IsUntold rules.voice) };
 
     /// Prints a fault, last of all. Whether that went out.

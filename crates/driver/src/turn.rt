@@ -1,10 +1,9 @@
 //! What an agenda asks for.
 
+use crate::report::Show;
 use arrivals::Input;
 use child_calls::Seat;
 use host_events::Event;
-use sheet_export::Format;
-use tellings::Note;
 use worksheet::Name;
 
 /// What is done next.
@@ -27,12 +26,6 @@ pub enum Turn {
     Stall,
     /// The interpreter of this session is interrupted.
     Interrupt(Name),
-    /// This is printed.
-    Note(Note),
-    /// The worksheet is printed, for which the line with this number asks.
-    Sheet(u64),
-    /// The field with this number, which comes second, is printed.
-    Field(u64, u32),
-    /// The worksheet is printed in a format.
-    Export(u64, Format),
+    /// This is shown.
+    Show(Show),
 }

@@ -3,9 +3,9 @@ ghost use Rattle.std.specs.Prelude.{◌⊎◌, IfErr, OnOk};
 ghost use Rattle.std.specs.Io.KnownBytes.{Appends};
 ghost use Rattle.tellings.specs.Voice.{IsUntold, came_text};
 ghost use Rattle.child_edge.specs.Told.{spoken};
-ghost use Rattle.driver.specs.Reports.{lives_text};
+ghost use Rattle.driver.specs.Reports.{lives_report};
 
-use crate::report::Report;
+use crate::report::Show;
 use crate::sink::Sink;
 use disk_model::Disk;
 use host_events::{Outcome, Reply};
@@ -48,7 +48,7 @@ fn print_lives<T: Tells, W: Write>(
     writer: &mut W,
 ) -> Result<(), RunFault>
     ensures ok { OnOk result (Appends (W.contents writer.old) (W.contents writer.new)
-        (lives_text T.voice sheet.now.contents outcomes.now)) }
+        (lives_report T.voice sheet.now.contents outcomes.now)) }
     ensures err { IfErr result (IsUntold T.voice) }
 {
     for outcome in outcomes {
@@ -65,19 +65,32 @@ impl<T: Tells, W: Write> Sink for Voiced<T, W> {
     // Nobody can say what a stream does.
     ghost rules = { sink_rules T.voice (λ k. W.contents k.writer) (λ k d text whole l. Unit {0}) };
 
-    fn print<D: Disk>(&mut self, host: &Host<D>, report: Report<'_>) -> Result<(), RunFault> {
-        let sheet = host.sheet();
-        match report {
-            Report::Lines(first, outcomes) => {
-                self.tells.outcomes(first, sheet, outcomes, &mut self.writer)
-            }
-            Report::Lives(outcomes) => print_lives(sheet, outcomes, &self.tells, &mut self.writer),
-            Report::Followed(replies) => self.tells.events(sheet, replies, &mut self.writer),
-            Report::Note(note) => self.tells.note(note, &mut self.writer),
-            Report::Sheet(line) => self.tells.sheet(line, host, &mut self.writer),
-            Report::Field(line, id) => self.tells.field(line, id, host, &mut self.writer),
-            Report::Export(line, format) => {
-                self.tells.export(line, format, sheet, &mut self.writer)
+    fn lines<D: Disk>(
+        &mut self,
+        host: &Host<D>,
+        first: u64,
+        outcomes: &[Outcome],
+    ) -> Result<(), RunFault> {
+        self.tells
+            .outcomes(first, host.sheet(), outcomes, &mut self.writer)
+    }
+
+    fn lives<D: Disk>(&mut self, host: &Host<D>, outcomes: &[Outcome]) -> Result<(), RunFault> {
+        print_lives(host.sheet(), outcomes, &self.tells, &mut self.writer)
+    }
+
+    fn followed<D: Disk>(&mut self, host: &Host<D>, replies: &[Reply]) -> Result<(), RunFault> {
+        self.tells.events(host.sheet(), replies, &mut self.writer)
+    }
+
+    fn show<D: Disk>(&mut self, host: &Host<D>, show: Show) -> Result<(), RunFault> {
+        match show {
+            Show::Note(note) => self.tells.note(note, &mut self.writer),
+            Show::Sheet(line) => self.tells.sheet(line, host, &mut self.writer),
+            Show::Field(line, id) => self.tells.field(line, id, host, &mut self.writer),
+            Show::Export(line, format) => {
+                self.tells
+                    .export(line, format, host.sheet(), &mut self.writer)
             }
         }
     }

@@ -4,7 +4,7 @@ use crate::{Outside, PatientInput, PatientOutput, System};
 use arrivals::Polled;
 use child_calls::Processes;
 use sheet_check::ProgressLine;
-use sheet_files::{Closed, FileDisk, FilePlaces};
+use sheet_files::{Closed, FileDisk, FileNames, FilePlaces};
 use std::alloc::AllocError;
 use std::fs::File;
 use std::io::{BufWriter, ErrorKind, IsTerminal, Stderr};
@@ -25,7 +25,7 @@ pub struct Real<'a> {
 impl<'a> System for Real<'a> {
     type Disk = FileDisk<File>;
 
-    type Places = FilePlaces<&'a HostRuntime>;
+    type Places = FilePlaces<FileNames<&'a HostRuntime>>;
 
     type Sources = Polled<Processes<&'a HostRuntime>, &'a HostRuntime>;
 
@@ -70,7 +70,7 @@ pub fn outside<'a>(rt: &'a HostRuntime) -> Result<Outside<Real<'a>>, AllocError>
     let children = Processes::new(rt, rt.alloc());
     let sources = Polled::new(rt.alloc(), children, rt.stdin().as_raw_fd(), rt)?;
     Ok(Outside {
-        places: FilePlaces::new(rt, rt.alloc(), closed),
+        places: FilePlaces::new(FileNames::new(rt, closed), rt.alloc()),
         sources,
         input: PatientInput::new(rt.stdin()),
         output,

@@ -10,6 +10,7 @@ mod limits;
 mod machine;
 mod made_up;
 mod memory_files;
+mod opened;
 mod places;
 mod programs;
 mod running;

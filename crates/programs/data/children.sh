@@ -395,7 +395,8 @@ def answer(text):
 signal.signal(signal.SIGINT, interrupted)
 answer("")
 for line in sys.stdin:
-    while line == "loop\n" and not over:
+    patience = time.monotonic() + 10
+    while line == "loop\n" and not over and time.monotonic() < patience:
         time.sleep(0.01)
     answer("interrupted" if over else line[:-1])
     over = False
@@ -424,5 +425,97 @@ runs 'a long line, and a line of live' 'bad line 1\nrefused 2 NoField\nrefused 2
 } >given
 runs '3,000 fields and a line of live' "$(printf 'ok\\n'; seq 3000 | sed 's/.*/field &\\n/' | tr -d '\n')"'#3000 a\n> x3000\n?\n' \
     "$(seq 3000 | sed 's/.*/#& a\\n> x&\\n?\\n/' | tr -d '\n')" <given
+
+# Each word of a command reaches its interpreter, up to the greatest number.
+interpreter p "$banner" '\002verbatim:A\005'
+fourteen='w1 w2 w3 w4 w5 w6 w7 w8 w9 w10 w11 w12 w13 w14'
+script 'sixteen words that are started' "session a plain sh p.sh $fourteen\nnew 0 a x\neval 1\nwait\n" \
+    'ok\nfield 1\nasked\nbanner a\nanswered 1\n' '#1 a\n> x\nA\n'
+sent 'sixteen words that are started' "start $fourteen\nsend x"
+
+# An interpreter that goes on for ever, whatever it is told and whatever is closed: a stop ends it, and so does the end of the run.
+cat >p.sh <<'END_OF_CHILD'
+trap '' INT TERM HUP PIPE
+echo $$ >>lives
+printf '\002verbatim:\005'
+read -r line
+printf '\002verbatim:A\005'
+while :; do sleep 0.1; done
+END_OF_CHILD
+for last in 'stop a\n' ''; do
+    rm -f lives sheet sheet.alt
+    "$tmhost" create sheet
+    printf "session a plain sh p.sh\nnew 0 a x\neval 1\nwait\neval 1\n$last" >given
+    told=$(timeout 10 "$tmhost" run sheet <given; echo "status $?")
+    compare "an interpreter that goes on for ever, '$last'" "$told" "$(printf 'ok\nfield 1\nasked\nbanner a\nanswered 1\nasked\n'; [ -z "$last" ] || echo 'ended a Stopped lost 1'; echo 'status 0')"
+    ended "an interpreter that goes on for ever, '$last'" 1
+    kill -9 $(cat lives) 2>/dev/null
+done
+
+# An interrupt is one SIGINT, to the interpreter of that session and to nobody else: each says how many came. At `one` it waits for the first, and
+# then for half a second.
+cat >counts.py <<'END_OF_CHILD'
+import signal, sys, time
+
+count = 0
+
+
+def counted(number, frame):
+    global count
+    count += 1
+
+
+def answer(text):
+    sys.stdout.write("\2verbatim:" + text + "\5")
+    sys.stdout.flush()
+
+
+signal.signal(signal.SIGINT, counted)
+answer("")
+for line in sys.stdin:
+    patience = time.monotonic() + 5
+    while line == "one\n" and not count and time.monotonic() < patience:
+        time.sleep(0.01)
+    if line == "one\n":
+        patience = time.monotonic() + 0.5
+        while time.monotonic() < patience:
+            time.sleep(0.01)
+    answer(str(count))
+END_OF_CHILD
+script 'an interrupt is one signal' 'session a plain python3 counts.py\nsession b plain python3 counts.py\nnew 0 a x\nnew 1 b x\nnew 2 a one\neval 1\nwait\neval 2\nwait\neval 3\ninterrupt a\nwait\neval 2\nwait\n' \
+    'ok\nok\nfield 1\nfield 2\nfield 3\nasked\nbanner a\nanswered 1\nasked\nbanner b\nanswered 2\nasked\ninterrupted a\nanswered 3\nasked\nanswered 2\n' \
+    '#1 a\n> x\n0\n#2 b\n> x\n0\n#3 a\n> one\n1\n'
+
+# These are its signals, and those of the two ends: two that come together are one to whoever counts them.
+python3 calls.py list - true
+if [ $? = 0 ]; then
+    rm -f sheet sheet.alt
+    "$tmhost" create sheet
+    python3 calls.py list - "$tmhost" run sheet <given >text
+    compare 'the signals of one interrupt and two ends' "$(grep '^kill' list)" "$(printf 'kill 2\nkill 9\nkill 9')"
+else
+    cases=$((cases + 1))
+fi
+
+# An interpreter that answers lines which it doesn't read, and never ends: sixteen lines of the greatest length fill its pipe, and the next one isn't
+# waited with.
+cat >p.sh <<'END_OF_CHILD'
+echo $$ >>lives
+printf '\002verbatim:\005'
+while :; do
+    sleep 0.05
+    printf '\002verbatim:A\005'
+done
+END_OF_CHILD
+rm -f lives sheet sheet.alt
+"$tmhost" create sheet
+{
+    printf 'session a plain sh p.sh\nnew 0 a %s\n' "$(repeated 4095 x)"
+    seq 17 | sed 's/.*/eval 1\nwait/'
+} >given
+compare 'one that never reads' "$(timeout 10 "$tmhost" run sheet <given; echo "status $?")" \
+    "$(printf 'ok\nfield 1\nasked\nbanner a\nanswered 1\n'; seq 15 | sed 's/.*/asked\nanswered 1/'; printf 'asked\nended a SendFault lost 1\nstatus 0')"
+ended 'one that never reads' 1
+kill -9 $(cat lives) 2>/dev/null
 
 counted children

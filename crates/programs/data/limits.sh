@@ -100,6 +100,13 @@ filled 'live --json' "$hello"'{"line":1,"type":"done"}\n{"line":2,"type":"nothin
 interpreter p "$banner" "\\002verbatim:$(long 1000)\\005"
 compare 'eval on a full disk' "$(limited 1 eval sheet </dev/null)" "$(ending 'asked\nbanner a\nfault 21 Disk\n' 1)"
 compare 'eval on a full disk, shown' "$(answer show sheet </dev/null)" "$(ending '#1 a\n> y\n?\n' 0)"
+printf 'eval 1\nwait\nprint 1\n' >given
+for program in run 'run --strict'; do
+    compare "a wait of $program on a full disk" "$(limited 1 $program sheet <given)" "$(ending 'asked\nbanner a\nfault 21 Disk\n' 1)"
+    compare "a wait of $program on a full disk, shown" "$(answer show sheet </dev/null)" "$(ending '#1 a\n> y\n?\n' 0)"
+done
+printf 'eval 1\nwait\nset 1 y\n' >given
+compare 'a wait of a script on a full disk' "$(limited 1 run sheet <given)" "$(ending 'asked\nbanner a\nfault 21 Disk\n' 1)"
 printf "set 1 $(long 1000)\n" >given
 compare 'a disk that is full no more' "$(answer run sheet <given)" "$(ending 'ok\n' 0)"
 echo checkpoint >given

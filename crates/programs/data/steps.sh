@@ -388,6 +388,7 @@ chain areas blocks rescues exports command_lines pairs
 chain children completions replies limits strict live json
 chain eval
 chain check accepts progress
+chain files
 wait
-cat chain.areas/told chain.children/told chain.eval/told chain.check/told
+cat chain.areas/told chain.children/told chain.eval/told chain.check/told chain.files/told
 cat chain.*/failed >&2

@@ -88,6 +88,15 @@ unclaimed_file = record {
   before = λ _. record { content = []; synced = []; writes = [] };
 }
 
+-- a second file was let go as it is, where there is one
+abbrev pub SecondLetGo : {F : Type 0} → (F → Type 0) → Option F → Type 0
+SecondLetGo let_go None = Unit {0}
+SecondLetGo let_go (Some second) = let_go second
+
+-- both files were let go as they are
+abbrev pub LetGo : {F : Type 0} → (F → Type 0) → F → Option F → Type 0
+LetGo let_go first second = let_go first × SecondLetGo let_go second
+
 -- a file that is missing: it holds nothing, and stays so
 abbrev pub missing_file : FileView
 missing_file = record {

@@ -1,9 +1,12 @@
 -- What a place of files went through when a worksheet's two files were made or opened. The place is
 -- followed from each call to the next one, so nothing else was done there, and each answer is said.
-use Rattle.std.specs.Prelude.{◌≡◌, ◌≤◌, ◌⊎◌, ℕ, List, false, Option, Some, None, Ok, Err}
+use Rattle.std.specs.Prelude.{◌≡◌, ◌≤◌, ◌⊎◌, ◌++◌, ℕ, List, Bool, false, true, Option, Some, None, Result, Ok, Err, OnOk, codes}
 use Rattle.std.specs.IoError.{error_kind}
 use Rattle.std.specs.declared.io.Error.{Error}
 use Rattle.std.specs.declared.io.ErrorKind.TheVariants.{NotFound}
+use Rattle.std.specs.declared.fs.locks.TryLockError.{TryLockError}
+use Rattle.std.specs.declared.fs.locks.TryLockError.TheVariants.{WouldBlock}
+use Rattle.std.specs.declared.fs.locks.TryLockError.TheVariants as tries
 use Rattle.disk_model.specs.Disk.{greatest_room}
 use Rattle.sheet_files.specs.declared.names.Names as names
 use Rattle.sheet_files.specs.declared.sheet_file.Lock.{Lock}
@@ -77,3 +80,40 @@ abbrev pub OpenedToRead : {F N : Type 0} → names.Ghosts N F → List ℕ → L
 OpenedToRead {F} {N} calls path alt files old new =
     (a : N) × FirstOpened calls path Shared files.0 old a
     × SecondRead calls alt files.0 files.1 a new
+
+-- the path of the second file beside the first one at a path
+abbrev pub second_name : List ℕ → List ℕ
+second_name path = path ++ codes ".alt"
+
+-- a disk's files were made at a path, the first one of both there
+abbrev pub DiskMade : {F N : Type 0} → names.Ghosts N F → List ℕ → F → Option F → N → N → Type 0
+DiskMade {F} {N} calls path first second old new =
+    (other : F) × second ≡ Some other × Created calls path (second_name path) (first, other) old new
+
+-- a disk's files were opened to be written: where a path leads was asked before anything else, and the second file is the one beside
+-- what it leads to
+abbrev pub DiskOpened : {F N : Type 0} → names.Ghosts N F → List ℕ → F → Option F → N → N → Type 0
+DiskOpened {F} {N} calls path first second old new =
+    (other : F) × second ≡ Some other × ((real : List ℕ) × ((a : N) × calls.leads old path real a
+    × Opened calls real (second_name real) (first, other) a new))
+
+-- and to be read alone
+abbrev pub DiskRead : {F N : Type 0} → names.Ghosts N F → List ℕ → F → Option F → N → N → Type 0
+DiskRead {F} {N} calls path first second old new =
+    (real : List ℕ) × ((a : N) × calls.leads old path real a
+    × OpenedToRead calls real (second_name real) (first, second) a new)
+
+-- whether another has a file, by what came of a lock that was asked for: nobody, where it was given; somebody, where it wasn't for
+-- that; and of another error that error, or nobody, where the file system has no locks
+abbrev pub SaysInUse : Result (Unit {0}) TryLockError → Result Bool Error → Type 0
+SaysInUse (Ok _) result = result ≡ Ok false
+SaysInUse (Err WouldBlock) result = result ≡ Ok true
+SaysInUse (Err (tries.Error error)) result = result ≡ Err error ⊎ result ≡ Ok false
+
+-- this lock was asked for of this file, and the answer is by what came
+abbrev pub LocksBy : {F : Type 0} → (F → Lock → Result (Unit {0}) TryLockError → Type 0) → F → Lock → Result Bool Error → Type 0
+LocksBy locked file lock result = (came : Result (Unit {0}) TryLockError) × locked file lock came × SaysInUse came result
+
+-- some file was brought onto the disk, where that is the answer
+abbrev pub Brings : {F : Type 0} → (F → Result (Unit {0}) Error → Type 0) → Result (Unit {0}) Error → Type 0
+Brings {F} brought result = OnOk result ((file : F) × brought file (Ok tt))

@@ -16,11 +16,15 @@ pub trait Close: Disk {
         ensures { closed self };
 }
 
-/// Both files are closed, the locks on them too. Of the system's own files nothing is claimed.
+/// Both files are let go as they are, the locks on them too.
 impl<F: DiskFile + Drop> Close for FileDisk<F> {
-    ghost closed = { λ _. Unit {0} };
+    ghost use Rattle.sheet_files.specs.DiskFile.{LetGo};
 
-    fn close(self) {}
+    ghost closed = { λ disk. LetGo F.let_go disk.first disk.second };
+
+    fn close(self) {
+        self.close_files();
+    }
 }
 
 impl Close for MemoryDisk {

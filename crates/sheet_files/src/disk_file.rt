@@ -1,20 +1,30 @@
 //! A file as a disk speaks to it.
-ghost use Rattle.std.specs.Prelude.{◌≡◌, ◌+◌, ◌≤◌, length, take, drop, IsTrue, IfOk, OnOk, false};
+ghost use Rattle.std.specs.Prelude.{◌≡◌, ◌+◌, ◌≤◌, ℕ, List, Result, length, take, drop, IsTrue, IfOk, OnOk, false};
+ghost use Rattle.std.specs.declared.io.Error.{Error};
 ghost use Rattle.disk_model.specs.Disk.{greatest_room};
 ghost use Rattle.sheet_files.specs.DiskFile.{FileView, FileImage, FileSyncs, FileWrites, InFile, IsFresh, IsStill, Loses, Now, Passes, unclaimed_file};
 
-use std::fs::{File, OpenFile};
+use crate::SystemFile;
 use std::io;
-use std::os::unix::fs::FileExt;
 
 /// An open file, of which a disk asks five things. A call that may change something is given
 /// the moment at which it is made: the number of that call among all on the disk's files.
 ///
 /// A file that keeps the model has a state at each moment: what a read gives, and what a crash may
-/// leave. A real file keeps none, and nothing is claimed of it.
+/// leave. A real file keeps none, and nothing is claimed of what it holds; but that each write and each sync
+/// is one of the file itself, as the relations say.
 pub trait DiskFile {
     /// The file as contracts see it.
     ghost view: { Self → FileView };
+
+    /// A write: the file before it, the bytes, where they go, the answer, and the file after it.
+    ghost written: { Self → List ℕ → ℕ → Result (Unit {0}) Error → Self → Type 0 };
+
+    /// A sync of its data: the file before it, the answer, and the file after it.
+    ghost synced: { Self → Result (Unit {0}) Error → Self → Type 0 };
+
+    /// The file was let go as it is.
+    ghost let_go: { Self → Type 0 };
 
     /// A moment from which on nothing has happened to the file. It fails where a sync of this
     /// opening has failed.
@@ -39,6 +49,7 @@ pub trait DiskFile {
     fn write(&mut self, moment: u64, bytes: &[u8], offset: u64) -> io::Result<()>
         requires { IsStill moment (view self.old) }
 
+        ensures asked { written self.old bytes.now offset result self.new }
         ensures passes { Passes moment (view self.old) (view self.new) }
         ensures sound { (view self.new).lost ≡ (view self.old).lost }
         ensures writes { InFile (view self.old)
@@ -51,23 +62,35 @@ pub trait DiskFile {
     fn sync(&mut self, moment: u64) -> io::Result<()>
         requires { IsStill moment (view self.old) }
 
+        ensures asked { synced self.old result self.new }
         ensures passes { Passes moment (view self.old) (view self.new) }
         ensures lost { Loses result (view self.old) (view self.new) }
         ensures syncs { InFile (view self.old) ((view self.old).lost ≡ false
             → FileSyncs result ((view self.old).before moment)
             ((view self.new).before (moment + 1))) };
 
+    /// Lets it go, as the last of its calls.
+    fn close(self)
+        ensures { let_go self };
+
     /// What a read gives is one of the images that a crash may leave.
     ghost content_stays: { (file : Self)
         → InFile (view file) (Now (view file) (λ a. FileImage a a.content)) };
 }
 
-/// A real file, of which nothing is claimed.
-impl DiskFile for File {
+/// A file of the system, of whose bytes nothing is claimed. A write is one write of it, a sync is one sync of its data, and none of
+/// its calls gets the moment.
+impl<F: SystemFile> DiskFile for F {
     ghost use Rattle.std.specs.Prelude.{refl};
     ghost use Rattle.disk_model.specs.Disk.{unclaimed};
 
     ghost view = { λ _. unclaimed_file };
+
+    ghost written = { λ old bytes offset result new. F.puts old bytes offset result new };
+
+    ghost synced = { λ old result new. F.flushes old result new };
+
+    ghost let_go = { λ file. F.ends file };
 
     ghost content_stays = { λ _ kept. unclaimed kept };
 
@@ -76,18 +99,22 @@ impl DiskFile for File {
     }
 
     fn len(&mut self) -> io::Result<u64> {
-        Ok(self.metadata()?.len())
+        self.measure()
     }
 
     fn read(&mut self, buffer: &mut [u8], offset: u64) -> io::Result<()> {
-        self.read_exact_at(buffer, offset)
+        self.get(buffer, offset)
     }
 
     fn write(&mut self, _moment: u64, bytes: &[u8], offset: u64) -> io::Result<()> {
-        self.write_all_at(bytes, offset)
+        self.put(bytes, offset)
     }
 
     fn sync(&mut self, _moment: u64) -> io::Result<()> {
-        self.sync_data()
+        self.flush_data()
+    }
+
+    fn close(self) {
+        self.end();
     }
 }

@@ -1,15 +1,16 @@
 //! A disk of two files.
-ghost use Rattle.std.specs.Prelude.{◌≡◌, ◌+◌, ◌≤◌, IfOk, IsErr, Ok, MatchResult, OnOk, length, take, drop, false};
+ghost use Rattle.std.specs.Prelude.{◌≡◌, ◌+◌, ◌≤◌, IfOk, IsErr, Ok, MatchResult, OnOk, length, take, drop, false, string_bytes};
 ghost use Rattle.disk_model.specs.Disk.{Called, InModel, Looks, Syncs, Writes, area_of, bytes_on, greatest_room};
-ghost use Rattle.sheet_files.specs.DiskFile.{FileSynced, FileView, InFile, IsStill, Passes, WithoutFailure, history_of, second_of, tells_nothing_to_sync, two_files};
+ghost use Rattle.sheet_files.specs.DiskFile.{FileSynced, FileView, InFile, IsStill, LetGo, Passes, SecondLetGo, WithoutFailure, history_of, second_of, tells_nothing_to_sync, two_files};
+ghost use Rattle.sheet_files.specs.Names.{DiskMade, DiskOpened, DiskRead, second_name};
+ghost use Rattle.sheet_files.specs.declared.sheet_file.Lock.TheVariants.{Shared, Exclusive};
 
-use crate::pairing::{FileNames, resolved, second_path};
-use crate::{DiskFile, FilesFault, Lock, MakeFault, SheetFile, opening};
+use crate::pairing::second_path;
+use crate::{DiskFile, FilesFault, Lock, MakeFault, Names, opening};
 use disk_model::{Area, Disk, DiskFault, GREATEST_ROOM};
 use std::alloc::Global;
 use std::io;
 use std::io::ErrorKind;
-use std::rt::Files;
 
 /// A worksheet's two files: area First is the file at a path, and area Second the one at that path
 /// with `.alt` added. Each can grow to 2,147,483,648 bytes. Both are locked, as long as the disk isn't
@@ -20,9 +21,9 @@ use std::rt::Files;
 /// of the disk, and so is each call after a sync that failed.
 #[derive(Drop)]
 pub struct FileDisk<F: DiskFile + Drop> {
-    first: F,
-    second: Option<F>,
-    lock: Lock,
+    pub(crate) first: F,
+    pub(crate) second: Option<F>,
+    pub(crate) lock: Lock,
     failed: bool,
     moment: u64,
     failures: u64,
@@ -63,25 +64,52 @@ fn sync_file<F: DiskFile>(file: &mut F, moment: u64, lock: Lock) -> io::Result<(
     }
 }
 
+/// Lets a second file go, where there is one.
+fn close_second<F: DiskFile + Drop>(second: Option<F>)
+    ensures { SecondLetGo F.let_go second }
+{
+    match second {
+        Some(file) => file.close(),
+        None => {}
+    }
+}
+
 /// After a sync that failed nothing is believed.
 fn sync_failed() -> io::Error {
     io::Error::from(ErrorKind::Other)
 }
 
-impl<F: SheetFile + Drop> FileDisk<F> {
+/// The path of the file that a path leads to, and the one of the second file beside that.
+fn found_paths<F, N: Names<F>>(
+    names: &mut N,
+    alloc: Global,
+    path: &str,
+) -> io::Result<(String, String)>
+    ensures found { IfOk result (λ paths. N.leads names.old path.now (string_bytes paths.0) names.new) }
+    ensures second { IfOk result (λ paths. string_bytes paths.1 ≡ second_name (string_bytes paths.0)) }
+{
+    let found = names.resolve(alloc, path)?;
+    let second = second_path(alloc, found.as_str())?;
+    Ok((found, second))
+}
+
+impl<F: DiskFile + Drop> FileDisk<F> {
     /// Makes both files, empty, first the one at `path`, which is locked before the other is made.
     /// They and their names are durable once it answers. `NotEmpty` where either exists, a folder and a
     /// link that leads nowhere included, and nothing was made. `SecondFile` where the other file of a
     /// worksheet lies at `path`, or would lie there. `InUse` where another program took a
     /// new file before it was locked. `Disk` where a file can't be made, an empty path and lack of
     /// memory for a path included; a file that was made stays.
-    pub fn create<R: Files<File = F>>(
-        rt: &R,
+    pub fn create<N: Names<F>>(
+        names: &mut N,
         alloc: Global,
         path: &str,
-    ) -> Result<FileDisk<F>, MakeFault> {
+    ) -> Result<FileDisk<F>, MakeFault>
+        ensures made { IfOk result (λ disk. DiskMade N.Names path.now disk.first disk.second names.old names.new) }
+        ensures lock { IfOk result (λ disk. disk.lock ≡ Exclusive) }
+    {
         let alt = second_path(alloc, path)?;
-        let (first, second) = opening::create(&mut FileNames { rt }, path, alt.as_str())?;
+        let (first, second) = opening::create(names, path, alt.as_str())?;
         Ok(FileDisk::of(first, Some(second), Lock::Exclusive)?)
     }
 
@@ -94,39 +122,42 @@ impl<F: SheetFile + Drop> FileDisk<F> {
     /// file that has another name, a second file that is a link or the first one, one that may not be read
     /// and written, one that is longer than an area may be, also where the worksheet lies in the other, a
     /// folder that can't be read or synced, and lack of memory for a path.
-    pub fn open<R: Files<File = F>>(
-        rt: &R,
+    pub fn open<N: Names<F>>(
+        names: &mut N,
         alloc: Global,
         path: &str,
-    ) -> Result<FileDisk<F>, FilesFault> {
-        let path = resolved(rt, alloc, path)?;
-        let alt = second_path(alloc, path.as_str())?;
-        let (first, second) = opening::open(&mut FileNames { rt }, path.as_str(), alt.as_str())?;
+    ) -> Result<FileDisk<F>, FilesFault>
+        ensures opened { IfOk result (λ disk. DiskOpened N.Names path.now disk.first disk.second names.old names.new) }
+        ensures lock { IfOk result (λ disk. disk.lock ≡ Exclusive) }
+    {
+        let (path, alt) = found_paths(names, alloc, path)?;
+        let (first, second) = opening::open(names, path.as_str(), alt.as_str())?;
         Ok(FileDisk::of(first, Some(second), Lock::Exclusive)?)
     }
 
     /// Opens the files to read alone: the locks are such that other readers may have too, the files needn't
     /// be such that they may be written, no second file is made, no folder is synced, and each write is a
     /// failure of the disk, like each call on a second file that is missing, be the worksheet there or not.
-    pub fn open_to_read<R: Files<File = F>>(
-        rt: &R,
+    pub fn open_to_read<N: Names<F>>(
+        names: &mut N,
         alloc: Global,
         path: &str,
-    ) -> Result<FileDisk<F>, FilesFault> {
-        let path = resolved(rt, alloc, path)?;
-        let alt = second_path(alloc, path.as_str())?;
-        let (first, second) = opening::open_to_read(
-            &mut FileNames { rt },
-            path.as_str(),
-            alt.as_str(),
-        )?;
+    ) -> Result<FileDisk<F>, FilesFault>
+        ensures opened { IfOk result (λ disk. DiskRead N.Names path.now disk.first disk.second names.old names.new) }
+        ensures lock { IfOk result (λ disk. disk.lock ≡ Shared) }
+    {
+        let (path, alt) = found_paths(names, alloc, path)?;
+        let (first, second) = opening::open_to_read(names, path.as_str(), alt.as_str())?;
         Ok(FileDisk::of(first, second, Lock::Shared)?)
     }
-}
 
-impl<F: DiskFile + Drop> FileDisk<F> {
     /// A disk of files that were opened. It fails where a sync of one has failed.
-    pub fn of(first: F, second: Option<F>, lock: Lock) -> io::Result<FileDisk<F>> {
+    pub fn of(first: F, second: Option<F>, lock: Lock) -> io::Result<FileDisk<F>>
+        ensures first { IfOk result (λ disk. disk.first ≡ first) }
+        ensures second { IfOk result (λ disk. disk.second ≡ second) }
+        ensures lock { IfOk result (λ disk. disk.lock ≡ lock) }
+        ensures sound { IfOk result (λ disk. disk.failed ≡ false) }
+    {
         let begins = first.begins()?;
         let moment = match &second {
             None => begins,
@@ -140,6 +171,14 @@ impl<F: DiskFile + Drop> FileDisk<F> {
             moment,
             failures: 0,
         })
+    }
+
+    /// Lets both files go.
+    pub(crate) fn close_files(self)
+        ensures { LetGo F.let_go self.first self.second }
+    {
+        self.first.close();
+        close_second(self.second);
     }
 
     /// The length of an area's file.

@@ -13,6 +13,7 @@ mod opening;
 mod pairing;
 mod places;
 mod sheet_file;
+mod system_file;
 
 pub use closing::Close;
 pub use disk_file::DiskFile;
@@ -20,5 +21,8 @@ pub use file_disk::FileDisk;
 pub use files_fault::{FilesFault, HoldFault, MakeFault};
 pub use holding::{Closed, Held, hold_closed};
 pub use memory_file::MemoryFile;
+pub use names::Names;
+pub use pairing::FileNames;
 pub use places::{FilePlaces, Places};
 pub use sheet_file::{Identity, Lock, SheetFile};
+pub use system_file::SystemFile;

@@ -112,6 +112,12 @@ impl DiskFile for MemoryFile {
 
     ghost view = { λ file. memory_view file.start.items file.calls.items };
 
+    ghost written = { λ _ _ _ _ _. Unit {0} };
+
+    ghost synced = { λ _ _ _. Unit {0} };
+
+    ghost let_go = { λ _. Unit {0} };
+
     ghost content_stays = { λ file kept moment still.
         stays_an_image file.start.items file.calls.items moment };
 
@@ -162,4 +168,6 @@ impl DiskFile for MemoryFile {
         self.next = moment + 1;
         Ok(())
     }
+
+    fn close(self) {}
 }

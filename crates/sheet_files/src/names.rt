@@ -1,9 +1,11 @@
 //! A place of files, as a worksheet's two files are made and opened there.
-ghost use Rattle.std.specs.Prelude.{ℕ, List, Bool, Result};
+ghost use Rattle.std.specs.Prelude.{ℕ, List, Bool, Result, IfOk, string_bytes};
 ghost use Rattle.std.specs.declared.io.Error.{Error};
+ghost use Rattle.sheet_files.specs.declared.files_fault.HoldFault.{HoldFault};
 ghost use Rattle.sheet_files.specs.declared.sheet_file.Lock.{Lock};
 
-use crate::Lock;
+use crate::{HoldFault, Lock};
+use std::alloc::Global;
 use std::io;
 
 /// A place of files. What its calls do stands in relations: the place before a call, what it asks for,
@@ -12,6 +14,10 @@ use std::io;
 /// Who opens files over any place has nothing else to do with a file: it can be neither read nor
 /// written, synced or locked but by these calls.
 pub trait Names<F> {
+    ghost holds: { Self → Result (Unit {0}) HoldFault → Self → Type 0 };
+
+    ghost leads: { Self → List ℕ → List ℕ → Self → Type 0 };
+
     ghost is_second_file: { Self → List ℕ → Result Bool Error → Self → Type 0 };
 
     ghost looks: { Self → List ℕ → Result Bool Error → Self → Type 0 };
@@ -33,6 +39,14 @@ pub trait Names<F> {
     ghost syncs: { Self → F → Result (Unit {0}) Error → Self → Type 0 };
 
     ghost syncs_folder: { Self → List ℕ → Result (Unit {0}) Error → Self → Type 0 };
+
+    /// Sees to it that no file takes the place of a closed standard stream.
+    fn hold(&mut self) -> Result<(), HoldFault>
+        ensures { holds self.old result self.new };
+
+    /// The path of the file that a path leads to, without a link in it.
+    fn resolve(&mut self, alloc: Global, path: &str) -> io::Result<String>
+        ensures { IfOk result (λ found. leads self.old path.now (string_bytes found) self.new) };
 
     /// Whether this is the path of a worksheet's second file: it ends in `.alt`, and at the path without
     /// that ending lies a worksheet's first file.

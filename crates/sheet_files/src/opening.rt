@@ -2,8 +2,7 @@
 ghost use Rattle.std.specs.Prelude.{IfOk, Ok, OnOk, false};
 ghost use Rattle.sheet_files.specs.Names.{Created, FirstOpened, WithinRoom, Opened, OpenedToRead, SecondLocked, SecondOpened, SecondRead};
 
-use crate::names::Names;
-use crate::{FilesFault, Lock, MakeFault};
+use crate::{FilesFault, Lock, MakeFault, Names};
 use disk_model::GREATEST_ROOM;
 use journal::CreateCause;
 use std::io;

@@ -1,6 +1,9 @@
 //! The two files of a worksheet: their paths, and the real place in which they are made and opened.
-use crate::names::Names;
-use crate::{Identity, Lock, SheetFile};
+ghost use Rattle.std.specs.Prelude.{◌≡◌, IfOk, string_bytes};
+ghost use Rattle.sheet_files.specs.Names.{Brings, LocksBy, second_name};
+
+use crate::holding::{Closed, Held, hold_closed};
+use crate::{HoldFault, Identity, Lock, Names, SheetFile};
 use journal::FIRST_OF_SECOND;
 use std::alloc::Global;
 use std::fs::{OpenFile, OpenOptions, TryLockError};
@@ -16,7 +19,9 @@ const ENDING: &str = ".alt";
 const MAGIC: usize = 9;
 
 /// The path of area Second.
-pub(crate) fn second_path(alloc: Global, path: &str) -> io::Result<String> {
+pub(crate) fn second_path(alloc: Global, path: &str) -> io::Result<String>
+    ensures { IfOk result (λ second. string_bytes second ≡ second_name path.now) }
+{
     let mut second = String::from_str(alloc, path)?;
     second.push_str(ENDING)?;
     Ok(second)
@@ -63,7 +68,9 @@ fn has_no_locks(error: &io::Error) -> bool {
 
 /// Takes a lock, and answers whether another has the file. A file system without locks has none that
 /// could be held by another.
-fn is_in_use<F: SheetFile>(file: &F, lock: Lock) -> io::Result<bool> {
+fn is_in_use<F: SheetFile>(file: &F, lock: Lock) -> io::Result<bool>
+    ensures { LocksBy F.locked file.now lock result }
+{
     match file.take_lock(lock) {
         Ok(()) => Ok(false),
         Err(TryLockError::WouldBlock) => Ok(true),
@@ -131,13 +138,40 @@ fn names_second<F: FileExt>(first: &F) -> io::Result<bool> {
     }
 }
 
-/// The files that a runtime reaches. Of what its calls do nothing is claimed.
-#[derive(Drop)]
-pub(crate) struct FileNames<'a, R: Files> {
-    pub(crate) rt: &'a R,
+/// Opens the folder of a path and brings it onto the disk.
+fn bring_folder<F: SheetFile + Drop, R: Files<File = F>>(rt: &R, path: &str) -> io::Result<()>
+    ensures { Brings F.brought result }
+{
+    let folder = OpenOptions::new().read(true).open(rt, folder_of(path))?;
+    folder.bring()
 }
 
-impl<F: SheetFile, R: Files<File = F>> Names<F> for FileNames<'_, R> {
+/// The files that a runtime reaches, of a program that found these standard streams closed. Of what most of its calls do nothing
+/// is claimed; but that a lock is asked for of the file in question, and that a file or a folder is brought onto
+/// the disk.
+#[derive(Drop)]
+pub struct FileNames<R: Files + Drop> {
+    rt: R,
+    closed: Closed,
+    held: Option<Held<R::File>>,
+}
+
+impl<R: Files + Drop> FileNames<R> {
+    /// No place of a stream is held as yet.
+    pub fn new(rt: R, closed: Closed) -> FileNames<R> {
+        FileNames {
+            rt,
+            closed,
+            held: None,
+        }
+    }
+}
+
+impl<F: SheetFile + Drop, R: Files<File = F> + Drop> Names<F> for FileNames<R> {
+    ghost holds = { λ _ _ _. Unit {0} };
+
+    ghost leads = { λ _ _ _ _. Unit {0} };
+
     ghost is_second_file = { λ _ _ _ _. Unit {0} };
 
     ghost looks = { λ _ _ _ _. Unit {0} };
@@ -146,7 +180,7 @@ impl<F: SheetFile, R: Files<File = F>> Names<F> for FileNames<'_, R> {
 
     ghost opens = { λ _ _ _ _ _. Unit {0} };
 
-    ghost locks = { λ _ _ _ _ _. Unit {0} };
+    ghost locks = { λ _ file lock result _. LocksBy F.locked file lock result };
 
     ghost is_single = { λ _ _ _ _. Unit {0} };
 
@@ -156,19 +190,28 @@ impl<F: SheetFile, R: Files<File = F>> Names<F> for FileNames<'_, R> {
 
     ghost reads = { λ _ _ _ _. Unit {0} };
 
-    ghost syncs = { λ _ _ _ _. Unit {0} };
+    ghost syncs = { λ _ file result _. F.brought file result };
 
-    ghost syncs_folder = { λ _ _ _ _. Unit {0} };
+    ghost syncs_folder = { λ _ _ result _. Brings F.brought result };
+
+    fn hold(&mut self) -> Result<(), HoldFault> {
+        self.held = Some(hold_closed(&self.rt, self.closed)?);
+        Ok(())
+    }
+
+    fn resolve(&mut self, alloc: Global, path: &str) -> io::Result<String> {
+        resolved(&self.rt, alloc, path)
+    }
 
     fn is_second(&mut self, path: &str) -> io::Result<bool> {
         match path.strip_suffix(ENDING) {
-            Some(first) => has_first(self.rt, first),
+            Some(first) => has_first(&self.rt, first),
             None => Ok(false),
         }
     }
 
     fn look(&mut self, path: &str) -> io::Result<bool> {
-        is_there(self.rt, path)
+        is_there(&self.rt, path)
     }
 
     fn make(&mut self, path: &str) -> io::Result<F> {
@@ -176,11 +219,11 @@ impl<F: SheetFile, R: Files<File = F>> Names<F> for FileNames<'_, R> {
             .read(true)
             .write(true)
             .create_new(true)
-            .open(self.rt, path)
+            .open(&self.rt, path)
     }
 
     fn open(&mut self, path: &str, lock: Lock) -> io::Result<F> {
-        open_plain(self.rt, path, lock)
+        open_plain(&self.rt, path, lock)
     }
 
     fn lock(&mut self, file: &F, lock: Lock) -> io::Result<bool> {
@@ -208,13 +251,10 @@ impl<F: SheetFile, R: Files<File = F>> Names<F> for FileNames<'_, R> {
     }
 
     fn sync(&mut self, file: &F) -> io::Result<()> {
-        file.sync_all()
+        file.bring()
     }
 
     fn sync_folder(&mut self, path: &str) -> io::Result<()> {
-        OpenOptions::new()
-            .read(true)
-            .open(self.rt, folder_of(path))?
-            .sync_all()
+        bring_folder(&self.rt, path)
     }
 }

@@ -1,14 +1,13 @@
 //! Where worksheets lie.
 ghost use Rattle.std.specs.Prelude.{◌≤◌, ℕ, List, Result, IfOk};
+ghost use Rattle.sheet_files.specs.Names.{DiskMade, DiskOpened, DiskRead};
 ghost use Rattle.sheet_files.specs.declared.files_fault.FilesFault.{FilesFault};
 ghost use Rattle.sheet_files.specs.declared.files_fault.HoldFault.{HoldFault};
 ghost use Rattle.sheet_files.specs.declared.files_fault.MakeFault.{MakeFault};
 
-use crate::holding::{Closed, Held, hold_closed};
-use crate::{FileDisk, FilesFault, HoldFault, MakeFault, SheetFile};
+use crate::{DiskFile, FileDisk, FilesFault, HoldFault, MakeFault, Names};
 use disk_model::Disk;
 use std::alloc::Global;
-use std::rt::Files;
 
 /// Where worksheets lie, each at a path. What its calls do stands in four relations: the places
 /// before a call, what it asks for, its answer, and the places after it.
@@ -39,50 +38,43 @@ pub trait Places<D: Disk> {
         ensures { reads self.old path.now result self.new };
 }
 
-/// Worksheets in files. Of what they hold nothing is claimed.
+/// Worksheets in files. What a call went through in the place of these files is what the place itself says of each of
+/// its calls, in this order, where it gives a disk.
 #[derive(Drop)]
-pub struct FilePlaces<R: Files + Drop> {
-    rt: R,
+pub struct FilePlaces<N: Drop> {
+    names: N,
     alloc: Global,
-    closed: Closed,
-    held: Option<Held<R::File>>,
 }
 
-impl<R: Files + Drop> FilePlaces<R> {
-    /// The files that a runtime reaches, of a program that found these standard streams closed.
-    pub fn new(rt: R, alloc: Global, closed: Closed) -> FilePlaces<R> {
-        FilePlaces {
-            rt,
-            alloc,
-            closed,
-            held: None,
-        }
+impl<N: Drop> FilePlaces<N> {
+    /// Worksheets in this place of files.
+    pub fn new(names: N, alloc: Global) -> FilePlaces<N> {
+        FilePlaces { names, alloc }
     }
 }
 
-impl<F: SheetFile + Drop, R: Files<File = F> + Drop> Places<FileDisk<F>> for FilePlaces<R> {
-    ghost holds = { λ _ _ _. Unit {0} };
+impl<F: DiskFile + Drop, N: Names<F> + Drop> Places<FileDisk<F>> for FilePlaces<N> {
+    ghost holds = { λ old result new. N.holds old.names result new.names };
 
-    ghost creates = { λ _ _ _ _. Unit {0} };
+    ghost creates = { λ old path result new. IfOk result (λ disk. DiskMade N.Names path disk.first disk.second old.names new.names) };
 
-    ghost opens = { λ _ _ _ _. Unit {0} };
+    ghost opens = { λ old path result new. IfOk result (λ disk. DiskOpened N.Names path disk.first disk.second old.names new.names) };
 
-    ghost reads = { λ _ _ _ _. Unit {0} };
+    ghost reads = { λ old path result new. IfOk result (λ disk. DiskRead N.Names path disk.first disk.second old.names new.names) };
 
     fn hold(&mut self) -> Result<(), HoldFault> {
-        self.held = Some(hold_closed(&self.rt, self.closed)?);
-        Ok(())
+        self.names.hold()
     }
 
     fn create(&mut self, path: &str) -> Result<FileDisk<F>, MakeFault> {
-        FileDisk::create(&self.rt, self.alloc, path)
+        FileDisk::create(&mut self.names, self.alloc, path)
     }
 
     fn open(&mut self, path: &str) -> Result<FileDisk<F>, FilesFault> {
-        FileDisk::open(&self.rt, self.alloc, path)
+        FileDisk::open(&mut self.names, self.alloc, path)
     }
 
     fn open_to_read(&mut self, path: &str) -> Result<FileDisk<F>, FilesFault> {
-        FileDisk::open_to_read(&self.rt, self.alloc, path)
+        FileDisk::open_to_read(&mut self.names, self.alloc, path)
     }
 }

@@ -1,4 +1,8 @@
 //! What a worksheet asks of a file, beside that it is read, written and synced.
+ghost use Rattle.std.specs.Prelude.{Result};
+ghost use Rattle.std.specs.declared.fs.locks.TryLockError.{TryLockError};
+ghost use Rattle.std.specs.declared.io.Error.{Error};
+
 use crate::DiskFile;
 use std::fs::{File, OpenFile, TryLockError};
 use std::io;
@@ -26,24 +30,44 @@ pub struct Identity {
     pub is_plain: bool,
 }
 
-/// An open file in which a worksheet can lie.
+/// An open file in which a worksheet can lie. That a lock was asked for, and that it was brought onto the disk as a
+/// whole, stands in relations, as with the calls of `SystemFile`.
 pub trait SheetFile: OpenFile + FileExt + DiskFile {
+    ghost use Rattle.sheet_files.specs.declared.sheet_file.Lock.{Lock};
+
+    ghost locked: { Self → Lock → Result (Unit {0}) TryLockError → Type 0 };
+
+    ghost brought: { Self → Result (Unit {0}) Error → Type 0 };
+
     /// Takes a lock, without waiting for it. It is this open's own, so no other has it, and it goes
     /// when the file is closed, also by the end of a program that was killed. `WouldBlock` where
     /// another open has one that forbids it; another error where it can't be had, or where the file
     /// system has no locks.
-    fn take_lock(&self, lock: Lock) -> Result<(), TryLockError>;
+    fn take_lock(&self, lock: Lock) -> Result<(), TryLockError>
+        ensures { locked self.now lock result };
+
+    /// Brings it onto the disk, with its length and what else the system keeps of it. Of a folder these are its names.
+    fn bring(&self) -> io::Result<()>
+        ensures { brought self.now result };
 
     /// Which file this is.
     fn identity(&self) -> io::Result<Identity>;
 }
 
 impl SheetFile for File {
+    ghost locked = { λ _ _ _. Unit {0} };
+
+    ghost brought = { λ _ _. Unit {0} };
+
     fn take_lock(&self, lock: Lock) -> Result<(), TryLockError> {
         match lock {
             Lock::Shared => self.try_lock_shared(),
             Lock::Exclusive => self.try_lock(),
         }
+    }
+
+    fn bring(&self) -> io::Result<()> {
+        self.sync_all()
     }
 
     fn identity(&self) -> io::Result<Identity> {

@@ -1,11 +1,11 @@
 //! The program's own file code, with its programs above it, over files that crash at each moment: what is there opens to the worksheet
 //! after what was acknowledged, or after the one line more that was being done.
 use super::machine::{Folder, Machine};
+use super::opened;
 use arrivals::ScriptedSources;
 use child_calls::Scripted;
 use disk_model::{Choice, Fill};
 use program_endings::{read_rescued, run_create, run_rescue, run_script, run_show};
-use sheet_files::FileDisk;
 use std::alloc::Global;
 
 /// What a crash leaves of the ranges that were being written.
@@ -22,7 +22,7 @@ fn shown(alloc: Global, folder: &Folder) -> Option<Vec<u8>> {
     let machine = Machine { folder };
     let mut text: Vec<u8> = Vec::new(alloc);
     let mut errors: Vec<u8> = Vec::new(alloc);
-    let files = FileDisk::open_to_read(&machine, alloc, "sheet");
+    let files = opened::open_to_read(&machine, alloc, "sheet");
     let ended = run_show(alloc, files, &mut text, &mut errors);
     if ended.status == 0 { Some(text) } else { None }
 }
@@ -30,7 +30,7 @@ fn shown(alloc: Global, folder: &Folder) -> Option<Vec<u8>> {
 // Whether a program that makes a worksheet ends well.
 fn creates(alloc: Global, folder: &Folder) -> bool {
     let mut errors: Vec<u8> = Vec::new(alloc);
-    let files = FileDisk::create(&Machine { folder }, alloc, "sheet");
+    let files = opened::create(&Machine { folder }, alloc, "sheet");
     run_create(files, &mut errors).status == 0
 }
 
@@ -41,7 +41,7 @@ fn runs(alloc: Global, folder: &Folder, script: &[u8], told: &[u8]) -> bool {
     let mut input = script;
     let mut text: Vec<u8> = Vec::new(alloc);
     let mut errors: Vec<u8> = Vec::new(alloc);
-    let files = FileDisk::open(&Machine { folder }, alloc, "sheet");
+    let files = opened::open(&Machine { folder }, alloc, "sheet");
     let ended = run_script(
         alloc,
         false,
@@ -58,11 +58,11 @@ fn runs(alloc: Global, folder: &Folder, script: &[u8], told: &[u8]) -> bool {
 fn rescues(alloc: Global, from: &Folder, to: &Folder, told: &[u8]) -> bool {
     let mut text: Vec<u8> = Vec::new(alloc);
     let mut errors: Vec<u8> = Vec::new(alloc);
-    let files = FileDisk::open_to_read(&Machine { folder: from }, alloc, "sheet");
+    let files = opened::open_to_read(&Machine { folder: from }, alloc, "sheet");
     let Ok(found) = read_rescued(alloc, files) else {
         return false;
     };
-    let made = FileDisk::create(&Machine { folder: to }, alloc, "sheet");
+    let made = opened::create(&Machine { folder: to }, alloc, "sheet");
     let ended = run_rescue(alloc, found, made, &mut text, &mut errors);
     ended.status == 0 && text.as_slice() == told
 }

@@ -1,15 +1,15 @@
 //! The calls that a disk of two files makes on them.
 use super::file_calls::{FIRST_READ, over};
 use super::made_up::{MadeUp, There};
+use super::opened;
 use disk_model::{Area, Disk};
-use sheet_files::FileDisk;
 use std::alloc::Global;
 use std::io::ErrorKind;
 
 // Whether the calls of this area are these, after those of an opening, and each works.
 fn area_calls(alloc: Global, area: Area, lines: &str) -> bool {
     let calls = over(alloc, There::All);
-    let Ok(mut disk) = FileDisk::open(
+    let Ok(mut disk) = opened::open(
         &MadeUp {
             alloc,
             calls: &calls,
@@ -40,7 +40,7 @@ fn calls_come_to_the_file_of_their_area_whole(rt: HostRuntime) {
 // Whether a disk that is only read makes these calls after those of its opening, and writes nothing.
 fn read_calls(alloc: Global, area: Area, lines: &str) -> bool {
     let calls = over(alloc, There::All);
-    let Ok(mut disk) = FileDisk::open_to_read(
+    let Ok(mut disk) = opened::open_to_read(
         &MadeUp {
             alloc,
             calls: &calls,
@@ -70,7 +70,7 @@ fn a_disk_that_is_only_read_writes_nothing(rt: HostRuntime) {
 // Whether each call on a second file that is missing fails, and none is made.
 fn fails_without_a_second_file(alloc: Global) -> bool {
     let calls = over(alloc, There::First);
-    let Ok(mut disk) = FileDisk::open_to_read(
+    let Ok(mut disk) = opened::open_to_read(
         &MadeUp {
             alloc,
             calls: &calls,
@@ -100,8 +100,8 @@ fn syncs(alloc: Global, area: Area, why: ErrorKind) -> Option<(bool, bool)> {
         alloc,
         calls: &calls,
     };
-    let mut written = FileDisk::open(&files, alloc, "s").ok()?;
-    let mut read = FileDisk::open_to_read(&files, alloc, "s").ok()?;
+    let mut written = opened::open(&files, alloc, "s").ok()?;
+    let mut read = opened::open_to_read(&files, alloc, "s").ok()?;
     calls.stuck.set(Some(why));
     Some((written.sync(area).is_ok(), read.sync(area).is_ok()))
 }
@@ -121,7 +121,7 @@ fn a_sync_that_fails_is_a_fault(rt: HostRuntime) {
 // nothing of what the first one left out.
 fn ends_by_a_failed_sync(alloc: Global, area: Area, lines: &str) -> bool {
     let calls = over(alloc, There::All);
-    let Ok(mut disk) = FileDisk::open(
+    let Ok(mut disk) = opened::open(
         &MadeUp {
             alloc,
             calls: &calls,

@@ -1,13 +1,14 @@
 //! The calls by which a worksheet's two files are made and opened.
 use super::made_up::{Calls, Locks, MadeUp, There};
+use super::opened;
 use journal::CreateCause;
-use sheet_files::{FileDisk, FilesFault, MakeFault};
+use sheet_files::{FilesFault, MakeFault};
 use std::alloc::Global;
 use std::io::ErrorKind;
 
 // What comes of a worksheet that is made at a path.
 pub fn creates(calls: &Calls, alloc: Global, path: &str) -> Result<(), MakeFault> {
-    match FileDisk::create(&MadeUp { alloc, calls }, alloc, path) {
+    match opened::create(&MadeUp { alloc, calls }, alloc, path) {
         Ok(_) => Ok(()),
         Err(why) => Err(why),
     }
@@ -15,7 +16,7 @@ pub fn creates(calls: &Calls, alloc: Global, path: &str) -> Result<(), MakeFault
 
 // The same of one that is opened.
 pub fn opens(calls: &Calls, alloc: Global, path: &str) -> Result<(), FilesFault> {
-    match FileDisk::open(&MadeUp { alloc, calls }, alloc, path) {
+    match opened::open(&MadeUp { alloc, calls }, alloc, path) {
         Ok(_) => Ok(()),
         Err(why) => Err(why),
     }
@@ -23,7 +24,7 @@ pub fn opens(calls: &Calls, alloc: Global, path: &str) -> Result<(), FilesFault>
 
 // The same of one that is opened to read.
 pub fn reads(calls: &Calls, alloc: Global, path: &str) -> Result<(), FilesFault> {
-    match FileDisk::open_to_read(&MadeUp { alloc, calls }, alloc, path) {
+    match opened::open_to_read(&MadeUp { alloc, calls }, alloc, path) {
         Ok(_) => Ok(()),
         Err(why) => Err(why),
     }

@@ -1,8 +1,9 @@
 //! The two files of a worksheet, in folders of the tests' own.
+use super::opened;
 use super::programs::shows_path;
 use journal::CreateCause;
 use program_endings::{Ending, run_create};
-use sheet_files::{FileDisk, FilesFault, MakeFault};
+use sheet_files::{FilesFault, MakeFault};
 use std::fs::{File, Permissions};
 use std::os::unix::fs::{PermissionsExt, symlink};
 use std::{fs, io};
@@ -17,14 +18,14 @@ fn folder(rt: &HostRuntime, name: &str) -> io::Result<()> {
 }
 
 fn creates(rt: &HostRuntime, path: &str) -> Result<(), MakeFault> {
-    match FileDisk::create(rt, rt.alloc(), path) {
+    match opened::create(rt, rt.alloc(), path) {
         Ok(_) => Ok(()),
         Err(why) => Err(why),
     }
 }
 
 fn opens(rt: &HostRuntime, path: &str) -> Result<(), FilesFault> {
-    match FileDisk::open(rt, rt.alloc(), path) {
+    match opened::open(rt, rt.alloc(), path) {
         Ok(_) => Ok(()),
         Err(why) => Err(why),
     }
@@ -32,7 +33,7 @@ fn opens(rt: &HostRuntime, path: &str) -> Result<(), FilesFault> {
 
 // What comes of a worksheet that is opened to read.
 fn reads(rt: &HostRuntime, path: &str) -> Result<(), FilesFault> {
-    match FileDisk::open_to_read(rt, rt.alloc(), path) {
+    match opened::open_to_read(rt, rt.alloc(), path) {
         Ok(_) => Ok(()),
         Err(why) => Err(why),
     }
@@ -57,7 +58,7 @@ fn is_there(rt: &HostRuntime, path: &str) -> bool {
 // Whether `create` ends so, and writes this on its errors.
 fn create_ends(rt: &HostRuntime, path: &str, status: u8, said: &[u8]) -> bool {
     let mut errors: Vec<u8> = Vec::new(rt.alloc());
-    let ended = run_create(FileDisk::create(rt, rt.alloc(), path), &mut errors);
+    let ended = run_create(opened::create(rt, rt.alloc(), path), &mut errors);
     let want = Ending { status, told: true };
     ended == want && errors.as_slice() == said
 }
@@ -276,11 +277,11 @@ fn beside<D: Drop>(
 // Whether a worksheet that is made, or opened, is locked as long as it is held.
 fn is_locked(rt: &HostRuntime, path: &str) -> Option<bool> {
     let both = (Err(FilesFault::InUse), Err(FilesFault::InUse));
-    let made = FileDisk::create(rt, rt.alloc(), path).ok()?;
+    let made = opened::create(rt, rt.alloc(), path).ok()?;
     let beside_made = beside(rt, made, path);
-    let opened = FileDisk::open(rt, rt.alloc(), path).ok()?;
+    let opened = opened::open(rt, rt.alloc(), path).ok()?;
     let beside_opened = beside(rt, opened, path);
-    let read = FileDisk::open_to_read(rt, rt.alloc(), path).ok()?;
+    let read = opened::open_to_read(rt, rt.alloc(), path).ok()?;
     let beside_read = beside(rt, read, path);
     let others_read = (Err(FilesFault::InUse), Ok(()));
     Some(beside_made == both && beside_opened == both && beside_read == others_read)

@@ -1,10 +1,8 @@
 //! A machine in memory that can be crashed at each moment: a worksheet's two files are the areas of a disk that keeps
 //! a record of its writes and syncs.
-ghost use Rattle.sheet_files.specs.DiskFile.{unclaimed_file};
-
 use super::made_up::unsupported;
 use disk_model::{Area, Choice, Disk, MemoryDisk};
-use sheet_files::{DiskFile, Identity, Lock, SheetFile};
+use sheet_files::{Identity, Lock, SheetFile, SystemFile};
 use std::alloc::{Allocator, Global};
 use std::cell::{Cell, RefCell};
 use std::fs::{Metadata, OpenFile, OpenOptions, TryLockError};
@@ -244,6 +242,14 @@ impl OpenFile for MachineFile<'_> {
 }
 
 impl SheetFile for MachineFile<'_> {
+    ghost locked = { λ _ _ _. Unit {0} };
+
+    ghost brought = { λ _ _. Unit {0} };
+
+    fn bring(&self) -> io::Result<()> {
+        self.sync_all()
+    }
+
     fn take_lock(&self, _lock: Lock) -> Result<(), TryLockError> {
         Ok(())
     }
@@ -259,33 +265,30 @@ impl SheetFile for MachineFile<'_> {
 }
 
 // Nothing is claimed of what it holds, as of a real file.
-impl DiskFile for MachineFile<'_> {
-    ghost use Rattle.std.specs.Prelude.{refl};
-    ghost use Rattle.disk_model.specs.Disk.{unclaimed};
+impl SystemFile for MachineFile<'_> {
+    ghost puts = { λ _ _ _ _ _. Unit {0} };
 
-    ghost view = { λ _. unclaimed_file };
+    ghost flushes = { λ _ _ _. Unit {0} };
 
-    ghost content_stays = { λ _ kept. unclaimed kept };
+    ghost ends = { λ _. Unit {0} };
 
-    fn begins(&self) -> io::Result<u64> {
-        Ok(0)
-    }
-
-    fn len(&mut self) -> io::Result<u64> {
+    fn measure(&mut self) -> io::Result<u64> {
         self.folder.len(self.area()?)
     }
 
-    fn read(&mut self, buffer: &mut [u8], offset: u64) -> io::Result<()> {
+    fn get(&mut self, buffer: &mut [u8], offset: u64) -> io::Result<()> {
         self.folder.read(self.area()?, buffer, offset)
     }
 
-    fn write(&mut self, _moment: u64, bytes: &[u8], offset: u64) -> io::Result<()> {
+    fn put(&mut self, bytes: &[u8], offset: u64) -> io::Result<()> {
         self.folder.write(self.area()?, bytes, offset)
     }
 
-    fn sync(&mut self, _moment: u64) -> io::Result<()> {
+    fn flush_data(&mut self) -> io::Result<()> {
         self.folder.sync(self.area()?)
     }
+
+    fn end(self) {}
 }
 
 // A worksheet whose two files are there is read and written by the calls above.

@@ -1,7 +1,5 @@
 //! Files that are made up: each call on them is listed, and they hold nothing.
-ghost use Rattle.sheet_files.specs.DiskFile.{unclaimed_file};
-
-use sheet_files::{DiskFile, Identity, Lock, SheetFile};
+use sheet_files::{Identity, Lock, SheetFile, SystemFile};
 use std::alloc::{Allocator, Global};
 use std::cell::{Cell, RefCell};
 use std::fmt::Write;
@@ -282,6 +280,14 @@ impl OpenFile for MadeUpFile<'_> {
 }
 
 impl SheetFile for MadeUpFile<'_> {
+    ghost locked = { λ _ _ _. Unit {0} };
+
+    ghost brought = { λ _ _. Unit {0} };
+
+    fn bring(&self) -> io::Result<()> {
+        self.sync_all()
+    }
+
     fn take_lock(&self, lock: Lock) -> Result<(), TryLockError> {
         let what = match lock {
             Lock::Shared => "lock to read",
@@ -312,33 +318,30 @@ impl SheetFile for MadeUpFile<'_> {
 }
 
 // Nothing is claimed of what it holds, as of a real file.
-impl DiskFile for MadeUpFile<'_> {
-    ghost use Rattle.std.specs.Prelude.{refl};
-    ghost use Rattle.disk_model.specs.Disk.{unclaimed};
+impl SystemFile for MadeUpFile<'_> {
+    ghost puts = { λ _ _ _ _ _. Unit {0} };
 
-    ghost view = { λ _. unclaimed_file };
+    ghost flushes = { λ _ _ _. Unit {0} };
 
-    ghost content_stays = { λ _ kept. unclaimed kept };
+    ghost ends = { λ _. Unit {0} };
 
-    fn begins(&self) -> io::Result<u64> {
-        Ok(0)
-    }
-
-    fn len(&mut self) -> io::Result<u64> {
+    fn measure(&mut self) -> io::Result<u64> {
         Ok(self.metadata()?.len())
     }
 
-    fn read(&mut self, buffer: &mut [u8], offset: u64) -> io::Result<()> {
+    fn get(&mut self, buffer: &mut [u8], offset: u64) -> io::Result<()> {
         self.read_exact_at(buffer, offset)
     }
 
-    fn write(&mut self, _moment: u64, bytes: &[u8], offset: u64) -> io::Result<()> {
+    fn put(&mut self, bytes: &[u8], offset: u64) -> io::Result<()> {
         self.write_all_at(bytes, offset)
     }
 
-    fn sync(&mut self, _moment: u64) -> io::Result<()> {
+    fn flush_data(&mut self) -> io::Result<()> {
         self.sync_data()
     }
+
+    fn end(self) {}
 }
 
 // At most three bytes at a time.

@@ -1,14 +1,31 @@
 //! The program's own file code over files in memory, which keep the model of a file.
 use child_calls::Scripted;
 use offline_programs::show;
-use sheet_files::{FileDisk, Lock, MemoryFile};
+use sheet_files::{DiskFile, FileDisk, Lock, MemoryFile};
 use sheet_programs::run;
 use std::alloc::Global;
 
+// A kind of files. The borrow checker doesn't know which impl a file in memory has, but which this has.
+trait Kind {
+    type File: DiskFile + Drop;
+
+    fn empty(alloc: Global) -> Self::File;
+}
+
+struct InMemory;
+
+impl Kind for InMemory {
+    type File = MemoryFile;
+
+    fn empty(alloc: Global) -> MemoryFile {
+        MemoryFile::new(alloc)
+    }
+}
+
 // What `show` prints of a new worksheet after this script.
-fn shown_after(alloc: Global, script: &[u8]) -> Option<Vec<u8>> {
-    let first = MemoryFile::new(alloc);
-    let second = MemoryFile::new(alloc);
+fn shown_after<K: Kind>(alloc: Global, script: &[u8]) -> Option<Vec<u8>> {
+    let first = K::empty(alloc);
+    let second = K::empty(alloc);
     let disk = FileDisk::of(first, Some(second), Lock::Exclusive).ok()?;
     let disk = journal::create(disk).ok()?;
     let mut children = Scripted::new(alloc, Vec::new(alloc));
@@ -22,7 +39,7 @@ fn shown_after(alloc: Global, script: &[u8]) -> Option<Vec<u8>> {
 }
 
 fn shows(alloc: Global, script: &[u8], text: &[u8]) -> bool {
-    match shown_after(alloc, script) {
+    match shown_after::<InMemory>(alloc, script) {
         Some(shown) => shown.as_slice() == text,
         None => false,
     }

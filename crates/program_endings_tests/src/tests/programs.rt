@@ -2,13 +2,14 @@
 ghost use Rattle.std.specs.Prelude.{◌≤◌, IfOk};
 ghost use Rattle.disk_model.specs.Disk.{greatest_room};
 
+use super::opened;
 use super::streams::Deaf;
 use disk_model::{FuseDisk, FuseMode, MemoryDisk};
 use host_events::HostFault;
 use journal::{CreateCause, OpenCause};
 use offline_programs::RunFault;
 use program_endings::{Ending, end_program, read_rescued, run_create, run_rescue, run_show};
-use sheet_files::{Close, FileDisk, FilesFault, MakeFault};
+use sheet_files::{Close, FilesFault, MakeFault};
 use std::alloc::Global;
 use std::io::Write;
 use tests_desk::{Full, Unflushed, exhausted};
@@ -242,7 +243,7 @@ fn a_rescue_to_a_disk_that_fails(rt: HostRuntime) {
 pub fn shows_path(rt: &HostRuntime, path: &str, status: u8, (out, said): (&[u8], &[u8])) -> bool {
     let mut output: Vec<u8> = Vec::new(rt.alloc());
     let mut errors: Vec<u8> = Vec::new(rt.alloc());
-    let files = FileDisk::open_to_read(rt, rt.alloc(), path);
+    let files = opened::open_to_read(rt, rt.alloc(), path);
     let ended = run_show(rt.alloc(), files, &mut output, &mut errors);
     ended == ending(status, true) && output.as_slice() == out && errors.as_slice() == said
 }

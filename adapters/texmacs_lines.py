@@ -1,0 +1,75 @@
+"""Lines for the plugins of TeXmacs, with what their outputs are; as those in `cases.py`. Behind each stands a numbered line, too."""
+from typing import Dict, List, NamedTuple
+
+from gp_lines import Line
+from odd_lines import ODD_LINES
+
+SAID = "[the line isn't complete, or reads input: "
+
+
+class Lines(NamedTuple):
+    """What is tried of a plugin."""
+
+    cases: List[Line]
+    number: str  # a numbered line
+    numbered: str  # its answer
+    busy: str  # a line without an end
+    leaving: str = ""  # one that ends it
+    odd: str = ""  # whose odd lines it gets, too
+    further: List[str] = []
+
+
+FRICAS = [
+    "x + 1", "D(x^3, x)", "integrate(x, x)", "1/3 + 1/4", "sqrt 8", "[1, 2, 3]", "matrix [[1, 2], [3, 4]]", "factor(x^2 - 1)", "nothing(3)", "f n == n^2", "f 3", "f(", "(1 +", ")", "\"open", "-- a remark", "1 + _", "a := 5", "a", ")clear all", "a",
+    "error \"boo\"", "1/0", "for i in 1..3 repeat output i", "output \"text\"", "2^200", "true", "\"text\"", "[i for i in 1..100]", ")set messages autoload off", ")show Integer", ")help", ")nonsense", "%", "%%(1)", "solve(x^2 = 4, x)", "series(sin x, x = 0)",
+    "limit(1/x, x = 0)", "if true then 1 else 2", "(x +-> x + 1) 2", "[",
+]
+GRAPHVIZ = ["digraph { a -> b }", "graph { a -- b }", "nonsense", "digraph {", "}", "", "%dot", "help", "digraph { a -> b -> c }", "%neato\u2028graph { a -- b }"]
+
+LINES: Dict[str, Lines] = {
+    "python": Lines(
+        [("1 + 1", "2"), ("print('a')", "a"), ("x = 5", ""), ("x", "5"), ("for i in range(2):\u2028    print(i)", "0\n1"), ("1/0", "..ZeroDivisionError"), ("", ""), ("input()", "..")],
+        "'n%d'", "n%d", "while True: pass", "import os; os._exit(0)", "python"),
+    "sympy": Lines(
+        [("from sympy import Symbol", ""), ("x = Symbol('x')", ""), ("x**2/3", "{latex:$\\frac{x^{2}}{3}$}"), ("1/0", "..ZeroDivisionError"), ("", "")],
+        "'n%d'", "n%d", "while True: pass", "import os; os._exit(0)", "", [f"x**{n}/{n}" for n in range(1, 20)] + ["f(", "'open", "(1 +", "undefined", "input()", "print(1)", "x + 1", "x == x", "None", "# a", "Symbol('alpha')**2", "[x, x]"]),
+    "octave": Lines(
+        [("1 + 1", "{latex:$2$}"), ("[1 2; 3 4]", "{latex:$\\begin{pmatrix}1&2\\\\ 3&4\\end{pmatrix}$}"), ("error (\"boo\")", "..boo"), ("nothing", "..undefined"), ("if true", "..parse error"), ("disp (5)", "..5"), ("", "")],
+        "printf (\"n%d\\n\")", "n%d", "while true, end", "exit", "octave"),
+    "maxima": Lines(
+        [("1 + 1", "{latex:$\\displaystyle (\\mathtt{\\%o1})\\;2$}"), ("1/0", "..expt: undefined: 0 to a negative exponent."), ("a: 5$", ""), ("(1 +", "..incorrect syntax"), ("matrix([1, 2], [3, 4])", "..\\begin{pmatrix}1"), ("nonsense(", "..incorrect syntax")],
+        "print(\"n%d\")$", "..{ n%d }", "while true do 0;", "quit();", "maxima"),
+    "r": Lines(
+        [("1 + 1", "[1] 2"), ("stop(\"boo\")", "..Error: boo"), ("x <- 5", ""), ("x", "[1] 5"), ("f(", ".." + SAID), ("nothing", "..not found")],
+        "cat(\"n%d\\n\")", "n%d", "while (TRUE) 0", "q(\"no\")", "", ODD_LINES["R"][34:70]),
+    "shell": Lines(
+        [("echo hi", "hi"), ("ls /nonexistent", "..No such file"), ("x=5", ""), ("echo $x", "5"), ("if true", ".." + SAID), ("cat", ".." + SAID), ("echo again", "again")],
+        "echo n%d", "n%d", "while :; do :; done", "", "sh"),
+    "pari": Lines(
+        [("1 + 1", "{latex:$\\%1 = 2$}"), ("1/0", "..impossible inverse"), ("[1, 2; 3, 4]", "..\\begin{pmatrix}1&2\\\\3&4\\end{pmatrix}"), ("print(\"a\")", "a"), ("{1 +", ".." + SAID), ("", "")],
+        "print(\"n%d\")", "n%d", "while (1, )", "\\q", "gp"),
+    "yacas": Lines(
+        [("1 + 1", "{latex:$2$}"), ("x^2 / 3", "..\\frac{x ^{2}}{3}"), ("(1 +", "..Error"), ("", "")],
+        "%d + 1000000", "", "While(True) a := 1;", "", "yacas"),
+    "fricas": Lines(
+        [("1 + 1", "..{latex:$2$}"), ("1/0", "..division by zero"), ("x^2 / 3", "..{latex:$\\frac{1}{3}*x^{2}$}"), ("(1 +", "..syntax error"), ("", "")],
+        "output \"n%d\"", "", "while true repeat 0", "", "", FRICAS),
+    "giac": Lines(
+        [("1 + 1", "{latex:$2$}"), ("x^2 / 3", "{latex:$\\frac{x^{2}}{3}$}"), ("[[1, 2], [3, 4]]", "{latex:$\\begin{pmatrix}1&2\\\\ 3&4\\end{pmatrix}$}"), ("(1 +", "..syntax error"), ("", "..")],
+        "%d + 1000000", "", "while (true) { a := 1 }", "", "giac"),
+    "gnuplot": Lines(
+        [("plot sin(x)", "..{image/")], "set title \"n%d\"; plot x", "..n%d", "while (1) { x = 1 }", "", "", ["plot x", "plot x**2", "foo", "plot [0:", "print 1", "%gnuplot -output png\u2028plot x", "splot x*y", "reset", "# a remark", "plot 'nothing'"]),
+    "graphviz": Lines([("digraph { a -> b }", "..{image/")], "digraph { n%d }", "", "", "", "", GRAPHVIZ),
+    "macaulay2": Lines([("1 + 1", "..2"), ("1/0", ".."), ("R = QQ[x, y]", "..R")], "print \"n%d\"", "..n%d", "while true do 0", "exit 0", "M2"),
+}
+
+
+def odd_lines(name: str) -> List[str]:
+    """Forty lines at the most, beside the cases."""
+    lines = LINES[name]
+    return [*lines.further, *ODD_LINES.get(lines.odd, [])][:max(0, 40 - len(lines.cases))]
+
+
+def expected(name: str) -> str:
+    """The answer to a numbered line that is a value."""
+    return {"yacas": "{latex:$1%06d$}", "giac": "{latex:$1%06d$}", "fricas": "..n%d", "graphviz": "..{image/"}[name]

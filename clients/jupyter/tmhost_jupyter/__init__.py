@@ -1,0 +1,1 @@
+"""A kernel of Jupyter whose cells are fields of a worksheet."""

@@ -1,0 +1,1 @@
+"""Worksheets of tmhost in GNU TeXmacs."""

@@ -1,0 +1,37 @@
+//! Worksheets in the files of a runtime that has all its standard streams.
+use sheet_files::{Closed, FileDisk, FileNames, FilesFault, MakeFault, SheetFile};
+use std::alloc::Global;
+use std::rt::Files;
+
+const OPEN: Closed = Closed {
+    input: false,
+    output: false,
+    errors: false,
+};
+
+/// Makes the files of a worksheet.
+pub fn create<F: SheetFile + Drop, R: Files<File = F>>(
+    rt: &R,
+    alloc: Global,
+    path: &str,
+) -> Result<FileDisk<F>, MakeFault> {
+    FileDisk::create(&mut FileNames::new(rt, OPEN), alloc, path)
+}
+
+/// Opens them.
+pub fn open<F: SheetFile + Drop, R: Files<File = F>>(
+    rt: &R,
+    alloc: Global,
+    path: &str,
+) -> Result<FileDisk<F>, FilesFault> {
+    FileDisk::open(&mut FileNames::new(rt, OPEN), alloc, path)
+}
+
+/// Opens them to read alone.
+pub fn open_to_read<F: SheetFile + Drop, R: Files<File = F>>(
+    rt: &R,
+    alloc: Global,
+    path: &str,
+) -> Result<FileDisk<F>, FilesFault> {
+    FileDisk::open_to_read(&mut FileNames::new(rt, OPEN), alloc, path)
+}

@@ -1,0 +1,141 @@
+"""Runs a program and lists what it asks of its files, in order: `calls.py LIST FAILS WORD ..`. LIST is the file of the list; FAILS is `-`, or a call as
+it is listed, the number of the one among them that fails, and its error: `fdatasync:1:EIO`. Listed are, of the program itself and not of those that it starts,
+
+    lock KIND MODE FILE     a lock that is asked for: EX or SH, of a file that may be read (r), or read and written (rw)
+    fsync FILE              and fdatasync FILE, write FILE
+    told                    a write on standard output
+
+and of those as well
+
+    kill NUMBER             a signal to a process, or `kill NUMBER group` to several
+
+Where the system has no such filter of calls the status is 77, and the program isn't run."""
+
+from __future__ import annotations
+
+import array
+import ctypes
+import errno
+import fcntl
+import os
+import platform
+import select
+import socket
+import struct
+import sys
+from typing import NoReturn, TextIO
+
+CALLS = {
+    "x86_64": {"seccomp": 317, "write": 1, "pwrite64": 18, "kill": 62, "flock": 73, "fsync": 74, "fdatasync": 75},
+    "aarch64": {"seccomp": 277, "write": 64, "pwrite64": 68, "kill": 129, "flock": 32, "fsync": 82, "fdatasync": 83},
+}
+LOAD, EQUALS, RETURN = 0x20, 0x15, 0x06  # of the filter's language: a word of the call, a comparison, an answer
+ASKED, ALLOWED = 0x7FC00000, 0x7FFF0000
+RECEIVE, SEND = 0xC0502100, 0xC0182101
+KINDS = {1: "SH", 2: "EX"}
+
+
+def filter_of(numbers: list[int]) -> bytes:
+    """The filter: these calls are asked about, and all others are allowed."""
+    checks = [(EQUALS, len(numbers) - at, 0, number) for at, number in enumerate(numbers)]
+    return b"".join(struct.pack("=HBBI", *it) for it in [(LOAD, 0, 0, 0), *checks, (RETURN, 0, 0, ALLOWED), (RETURN, 0, 0, ASKED)])
+
+
+class Program(ctypes.Structure):
+    _fields_ = [("length", ctypes.c_ushort), ("steps", ctypes.c_void_p)]
+
+
+def start(numbers: list[int], seccomp: int, words: list[str], line: socket.socket) -> NoReturn:
+    """Becomes the program, in a session of its own, once the place where its calls are asked about was handed out."""
+    os.setsid()
+    code = filter_of(numbers)
+    steps = ctypes.create_string_buffer(code, len(code))
+    program = Program(len(code) // 8, ctypes.cast(steps, ctypes.c_void_p))
+    system = ctypes.CDLL(None)
+    asked = -1 if system.prctl(38, 1, 0, 0, 0) else system.syscall(seccomp, 1, 8, ctypes.byref(program))
+    if asked < 0:
+        os._exit(77)
+    line.sendmsg([b"x"], [(socket.SOL_SOCKET, socket.SCM_RIGHTS, array.array("i", [asked]))])
+    os.close(asked)
+    os.execvp(words[0], words)
+
+
+def name_of(process: int, descriptor: int) -> str:
+    path = os.readlink(f"/proc/{process}/fd/{descriptor}")
+    return os.path.relpath(path) if path.startswith("/") else path
+
+
+def mode_of(process: int, descriptor: int) -> str:
+    with open(f"/proc/{process}/fdinfo/{descriptor}", encoding="ascii") as lines:
+        flags = next(int(it.split()[1], 8) for it in lines if it.startswith("flags:"))
+    return ("r", "w", "rw")[flags & 3]
+
+
+def listed(process: int, call: str, first: int, second: int) -> str | None:
+    """A call as it is listed; nothing of a write that goes elsewhere."""
+    if call == "kill":
+        return f"kill {second}" if 0 < first < 1 << 31 else f"kill {second} group"
+    if call == "write":
+        return "told" if first == 1 else None
+    if call == "flock":
+        return f"lock {KINDS.get(second & 3, second)} {mode_of(process, first)} {name_of(process, first)}"
+    return f"{'write' if call == 'pwrite64' else call} {name_of(process, first)}"
+
+
+class Failing:
+    """Which call fails: by its name, the how many-th from here on, and with which error."""
+
+    def __init__(self, given: str) -> None:
+        self.call, self.left, self.error = "", 0, 0
+        if given != "-":
+            self.call, at, error = given.split(":")
+            self.left, self.error = int(at), getattr(errno, error)
+
+    def fails(self, line: str) -> bool:
+        if line.split()[0] != self.call:
+            return False
+        self.left -= 1
+        return self.left == 0
+
+
+def answer(asked: int, process: int, names: dict[int, str], failing: Failing, out: TextIO) -> None:
+    """Lists one call, and lets it go on or fail."""
+    question = bytearray(80)
+    fcntl.ioctl(asked, RECEIVE, question)
+    number, caller, _, call, _, _, first, second = struct.unpack_from("=QIIiIQQQ", question)
+    line = listed(process, names[call], first, second) if caller == process or names[call] == "kill" else None
+    failure = failing.error if line is not None and failing.fails(line) else 0
+    if line is not None:
+        out.write(f"{line} {errno.errorcode[failure]}\n" if failure else line + "\n")
+    fcntl.ioctl(asked, SEND, struct.pack("=QqiI", number, 0, -failure, 0 if failure else 1))
+
+
+def main() -> NoReturn:
+    path, given, *words = sys.argv[1:]
+    calls = CALLS.get(platform.machine())
+    if calls is None:
+        sys.exit(77)
+    names = {number: name for name, number in calls.items() if name != "seccomp"}
+    failing = Failing(given)
+    here, there = socket.socketpair()
+    process = os.fork()
+    if process == 0:
+        here.close()
+        start(list(names), calls["seccomp"], words, there)
+    there.close()
+    _, rights, _, _ = here.recvmsg(1, socket.CMSG_SPACE(4))
+    if rights:
+        asked = struct.unpack("i", rights[0][2])[0]
+        turns = select.poll()
+        turns.register(asked, select.POLLIN)
+        with open(path, "w", encoding="utf-8") as out:
+            while turns.poll()[0][1] & select.POLLIN:
+                try:
+                    answer(asked, process, names, failing, out)
+                except FileNotFoundError:
+                    continue
+    status = os.waitstatus_to_exitcode(os.waitpid(process, 0)[1])
+    sys.exit(status if status >= 0 else 128 - status)
+
+
+main()
