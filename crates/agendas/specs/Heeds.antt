@@ -11,18 +11,18 @@ use Rattle.tellings.specs.declared.note.Note.TheVariants as note
 use Rattle.live.specs.declared.holding.Hold.{Hold}
 use Rattle.live.specs.declared.holding.Hold.TheVariants as hold
 use Rattle.live.specs.Saying.{has_closed, has_limit, is_held, stop_if}
-use Rattle.driver.specs.Reports.{Came}
+use Rattle.driver.specs.Reports.{TurnCame}
 use Rattle.agendas.specs.declared.doing.Doing.{Doing}
 use Rattle.agendas.specs.declared.doing.Doing.TheVariants as doing
 use Rattle.agendas.specs.Waits.{begun_again, warned}
 use Rattle.agendas.specs.LinesAt.{LinesAt}
 
 -- something was refused, or items were lost
-abbrev pub went_wrong : Came → Bool
+abbrev pub went_wrong : TurnCame → Bool
 went_wrong c = list_any (λ o. is_wrong o.reply) c.outcomes || list_any is_wrong c.replies
 
 -- something closed: a banner, an answer, or completions
-abbrev pub closed_one : Came → Bool
+abbrev pub closed_one : TurnCame → Bool
 closed_one c = list_any (λ o. has_closed o.reply) c.outcomes || list_any has_closed c.replies
 
 -- that the wait of this line is over is noted where it was one and isn't any more
@@ -50,7 +50,7 @@ behind_warning strict now [] held = stop_if (strict && true) (warned now)
 behind_warning strict now (seat ∷ rest) held = held
 
 -- What is noted of what came, and which wait goes on then, by what was done.
-abbrev pub HeedsDone : LinesAt → World → ℕ → Came → Doing → Option Note → Hold → Type 0
+abbrev pub HeedsDone : LinesAt → World → ℕ → TurnCame → Doing → Option Note → Hold → Type 0
 HeedsDone a w now c doing.Nothing n held = (n ≡ None) × (held ≡ a.held)
 HeedsDone a w now c (doing.Line wrong) n held = (n ≡ None) × (held ≡ stop_if (a.manner.strict && wrong) a.held)
 HeedsDone a w now c (doing.Interrupt name wrong) n held =
@@ -65,5 +65,5 @@ HeedsDone a w now c doing.Stall n held =
     (n ≡ Some (note.Waited a.number true)) × (held ≡ stop_if (a.manner.strict && went_wrong c) hold.Free)
 
 -- It heeds what came.
-abbrev pub LinesHeed : LinesAt → World → ℕ → Came → Option Note → LinesAt → Type 0
+abbrev pub LinesHeed : LinesAt → World → ℕ → TurnCame → Option Note → LinesAt → Type 0
 LinesHeed a w now c n b = (held : Hold) × HeedsDone a w now c a.doing n held × (b ≡ record a { held = held; doing = doing.Nothing })
