@@ -23,11 +23,6 @@ first_taken (z ∷ zs) ys x some is rest =
     let tail : ys ≡ zs = rest in
     cc
 
--- nothing is in a list without a length
-pub none_in : {A : Type 0} (xs : List A) → length xs ≡ 0 → xs ≡ []
-none_in [] none = refl
-none_in (x ∷ xs) none = absurd (omega (arith, none))
-
 -- the same is asked for where all of these are equal
 pub asks_same : (m n : Manner) (k j : ℕ) (w : World) (now then_now : ℕ) (l p : Option LiveLine) (c : Chosen) → m ≡ n → k ≡ j → now ≡ then_now → l ≡ p
     → AsksAlone m k w now l c → AsksAlone n j w then_now p c

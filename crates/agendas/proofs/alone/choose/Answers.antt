@@ -1,6 +1,5 @@
-use Rattle.std.proofs.Common.{◌∙◌, ap, refl, sym, subst}
+use Rattle.std.proofs.Common.{◌∙◌, ap, sym, subst}
 use Rattle.std.specs.Prelude.{Some, IfOk, OnErr}
-use Rattle.live.specs.declared.live_line.LiveLine.TheVariants as live
 use Rattle.live.specs.Saying.{IsCommand}
 use Rattle.agendas.specs.Alone.{AsksAlone, BeginsWait}
 use Rattle.agendas.specs.declared.doing.Doing.TheVariants as doing

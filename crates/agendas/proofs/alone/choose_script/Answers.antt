@@ -1,5 +1,5 @@
-use Rattle.std.proofs.Common.{false, refl, sym, subst}
-use Rattle.std.specs.Prelude.{Some, IfOk, Ok, OnErr}
+use Rattle.std.proofs.Common.{refl, sym, subst}
+use Rattle.std.specs.Prelude.{Some, IfOk, OnErr}
 use Rattle.sheet_text.specs.declared.script.ScriptLine.TheVariants as line
 use Rattle.live.specs.declared.live_line.LiveLine.TheVariants as live
 use Rattle.live.specs.Saying.{IsCommand}

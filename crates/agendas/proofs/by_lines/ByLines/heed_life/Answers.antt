@@ -1,7 +1,6 @@
 use Rattle.std.proofs.Common.{◌∙◌, ap, refl, subst}
 use Rattle.std.specs.Prelude.{◌&&◌}
 use Rattle.live.specs.Saying.{stop_if}
-use Rattle.driver.specs.Reports.{came_of}
 use Rattle.agendas.specs.Heeds.{LifeGoesOn}
 use Rattle.agendas.proofs.by_lines.ByLines.heed_life.Goals as goal
 
