@@ -1,0 +1,60 @@
+-- What a line asks for by itself. (docs/SCRIPT.md, "Live".)
+use Rattle.std.specs.Prelude.{◌≡◌, ◌≢◌, ◌⊎◌, ℕ, true, false, List, [], ◌∷◌, Option, Some, None}
+use Rattle.std.specs.declared.alloc.Global.{Global}
+use Rattle.std.specs.declared.vec.Vec.{Vec}
+use Rattle.host_events.specs.declared.command.Command.{Command}
+use Rattle.host_events.specs.declared.event.Event.{Event}
+use Rattle.host_events.specs.declared.event.Event.TheVariants as event
+use Rattle.session_engine.specs.Gathers.{is_checkpoint}
+use Rattle.session_engine.specs.World.{World}
+use Rattle.child_edge.specs.Seats.{waits}
+use Rattle.tellings.specs.declared.note.Note.TheVariants as note
+use Rattle.sheet_text.specs.declared.script.ScriptLine.TheVariants as line
+use Rattle.live.specs.declared.live_line.LiveLine.{LiveLine}
+use Rattle.live.specs.declared.live_line.LiveLine.TheVariants as live
+use Rattle.live.specs.declared.holding.Hold.{Hold}
+use Rattle.live.specs.declared.holding.Hold.TheVariants as hold
+use Rattle.live.specs.declared.manner.Manner.{Manner}
+use Rattle.live.specs.Saying.{asks_in_vain}
+use Rattle.driver.specs.declared.report.Show.TheVariants as show
+use Rattle.driver.specs.declared.turn.Turn.{Turn}
+use Rattle.driver.specs.declared.turn.Turn.TheVariants as turn
+use Rattle.agendas.specs.declared.doing.Chosen.{Chosen}
+use Rattle.agendas.specs.declared.doing.Doing.TheVariants as doing
+use Rattle.agendas.specs.Waits.{begun}
+
+-- it asks that these events are taken behind one gate, those of lines from this one on
+abbrev pub AsksLines : ℕ → List Event → Turn → Type 0
+AsksLines first events t = (taken : Vec Event Global) × (t ≡ turn.Lines first taken) × (taken.items ≡ events)
+
+-- What a command asks for: that it is taken, or that the journal is rewritten.
+abbrev pub AsksCommand : ℕ → Command → Turn → Type 0
+AsksCommand number c t =
+    ((is_checkpoint (event.Command c) ≡ true) × (t ≡ turn.Checkpoint number))
+    ⊎ ((is_checkpoint (event.Command c) ≡ false) × AsksLines number (event.Command c ∷ []) t)
+
+-- No wait is begun. This is asked for, and this is done then.
+abbrev pub Asks : Turn → Chosen → Type 0
+Asks t c = (c.turn ≡ t) × (c.held ≡ hold.Free)
+
+-- A wait begins. Where no item waits it is over at once, and that is told.
+abbrev pub BeginsWait : ℕ → World → Hold → Chosen → Type 0
+BeginsWait number w begun c =
+    ((waits w ≡ []) × (c.turn ≡ turn.Show (show.Note (note.Waited number false))) × (c.held ≡ hold.Free) × (c.doing ≡ doing.Line false))
+    ⊎ ((waits w ≢ []) × (c.turn ≡ turn.Nothing) × (c.held ≡ begun) × (c.doing ≡ doing.Line false))
+
+-- What the line with this number asks for, in this manner, where the clock reads this. A line that isn't known goes wrong, and so does one
+-- that asks for what isn't there.
+abbrev pub AsksAlone : Manner → ℕ → World → ℕ → Option LiveLine → Chosen → Type 0
+AsksAlone m number w now None c = Asks (turn.Show (show.Note (note.Bad number))) c × (c.doing ≡ doing.Line true)
+AsksAlone m number w now (Some (live.Script line.Skip)) c = Asks (turn.Show (show.Note (note.Nothing number))) c × (c.doing ≡ doing.Line false)
+AsksAlone m number w now (Some (live.Script (line.Command command))) c =
+    AsksCommand number command c.turn × (c.held ≡ hold.Free) × (c.doing ≡ doing.Commands)
+AsksAlone m number w now (Some (live.Script line.Wait)) c = BeginsWait number w (begun m.limit now (Some (live.Script line.Wait))) c
+AsksAlone m number w now (Some (live.Script line.Print)) c = Asks (turn.Show (show.Sheet number)) c × (c.doing ≡ doing.Line false)
+AsksAlone m number w now (Some (live.PrintField id)) c =
+    Asks (turn.Show (show.Field number id)) c × (c.doing ≡ doing.Line (asks_in_vain w (live.PrintField id)))
+AsksAlone m number w now (Some (live.WaitFor seconds)) c = BeginsWait number w (begun m.limit now (Some (live.WaitFor seconds))) c
+AsksAlone m number w now (Some (live.Interrupt name)) c =
+    Asks (turn.Interrupt name) c × (c.doing ≡ doing.Interrupt name (asks_in_vain w (live.Interrupt name)))
+AsksAlone m number w now (Some (live.Export format)) c = Asks (turn.Show (show.Export number format)) c × (c.doing ≡ doing.Line false)

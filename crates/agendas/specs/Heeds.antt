@@ -1,0 +1,69 @@
+-- What an agenda of lines makes of what came. (docs/SCRIPT.md, "Live".)
+use Rattle.std.specs.Prelude.{◌≡◌, ◌≢◌, ◌⊎◌, ℕ, ◌&&◌, ◌||◌, not, Bool, true, false, List, [], ◌∷◌, Option, Some, None}
+use Rattle.std.specs.List.{list_any}
+use Rattle.session_engine.specs.World.{World}
+use Rattle.child_calls.specs.declared.seat.Seat.{Seat}
+use Rattle.child_edge.specs.Seats.{waits}
+use Rattle.child_edge.specs.declared.interrupting.Interrupted.{Interrupted}
+use Rattle.sheet_programs.specs.Strict.{is_wrong}
+use Rattle.tellings.specs.declared.note.Note.{Note}
+use Rattle.tellings.specs.declared.note.Note.TheVariants as note
+use Rattle.live.specs.declared.holding.Hold.{Hold}
+use Rattle.live.specs.declared.holding.Hold.TheVariants as hold
+use Rattle.live.specs.Saying.{has_closed, has_limit, is_held, stop_if}
+use Rattle.driver.specs.Reports.{TurnCame}
+use Rattle.agendas.specs.declared.doing.Doing.{Doing}
+use Rattle.agendas.specs.declared.doing.Doing.TheVariants as doing
+use Rattle.agendas.specs.Waits.{begun_again, warned}
+use Rattle.agendas.specs.LinesAt.{LinesAt}
+
+-- something was refused, or items were lost
+abbrev pub went_wrong : TurnCame → Bool
+went_wrong c = list_any (λ o. is_wrong o.reply) c.outcomes || list_any is_wrong c.replies
+
+-- something closed: a banner, an answer, or completions
+abbrev pub closed_one : TurnCame → Bool
+closed_one c = list_any (λ o. has_closed o.reply) c.outcomes || list_any has_closed c.replies
+
+-- that the wait of this line is over is noted where it was one and isn't any more
+abbrev pub over_if : ℕ → Bool → Option Note
+over_if number true = Some (note.Waited number false)
+over_if number false = None
+
+abbrev pub over_note : ℕ → Hold → Hold → Option Note
+over_note number before behind = over_if number (is_held before && not (is_held behind))
+
+-- what came of an interrupt is noted
+abbrev pub interrupt_note : (Interrupted → Note) → Option Interrupted → Option Note
+interrupt_note of None = None
+interrupt_note of (Some told) = Some (of told)
+
+-- The wait after what lives gave: it goes on as long as an item waits for an answer. Where something closed, the next line of that session was
+-- sent, so the time of a line begins again.
+abbrev pub LifeGoesOn : Option ℕ → World → ℕ → Bool → Hold → Hold → Type 0
+LifeGoesOn limit w now closed held behind =
+    ((waits w ≡ []) × (behind ≡ hold.Free)) ⊎ ((waits w ≢ []) × (behind ≡ begun_again limit now (has_limit held && closed) held))
+
+-- the wait behind an interrupt of a life whose time is over: after the last one there are two seconds more, and a strict input stops
+abbrev pub behind_warning : Bool → ℕ → List Seat → Hold → Hold
+behind_warning strict now [] held = stop_if (strict && true) (warned now)
+behind_warning strict now (seat ∷ rest) held = held
+
+-- What is noted of what came, and which wait goes on then, by what was done.
+abbrev pub HeedsDone : LinesAt → World → ℕ → TurnCame → Doing → Option Note → Hold → Type 0
+HeedsDone a w now c doing.Nothing n held = (n ≡ None) × (held ≡ a.held)
+HeedsDone a w now c (doing.Line wrong) n held = (n ≡ None) × (held ≡ stop_if (a.manner.strict && wrong) a.held)
+HeedsDone a w now c (doing.Interrupt name wrong) n held =
+    (n ≡ interrupt_note (note.Interrupted a.number name) c.interrupted) × (held ≡ stop_if (a.manner.strict && wrong) a.held)
+HeedsDone a w now c doing.Commands n held = (n ≡ None) × (held ≡ stop_if (a.manner.strict && went_wrong c) a.held)
+HeedsDone a w now c doing.Life n held =
+    (on : Hold) × LifeGoesOn a.manner.limit w now (closed_one c) a.held on × (n ≡ over_note a.number a.held on)
+    × (held ≡ stop_if (a.manner.strict && went_wrong c) on)
+HeedsDone a w now c (doing.Warning seat) n held =
+    (n ≡ interrupt_note (note.Warned seat) c.interrupted) × (held ≡ behind_warning a.manner.strict now a.late a.held)
+HeedsDone a w now c doing.Stall n held =
+    (n ≡ Some (note.Waited a.number true)) × (held ≡ stop_if (a.manner.strict && went_wrong c) hold.Free)
+
+-- It heeds what came.
+abbrev pub LinesHeed : LinesAt → World → ℕ → TurnCame → Option Note → LinesAt → Type 0
+LinesHeed a w now c n b = (held : Hold) × HeedsDone a w now c a.doing n held × (b ≡ record a { held = held; doing = doing.Nothing })

@@ -1,0 +1,15 @@
+//! Agendas: who says what a driver does next. That of lines, as they come or one by one.
+#![tactic(auto)]
+
+mod alone;
+pub mod by_lines;
+pub mod doing;
+mod gathering;
+mod heeding;
+mod matter;
+mod taking;
+mod waits;
+
+pub use by_lines::ByLines;
+pub use doing::{Chosen, Doing};
+pub use matter::Matter;
