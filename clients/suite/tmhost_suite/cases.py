@@ -18,6 +18,7 @@ class Marks:
     is_whole: bool = False
     xfail: Optional[str] = None
     skip: Optional[str] = None
+    skip_if: Optional[str] = None  # a pattern: where what comes has it, the case is skipped
     timeout: Optional[float] = None
     tags: FrozenSet[str] = frozenset()
     flaky: int = 0

@@ -130,10 +130,10 @@ def fill(sheet: Worksheet, suite: Suite) -> Kept:
     for at, case in enumerate(suite.cases):
         kept.cells.append([])
         for field in case.fields:
-            try:
+            if field.misfit is None:
                 kept.cells[at].append(sheet.new(case.session, field.input))
-            except Refused as refused:
-                kept.misfits[at] = field.misfit or str(refused)
+            else:
+                kept.misfits.setdefault(at, field.misfit)
     sheet.new(NOTES, json.dumps({"suite": suite.digest}))
     return kept
 

@@ -1,5 +1,6 @@
 """The command line of tmhost-suite."""
 import argparse
+import contextlib
 import fnmatch
 import os
 import random
@@ -8,7 +9,7 @@ import sys
 import threading
 import time
 from concurrent.futures import ThreadPoolExecutor
-from typing import Callable, Dict, FrozenSet, List, Optional, Tuple
+from typing import Callable, Dict, Iterator, List, Optional, Tuple
 
 from tmhost import TmhostError, Worksheet
 from tmhost_weave.files import put
@@ -120,6 +121,7 @@ class Runner:
         self.slots, self.ended, self.is_broken_off = threading.Semaphore(given.jobs), threading.Event(), threading.Event()
         self.sheets: List[Worksheet] = []  # those of suites that have begun
         self.chosen = 0  # how many cases were to be run
+        self.troubles: List[str] = []  # why suites weren't run to their end; the others are
         self.seed = str(random.randrange(10**6)) if given.random == "new" else given.random
 
     def run(self) -> bool:
@@ -147,7 +149,9 @@ class Runner:
         self._write_reports(told)
         if not self.chosen and parts == 1 and (self.given.only or self.given.tags):
             raise Trouble("no case is one of those that are to be run")
-        return all(one.verdict in PASSED or one.verdict == "out" for one in told)
+        for trouble in self.troubles:
+            print(f"tmhost-suite: {trouble}", file=sys.stderr)
+        return not self.troubles and all(one.verdict in PASSED or one.verdict == "out" for one in told)
 
     def _break_off(self) -> None:
         """Ends what runs, at once: what is done stands in the worksheets, and another run goes on from there."""
@@ -163,10 +167,18 @@ class Runner:
             raise Trouble(f"{path}: {trouble}") from None
 
     def _run_one(self, suite: Suite, text: Optional[Text]) -> List[Told]:
-        try:
+        with self._told_of(suite):
             return self._run_suite(suite, text)
+        return []
+
+    @contextlib.contextmanager
+    def _told_of(self, suite: Suite) -> Iterator[None]:
+        """What goes wrong with a suite is told at the end, and the others are run."""
+        try:
+            yield
         except (Trouble, TmhostError) as trouble:
-            raise Trouble(f"{suite.path}: {trouble}") from None
+            if not self.is_broken_off.is_set():
+                self.troubles.append(f"{suite.path}: {trouble}")
 
     def _run_suite(self, suite: Suite, text: Optional[Text]) -> List[Told]:
         path = worksheets.sheet_path(suite.path, self.given.runs)
@@ -184,7 +196,8 @@ class Runner:
             applied = run(kept, plan, lambda at: self.teller.one_more())
         told = told_of(suite, kept.results)
         if self.given.accept:
-            self._accept(text, told)
+            with self._told_of(suite):
+                self._accept(text, told)
         if self.given.verbose and found is None:
             self.teller.tell_idle_rules(suite, applied)
         return told

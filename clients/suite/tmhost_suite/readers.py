@@ -1,53 +1,27 @@
-"""Suites in the forms of others: doctest's `>>>`, cram's `.t`, a Jupyter notebook with its outputs, PARI's `in` and `32`. Each is read as
-cases of one session."""
+"""Suites in the forms of others: doctest's `>>>`, cram's `.t`, a Jupyter notebook with its outputs, PARI's `in` and `32`; those of GAP and of
+Octave are in transcripts.py. Each is read as cases of one session."""
 import ast
 import doctest
 import json
 import os
 import re
 import shlex
-from typing import Any, Callable, Dict, Iterator, List, NamedTuple, Optional, Tuple
+from typing import Any, Callable, Dict, Iterator, List, Optional, Tuple
 
 from tmhost_fences.blocks import LINE, cut
 from tmhost_fences.fields import LINE_END, Group, groups, language_in, whole
 from tmhost_fences.troubles import Trouble
 
 from .cases import Case, Marks, Suite
+from .forms import GAP, GP, OCTAVE, PYTHON, SHELL, Session, session_of, whole_case
 from .rules import ANY_LINES, BY_GLOB, BY_PATTERN, Rules
+from .transcripts import is_gap, is_octave, read_gap, read_octave
 
-ADAPTERS = os.path.join(os.path.dirname(os.path.realpath(__file__)), "..", "..", "..", "adapters")
 CRAM_CODE, CRAM_MORE = re.compile(r"  \$ (.*)"), re.compile(r"  > (.*)")
 NO_END, ESCAPED = " (no-eol)", " (esc)"
 CONTROL = re.compile(r"[\x00-\x08\x0a-\x1f\x7f]")
 PARI_TIME = ("Total time spent:", '? print("Total time spent: "')
-TELLS_STATUS = 'tmhost_status=$?; [ $tmhost_status = 0 ] || echo "[$tmhost_status]"'
-
-
-def adapter(*words: str) -> Tuple[str, ...]:
-    return (os.path.normpath(os.path.join(ADAPTERS, words[0])), *words[1:])
-
-
-class Session(NamedTuple):
-    name: str
-    words: Tuple[str, ...]
-
-
-PYTHON = Session("py", adapter("python"))
-SHELL = Session("sh", adapter("prompted.py", "sh"))
-GP = Session("gp", adapter("gp", "--text", "--no-numbers"))
-
-
-def session_of(words: str) -> Session:
-    """A session with words from outside. Its name is that of the adapter, or of what this is told to speak to."""
-    found = tuple(words.split())
-    if not found:
-        raise Trouble("--words names no interpreter")
-    return Session(re.sub(r"\W", "_", os.path.basename(next((word for word in reversed(found) if word[0] != "-"), found[0])), flags=re.ASCII)[:20], found)
-
-
-def whole_case(session: str, source: str, wanted: Optional[str], line: int, marks: Marks) -> Case:
-    lines = source.rstrip("\n").split("\n")
-    return Case(session, marks, tuple(lines), tuple(whole(lines)), line, wanted)
+CRAM_OUTPUT, CRAM_SKIPS = '"$CRAMTMP"/tmhost-output', "skipped: exit 80"
 
 
 # ---- doctest
@@ -107,8 +81,6 @@ def cram_line(line: str) -> str:
     """A line that cram wants, without its two blanks, by the patterns of a suite. Cram takes one that ends in `(esc)` as it is, too, and
     its globs have no brackets, but backslashes."""
     line = line[2:]
-    if line.endswith(NO_END):
-        line = line[: -len(NO_END)]
     if line.endswith(ESCAPED):
         return "|".join(re.escape(text) for text in (line, without_escapes(line[: -len(ESCAPED)]))) + BY_PATTERN
     if line.endswith(BY_GLOB) and re.search(r"[\\[]", line):
@@ -118,18 +90,23 @@ def cram_line(line: str) -> str:
 
 
 def cram_case(session: str, code: List[str], wanted: List[str], line: int) -> Case:
-    """A command, and its status where that isn't 0, as cram tells it."""
-    field = Group(0, LINE_END.join([*code, TELLS_STATUS]))
-    return Case(session, Marks(), tuple(code), (field,), line, "\n".join(wanted).rstrip("\n"))
+    """A command, whose output goes to a file, since cram's is no terminal, with its status where that isn't 0, as cram tells it."""
+    field = Group(0, LINE_END.join(["tmhost_skips || {", "{", *code, f"}} >{CRAM_OUTPUT} 2>&1", "tmhost_tells $?", "}"]))
+    return Case(session, Marks(skip_if=f"^{CRAM_SKIPS}$"), tuple(code), (field,), line, "\n".join(wanted).rstrip("\n"))
 
 
 def cram_surroundings(session: str, path: str, last: int) -> Tuple[Case, Case]:
-    """What cram does for each file: a folder of its own, and the variables that its manual names. They are taken away at the end."""
+    """What cram does for each file: a folder of its own, and the variables that its manual names. They are taken away at the end. One that
+    exits with 80 is skipped from there on."""
     folder, name = os.path.split(os.path.abspath(path))
     begin = [
         f"CRAMTMP=$(mktemp -d -t cramtests-XXXXXX) && mkdir \"$CRAMTMP\"/{shlex.quote(name)} && cd \"$CRAMTMP\"/{shlex.quote(name)}",
-        "export CRAMTMP TMPDIR=\"$CRAMTMP\" LANG=C LC_ALL=C LANGUAGE=C TZ=GMT CDPATH= COLUMNS=80 GREP_OPTIONS=",
+        "export CRAMTMP TMPDIR=\"$CRAMTMP\" LANG=C LC_ALL=C LANGUAGE=C TZ=GMT CDPATH= COLUMNS=80 GREP_OPTIONS= TESTSHELL=/bin/bash",
         f"export TESTDIR={shlex.quote(folder)} TESTFILE={shlex.quote(name)}",
+        f"tmhost_skips () {{ [ -n \"$tmhost_skip\" ] && echo '{CRAM_SKIPS}'; }}",
+        f"tmhost_tells () {{ cat {CRAM_OUTPUT}; [ -z \"$(tail -c1 {CRAM_OUTPUT} | tr '\\0' x)\" ] || echo '{NO_END}'; [ $1 = 0 ] || echo \"[$1]\"; }}",
+        # An expansion that fails ends the line of an interactive shell, and not the shell.
+        f"exit () {{ [ \"${{1-}}\" = 80 ] && [ $BASH_SUBSHELL = 0 ] || builtin exit \"$@\"; tmhost_skip=1; echo '{CRAM_SKIPS}' >&199; : \"${{tmhost_none:?}}\"; }}",
     ]
     end = "cd / && rm -rf \"$CRAMTMP\""
     return (
@@ -247,6 +224,10 @@ def reader_of(path: str, text: str, names_sessions: bool) -> Optional[Tuple[Read
     ending = os.path.splitext(path)[1]
     if pari_wanted(path) is not None:
         return read_pari, GP
+    if ending == ".tst" and is_gap(text):
+        return read_gap, GAP
+    if ending in (".tst", ".m") and is_octave(text):
+        return read_octave, OCTAVE
     if ending in READERS:
         return READERS[ending]
     return (read_doctest, PYTHON) if not names_sessions and PROMPT.search(text) else None
@@ -281,6 +262,7 @@ def as_text(suite: Suite) -> str:
         if case.fields != tuple(groups(code, language_in(suite.sessions[case.session]))):
             marks += " {whole}"
         marks += (" {spaces any}" if case.marks.any_spaces else "") + (f" {{skip {case.marks.skip}}}" if case.marks.skip else "")
+        marks += (f" {{skip_if {case.marks.skip_if}}}" if case.marks.skip_if else "") + (f" {{xfail {case.marks.xfail}}}" if case.marks.xfail else "")
         lines += fenced(case.session + marks, code)
         if case.wanted is not None:
             lines += ["", *fenced("answer", case.wanted.split("\n") if case.wanted else [])]

@@ -49,7 +49,8 @@ class Told:
     def remark(self) -> str:
         """What is said of it beside its verdict."""
         marks = self.case.marks
-        parts = [marks.skip or "", marks.xfail or ""]
+        was_skipped = self.verdict == "skip" and self.result is not None
+        parts = [marks.skip or "", marks.xfail or "", self.got.split("\n")[0] if was_skipped else ""]
         if self.result and self.result.tries > 1:
             parts.append(f"tried {self.result.tries} times")
         if self.result and self.result.began_anew:

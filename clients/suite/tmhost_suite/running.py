@@ -2,6 +2,7 @@
 import contextlib
 import dataclasses
 import random
+import re
 import threading
 import time
 from concurrent.futures import ThreadPoolExecutor
@@ -31,7 +32,9 @@ class Plan:
     seed: Optional[int] = None
 
 
-def verdict_of(case: Case, is_good: bool, tries: int) -> str:
+def verdict_of(case: Case, got: str, is_good: bool, tries: int) -> str:
+    if is_skipped(case, got):
+        return "skip"
     if case.marks.xfail is not None:
         return "xpass" if is_good else "xfail"
     if is_good:
@@ -39,6 +42,11 @@ def verdict_of(case: Case, is_good: bool, tries: int) -> str:
     if case.wanted is None:
         return "setup" if case.marks.is_setup or case.marks.is_teardown else "new"
     return "differs"
+
+
+def is_skipped(case: Case, got: str) -> bool:
+    """Whether what came says that the case can't be tried here."""
+    return case.marks.skip_if is not None and re.search(case.marks.skip_if, got, re.MULTILINE) is not None
 
 
 class Over(Exception):
@@ -95,7 +103,7 @@ class Chain:
             good = self._is_wanted(case, result.got)
         if self.plan.is_broken_off.is_set():
             return
-        result.tries, result.verdict = tries, verdict_of(case, good, tries)
+        result.tries, result.verdict = tries, verdict_of(case, result.got, good, tries)
         self.kept.note(at, result)
         self.kept.results[at] = result
         if self.plan.fails_fast and result.verdict in WRONG:
