@@ -14,6 +14,8 @@ import sys
 import time
 from typing import Any, Callable, Iterable, Iterator, List, NamedTuple, Optional, Set
 
+import terminal
+
 LONGEST = 8_000_000  # bytes of an answer; escapes may double them
 ROOM = 16_700_000  # bytes of what is in a block, which may have 16,777,216
 PIECE = 65_536  # bytes that are read at once
@@ -46,11 +48,29 @@ class Part(NamedTuple):
     """A part of an answer."""
 
     text: bytes
-    format: bytes = b""  # of a block of its own: LATEX, or a picture's, of which `pictures.py` has some; none where it is text
+    format: bytes = b""  # of a block of its own: LATEX, or a picture's, of which `pictures.py` has some; none where it is text, or ERROR
+
+    @property
+    def folded(self) -> "Part":
+        """The part as a terminal shows it at last, where it is a text."""
+        return Part(terminal.folded_bytes(self.text), self.format) if self.format in (b"", ERROR) else self
+
+    @property
+    def shown(self) -> bytes:
+        """The part as it stands in a block."""
+        if self.format == ERROR:
+            return error(self.text)
+        return block(self.format + b":", escaped(self.text)) if self.format else escaped(self.text)
 
 
 LATEX = b"latex"  # a formula, between dollars
 PICTURE = b"image/"  # the begin of the formats of pictures
+ERROR = b"error"  # what the interpreter reports as an error
+
+
+def error(text: bytes) -> bytes:
+    """An error as it stands in a block: `tmhost` shows the channel `output` bare, and clients tell it by one that stands in another."""
+    return block(b"output#", block(b"output#", escaped(text)))
 
 
 def without_surplus(parts: List[Part], before: bytes) -> List[Part]:
@@ -71,13 +91,13 @@ def without_surplus(parts: List[Part], before: bytes) -> List[Part]:
 
 
 def answer(parts: List[Part], prompt: bytes, before: bytes = b"") -> bytes:
-    """The block of an answer: a formula or a picture alone, or a text, in which each of them is a block. What stands before the parts is a text
-    that ends in its own line feed."""
-    parts = without_surplus([part for part in parts if part.text], before)
-    if len(parts) == 1 and parts[0].format and not before:
+    """The block of an answer: a formula or a picture alone, or a text, in which each of them, and each error, is a block. Texts are as a
+    terminal shows them at last. What stands before the parts is a text that ends in its own line feed."""
+    before = terminal.folded_bytes(before)
+    parts = without_surplus([part for part in (one.folded for one in parts) if part.text], before)
+    if len(parts) == 1 and parts[0].format not in (b"", ERROR) and not before:
         return with_prompt(parts[0].format + b":", escaped(parts[0].text), prompt)
-    shown = [block(part.format + b":", escaped(part.text)) if part.format else escaped(part.text) for part in parts]
-    return with_prompt(b"verbatim:", escaped(before) + b"\n".join(shown), prompt)
+    return with_prompt(b"verbatim:", escaped(before) + b"\n".join(part.shown for part in parts), prompt)
 
 
 def verbatim(text: bytes, prompt: bytes = b"") -> bytes:

@@ -3,51 +3,26 @@ import re
 from typing import Any, Dict, Iterator, List, NamedTuple
 
 import blocks
+from terminal import folded
 
 Message = Dict[str, Any]
 
 FORMULA = re.compile(r"\s*(\${1,2})([^$]+)\1\s*")
-CODE = r"\x1b(?:\[[0-?]*[ -/]*[@-~]|\][^\x07\x1b]*(?:\x07|\x1b\\)|[@-Z\\^_])"  # of a terminal, as ECMA-48 has them
-CODES = re.compile(CODE)
-MOVES = re.compile(r"[\r\b]|\x1b\[\d*K")  # what makes a terminal write over a line
-TOKEN = re.compile(CODE + "|.", re.DOTALL)
-ERASES = re.compile(r"\x1b\[(\d*)K")
 PICTURES = ("image/svg+xml", "image/png", "image/jpeg")  # the best first
 TEXTS = ("text/plain", "text/markdown", "text/latex")
-FRAME = 3  # bytes of a block besides its format and its text
+ERROR = blocks.ERROR.decode()
+FRAME = 12  # bytes of a part's blocks besides its format and its text
 
 
 def as_bytes(text: str) -> bytes:
     return text.encode("utf-8", "backslashreplace")
 
 
-def as_shown(line: str) -> str:
-    """A line as a terminal shows it at last: what comes behind a carriage return is written over what stands there."""
-    shown: List[str] = []
-    column = 0
-    for token in TOKEN.findall(line):
-        if erases := ERASES.fullmatch(token):
-            del shown[column if erases[1] in ("", "0") else 0:]
-        elif token in "\r\b":
-            column = max(0, column - 1) if token == "\b" else 0
-        elif not CODES.fullmatch(token):
-            shown += " " * (column - len(shown))
-            shown[column:column + 1] = [token]
-            column += 1
-    return "".join(shown)
-
-
-def plain(text: str) -> str:
-    """A text without the codes that colour it, and as its lines are at last."""
-    lines = (line.rstrip("\r") for line in text.split("\n"))
-    return "\n".join(as_shown(line) if MOVES.search(line) else CODES.sub("", line) for line in lines)
-
-
 class Part(NamedTuple):
     """A part of an answer: what was printed, or a value."""
 
     text: str
-    format: str = ""  # of what is no text
+    format: str = ""  # of what is no text, or ERROR
     is_printed: bool = False
     display: str = ""  # the name by which it can be replaced
 
@@ -56,13 +31,14 @@ class Part(NamedTuple):
         return len(as_bytes(self.text)) + len(self.format) + FRAME
 
     @property
-    def shown(self) -> bytes:
-        return blocks.escaped(as_bytes(self.text))
+    def shared(self) -> blocks.Part:
+        """The part as all adapters have it."""
+        return blocks.Part(as_bytes(self.text), self.format.encode())
 
     def cut(self, size: int) -> "Part":
         """No more than so many bytes of a text, and nothing of what would be spoilt by that."""
-        left = b"" if self.format else as_bytes(self.text)[:max(0, size)]
-        return Part(left.decode("utf-8", "ignore"), is_printed=self.is_printed)
+        left = b"" if self.format not in ("", ERROR) else as_bytes(self.text)[:max(0, size)]
+        return Part(left.decode("utf-8", "ignore"), self.format if left else "", self.is_printed)
 
 
 def of_value(data: Dict[str, Any], display: str, is_text: bool) -> Part:
@@ -75,7 +51,7 @@ def of_value(data: Dict[str, Any], display: str, is_text: bool) -> Part:
     if name and not is_text and len(told[name]) < blocks.LONGEST:
         has_base64 = name != "image/svg+xml"
         return Part("".join(told[name].split()) if has_base64 else told[name], name + ";base64" * has_base64, display=display)
-    return Part(plain(next((told[kind] for kind in TEXTS if kind in told), f"[{', '.join(data)}]")), display=display)
+    return Part(folded(next((told[kind] for kind in TEXTS if kind in told), f"[{', '.join(data)}]")), display=display)
 
 
 class Output:
@@ -105,6 +81,13 @@ class Output:
     def add_value(self, data: Dict[str, Any], display: str = "") -> None:
         self.add(of_value(data, display, self.is_text))
 
+    def add_error(self, content: Message) -> None:
+        """An error. One that was printed already isn't shown twice."""
+        told = folded("\n".join(content.get("traceback", ())) or f"{content.get('ename', 'Error')}: {content.get('evalue', '')}").strip("\n")
+        if self.parts and self.parts[-1].is_printed and (printed := folded(self.parts[-1].text).rstrip("\n")).endswith(told):
+            self.parts[-1] = Part(printed.removesuffix(told), is_printed=True)
+        self.add(Part(told, ERROR))
+
     def replace(self, display: str, data: Dict[str, Any]) -> None:
         """Shows another value where a named one is shown. Where it would be too long, all that is shown is cut anew."""
         new = of_value(data, display, self.is_text)
@@ -124,15 +107,18 @@ class Output:
         elif kind == "update_display_data" and display:
             self.replace(display, content["data"])
         elif kind == "error":
-            self.add(Part(plain("\n".join(content["traceback"]) or f"{content['ename']}: {content['evalue']}")))
+            self.add_error(content)
         elif kind == "clear_output":
             self.is_to_be_cleared = True
             if not content.get("wait"):
                 self.clear()
 
     def take_reply(self, reply: Message) -> bool:
-        """What the reply to a line shows, as its help, and offers as the next input; whether the kernel ends by it."""
+        """What the reply to a line shows, as its help, and offers as the next input; whether the kernel ends by it. An error that was told by the
+        reply alone is shown, too."""
         is_end = False
+        if reply.get("status") == "error" and not any(part.format == ERROR for part in self.parts):
+            self.add_error(reply)
         for payload in reply.get("payload", ()):
             source = payload.get("source")
             if source == "page":
@@ -150,7 +136,7 @@ class Output:
                 printed.append(part.text)
                 continue
             if printed:
-                yield Part(plain("".join(printed)))
+                yield Part(folded("".join(printed)))
                 printed = []
             if part.text:
                 yield part
@@ -159,13 +145,13 @@ class Output:
 
     def block(self, prompt: bytes) -> bytes:
         """The answer: a value alone as it is, or a text with the values in it, each on lines of its own."""
-        parts = list(self.joined())
+        parts = [part.shared for part in self.joined()]
         offered = blocks.block(b"input#", blocks.escaped(as_bytes(self.next_input))) if self.next_input else b""
-        if len(parts) == 1 and parts[0].format:
-            return blocks.with_prompt(parts[0].format.encode() + b":", parts[0].shown + offered, prompt)
+        if len(parts) == 1 and parts[0].format not in (b"", blocks.ERROR):
+            return blocks.with_prompt(parts[0].format + b":", blocks.escaped(parts[0].text) + offered, prompt)
         body = bytearray()
         for part in parts:
             if body and not body.endswith(b"\n"):
                 body += b"\n"
-            body += blocks.block(part.format.encode() + b":", part.shown) if part.format else part.shown
+            body += part.shown
         return blocks.with_prompt(b"verbatim:", bytes(body).removesuffix(b"\n") + offered, prompt)

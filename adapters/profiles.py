@@ -4,6 +4,8 @@ import os
 import re
 from typing import Callable, List, Tuple
 
+import errors
+from blocks import Part
 from statements import as_it_is, closing, in_python, in_sh, in_bc, in_octave, in_r, in_maxima, in_m2, in_giac, in_yacas, in_gap, in_gnuplot, in_singular
 
 COMMANDS = "COMMANDS"  # in words: the file of the commands, where the interpreter doesn't read them from its standard input
@@ -12,7 +14,7 @@ HERE = os.path.dirname(os.path.abspath(__file__))
 
 # Each statement is shown as at Python's own prompt. A line has an empty input, and what it does to the streams ends with it.
 PYTHON_LINE = """import sys, os, ast, builtins; sys.ps1 = sys.ps2 = ''
-def tmhost_streams(names=globals(), sys=sys, os=os, ast=ast, process=os.getpid(), own=[os.dup(one) for one in range(3)]):
+def tmhost_streams(names=globals(), sys=sys, os=os, ast=ast, process=os.getpid(), own=[os.dup(one) for one in range(3)], fault=os.environ['TMHOST_ERROR'].encode()):
     def line(text):
         try:
             nothing = os.open(os.devnull, os.O_RDONLY)
@@ -21,6 +23,9 @@ def tmhost_streams(names=globals(), sys=sys, os=os, ast=ast, process=os.getpid()
             sys.stdin = open(0, closefd=False)
             for one in ast.parse(text, '<line>').body:
                 exec(compile(ast.Interactive([one]), '<line>', 'single'), names)
+        except BaseException:
+            if os.getpid() == process: os.write(own[2], fault)
+            raise
         finally:
             if os.getpid() != process: os._exit(0)
             os.dup2(own[0], 0)
@@ -68,7 +73,19 @@ R_LINE = r"""local({
         words <- sub("^<text>:[0-9]+:[0-9]+: ", "", conditionMessage(told))
         stop(words, call. = FALSE)
     })
+    fault <- Sys.getenv("TMHOST_ERROR")
+    faults <- 0
+    tell_fault <- function(count) if (sink.number("message") == 2L) {
+        cat(rep(fault, count), sep = "", file = stderr())
+        faults <<- faults + count
+    }
     line <- function(text) {
+        faults <<- 0
+        withCallingHandlers(evaluated(text), error = function(told) tell_fault(1 + faults %% 2))
+        if (faults %% 2) tell_fault(1)
+        invisible(.Last.value)
+    }
+    evaluated <- function(text) {
         on.exit(options(echo = FALSE, error = if (is.null(getOption("error"))) expression(NULL) else getOption("error")))
         for (one in parsed(text)) {
             told <- withCallingHandlers(
@@ -81,7 +98,6 @@ R_LINE = r"""local({
             assign(".Last.value", told$value, envir = baseenv())
             if (told$visible) print(told$value)
         }
-        invisible(.Last.value)
     }
     names <- function(word) {
         last <- .Last.value
@@ -112,6 +128,10 @@ MAXIMA_LINE = """:lisp (progn
         'tmhost-done)
     (defun tmhost-mark (&rest halves) (format t "~{~a~}~%" halves) nil)
     (defun tmhost-no-input (&rest words) (declare (ignore words)) (merror "a line has no input of its own"))
+    (let ((own #'merror) (screen *standard-output*))
+        (defun merror (&rest words)
+            (unless (or errcatch *mdebug*) (format screen "~&FAULT"))
+            (apply own words)))
     (dolist (name '($read $readonly $break)) (remprop name 'mfexpr*) (setf (symbol-function name) #'tmhost-no-input))
     (let ((own #'$system)) (defun $system (&rest words) (funcall own (format nil "{ ~{~a~}~%} </dev/null" words))))
     (defun retrieve (question flag) (declare (ignore flag)) (if question (displa question)) (merror "a line has no input of its own")))"""
@@ -235,12 +255,17 @@ class Profile:
     input: bytes = rb"(?!)"  # what of a line would wait for input, and can't be made an error in the interpreter itself
     names: str = ""  # the line that prints the names which begin with the word {0}; empty where there is none
     word: str = r"(?<![\w.])[A-Za-z_]\w*\Z"  # such a word at the end of a text
+    errors: bytes = rb"(?!)"  # errors in what it says, where it doesn't write FAULT before one
 
     def begins_again(self, line: bytes) -> bool:
         return bool(re.fullmatch(self.again, line.strip()))
 
     def refuses(self, line: bytes) -> bool:
         return bool(re.search(self.input, line))
+
+    def told(self, text: bytes) -> List[Part]:
+        """A text, and the errors in it."""
+        return errors.told(text, self.errors)
 
 
 PROFILES = {
@@ -251,8 +276,9 @@ PROFILES = {
         b"$ ",
         ("PS1=; PS2=; set +H; set +o history", SH_MARKS),
         in_sh,
+        errors=errors.SH,
     ),
-    "bc": Profile(["bc", "-q", "-l"], 'print "{0}", "{1}\\n"', b"", (), in_bc, input=rb"\bread\s*\("),
+    "bc": Profile(["bc", "-q", "-l"], 'print "{0}", "{1}\\n"', b"", (), in_bc, input=rb"\bread\s*\(", errors=errors.BC),
     "octave": Profile(
         ["octave-cli", "-q", "--no-init-file", "--interactive", "--no-line-editing", "--no-history"],
         "tmhost_mark ('{0}', '{1}')",
@@ -274,8 +300,9 @@ PROFILES = {
         after='getOption("tmhost.close")()',
         names='getOption("tmhost.names")("{0}")',
         word=r"(?<![\w.$@])(?<!::)[A-Za-z][\w.]*\Z",
+        errors=errors.R,
     ),
-    "gap": Profile(["gap", "-q", "-b", "-n", "-T"], 'Print("{0}", "{1}\\n");', b"gap> ", (" ".join(GAP_LINE.split()),), in_gap),
+    "gap": Profile(["gap", "-q", "-b", "-n", "-T"], 'Print("{0}", "{1}\\n");', b"gap> ", (" ".join(GAP_LINE.split()),), in_gap, errors=errors.GAP),
     "maxima": Profile(
         ["maxima", "--very-quiet"],
         ':lisp (|TMHOST-MARK| "{0}" "{1}")',
@@ -288,6 +315,7 @@ PROFILES = {
         pictures=(" ".join(MAXIMA_PICTURES.split()),),
         names=':lisp (progn (dolist (s (cdr (meval (list (list (quote $apropos)) "{0}")))) (format t "~%~a" ($sconcat s))) (values))',
         word=r"(?<![\w%?])[A-Za-z]\w*\Z",
+        errors=errors.MAXIMA,
     ),
     "M2": Profile(
         ["M2", "-q", "--silent", "--no-readline", "--no-debug", "--no-tty", "--no-prompts"],
@@ -297,6 +325,7 @@ PROFILES = {
         in_m2,
         latex=M2_LATEX,
         again=rb"restart\s*;?",
+        errors=errors.M2,
     ),
     "giac": Profile(
         ["giac", "--sage"],
@@ -309,9 +338,11 @@ PROFILES = {
         latex=(GIAC_LATEX,),
         again=rb"restart\s*(?:\(\s*\))?\s*[;:]*",
         input=rb"\b(?:input|InputStr|Input|textinput|saisir|saisir_chaine)\s*\(",
+        errors=errors.GIAC,
     ),
     "singular": Profile(
-        ["Singular", "-q", "--no-rc", "--no-warn"], 'dbprint(1, "{0}" + "{1}");', b"> ", (), in_singular
+        ["Singular", "-q", "--no-rc", "--no-warn"], 'dbprint(1, "{0}" + "{1}");', b"> ", (), in_singular,
+        errors=errors.SINGULAR,
     ),
     "gnuplot": Profile(
         ["gnuplot"],
@@ -322,6 +353,7 @@ PROFILES = {
         pictures=("set terminal svg",),
         before="""eval GPVAL_OUTPUT eq "" ? "set output 'FOLDER/drawn'" : ''""",
         closing="eval GPVAL_OUTPUT eq 'FOLDER/drawn' && !(exists('GPVAL_MULTIPLOT') && GPVAL_MULTIPLOT) ? 'set output' : ''; ",
+        errors=errors.GNUPLOT,
     ),
     "yacas": Profile(
         ["yacas", "-pc"],
@@ -331,5 +363,6 @@ PROFILES = {
         in_yacas,
         rb"(?m:^)(?:In> |Out> )+|(?<= )Out> ",
         b"\nOut> True\n",
+        errors=errors.YACAS,
     ),
 }

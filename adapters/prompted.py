@@ -4,7 +4,7 @@
     prompted.py PROFILE [--latex] [--no-pictures]
 
 It starts the interpreter of the profile, sends it each line of its own input, and behind each line one that prints a marker. What comes
-before the marker is the answer, on as many lines as it has, messages of errors among it. Each line has a marker of its own, which is made
+before the marker is the answer, on as many lines as it has, messages of errors among it, which are blocks of their own where they can be told. Each line has a marker of its own, which is made
 from random bytes and stands in no command as a whole, so that neither an answer nor an echo of a command has it, and one that comes late
 ends no other line. Where a line has taken its marker for its input, or its own end isn't there, it is answered by an error. With `--latex`
 values are formulas, blocks of the format `latex`, where the profile has a way to write them. What a line draws stands behind its text, as blocks of
@@ -32,6 +32,7 @@ READERS = 20  # programs that wait for input in one line, and are ended
 OLD_MARKS = 100  # markers that were lost, and may come yet
 NO_INPUT = b"a line has no input of its own"
 STARTED_AGAIN = NO_INPUT + b": the interpreter was started again, without its variables"
+Parts = List[blocks.Part]
 
 
 class Mark(NamedTuple):
@@ -52,8 +53,8 @@ def new_mark() -> Mark:
 class Stuck(Exception):
     """The interpreter takes all that it is sent for the input of a line."""
 
-    def __init__(self, said: bytes) -> None:
-        self.said = said  # in that line
+    def __init__(self, parts: Parts) -> None:
+        self.parts = parts  # of what it has said in that line
 
 
 def terminal() -> "tuple[int, int]":
@@ -83,6 +84,7 @@ class Interpreter(blocks.Child):
         self.profile, self.folder = profile, folder
         self.begins = [*profile.begins, *(profile.latex if is_latex else ()), *(profile.pictures if folder else ())]
         self.mark = blocks.new_name()  # stands before and behind each formula
+        self.fault = blocks.new_name()  # stands before an error, where the profile makes it
         self.lost: List[bytes] = []  # the markers that were lost
         theirs, self.commands = os.pipe()
         commands = f"/dev/fd/{theirs}"
@@ -94,7 +96,7 @@ class Interpreter(blocks.Child):
                 [word.replace(COMMANDS, commands) for word in profile.words], output, signals,
                 stdin=nothing if has_file else theirs, stdout=written, stderr=written, pass_fds=[theirs],
                 env=dict(os.environ, TERM="dumb", COLUMNS="32767", PAGER="cat", EDITOR="false", VISUAL="false", BROWSER="true", HISTFILE=os.devnull,
-                         TMHOST_COMMANDS=commands, TMHOST_FORMULA=self.mark.decode()))
+                         TMHOST_COMMANDS=commands, TMHOST_FORMULA=self.mark.decode(), TMHOST_ERROR=self.fault.decode()))
         os.close(theirs)
         os.close(written)
 
@@ -106,7 +108,7 @@ class Interpreter(blocks.Child):
 
     def filled(self, line: str) -> bytes:
         """A line of the profile with what is meant by its words."""
-        return line.replace("MARK", self.mark.decode()).replace("FOLDER", self.folder).encode()
+        return line.replace("MARK", self.mark.decode()).replace("FAULT", self.fault.decode()).replace("FOLDER", self.folder).encode()
 
     def around(self, line: bytes) -> List[bytes]:
         """What it is sent for a line."""
@@ -121,8 +123,8 @@ class Interpreter(blocks.Child):
         blocks.write(b"".join(line + b"\n" for line in (*lines, marks)), self.commands)
         return mark
 
-    def ask(self, *sent: bytes) -> Optional[bytes]:
-        """What it says to these lines; None where it, or our reader, has ended before the marker."""
+    def ask(self, *sent: bytes) -> Optional[Parts]:
+        """The parts of what it says to these lines; None where it, or our reader, has ended before the marker."""
         marks, said, patience = [self.send(*sent)], blocks.Said(), PATIENCE
         ended: Set[int] = set()
         was_waiting = False
@@ -137,12 +139,12 @@ class Interpreter(blocks.Child):
             found = waiting.readers(self.process.pid, self.inputs)
             if found and was_waiting:
                 if not self.give_no_input(found, marks, ended):
-                    raise Stuck(with_error(self.text_of(said.before(len(said.kept)), marks), STARTED_AGAIN))
+                    raise Stuck([*self.parts(self.text_of(said.before(len(said.kept)), marks)), blocks.Part(STARTED_AGAIN, blocks.ERROR)])
             elif not found:
                 patience = min(2 * patience, LONGEST_PATIENCE)
             was_waiting = bool(found) and not was_waiting
-        text = self.text_of(said.before(end), marks)
-        return with_error(text, NO_INPUT) if ended or len(marks) > 1 else text
+        errors = [blocks.Part(NO_INPUT, blocks.ERROR)] if ended or len(marks) > 1 else []
+        return self.parts(self.text_of(said.before(end), marks)) + errors
 
     def give_no_input(self, found: Set[int], marks: List[Mark], ended: Set[int]) -> bool:
         """Ends the programs that a line has started and that wait for input. Where it is the interpreter that waits, it has taken the marker
@@ -173,20 +175,27 @@ class Interpreter(blocks.Child):
         super().leave()
         os.close(self.commands)
 
-    def parts(self, said: bytes) -> List[blocks.Part]:
-        """The texts of an answer, and the formulas between two marks. One that was cut is text."""
+    def parts(self, said: bytes) -> Parts:
+        """The texts of an answer, the formulas between two marks, and its errors. A formula that was cut is text. Of an even number of marks of
+        errors the last one takes the others back."""
+        *texts, error = said.split(self.fault)
+        if len(texts) % 2:
+            return [*self.values(b"".join(texts)), blocks.Part(error.strip(b"\n"), blocks.ERROR)]
+        return self.values(b"".join([*texts, error]))
+
+    def values(self, said: bytes) -> Parts:
+        """The texts and formulas, and the errors that show it by their form."""
         texts = said.split(self.mark)
         if len(texts) % 2 == 0:
             texts[-2:] = [b"".join(texts[-2:])]
-        return [formula(text) if at % 2 else blocks.Part(text.strip(b"\n")) for at, text in enumerate(texts)]
+        return [part for at, text in enumerate(texts) for part in ([formula(text)] if at % 2 else self.profile.told(text))]
 
-    def answer(self, line: bytes) -> Optional[List[blocks.Part]]:
+    def answer(self, line: bytes) -> Optional[Parts]:
         """The parts of the answer to a line; None where it has ended."""
         if self.profile.refuses(line):
-            return [blocks.Part(NO_INPUT)]
+            return [blocks.Part(NO_INPUT, blocks.ERROR)]
         with self.at_a_line():
-            said = self.ask(*self.around(line)) if self.drop_what_was_said() else None
-        return None if said is None else self.parts(said)
+            return self.ask(*self.around(line)) if self.drop_what_was_said() else None
 
     def complete(self, front: bytes) -> Optional[bytes]:
         """The block that says what can stand behind a text; None where it has ended."""
@@ -195,16 +204,12 @@ class Interpreter(blocks.Child):
             return blocks.NO_COMPLETIONS
         with self.at_a_line():
             said = self.ask(self.profile.names.format(found[0]).encode()) if self.drop_what_was_said() else None
-        return None if said is None else blocks.completions(found[0], said.decode("utf-8", "replace").split())
+        return None if said is None else blocks.completions(found[0], b"\n".join(part.text for part in said).decode("utf-8", "replace").split())
 
 
 def without_lines(text: bytes, word: bytes) -> bytes:
     """A text without the lines that have a word."""
     return b"\n".join(line for line in text.split(b"\n") if word not in line) if word in text else text
-
-
-def with_error(said: bytes, error: bytes) -> bytes:
-    return b"%b\n%b\n" % (said.rstrip(b"\n"), error) if said.strip(b"\n") else error + b"\n"
 
 
 class Session:
@@ -219,9 +224,9 @@ class Session:
     def answer(self, line: bytes) -> Optional[bytes]:
         """The block that answers a line; None where the interpreter has ended."""
         try:
-            parts = self.begin_again(b"") if self.profile.begins_again(line) else self.interpreter.answer(line)
+            parts = self.begin_again([]) if self.profile.begins_again(line) else self.interpreter.answer(line)
         except Stuck as stuck:
-            parts = self.begin_again(stuck.said.strip(b"\n"))
+            parts = self.begin_again(stuck.parts)
         return None if parts is None else blocks.answer([*parts, *(pictures.drawn(self.folder) if self.folder else ())], self.profile.prompt)
 
     def complete(self, front: bytes) -> Optional[bytes]:
@@ -229,15 +234,15 @@ class Session:
         try:
             return self.interpreter.complete(front)
         except Stuck:
-            return None if self.begin_again(b"") is None else blocks.NO_COMPLETIONS
+            return None if self.begin_again([]) is None else blocks.NO_COMPLETIONS
 
-    def begin_again(self, said: bytes) -> Optional[List[blocks.Part]]:
-        """Starts another interpreter in the place of this one, and answers with a text."""
+    def begin_again(self, said: Parts) -> Optional[Parts]:
+        """Starts another interpreter in the place of this one, and answers with what was said."""
         self.interpreter.leave()
         if self.folder:
             pictures.clear(self.folder)
         self.interpreter = Interpreter(self.profile, self.is_latex, self.folder, self.signals)
-        return [blocks.Part(said)] if self.interpreter.begin() else None
+        return said if self.interpreter.begin() else None
 
 
 def main() -> None:

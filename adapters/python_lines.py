@@ -3,7 +3,7 @@
     python_lines.py COMMANDS VALUE [pictures]
 
 From the descriptor COMMANDS it reads for each line whether it is to be evaluated or completed, how long it is, a name, and the line. What
-the line prints goes to the standard output as it is; its pictures and its value, or the word at its end and the names that may stand
+the line prints goes to the standard output as it is; its errors, its pictures and its value, or the word at its end and the names that may stand
 there, each with its kind and length before it, to the file VALUE. Then it writes the name, and the line is done.
 """
 import ast
@@ -22,10 +22,11 @@ import python_names
 import tmhost_figures
 
 LONGEST = 8_000_000  # bytes of a value
+LONGEST_ERROR = 100_000  # bytes of an error
 FORMULA = re.compile(r"\s*(\${1,2})([^$]+)\1\s*")
 
 Result = TypeVar("Result")
-Shown = Tuple[str, bytes]  # "text", "latex" or "picture", and what it is
+Shown = Tuple[str, bytes]  # "text", "latex", "picture" or "error", and what it is
 
 
 class Lines:
@@ -38,6 +39,8 @@ class Lines:
         self.names["__builtins__"] = builtins
         self.number = 0
         self.is_at_a_line = False
+        self.errors: List[Shown] = []
+        self.own = os.getpid()
         signal.signal(signal.SIGINT, self.interrupted)
 
     def interrupted(self, number: int, frame: Optional[types.FrameType]) -> None:
@@ -56,11 +59,12 @@ class Lines:
         return eval(compile(ast.Expression(last.value), name, "eval"), self.names) if isinstance(last, ast.Expr) else None
 
     def evaluated(self, text: str) -> List[Shown]:
-        """The pictures of a line, and its value. An error is printed, an exit() among them."""
+        """The errors of a line, an exit() among them, its pictures, and its value."""
         sys.stdin = open(os.devnull, encoding="utf-8")  # exit() closes it
+        self.errors = []
         value = self.tried(lambda: shown_of(self.value_of(text)))
         self.tried(tmhost_figures.draw_what_is_left)
-        return [*(("picture", data) for data in tmhost_figures.taken()), *(value or [])]
+        return [*self.errors, *(("picture", data) for data in tmhost_figures.taken()), *(value or [])]
 
     def completed(self, text: str) -> List[Shown]:
         """The word at the end of a text, and the names that may stand there."""
@@ -68,8 +72,8 @@ class Lines:
         return [("root", as_bytes(root)), ("names", as_bytes(names))]
 
     def tried(self, work: Callable[[], Result]) -> Optional[Result]:
-        """What some work gives; None where it ends by an error, which is printed, or by an interrupt."""
-        with contextlib.suppress(KeyboardInterrupt):  # one that comes while an error is printed
+        """What some work gives; None where it ends by an error, or by an interrupt."""
+        with contextlib.suppress(KeyboardInterrupt):  # one that comes while an error is told
             try:
                 self.is_at_a_line = True
                 result = work()
@@ -77,8 +81,15 @@ class Lines:
                 return result
             except BaseException as error:
                 self.is_at_a_line = False
-                print_error(error)
+                self.tell(text_of(error))
         return None
+
+    def tell(self, error: str) -> None:
+        """An error; that of a process that the line has forked is printed."""
+        if os.getpid() == self.own:
+            self.errors.append(("error", as_bytes(error, LONGEST_ERROR).rstrip(b"\n")))
+        else:
+            print(error, end="", file=sys.stderr)
 
 
 def shown_of(value: Any) -> List[Shown]:
@@ -104,16 +115,16 @@ def without_own_frames(told: traceback.TracebackException) -> None:
             without_own_frames(behind)
 
 
-def print_error(error: BaseException) -> None:
+def text_of(error: BaseException) -> str:
     is_of_parser = isinstance(error, SyntaxError) and (error.filename or "").startswith("<line ")
     told = traceback.TracebackException(type(error), error, None if is_of_parser else error.__traceback__)
     without_own_frames(told)
-    print("".join(told.format()), end="", file=sys.stderr)
+    return "".join(told.format())
 
 
-def as_bytes(text: str) -> bytes:
+def as_bytes(text: str, longest: int = LONGEST) -> bytes:
     data = text.encode("utf-8", "backslashreplace")
-    return data if len(data) <= LONGEST else data[:LONGEST] + b"\n[%d bytes more]" % (len(data) - LONGEST)
+    return data if len(data) <= longest else data[:longest] + b"\n[%d bytes more]" % (len(data) - longest)
 
 
 def flush() -> None:

@@ -49,7 +49,7 @@ def in_bc(line: bytes) -> bytes:
 
 
 def in_octave(line: bytes) -> bytes:
-    return b"unwind_protect, tmhost_input (false); eval (" + quoted(line) + b"); unwind_protect_cleanup, tmhost_input (true); end_unwind_protect"
+    return b"unwind_protect, tmhost_input ('of a line'); eval (" + quoted(line) + b"); tmhost_input ('done'); unwind_protect_cleanup, tmhost_input (''); end_unwind_protect"
 
 
 def in_r(line: bytes) -> bytes:

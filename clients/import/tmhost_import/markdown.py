@@ -14,7 +14,7 @@ from .sessions import Sessions
 NO_LANGUAGE = "blocks without a language"
 SWITCHED_OFF = "blocks that aren't to be evaluated"
 WHOLE = ("whole", "pure")  # words of tmhost-weave at a fence that is one field
-ANSWERS = ("tmhost-answer", "tmhost-no-answer")  # blocks that tmhost-weave puts into a text
+ANSWERS = ("tmhost-answer", "tmhost-error", "tmhost-no-answer")  # blocks that tmhost-weave puts into a text
 # What it puts around a formula and, with more on the line, around answers that are folded.
 ANSWER_BEGINS, ANSWER_ENDS = "<!-- tmhost-answer -->", "<!-- /tmhost-answer -->"
 NO_ANSWER = re.compile(r"\*no answer(?:: \w+)?\*")

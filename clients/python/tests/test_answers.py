@@ -38,6 +38,17 @@ class Answers(Case):
         self.assertEqual((answer.find("latex"), answer.find("verbatim"), answer.find("no")), ([latex], [answer.output], []))
         self.assertEqual((answer.text, answer.output.plain), ("so {latex:$x^2$}{warning#odd}", "so $x^2$odd"))
 
+    def test_errors(self) -> None:
+        """Those that adapters write, which print shows bare, and those of the channel `error`."""
+        sheet = self.sheet()
+        error, told, none = (sheet.new("a", text).evaluate() for text in ("error no way", "told no", "formula x"))
+        self.assertEqual((error.errors, error.text), (["no way"], "so\nno way"))
+        self.assertEqual((told.errors, told.text), (["no"], "{error#no}and more"))
+        self.assertEqual((none.errors, Block("output", "channel", ("x",)).errors), ([], []))
+        deep = Block("verbatim", "format", (Block("output", "channel", (Block("output", "channel", ("a", Block("latex", "format", ("$b$",)))), "c")),))
+        self.assertEqual([one.plain for one in deep.errors], ["a$b$"])
+        self.assert_exact(sheet)
+
     def test_prompts(self) -> None:
         sheet = self.sheet()
         one, two = sheet.new("a", "prompted x"), sheet.new("a", "cut")

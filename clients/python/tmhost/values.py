@@ -54,6 +54,21 @@ class Block:
         return found
 
     @property
+    def errors(self) -> "List[Block]":
+        """The blocks in it that are errors, the outer ones alone: those of the channel `error`, and those of the channel `output` in another one."""
+        if self.kind == "channel" and self.tag == "error":
+            return [self]
+        found: "List[Block]" = []
+        for item in self.items:
+            if isinstance(item, Block):
+                found += [item] if self.is_output and item.is_output else item.errors
+        return found
+
+    @property
+    def is_output(self) -> bool:
+        return self.kind == "channel" and self.tag == "output"
+
+    @property
     def plain(self) -> Text:
         """All texts in it at any depth, without the tags."""
         return joined([item.plain if isinstance(item, Block) else item for item in self.items])
@@ -79,6 +94,11 @@ class Answer:
     def find(self, tag: Text) -> List[Block]:
         """The blocks of the output with this tag, in the order in which they open."""
         return self.output.find(tag)
+
+    @property
+    def errors(self) -> List[Text]:
+        """What the interpreter reports as errors in it."""
+        return [error.plain for error in self.output.errors]
 
     def __str__(self) -> str:
         return readable(self.text)

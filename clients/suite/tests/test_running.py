@@ -213,6 +213,16 @@ class Reports(Case):
         self.assertTrue(points[1].startswith(f"not ok 2 - {self.path}:17 "))
         self.assertEqual(points[2:], [f"not ok 3 - {self.path}:27 say 5 # TODO n#t", f"ok 4 - {self.path}:37 x # SKIP"])
 
+    def test_errors_are_told(self) -> None:
+        """An answer that its interpreter reports as an error is told as one, wanted or not, also by a run that goes on."""
+        self.write(case("error a\\n|no", "a\nno"), case("error |way", "none"), case("say none", "way"), case("error |new"))
+        found = self.objects(self.path)
+        self.assertEqual([(one["verdict"], one["isError"]) for one in found], [("ok", True), ("differs", True), ("differs", False), ("new", True)])
+        self.assertIn("differs, an error: ", self.outcome.output)
+        self.run_suite(self.path, "--junit", self.place("report.xml"))
+        tree = xml.etree.ElementTree.parse(self.place("report.xml"))
+        self.assertEqual([one.get("type") for one in tree.iter("failure")], ["error", "answer", "error"])
+
     def test_junit_is_xml(self) -> None:
         report = self.place("report.xml")
         self.run_suite(self.path, "--junit", report)

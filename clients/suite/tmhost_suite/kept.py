@@ -24,12 +24,13 @@ PATIENCE, PAUSE = 10.0, 0.05  # seconds; the program of a run that was killed ne
 @dataclasses.dataclass
 class Result:
     """What came of a case. `got` is what is compared; `tries` is how often it was evaluated; `began_anew` says that its interpreter was
-    started for it, other than for the first case of its session."""
+    started for it, other than for the first case of its session; `is_error` that an answer is an error, or has one."""
 
     got: str
     seconds: float
     tries: int = 1
     began_anew: bool = False
+    is_error: bool = False
     verdict: str = ""
 
 

@@ -38,6 +38,11 @@ class Told:
         return self.verdict in WRONG
 
     @property
+    def is_error(self) -> bool:
+        """Whether what came is an error, as its interpreter reports it."""
+        return bool(self.result and self.result.is_error)
+
+    @property
     def got(self) -> str:
         return self.result.got if self.result else ""
 
@@ -116,7 +121,8 @@ def junit(all_told: List[Told]) -> Iterator[str]:
         for told in own:
             head = f'<testcase classname={xml_attribute(path)} name={xml_attribute(f"{told.case.line}: {told.case.title}")} time="{told.seconds:.3f}"'
             if told.is_wrong:
-                yield f"{head}><failure message={xml_attribute(told.verdict)}>{xml_text(chr(10).join(told.diff))}</failure></testcase>"
+                kind = "error" if told.is_error else "answer"
+                yield f'{head}><failure message={xml_attribute(told.verdict)} type="{kind}">{xml_text(chr(10).join(told.diff))}</failure></testcase>'
             elif told.verdict in ("skip", "xfail"):
                 yield f"{head}><skipped message={xml_attribute(told.remark)}/></testcase>"
             else:
@@ -140,6 +146,7 @@ def json_lines(all_told: List[Told]) -> Iterator[str]:
             "remark": told.remark,
             "wanted": told.case.wanted,
             "came": told.result.got if told.result else None,
+            "isError": told.is_error,
             "seconds": round(told.seconds, 6),
             "tries": told.result.tries if told.result else 0,
             "startedAgain": bool(told.result and told.result.began_anew),

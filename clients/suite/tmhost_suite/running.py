@@ -8,7 +8,7 @@ import time
 from concurrent.futures import ThreadPoolExecutor
 from typing import Callable, FrozenSet, List, Optional
 
-from tmhost import Cell, Lost, Refused, TimedOut
+from tmhost import Answer, Cell, Lost, Refused, TimedOut
 
 from .cases import Case
 from .kept import Kept, Result, joined, shown_of
@@ -121,9 +121,12 @@ class Chain:
         began = time.monotonic()
         until = began + (case.marks.timeout or self.suite.timeout or self.plan.seconds)
         got: List[str] = []
+        is_error = False
         try:
             for cell in self.kept.cells[at]:
-                got.append(self._answer(cell, until))
+                answer = self._answer(cell, until)
+                got.append(shown_of(answer))
+                is_error = is_error or bool(answer.errors)
         except Lost as lost:
             got.append(f"? {lost.reason}")
         except Over:
@@ -132,12 +135,12 @@ class Chain:
             got.append(f"? {refused}")
         if at in self.kept.misfits:
             got.append(f"? {self.kept.misfits[at]}")
-        return Result(joined(got), time.monotonic() - began, began_anew=began_anew)
+        return Result(joined(got), time.monotonic() - began, began_anew=began_anew, is_error=is_error)
 
-    def _answer(self, cell: Cell, until: float) -> str:
+    def _answer(self, cell: Cell, until: float) -> Answer:
         """The answer of a cell. Raises Lost, where its interpreter ended, Over, where the time is, and Refused."""
         try:
-            return shown_of(cell.evaluate(max(0.001, until - time.monotonic())))
+            return cell.evaluate(max(0.001, until - time.monotonic()))
         except Lost:
             self.is_fresh = True
             raise

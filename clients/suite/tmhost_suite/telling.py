@@ -44,7 +44,7 @@ class Teller:
     def tell(self, told: Told) -> None:
         """A case that is wrong, with its difference."""
         remark = f" ({told.remark})" if told.remark else ""
-        self.say(self.painted(readable(f"{told.verdict}: {told.name}{remark}"), BOLD))
+        self.say(self.painted(readable(f"{told.verdict}{', an error' if told.is_error else ''}: {told.name}{remark}"), BOLD))
         if told.verdict == "xpass":
             self.say("  it is wanted to fail, and passes")
         for line in told.diff[2:]:

@@ -5,6 +5,7 @@ lines that it has got, so that an answer tells what was evaluated before it.
     bytes HEX     these bytes
     latex TEXT    a block `latex`
     both TEXT|LATEX|TEXT ..    texts, and blocks `latex` between them
+    error TEXT|TEXT   a text, and an error behind it
     file PATH     what stands in a file
     quiet         nothing
     sleep SECONDS
@@ -46,6 +47,9 @@ def answer(lines: List[str]) -> bytes:
     if word == "both":
         parts = [written(part) for part in rest.split("|")]
         return b"\x02verbatim:" + b"".join(b"\x02latex:" + part + b"\x05" if at % 2 else part for at, part in enumerate(parts)) + b"\x05"
+    if word == "error":
+        text, _, told = rest.partition("|")
+        return b"\x02verbatim:" + written(text) + b"\x02output#\x02output#" + written(told) + b"\x05\x05\x05"
     if word == "file":
         with open(rest, "rb") as file:
             return escaped(file.read())

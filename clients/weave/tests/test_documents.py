@@ -11,7 +11,7 @@ from typing import List, Tuple
 from . import support  # finds the packages
 from .trees import CMARK, Tree, cmark_tree, codes, without_answers
 
-from tmhost_weave.answers import ANSWER, FORMULA, NO_ANSWER, Piece, Shown, longest_run  # noqa: E402
+from tmhost_weave.answers import ANSWER, ERROR, FORMULA, NO_ANSWER, Piece, Shown, longest_run  # noqa: E402
 from tmhost_weave.document import Document  # noqa: E402
 from tmhost_fences.fields import LINE_END  # noqa: E402
 from tmhost_fences.troubles import Trouble  # noqa: E402
@@ -53,7 +53,7 @@ def random_text(chance: random.Random) -> str:
 def random_shown(chance: random.Random, is_in_container: bool) -> Shown:
     pieces = []
     for _ in range(chance.randrange(3)):
-        kind = chance.choice([ANSWER, ANSWER, NO_ANSWER] + [FORMULA] * (not is_in_container))
+        kind = chance.choice([ANSWER, ANSWER, ERROR, NO_ANSWER] + [FORMULA] * (not is_in_container))
         pieces.append(Piece(kind, "$x^2$" if kind == FORMULA else "\n".join(chance.choice(HOSTILE) for _ in range(chance.randrange(1, 4)))))
     return Shown(tuple(pieces), bool(pieces) and chance.random() < 0.3)
 
@@ -104,7 +104,8 @@ class Random(unittest.TestCase):
             if self.is_seen_alike(before, document):
                 self.assertEqual(without_answers(after), before, text)
                 self.assertEqual(codes(after, ANSWER), [clean(one) for one in contents(shown, ANSWER)], text)
-                self.assertEqual(codes(after, NO_ANSWER), [clean(one) for one in contents(shown, NO_ANSWER)], text)
+                for kind in (ERROR, NO_ANSWER):
+                    self.assertEqual(codes(after, kind), [clean(one) for one in contents(shown, kind)], text)
                 tried += 1
         print(f"cmark: {tried} random texts", file=sys.stderr)
         self.assertGreater(tried, DOCUMENTS // 8)

@@ -136,6 +136,14 @@ class Weaving(Case):
         self.assertEqual(self.logged("a"), [])
         self.assertEqual(answers(shown), [value(["x"]), value(["x", "y"])])
 
+    def test_errors(self) -> None:
+        """An error has fences of its own, behind what was printed before it, and is found again; in a list all is one text."""
+        woven = self.weave(self.front("a") + fences([("a", "error a\\n|no\\nway"), ("a", "error |b")]) + "\n- c\n\n  ```a\n  error d\\n|e\n  ```\n")
+        self.assertIn("\n\n```tmhost-answer\na\n```\n\n```tmhost-error\nno\nway\n```\n", woven)
+        self.assertIn("error |b\n```\n\n```tmhost-error\nb\n```\n", woven)
+        self.assertIn("  ```\n  ```tmhost-error\n  d\n  e\n  ```\n", woven)
+        self.assertEqual(self.weave(woven), woven)
+
     def test_what_a_replay_shows(self) -> None:
         """Where an interpreter answers otherwise now, that is told of the answers that are kept."""
         self.write("one", self.place("file"))

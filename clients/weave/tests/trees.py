@@ -39,7 +39,7 @@ def pandoc_tree(text: str) -> Any:
 
 def is_answer(tree: Tree) -> bool:
     kind, text, inner = tree
-    return kind in ("code_block info=tmhost-answer", "code_block info=tmhost-no-answer") or (kind == "html_block" and text.strip() in MARKS)
+    return kind in ("code_block info=tmhost-answer", "code_block info=tmhost-error", "code_block info=tmhost-no-answer") or (kind == "html_block" and text.strip() in MARKS)
 
 
 def is_formula(trees: Tuple[Any, ...], at: int) -> bool:

@@ -5,7 +5,7 @@ from typing import Any, List, Optional, Sequence, Tuple
 
 from tmhost_fences.troubles import Trouble
 
-ANSWER, NO_ANSWER, FORMULA = "tmhost-answer", "tmhost-no-answer", "formula"
+ANSWER, ERROR, NO_ANSWER, FORMULA = "tmhost-answer", "tmhost-error", "tmhost-no-answer", "formula"
 FORMULA_BEGINS, FORMULA_ENDS = "<!-- tmhost-answer -->", "<!-- /tmhost-answer -->"
 # A remark in front, since a block of HTML that begins with one ends on its line, without an empty line behind it.
 FOLD_BEGINS = "<!-- tmhost-answer --><details><summary>Answer</summary>"
@@ -15,7 +15,7 @@ RUN = re.compile("`+")
 
 @dataclasses.dataclass(frozen=True)
 class Piece:
-    """An answer, or why there is none; `kind` is one of the three above."""
+    """An answer or a part of it, or why there is none; `kind` is one of the four above."""
 
     kind: str
     text: str
@@ -34,7 +34,7 @@ def longest_run(text: str) -> int:
 
 
 def is_of_an_answer(info: str) -> bool:
-    return info.strip() in (ANSWER, NO_ANSWER)
+    return info.strip() in (ANSWER, ERROR, NO_ANSWER)
 
 
 def fenced(piece: Piece) -> List[str]:

@@ -4,6 +4,8 @@ from typing import List, Optional, Tuple, Union
 
 from tmhost import Block, readable
 
+from .answers import ANSWER, ERROR, FORMULA
+
 NOT_PLAIN = re.compile(rb"[\x00-\x1f\x7f`]")
 # An address of a link, an element, attributes of kramdown, and a brace that pandoc takes for an escaped one.
 MARKUP = re.compile(rb"\] *\(|<(?! )|\{:|\\\\[{}]")
@@ -48,19 +50,26 @@ def printed(item: Union[str, bytes]) -> str:
     return CONTROL.sub(lambda found: f"\\x{ord(found[0]):02x}", readable(item))
 
 
-def parts_of(output: Block) -> Optional[List[Tuple[str, bool]]]:
-    """The texts and the formulas of an output, each with whether it is one, where it has formulas and no other block: a formula alone, or
-    what is printed in front of a value."""
+def error_of(item: Block) -> Optional[str]:
+    """The text of a block that is an error."""
+    [error] = item.errors if len(item.errors) == 1 else [None]
+    is_all = error is not None and error.plain == item.plain and not any(isinstance(one, Block) for one in error.items)
+    return printed(item.plain) if is_all else None
+
+
+def parts_of(output: Block) -> Optional[List[Tuple[str, str]]]:
+    """The texts, the formulas and the errors of an output, each with its kind, where it has no other block: a formula alone, what is
+    printed in front of a value, an error behind that."""
     items = output.items if (output.tag, output.kind) == ("verbatim", "format") else (output,)
-    parts: List[Tuple[str, bool]] = []
+    parts: List[Tuple[str, str]] = []
     for item in items:
-        formula = formula_of(item) if isinstance(item, Block) else None
         if isinstance(item, Block):
-            if formula is None:
+            formula, error = formula_of(item), error_of(item)
+            if formula is None and error is None:
                 return None
-            parts.append((formula, True))
-        elif parts and not parts[-1][1]:
-            parts[-1] = (parts[-1][0] + printed(item), False)
+            parts.append((error or "", ERROR) if formula is None else (formula, FORMULA))
+        elif parts and parts[-1][1] == ANSWER:
+            parts[-1] = (parts[-1][0] + printed(item), ANSWER)
         else:
-            parts.append((printed(item), False))
+            parts.append((printed(item), ANSWER))
     return parts

@@ -8,7 +8,7 @@ from typing import Dict, List, Optional
 
 from tmhost import Field, Session
 
-from .answers import ANSWER, FORMULA, NO_ANSWER, Piece, Shown
+from .answers import ANSWER, ERROR, FORMULA, NO_ANSWER, Piece, Shown
 from .document import FOLD, HIDE, Document
 from .evaluation import Evaluator
 from .files import new_name, put, read
@@ -31,18 +31,19 @@ def bytes_of(text: str) -> bytes:
 
 
 def pieces_of(field: Field, is_in_container: bool) -> List[Piece]:
-    """What is shown of an answer: its formulas, and its texts without the line feed at their ends. What shows nothing leaves nothing. In quotes
-    and lists all is one text."""
+    """What is shown of an answer: its formulas, its errors, and its texts without the line feed at their ends. What shows nothing leaves nothing.
+    In quotes and lists all is one text."""
     assert field.answer is not None
     parts = None if is_in_container else parts_of(field.answer.output)
-    return [piece_of(text, is_formula) for text, is_formula in parts or [(str(field.answer), False)] if text.strip()]
+    whole = [(str(field.answer), ERROR if field.answer.errors else ANSWER)]
+    return [piece_of(text, kind) for text, kind in parts or whole if text.strip()]
 
 
-def piece_of(text: str, is_formula: bool) -> Piece:
-    if is_formula:
+def piece_of(text: str, kind: str) -> Piece:
+    if kind == FORMULA:
         return Piece(FORMULA, text)
     text = LONG_RUN.sub(lambda found: "\\x60" * len(found[0]), text)
-    return Piece(ANSWER, text[:-1] if text.endswith("\n") else text)
+    return Piece(kind, text[:-1] if text.endswith("\n") else text)
 
 
 def first_other_line(old: bytes, new: bytes) -> int:
