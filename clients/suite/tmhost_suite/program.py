@@ -193,13 +193,11 @@ class Runner:
         with kept.sheet:
             self.sheets.append(kept.sheet)
             plan = Plan(chosen, self.given.seconds, self.slots, self.ended, self.is_broken_off, self.given.fail_fast, self.seed)
-            applied = run(kept, plan, lambda at: self.teller.one_more())
+            run(kept, plan, lambda at: self.teller.one_more())
         told = told_of(suite, kept.results)
         if self.given.accept:
             with self._told_of(suite):
                 self._accept(text, told)
-        if self.given.verbose and found is None:
-            self.teller.tell_idle_rules(suite, applied)
         return told
 
     # ---- what is accepted
@@ -208,17 +206,22 @@ class Runner:
         if text is None:
             raise Trouble("nothing is accepted into a file of this form: --convert writes the text form")
         answers: Dict[int, str] = {}
-        for at, one in enumerate(told):
-            if one.verdict in ("differs", "new") and (not self.given.interactive or self._is_wanted(one)):
-                answers[at] = "\n".join(as_wanted(one.got))
-        if not answers:
+        errors: Dict[int, str] = {}
+        accepted = [at for at, one in enumerate(told) if one.verdict in ("differs", "new") and (not self.given.interactive or self._is_wanted(one))]
+        for at in accepted:
+            case, rules = told[at].case, text.suite.rules_of(told[at].case)
+            if not rules.is_wanted(case.wanted, told[at].got, set()):
+                answers[at] = "\n".join(as_wanted(told[at].got))
+            if rules.apart and not rules.is_wanted(case.errors, told[at].errors, set()):
+                errors[at] = "\n".join(as_wanted(told[at].errors))
+        if not accepted:
             return
-        new = text.checked(answers)
+        new = text.checked(answers, errors)
         with open(text.suite.path, "rb") as file:
             if file.read() != "".join(text.lines).encode("utf-8"):
                 raise Trouble("the text was changed while it was run: nothing is accepted")
         put(os.path.realpath(text.suite.path), new.encode("utf-8"))
-        self.teller.say(f"{text.suite.path}: {len(answers)} accepted")
+        self.teller.say(f"{text.suite.path}: {len(accepted)} accepted")
 
     def _is_wanted(self, told: Told) -> bool:
         self.teller.end_progress()
@@ -238,6 +241,7 @@ class Runner:
                 self.teller.tell_normalised(one)
         if self.given.slowest:
             self.teller.tell_slowest(told, self.given.slowest)
+        self.teller.tell_idle_rules(told)
         self.teller.tell_counts(told, taken)
 
     def _write_reports(self, told: List[Told]) -> None:
