@@ -10,7 +10,7 @@ from typing import Callable, List, Optional
 
 from tmhost import Answer, Cell, Lost, Refused, TimedOut
 
-from .cases import Case
+from .cases import Case, Suite
 from .kept import Kept, Result, joined
 from .shown import Shown, shown_of
 
@@ -48,6 +48,18 @@ def verdict_of(case: Case, got: str, is_good: bool, tries: int) -> str:
 def is_skipped(case: Case, got: str) -> bool:
     """Whether what came says that the case can't be tried here."""
     return case.marks.skip_if is not None and re.search(case.marks.skip_if, got, re.MULTILINE) is not None
+
+
+def is_good(suite: Suite, case: Case, result: Result) -> bool:
+    rules = suite.rules_of(case)
+    return rules.is_wanted(case.wanted, result.got, set()) and (not rules.apart or rules.is_wanted(case.errors, result.errors, set()))
+
+
+def judge_again(kept: Kept) -> None:
+    """What came before a run was broken off is compared with what is wanted now."""
+    for at, result in kept.results.items():
+        case = kept.suite.cases[at]
+        result.verdict = verdict_of(case, result.got, is_good(kept.suite, case, result), result.tries)
 
 
 class Over(Exception):
@@ -100,7 +112,7 @@ class Chain:
         while not good and tries <= case.marks.flaky and not self.plan.is_broken_off.is_set():
             tries += 1
             result = self._evaluate(at, case)
-            good = self._is_wanted(case, result)
+            good = is_good(self.suite, case, result)
         if self.plan.is_broken_off.is_set():
             return
         result.tries, result.verdict = tries, verdict_of(case, result.got, good, tries)
@@ -108,10 +120,6 @@ class Chain:
         self.kept.results[at] = result
         if self.plan.fails_fast and result.verdict in WRONG:
             self.plan.ended.set()
-
-    def _is_wanted(self, case: Case, result: Result) -> bool:
-        rules = self.suite.rules_of(case)
-        return rules.is_wanted(case.wanted, result.got, set()) and (not rules.apart or rules.is_wanted(case.errors, result.errors, set()))
 
     # ---- one case
 
@@ -203,7 +211,8 @@ class Chain:
 
 
 def run(kept: Kept, plan: Plan, tell: Callable[[int], None]) -> None:
-    """Runs all cases, each session in a thread of its own."""
+    """Runs all cases that aren't done, each session in a thread of its own."""
+    judge_again(kept)
     chains = [Chain(kept, name, plan, tell) for name in kept.suite.sessions]
     with ThreadPoolExecutor(len(chains)) as pool:
         for done in [pool.submit(chain.run) for chain in chains]:
