@@ -9,6 +9,7 @@ import gp_lines
 from completion_cases import COMPLETING, Completing
 import jupyter_lines
 from gp_lines import MESSAGE, NO_INPUT, Line as Case, ones
+from language_lines import LANGUAGES, Lines
 from odd_lines import ODD_LINES
 
 
@@ -346,6 +347,10 @@ def by_jupyter(words: str, cases: List[Case]) -> Trial:
     return Trial(f"jupyter {words}", "/usr/share/jupyter/kernels/python3/kernel.json", "os._exit(0)", "while True: pass", cases, odd_lines, *NUMBERS["python"])
 
 
+def by_language(name: str, lines: Lines) -> Trial:
+    return Trial(f"prompted.py {name}", lines.program, lines.leaving, lines.busy, lines.cases, lines.odd, lines.number, lines.numbered)
+
+
 TRIALS = {
     "gp": trial("gp", "gp", "quit", "while (1, )", GP),
     "gp_lines": trial("gp", "gp", "\\q", "while (1, )", gp_lines.LINES),
@@ -375,4 +380,5 @@ TRIALS = {
     "singular": by_prompted("singular", "Singular", "quit;", "while (1) { int k = 1; kill k; }", SINGULAR + ten_lines("singular")),
     "gnuplot": by_prompted("gnuplot", "gnuplot", "quit", "while (1) { x = 1 }", GNUPLOT + ten_lines("gnuplot", "print k")),
     "yacas": by_prompted("yacas", "yacas", "quit", "While(True) a := 1;", YACAS + ten_lines("yacas", said="True")),
+    **{name: by_language(name, lines) for name, lines in LANGUAGES.items()},
 }

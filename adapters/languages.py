@@ -4,7 +4,7 @@ import os
 import re
 from typing import Callable, List
 
-from profiles import HERE, PROFILES as SYSTEMS, Profile
+from profiles import COMMANDS, HERE, PROFILES as SYSTEMS, Profile
 from statements import quoted
 
 LOOPS = os.path.join(HERE, "loops")
@@ -24,6 +24,14 @@ def in_sql(text: bytes) -> bytes:
 def in_ghci(text: bytes) -> bytes:
     """Several lines are one block; a command of ghci's stands alone."""
     return text if text.lstrip().startswith(b":") or not text.strip() else b":{\n" + re.sub(rb"(?m)^\s*:[{}]\s*$", b"", text) + b"\n:}"
+
+
+def in_coq(text: bytes) -> bytes:
+    """Sentences, of which the last one ends."""
+    bare = re.sub(rb'"[^"]*"|\(\*.*?\*\)', b"", text, flags=re.DOTALL)
+    is_open = re.search(rb'"|\(\*', bare)
+    text += {b'"': b'"', b"(*": b"*)"}[is_open[0]] if is_open else b""
+    return text if not bare.strip() or bare.rstrip().endswith((b".", b"{", b"}")) else text + b"."
 
 
 def by_loop(prompt: bytes, *words: str, statement: Callable[[bytes], bytes] = quoted) -> Profile:
@@ -47,12 +55,33 @@ LANGUAGES = {
         errors=rb"(?m)^(?:Parse error|Runtime error|Error)\b.*(?:\n  .*)*|^unknown option.*|^Usage: .*",
     ),
     "ghci": Profile(
-        ["ghci", "-v0", "-ignore-dot-ghci"],
+        ["ghci", "-v0", "-ignore-dot-ghci", "-ghci-script", COMMANDS],
         'System.IO.hFlush System.IO.stdout >> System.IO.putStrLn ("{0}" ++ "{1}")',
         b"ghci> ",
-        (":set prompt \"\"", ":set prompt-cont \"\"", ":m + System.IO", "hSetBuffering stdout NoBuffering", ":m - System.IO"),
+        ("System.IO.hSetBuffering System.IO.stdout System.IO.NoBuffering",),
         in_ghci,
-        errors=rb"(?ms)^<interactive>:\d+:\d+:.*|^\*\*\* Exception: .*|^unknown command .*|^Interrupted\.",
+        rb"(?<=<interactive>):\d+(?=:\d)|(?<=interactive:Ghci)\d+",
+        errors=rb"(?ms)^<interactive>:\d+:.*|^\*\*\* Exception: .*|^unknown command .*|^Interrupted\.",
+    ),
+    "fricas": Profile(
+        ["fricas", "-nosman"],
+        ')lisp (progn (format t "~a~a~%" "{0}" "{1}") (finish-output))',
+        b"-> ",
+        (")set messages prompt none", ")set messages type off", ")set breakmode nobreak", ")set quit unprotected", ")set output length 200"),
+        lambda text: text.replace(b"\n", b" "),
+        errors=rb"(?ms)^ *>> .*|^  Line +\d+: .*? error\(s\) parsing *$|^   (?:There are \w+|Cannot find) .*",
+        noise=rb"\AValue = NIL\n",
+    ),
+    # It can't print a text at every place, so the marker is a name that nothing has.
+    "coqtop": Profile(
+        ["coqtop", "-q"],
+        "Check {0}{1}.",
+        b"Coq < ",
+        ("Set Printing Width 1000.",),
+        in_coq,
+        noise=rb"(?m)^(?:\w+ < )+|Toplevel input, characters \d+-\d+:\n> Check m[0-9a-f]+\.\n> +\^+\nError: The reference \Z",
+        ends=b" was not found in the current environment.\n",
+        errors=rb"(?ms)^(?:Toplevel input, characters .*?\n)?(?:> .*?\n)*(?:Error:|Syntax error:) .*",
     ),
 }
 

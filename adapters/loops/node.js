@@ -27,6 +27,7 @@
         const calls = String(error.stack).split('\n').filter(line => /^\s+at .*\bline:\d/.test(line));
         return [`${error.name}: ${error.message}`, ...calls].join('\n');
     };
+    process.on('uncaughtException', error => process.stdout.write(`Uncaught ${told(error)}\n`));
     const answer = async text => {
         try {
             const value = /\bawait\b/.test(text) ? await evaluated(text) : evaluated(text);
