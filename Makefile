@@ -42,6 +42,9 @@ install:
 	install -d $(HERE)/adapters
 	install $(addprefix adapters/,$(ADAPTERS)) $(HERE)/adapters
 	install -m 644 adapters/blocks.py adapters/gp_names.py adapters/jupyter_output.py adapters/pictures.py adapters/profiles.py adapters/python_lines.py adapters/python_names.py adapters/statements.py adapters/tmhost_figures.py adapters/waiting.py $(HERE)/adapters
+	install -d $(HERE)/adapters/loops
+	install -m 644 adapters/languages.py $(HERE)/adapters
+	install -m 644 adapters/loops/* $(HERE)/adapters/loops
 	install -d $(HERE)/adapters/octave/lines $(HERE)/adapters/octave/formulas/@sym
 	install -m 644 adapters/octave/lines/*.m $(HERE)/adapters/octave/lines
 	install -m 644 adapters/octave/formulas/@sym/*.m $(HERE)/adapters/octave/formulas/@sym

@@ -90,9 +90,9 @@ SWIPL_ODD = [
     "call_cleanup(true, true)", "set_prolog_flag(double_quotes, atom)", "set_prolog_flag(double_quotes, string)", "trace_not", "X = f(Y, Y, Z)", "string_codes(S, [2, 5, 27])", "current_op(P, xfx, is)", "ignore(fail)", "\\+ fail", "X == 1", "a ; b",
 ]
 SQLITE: List[Line] = [
-    ("select 1 + 1;", "2"), ("create table t(a, b)", ""), ("insert into t values (1, 'x'), (2, 'it''s')", ""), ("select * from t", "1|x\n2|it's"), ("", ""), ("-- a remark", ""), ("selec 1", "..syntax error"), ("select * from nothing", "..no such table: nothing"),
+    ("select 1 + 1;", "2"), ("create table t(a, b)", ""), ("insert into t values (1, 'x'), (2, 'it''s')", ""), ("select * from t", "1|x\n2|it's"), ("", ""), ("-- a remark", ""), ("selec 1", "..syntax error"), ("select * from nosuch", "..no such table: nosuch"),
     ("select 'a", "a"), ('select "a', "a"), ("/* open", ""), ("select 1;\u2028select 2", "1\n2"), (".tables", "t"), (".headers on", ""), ("select a from t", "a\n1\n2"), (".mode list", ""), (".headers off", ""), (".nothing", "..unknown command"),
-    ("with recursive c(x) as (select 1 union all select x + 1 from c) select count(*) from c", "..", True), ("select count(*) from t", "2"),
+    ("with recursive c(x) as (select 1 union all select x + 1 from c) select count(*) from c", "? Ended", True), ("select count(*) from t", "..no such table"),
     *called("with recursive k(i, s) as (\n  select 0, 0\n  union all\n  select\n    i + 1,\n    case when i % 2 = 0\n      then s + i + 1\n      else s - i - 1\n    end\n  from k where i < 10\n)\nselect s from k where i = 10", "select 3", "-5", "3"),
 ]
 SQLITE_ODD = [
