@@ -137,6 +137,6 @@ LANGUAGES: Dict[str, Lines] = {
     "sqlite3": Lines("sqlite3", ".quit", "with recursive c(x) as (select 1 union all select x + 1 from c) select count(*) from c", "select 'n%d'", "n%d", SQLITE, SQLITE_ODD),
     "ghci": Lines("ghci", ":quit", "let loop = loop in loop :: Int", '"n%d"', '"n%d"', GHCI, GHCI_ODD),
     "fricas": Lines("fricas", ")quit", "while true repeat y := 1", 'output "n%d"', "   n%d", FRICAS, FRICAS_ODD),
-    "coqtop": Lines("coqtop", "Quit.", "Eval compute in (fix g n := match n with 0 => 0 | S m => g m + g m end) 60.", 'Locate "n%d".', "Unknown notation", COQ, COQ_ODD),
+    "coqtop": Lines("coqtop", "Quit.", "Eval compute in (fix g n := match n with 0 => 0 | S m => g m + g m end) 60.", 'Fail Check n%d.', "The command has indeed failed with message:\nThe reference n%d was not found in the current environment.", COQ, COQ_ODD),
 }
 NAMED: Tuple[str, ...] = tuple(LANGUAGES)

@@ -23,7 +23,7 @@ def in_sql(text: bytes) -> bytes:
 
 def in_ghci(text: bytes) -> bytes:
     """Several lines are one block; a command of ghci's stands alone."""
-    return text if text.lstrip().startswith(b":") or not text.strip() else b":{\n" + re.sub(rb"(?m)^\s*:[{}]\s*$", b"", text) + b"\n:}"
+    return text if re.match(rb"\s*(?::[^{}]|\Z)", text) else b":{\n" + re.sub(rb"(?m)^\s*:[{}]\s*$", b"", text) + b"\n:}"
 
 
 def in_coq(text: bytes) -> bytes:
@@ -56,7 +56,7 @@ LANGUAGES = {
     ),
     "ghci": Profile(
         ["ghci", "-v0", "-ignore-dot-ghci", "-ghci-script", COMMANDS],
-        'System.IO.hFlush System.IO.stdout >> System.IO.putStrLn ("{0}" ++ "{1}")',
+        ":!printf '%s%s\\n' {0} {1}",  # `it` stays
         b"ghci> ",
         ("System.IO.hSetBuffering System.IO.stdout System.IO.NoBuffering",),
         in_ghci,
