@@ -123,6 +123,19 @@ class Notebooks(Forms):
         text = self.run_suite("--convert", path).output
         self.assertEqual(self.verdicts(self.put("a.md", text)), ["ok", "ok", "differs"], text)
 
+    def test_formulas_and_pictures(self) -> None:
+        formula = {"output_type": "execute_result", "execution_count": 1, "metadata": {}, "data": {"text/latex": "$\\displaystyle x^{2}$", "text/plain": "x**2"}}
+        picture = {"output_type": "display_data", "metadata": {}, "data": {"image/png": "iVBORw0KGgo=", "text/plain": "<Figure>"}}
+        cells: List[Any] = [
+            ("class F:\n    def _repr_latex_(self): return '$x^{2}$'\nF()", [formula]),
+            ("class P:\n    def _repr_svg_(self): return '<svg xmlns=\"http://www.w3.org/2000/svg\"/>'\nP()", [picture]),
+            ("print('a'); P()", [picture]),
+        ]
+        path = self.notebook("python", cells)
+        self.assertEqual(self.verdicts(path), ["ok", "ok", "differs"], self.outcome.output)
+        text = self.run_suite("--convert", path).output
+        self.assertEqual(self.verdicts(self.put("a.md", text)), ["ok", "ok", "differs"], text)
+
     def test_only_the_last_value_is_shown(self) -> None:
         cells: List[Any] = [("x = 3\nx\nx + 1", [self.result("4")]), ("x;", []), ("x\ny = 2", [])]
         path = self.notebook("python", cells)

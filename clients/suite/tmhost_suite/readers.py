@@ -14,12 +14,14 @@ from tmhost_fences.troubles import Trouble
 
 from .cases import Case, Marks, Suite
 from .forms import GAP, GP, OCTAVE, PYTHON, SHELL, Session, session_of, whole_case
-from .rules import ANY_LINES, BY_GLOB, BY_PATTERN, Rules
+from .rules import ANY_LINES, BY_GLOB, BY_PATTERN, PICTURES, Rules
 from .transcripts import is_gap, is_octave, read_gap, read_octave
 
 CRAM_CODE, CRAM_MORE = re.compile(r"  \$ (.*)"), re.compile(r"  > (.*)")
 NO_END, ESCAPED = " (no-eol)", " (esc)"
 CONTROL = re.compile(r"[\x00-\x08\x0a-\x1f\x7f]")
+FORMULA = re.compile(r"\s*(\${1,2})([^$]+)\1\s*")
+PICTURE_TYPES = ("image/svg+xml", "image/png", "image/jpeg")
 PARI_TIME = ("Total time spent:", '? print("Total time spent: "')
 CRAM_OUTPUT, CRAM_SKIPS = '"$CRAMTMP"/tmhost-output', "skipped: exit 80"
 
@@ -143,8 +145,8 @@ def text_in(value: Any) -> str:
 
 
 def output_of(output: Dict[str, Any], language: str) -> str:
-    """An output as plain text. Of an error its last line is wanted; kernels of other languages than Python's name it in their own words, in which
-    it is what stands behind the last colon."""
+    """An output as the adapters show it: a formula, or plain text; pictures are left out. Of an error its last line is wanted; kernels of other
+    languages than Python's name it in their own words, in which it is what stands behind the last colon."""
     kind = output.get("output_type")
     if kind == "stream":
         return text_in(output.get("text")).rstrip("\n")
@@ -153,7 +155,11 @@ def output_of(output: Dict[str, Any], language: str) -> str:
             return f"{ANY_LINES}\n{output.get('ename')}: {output.get('evalue')}"
         said = str(output.get("evalue")).strip().split("\n")[-1].rpartition(": ")[2]
         return f"{ANY_LINES}\n.*{re.escape(said)}{BY_PATTERN}\n{ANY_LINES}"
-    return text_in(output.get("data", {}).get("text/plain")).rstrip("\n")
+    data = output.get("data", {})
+    formula = FORMULA.fullmatch(text_in(data.get("text/latex")))
+    if formula:
+        return "{latex:$" + " ".join(formula[2].replace("\\displaystyle", "").split()) + "$}"
+    return "" if any(name in data for name in PICTURE_TYPES) else text_in(data.get("text/plain")).rstrip("\n")
 
 
 def cell_lines(source: str, language: str) -> List[str]:
@@ -181,7 +187,7 @@ def read_notebook(path: str, text: str, session: Session) -> Suite:
         if cell.get("cell_type") == "code" and fields:
             wanted = "\n".join(part for part in (output_of(it, language) for it in cell.get("outputs", [])) if part)
             cases.append(Case(session.name, Marks(), tuple(lines), fields, number, wanted))
-    return Suite(path, dict([session]), Rules(), None, tuple(cases))
+    return Suite(path, dict([session]), Rules(without=frozenset([PICTURES])), None, tuple(cases))
 
 
 # ---- PARI
@@ -252,7 +258,7 @@ def fenced(kind: str, lines: List[str]) -> List[str]:
 
 def as_text(suite: Suite) -> str:
     """The text form of a suite of another form."""
-    rules = [*(["spaces: any"] if suite.rules.any_spaces else []), *([f"columns: {suite.rules.columns}"] if suite.rules.columns else [])]
+    rules = [*(["without: pictures"] if PICTURES in suite.rules.without else []), *(["spaces: any"] if suite.rules.any_spaces else []), *([f"columns: {suite.rules.columns}"] if suite.rules.columns else [])]
     lines = ["---", "sessions:", *(f"  {name}: {json.dumps(list(words))}" for name, words in suite.sessions.items()), *rules, "---", ""]
     for case in suite.cases:
         code = list(case.lines)
