@@ -41,7 +41,7 @@ install:
 	install -Dm 644 $(PAGES)/tmhost.fish $(SHARE)/fish/vendor_completions.d/tmhost.fish
 	install -d $(HERE)/adapters
 	install $(addprefix adapters/,$(ADAPTERS)) $(HERE)/adapters
-	install -m 644 adapters/blocks.py adapters/gp_names.py adapters/jupyter_output.py adapters/pictures.py adapters/profiles.py adapters/python_lines.py adapters/python_names.py adapters/statements.py adapters/tmhost_figures.py adapters/waiting.py $(HERE)/adapters
+	install -m 644 adapters/blocks.py adapters/errors.py adapters/gp_names.py adapters/jupyter_output.py adapters/pictures.py adapters/profiles.py adapters/python_lines.py adapters/python_names.py adapters/statements.py adapters/terminal.py adapters/tmhost_figures.py adapters/waiting.py $(HERE)/adapters
 	install -d $(HERE)/adapters/loops
 	install -m 644 adapters/languages.py $(HERE)/adapters
 	install -m 644 adapters/loops/* $(HERE)/adapters/loops

@@ -7,6 +7,7 @@ from typing import Dict, List, Optional, Sequence, Tuple
 
 import gp_lines
 from completion_cases import COMPLETING, Completing
+from error_cases import ERRORS
 import jupyter_lines
 from gp_lines import MESSAGE, NO_INPUT, Line as Case, ones
 from language_lines import LANGUAGES, Lines
@@ -28,6 +29,7 @@ class Trial:
     drawing: Sequence[Tuple[str, str]] = ()  # lines that draw, and what their answers are, with a picture's format in braces for each
     module: str = ""  # of Python that has to be here, too
     completing: Optional[Completing] = None  # where it answers requests of completions
+    failing: Sequence[Tuple[str, str]] = ()  # lines, and what of their answers is marked as an error
 
 
 # From the manual of gp: 2.1 (errors), 2.5 (lines), 2.7 (metacommands), 2.12 (defaults), 3 (functions).
@@ -307,20 +309,20 @@ DRAWING: Dict[str, List[Tuple[str, str]]] = {
     ],
     "gp": [("2", r"{latex:$\%1 = 2$}"), ('plothexport("svg", x = 0, 1, x^2)', "%2 =\n{image/svg+xml}"), ('plothexport("svg", x = 0, 1, x); 3', r"{latex:$\%3 = 3$}"), ("#%2 > 99", r"{latex:$\%4 = 1$}")],
     "gp --no-numbers": [('plothexport("svg", x = 0, 1, x^2)', "{image/svg+xml}"), ('"<svg"', '"<svg"')],
-    "R": [
+    "prompted.py R": [
         ("plot(1:3)", "{image/svg+xml}"), ('plot(1:3); hist(1:4); "two"', '[1] "two"\n{image/svg+xml}\n{image/svg+xml}'), (".Last.value", '[1] "two"'),
         ('plot(1:2); stop("no")', "Error: no\n{image/svg+xml}"), ("lines(1:2)", "..plot.new has not been called yet"), ('pdf("/dev/null")', ""), ("plot(1)", ""),
         ("dev.off()", "..null device"), ("plot(1)", "{image/svg+xml}"),
     ],
-    "octave": [
+    "prompted.py octave": [
         ("plot (1:3)", "{image/svg+xml}"), ("plot (1:2); figure; plot (2:-1:1); x = 2", "x = 2\n{image/svg+xml}\n{image/svg+xml}"), ("x;", ""), ("ans = 5;", ""),
         ('plot (1:2); error ("no")', "error: no\n{image/svg+xml}"), ("ans", "ans = 5"), ("get (0, 'children')", "ans = [](0x1)"),
     ],
-    "maxima": [
+    "prompted.py maxima": [
         ("plot2d(x^2, [x, 0, 1])$", "{image/svg+xml}"), ("plot2d(x, [x, 0, 1])$ plot3d(x*y, [x, 0, 1], [y, 0, 1]);", "done\n{image/svg+xml}\n{image/svg+xml}"), ("%", "done"),
         ("plot2d(x, [x, 0, 1], [svg_file, \"/dev/null\"])$", ""), ("plot2d(", "..incorrect syntax"),
     ],
-    "gnuplot": [
+    "prompted.py gnuplot": [
         ("plot x", "{image/svg+xml}"), ("plot x; plot x**2; print 1", "1\n{image/svg+xml}\n{image/svg+xml}"), ("plot foo(", "..invalid expression"), ("set output '/dev/null'", ""),
         ("plot x", ""), ("set output", ""), ("set multiplot", ""), ("plot x", ""), ("unset multiplot", "{image/svg+xml}"), ("plot x; pause -1", NO_INPUT + "\n{image/svg+xml}"), ("set terminal pngcairo", ""), ("plot x", "{image/png;base64}"), ("set terminal dumb 79 24", ""), ("plot x", "..+-----"),
     ],
@@ -330,7 +332,7 @@ DRAWING: Dict[str, List[Tuple[str, str]]] = {
 
 def trial(words: str, program: str, leaving: str, busy: str, cases: List[Case]) -> Trial:
     name = words.split()[1 if words.startswith("prompted.py") else 0]
-    return Trial(words, program, leaving, busy, cases, ODD_LINES[name], *NUMBERS[name], DRAWING.get(words.removeprefix("prompted.py "), ()), completing=COMPLETING.get(words))
+    return Trial(words, program, leaving, busy, cases, ODD_LINES[name], *NUMBERS[name], DRAWING.get(words, ()), completing=COMPLETING.get(words), failing=ERRORS.get(words, ()))
 
 
 def by_matplotlib(words: str) -> Trial:
@@ -345,7 +347,7 @@ def by_prompted(profile: str, program: str, leaving: str, busy: str, cases: List
 def by_jupyter(words: str, cases: List[Case]) -> Trial:
     """The kernel of Python. A line that forks is left out, which would go on as a second kernel."""
     odd_lines = [line for line in ODD_LINES["python"] if "fork" not in line]
-    return Trial(f"jupyter {words}", "/usr/share/jupyter/kernels/python3/kernel.json", "os._exit(0)", "while True: pass", cases, odd_lines, *NUMBERS["python"])
+    return Trial(f"jupyter {words}", "/usr/share/jupyter/kernels/python3/kernel.json", "os._exit(0)", "while True: pass", cases, odd_lines, *NUMBERS["python"], failing=ERRORS.get(f"jupyter {words}", ()))
 
 
 def by_language(name: str, lines: Lines) -> Trial:

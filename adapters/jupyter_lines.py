@@ -40,7 +40,7 @@ LINES: List[Line] = [
     ("input('n? ')", "..does not support input requests"),
     ("import getpass; getpass.getpass()", "..does not support input requests"),
     ("'caf\u00e9 \u4e2d \U0001f600'", "'caf\u00e9 \u4e2d \U0001f600'"),
-    ("print('a\\x05b\\x02c\\x1b\\x1bd')", "a\\x05b\\x02c\\x1b\\x1bd"),
+    ("print('a\\x05b\\x02c\\x1b[1md\\x1b')", "a\\x05b\\x02cd"),
     ("print('\\udc80')", "\ufffd"),
     ("len(str(10**5000))", "..ValueError"),
     ("'a' * 3000 == 'b'", "False"),

@@ -59,7 +59,10 @@ the number of the field that it is at."
         ((tmhost-field-queued field) "saved, to be evaluated")
         ((eq (tmhost-field-state field) 'lost)
          (format "lost: %s" (tmhost-field-reason field)))
-        ((eq (tmhost-field-state field) 'answered) "saved, answered")
+        ((eq (tmhost-field-state field) 'answered)
+         (if (tmhost-field-wrong field)
+             "saved, answered by an error"
+           "saved, answered"))
         (t "saved")))
 
 (defun tmhost-sheet--say (field)
@@ -77,6 +80,7 @@ the number of the field that it is at."
   (setf (tmhost-field-state field) state
         (tmhost-field-prompt field) (plist-get members :prompt)
         (tmhost-field-shown field) (plist-get members :shown)
+        (tmhost-field-wrong field) (plist-get members :wrong)
         (tmhost-field-reason field) (plist-get members :reason))
   (when (eq field (tmhost-view-field (tmhost-field-id field)))
     (tmhost-view-draw field)

@@ -8,6 +8,8 @@
 
 ;;; Code:
 
+(require 'seq)
+
 (defconst tmhost-text--steering
   (rx (any (#x00 . #x08) (#x0b . #x1f) (#x7f . #x9f) #xad #x61c #x180e
            #x200b #x200e #x200f (#x2028 . #x202e) (#x2060 . #x206f) #xfeff
@@ -37,6 +39,24 @@ Bytes of it that aren't UTF-8 are bytes in the string."
       value
     (decode-coding-string (base64-decode-string (alist-get 'base64 value))
                           'utf-8-unix)))
+
+(defun tmhost-text--is-output (block)
+  "Whether BLOCK is one of the channel `output'."
+  (and (consp block)
+       (equal (alist-get 'kind block) "channel")
+       (equal (alist-get 'tag block) "output")))
+
+(defun tmhost-text-is-error (block)
+  "Whether BLOCK is an error, or has one.
+That is a block of the channel `error', or of `output' in another of these."
+  (and (consp block)
+       (or (and (equal (alist-get 'kind block) "channel")
+                (equal (alist-get 'tag block) "error"))
+           (seq-some (lambda (item)
+                       (or (tmhost-text-is-error item)
+                           (and (tmhost-text--is-output block)
+                                (tmhost-text--is-output item))))
+                     (alist-get 'items block)))))
 
 (defun tmhost-text-input (text)
   "The input of a worksheet, one line, that TEXT of a buffer stands for."

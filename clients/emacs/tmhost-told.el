@@ -47,7 +47,9 @@ An object of another type, and what there isn't, is passed over."
   (setf (tmhost-field-refused field) nil)
   (tmhost-sheet--become field 'answered
                         :prompt (tmhost-text-of (alist-get 'prompt object))
-                        :shown (tmhost-text-of (alist-get 'shown object)))
+                        :shown (tmhost-text-of (alist-get 'shown object))
+                        :wrong (tmhost-text-is-error
+                                (alist-get 'output object)))
   (tmhost-sheet--go-on))
 
 (defun tmhost-told--completed (session told)
@@ -86,6 +88,7 @@ so it is looked at."
            (tmhost-sheet--become field (tmhost-field-state new)
                                  :prompt (tmhost-field-prompt new)
                                  :shown (tmhost-field-shown new)
+                                 :wrong (tmhost-field-wrong new)
                                  :reason (tmhost-field-reason new))))))))
 
 (defun tmhost-told--read (told)
@@ -95,7 +98,8 @@ so it is looked at."
    :input (tmhost-text-input (alist-get 'input told))
    :state (intern (alist-get 'state told)) :reason (alist-get 'reason told)
    :prompt (and (assq 'prompt told) (tmhost-text-of (alist-get 'prompt told)))
-   :shown (and (assq 'shown told) (tmhost-text-of (alist-get 'shown told)))))
+   :shown (and (assq 'shown told) (tmhost-text-of (alist-get 'shown told)))
+   :wrong (tmhost-text-is-error (alist-get 'output told))))
 
 (defun tmhost-told--take-over (told)
   "The field of which TOLD is told anew: the one that is there, or TOLD.
@@ -107,6 +111,7 @@ Replies that are to come are about the one that is there."
             (tmhost-field-state field) (tmhost-field-state told)
             (tmhost-field-prompt field) (tmhost-field-prompt told)
             (tmhost-field-shown field) (tmhost-field-shown told)
+            (tmhost-field-wrong field) (tmhost-field-wrong told)
             (tmhost-field-reason field) (tmhost-field-reason told))
       field)))
 

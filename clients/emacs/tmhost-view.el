@@ -28,14 +28,18 @@
   "The output of a field."
   :group 'tmhost)
 
+(defface tmhost-error '((t :inherit error))
+  "The output of a field that is an error."
+  :group 'tmhost)
+
 (cl-defstruct (tmhost-field (:constructor tmhost-field-make) (:copier nil))
   "A field.
-ID, SESSION, INPUT, STATE (empty, waiting, answered or lost), PROMPT, SHOWN and
-REASON are what the program has told.  SAVING is the text that was sent and
+ID, SESSION, INPUT, STATE (empty, waiting, answered or lost), PROMPT, SHOWN,
+REASON, and whether the output is an error (WRONG) are what the program has told.  SAVING is the text that was sent and
 isn't told as done, AFTER who waits for that, and REFUSED why one wasn't;
 QUEUED is true where the field is to be evaluated, and PLACE is where it
 begins in the buffer."
-  id session input state prompt shown reason saving after refused queued place)
+  id session input state prompt shown wrong reason saving after refused queued place)
 
 (defvar-local tmhost-view-fields nil
   "A hash table from numbers to fields.")
@@ -158,7 +162,8 @@ one stays there."
              (unless (or (string-empty-p shown) (string-suffix-p "\n" shown))
                "\n")
              "\n")
-     'tail (tmhost-field-id field) 'tmhost-output)))
+     'tail (tmhost-field-id field)
+     (if (tmhost-field-wrong field) 'tmhost-error 'tmhost-output))))
 
 (defun tmhost-view-draw (field)
   "Draw the head and the tail of FIELD anew, and leave its input."

@@ -150,6 +150,26 @@ It has the session t, which completes."
     (tmhost-tests-says 1 "saved, answered")
     (should-not (buffer-modified-p))))
 
+(ert-deftest tmhost-tests-errors ()
+  "An answer that is an error says so, in words and by its face."
+  (tmhost-tests-with-sheet path
+    (let ((ids (tmhost-tests-new "error no way" "fine")))
+      (tmhost-tests-at (car ids))
+      (tmhost-evaluate)
+      (tmhost-tests-says (car ids) "saved, answered by an error")
+      (tmhost-tests-evaluate (cadr ids))
+      (dolist (again '(nil t))
+        (when again
+          (tmhost-tests-again path)
+          (tmhost-tests-says (car ids) "saved, answered by an error"))
+        (goto-char (point-min))
+        (search-forward "\nno way")
+        (should (eq (get-text-property (1- (point)) 'font-lock-face)
+                    'tmhost-error))
+        (search-forward "\nfine")
+        (should (eq (get-text-property (1- (point)) 'font-lock-face)
+                    'tmhost-output))))))
+
 (ert-deftest tmhost-tests-typing ()
   "An input is changed and saved, and the answer to its old text goes."
   (tmhost-tests-with-sheet path

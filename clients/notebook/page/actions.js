@@ -2,6 +2,7 @@
 
 import { ask } from "./talk.js";
 import { byId } from "./dom.js";
+import { stopsAtErrors } from "./errors.js";
 import { Held } from "./held.js";
 
 /** @typedef {import("./cell").CellView} CellView */
@@ -50,7 +51,7 @@ export class Actions {
    * @type {(views: CellView[], call: string, members: Record<string, unknown>) => Promise<Reply>}
    */
   evaluateEach(views, call, members) {
-    const told = this.ask(call, members);
+    const told = this.ask(call, { ...members, stops: stopsAtErrors() });
     for (const view of views) if (!view.isProse) view.risk(EVALUATED, () => told);
     return told;
   }

@@ -6,6 +6,7 @@ import { Cells, emptyLine } from "./cells.js";
 import { Completions } from "./completions.js";
 import { keysDialog, sessionDialog } from "./dialogs.js";
 import { byId } from "./dom.js";
+import { beginStopBox } from "./errors.js";
 import { listen } from "./feed.js";
 import { Keys } from "./keys.js";
 import { savePicture } from "./output.js";
@@ -62,6 +63,7 @@ function saveAll() {
   for (const view of cells.views.values()) view.saveIfFit();
 }
 
+beginStopBox();
 listen({ hear, connect });
 setInterval(() => cells.views.forEach((view) => view.tick()), 1_000);
 

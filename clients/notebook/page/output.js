@@ -1,7 +1,8 @@
-// An answer: texts as text nodes, formulas by the setter, pictures as images.
+// An answer: texts and errors as text nodes, formulas by the setter, pictures as images.
 
 import { ask } from "./talk.js";
 import { button, make, visible } from "./dom.js";
+import { errorOf, markError } from "./errors.js";
 import { setInto } from "./setter.js";
 
 /** @typedef {import("./types").Output} Output */
@@ -34,6 +35,7 @@ function pictureOf(part) {
 /** @type {(part: Part) => Node | string} */
 function nodeOf(part) {
   if (part.picture !== undefined) return pictureOf(part);
+  if (part.error !== undefined) return errorOf(part.error);
   return part.tex === undefined ? visible(part.text ?? "") : formulaOf(part.tex);
 }
 
@@ -72,7 +74,7 @@ export class OutputView {
   constructor(id, box) {
     this.id = id;
     this.box = box;
-    this.body = /** @type {HTMLElement} */ (box.firstElementChild);
+    this.body = /** @type {HTMLElement} */ (box.querySelector("pre"));
     this.isText = false;
     /** @type {Output | null} */
     this.shown = null;
@@ -99,6 +101,7 @@ export class OutputView {
     this.more?.remove();
     this.pictures?.remove();
     this.body.replaceChildren();
+    markError(this.box, shown);
     this.box.hidden = !shown || shown.length === 0;
     if (!shown) return;
     if (this.isText || shown.isCut) this.body.append(visible(shown.text));

@@ -1,9 +1,9 @@
 // What the server tells; tmhost_notebook/book.py writes it.
 
-/** A text, a formula, or a picture: an address that has all of it, which the server has looked at, and the text that stands for it. */
-export interface Part { text?: string; tex?: string; picture?: string }
+/** A text, an error, a formula, or a picture: an address that has all of it, which the server has looked at, and the text that stands for it. */
+export interface Part { text?: string; error?: string; tex?: string; picture?: string }
 
-export interface Output { parts: Part[]; text: string; isCut: boolean; length: number }
+export interface Output { parts: Part[]; isError: boolean; text: string; isCut: boolean; length: number }
 
 /** A text that is kept until its cell can have it, and the cell's text that it was typed over. */
 export interface Draft { base: string; text: string }

@@ -51,6 +51,9 @@ DRAWN: List[Tuple[str, bytes]] = [
         '</linearGradient></defs><use xlink:href="#g" x="5" y="5"/><rect width="9" height="9" fill="url(#l)"/>'
         '<defs><filter id="textbox" x="0" y="0" width="1" height="1"><feFlood flood-color="white" result="b"/><feComposite in="SourceGraphic" in2="b"/></filter></defs>'
         '<title>Gnuplot</title><text x="9" y="50">Sin(x) &amp; x &lt; 1</text>')).encode()),
+    ("image/svg+xml", (SVG % (
+        '<path d="M 9 9 L ' + " ".join(f"{k / 20} {40 + 30 * (k % 7)}" for k in range(2000)) + '" style="fill: none; stroke-dasharray: 5.55,2.4; stroke-dashoffset: 0; stroke: red"/>'
+        '<line x1="9" y1="9" x2="99" y2="70" stroke="red" stroke-dasharray="4,4"/>')).encode()),
     ("image/svg+xml", (SVG % f'<image width="9" height="9" xlink:href="data:image/png;base64,{base64.b64encode(png()).decode()}"/>').encode()),
 ]
 CHAIN = "".join(f'<g id="a{k}">' + f'<use xlink:href="#a{k + 1}"/>' * 10 + "</g>" for k in range(9)) + f'<g id="a9">{CIRCLE}</g>'
@@ -67,6 +70,11 @@ HOSTILE_SVG = [
     "<style>*{filter:blur(900px)}</style>", "<style>@keyframes a{to{r:9}} *{animation:a 1ms infinite}</style>", "<g style='filter:blur(900px)'/>",
     "<g fill='url(//evil.example/a#a)'/>", "<g fill='url(#a'/>", "<g filter='url(#f)'/>", "<filter id='f'><feTurbulence baseFrequency='9' numOctaves='99'/></filter>",
     "<animate attributeName='x' to='9' dur='1ms' repeatCount='indefinite'/>", "<set attributeName='onload' to='top.harmed=1'/>",
+    "<path d='M0 0 H100' stroke='red' stroke-dasharray='0.0001'/>", "<path d='M0 0 L100 0' style='stroke: red; stroke-dasharray: 1e-4 , 0'/>" * 9,
+    "<style>*{stroke:red;STROKE-DASHARRAY :.0001}</style><rect width='99' height='99'/>", "<g stroke-dasharray='.001' stroke='red'><circle r='99'/></g>" * 99,
+    "<path d='m0 0 h9 v9' stroke='red' stroke-dasharray='1' pathLength='1e9'/>", "<path d='M0 0 L9 9' vector-effect='non-scaling-stroke' stroke-dasharray='1'/>",
+    "<path d='M0 0 L9 9' stroke='red' stroke-dasharray='var(--a)'/>", "<text stroke='red' stroke-dasharray='.001'>letters</text>",
+    "<defs><path id='a' d='M0 0 L9 9' stroke='red' stroke-dasharray='.001'/></defs>" + "<use href='#a'/>" * 99,
     CHAIN + '<use xlink:href="#a0"/>', PATTERNS + '<rect width="99" height="99" fill="url(#p0)"/>', "<g id='a'><use href='#a'/></g>",
     "<mask id='m' mask='url(#m)'/><g mask='url(#m)'/>", "<g>" * 70 + "</g>" * 70, "<path/>" * (MOST_ELEMENTS + 1),
     "<metadata><g xmlns='http://www.w3.org/2000/svg' id='a'/></metadata>", "<video xmlns='http://www.w3.org/1999/xhtml' src='//evil.example'/>",
@@ -112,9 +120,9 @@ class Looked(unittest.TestCase):
         self.assertGreaterEqual(len(HOSTILE), 40)
         for tag, data in HOSTILE:
             with self.subTest(tag=tag, data=data[:200]):
-                begin = time.monotonic()
+                begin = time.process_time()
                 self.assertIsNone(picture_of(picture_block(tag, data)))
-                self.assertLess(time.monotonic() - begin, 5)
+                self.assertLess(time.process_time() - begin, 5)
         self.assertIsNone(picture_of(picture_block("image/svg+xml", (SVG % f"<path d='{'M0 0' * LONGEST_SVG}'/>").encode())))
         self.assertIsNone(picture_of(Block("image/svg+xml", "channel", (SVG % CIRCLE,))))
         self.assertIsNone(picture_of(Block("image/svg+xml", "format", (SVG, Block("verbatim", "format", ("x",))))))

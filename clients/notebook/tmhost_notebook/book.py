@@ -200,12 +200,12 @@ class Book:
         else:
             self.touch(id)
 
-    def evaluate_each(self, fields: Iterable[Field]) -> int:
-        """Has these cells evaluated, one of each session at a time."""
+    def evaluate_each(self, fields: Iterable[Field], stops: bool = False) -> int:
+        """Has these cells evaluated, one of each session at a time; `stops` says that the rest isn't asked where one is an error."""
         with self.lock:
             fed = {field.id: field.session for field in fields if not self.waits(field)}
             for id, session in fed.items():
-                self.feed.add(id, session)
+                self.feed.add(id, session, stops)
             telling.touch(self.watchers, set(fed))
         self._can_feed.set()
         return len(fed)
@@ -233,14 +233,22 @@ class Book:
         found = self.sheet.sessions.get(session)
         return startable.why_not(found) if found and found.life is None else None
 
-    def _ask(self, field: Field) -> None:
+    def _stop_at_errors(self) -> None:
+        """What is to stop at the error of a cell isn't asked any more, with the book's lock."""
+        failed = self.feed.failed()
+        dropped = self.feed.drop_stopping() if failed else []
+        telling.touch(self.watchers, set(dropped))
+        for watcher in self.watchers if dropped else ():
+            watcher.says.append(f"stopped at an error, of cell {failed[0]}: {cells(len(dropped))} {'was' if len(dropped) == 1 else 'were'} not asked")
+
+    def _ask(self, field: Field, stops: bool = False) -> None:
         with self.lock:
             self.notes.keep(field)
             self.notes.ask(field.id, self.places.chain(field.id))
         with self.changing(field.id):
             evaluation = self.sheet.eval(field.id)
         with self.lock:
-            self.feed.asked(field.session, evaluation)
+            self.feed.asked(field.id, field.session, evaluation, stops)
         evaluation.add_done_callback(lambda _: self._can_feed.set())
 
     def _feed_on(self) -> None:
@@ -254,13 +262,16 @@ class Book:
                 self.drop_fed(session, "its interpreter ended")
             while self._feed_one():
                 pass
+            self.wake()
 
     def _feed_one(self) -> bool:
         """Asks one cell, if one can be asked."""
         with self.order:
             with self.lock:
+                self._stop_at_errors()
                 id = self.feed.next() if self.ended is None else None
                 field = None if id is None else self.field(id)
+                stops = id is not None and self.feed.stops(id)
                 if id is not None:
                     self.feed.take(id)
             if field is None:
@@ -268,7 +279,7 @@ class Book:
             try:
                 why = self.why_not(field.session)
                 if why is None:
-                    self._ask(field)
+                    self._ask(field, stops)
             except Refused as refused:
                 why = SAYINGS.get(refused.name, str(refused))
             except (BadLine, Gone, TimedOut, Died, Closed, ProtocolError, OSError) as error:

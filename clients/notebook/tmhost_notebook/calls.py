@@ -183,11 +183,12 @@ def call_eval(book: Book, asked: Facts) -> Facts:
         return {"at": book.changes}
 
 
-def evaluate_each(book: Book, fields: Sequence[Field], missing: Dict[str, str]) -> Facts:
-    """Has these cells evaluated, but those of prose and of sessions that can't be started: `missing` says why, and so does a warning."""
+def evaluate_each(book: Book, fields: Sequence[Field], missing: Dict[str, str], stops: bool) -> Facts:
+    """Has these cells evaluated, but those of prose and of sessions that can't be started: `missing` says why, and so does a warning.
+    `stops` says that the rest isn't asked where one is an error."""
     named = {field.session for field in fields} - book.prose
     missing = {**{name: why for name, why in ((name, book.why_not(name)) for name in named) if why}, **missing}
-    count = book.evaluate_each(field for field in fields if field.session in named and field.session not in missing)
+    count = book.evaluate_each((field for field in fields if field.session in named and field.session not in missing), stops)
     told = "; ".join(missing[name] for name in sorted(missing))
     return {"count": count, **({"warning": f"{told}. Nothing was asked there, and no answer is lost"} if missing else {})}
 
@@ -197,7 +198,7 @@ def call_eval_from(book: Book, asked: Facts) -> Facts:
     start = None if asked.get("id") is None else number(asked, "id")
     fields = book.sheet.fields
     first = next((place for place, field in enumerate(fields) if field.id == start), 0)
-    return evaluate_each(book, fields[first:], {})
+    return evaluate_each(book, fields[first:], {}, asked.get("stops") is True)
 
 
 def call_restart(book: Book, asked: Facts) -> Facts:
@@ -212,7 +213,7 @@ def call_restart(book: Book, asked: Facts) -> Facts:
                 continue
             with book.order:
                 book.stop(name)
-    return evaluate_each(book, [field for field in book.sheet.fields if wanted in (None, field.session)], missing)
+    return evaluate_each(book, [field for field in book.sheet.fields if wanted in (None, field.session)], missing, asked.get("stops") is True)
 
 
 def call_stop(book: Book, asked: Facts) -> Facts:

@@ -2,22 +2,25 @@
 
 A browser runs no script of a picture in an `img`, and loads nothing for it; but one may be made so that it takes minutes to draw. So a PNG or JPEG
 has so many dots at most, and an SVG is of elements that draw at once: no scripts, filters, animations or pages in it, and references draw
-only so many elements again.
+only so many elements again. Each dash of a line counts as an element.
 """
 
 import base64
 import binascii
 import bisect
+import itertools
 import re
 from typing import Dict, List, NamedTuple, Optional, Tuple
 from xml.parsers import expat
 
 from tmhost import Block, readable
 
+from .dashes import Dashes, may_have_dashes
+
 LONGEST = 8_000_000  # characters of the pictures of an answer, and of one
 LONGEST_SVG = 4_000_000
 MOST_DOTS = 25_000_000
-MOST_ELEMENTS = 300_000  # with those that references draw again
+MOST_ELEMENTS = 300_000  # with those that references draw again, and dashes
 MOST_IMAGES = 100  # within an SVG
 DEEPEST = 64  # elements in one another
 DEEPEST_REFERENCE = 8  # what refers to what refers ..
@@ -86,6 +89,7 @@ class Drawing:
         self.named: Dict[str, List[Tuple[int, int]]] = {}  # the numbers of an element and of the one after all that is in it
         self.references: List[Tuple[int, str]] = []
         self.style = ""
+        self.dashes = Dashes() if may_have_dashes(text) else None
         reader = expat.ParserCreate("utf-8", " ")
         reader.buffer_text = True
         reader.StartElementHandler, reader.EndElementHandler, reader.CharacterDataHandler = self.begin, self.end, self.characters
@@ -97,6 +101,8 @@ class Drawing:
         except (expat.ExpatError, UnicodeEncodeError):
             raise NotDrawn from None
         self.look_at_style(self.style)
+        if self.dashes and not self.dashes.sheet(self.style):
+            raise NotDrawn
         self.look_at_references()
 
     def begin(self, name: str, attributes: Dict[str, str]) -> None:
@@ -109,6 +115,8 @@ class Drawing:
         if not self.untold:
             for key, value in attributes.items():
                 self.attribute(local, key, value)
+        if self.dashes and not self.dashes.begin(self.count, local, {} if self.untold else attributes):
+            raise NotDrawn
         self.untold += bool(self.untold) or local in UNTOLD
 
     def attribute(self, element: str, name: str, value: str) -> None:
@@ -136,6 +144,8 @@ class Drawing:
 
     def end(self, name: str) -> None:
         _, own, number = self.opened.pop()
+        if self.dashes:
+            self.dashes.end()
         self.untold -= bool(self.untold)
         if own:
             self.named.setdefault(own, []).append((number, self.count + 1))
@@ -143,6 +153,8 @@ class Drawing:
     def characters(self, text: str) -> None:
         if self.opened[-1][0] == f"{SVG} style":
             self.style += text
+        elif self.dashes and not self.untold and text.strip():
+            self.dashes.letters(self.opened[-1][2], len(text))
 
     def look_at_style(self, style: str) -> None:
         if UNWANTED.search(style):
@@ -151,8 +163,10 @@ class Drawing:
     def look_at_references(self) -> None:
         """What is drawn with all that is drawn again, references within what is referred to among it, has so many elements at most."""
         self.references.sort()
+        each = (1 + self.dashes.of(number) for number in range(1, self.count + 1)) if self.dashes else itertools.repeat(1, self.count)
+        self.costs = list(itertools.accumulate(each, initial=0))
         self.weights: Dict[Tuple[int, int], int] = {}
-        if self.count + self.weight(0, self.count + 1, 0) > MOST_ELEMENTS:
+        if self.costs[-1] + self.weight(0, self.count + 1, 0) > MOST_ELEMENTS:
             raise NotDrawn
 
     def weight(self, begin: int, end: int, depth: int) -> int:
@@ -163,7 +177,7 @@ class Drawing:
         for at in range(bisect.bisect_left(self.references, (begin, "")), bisect.bisect_left(self.references, (end, ""))):
             for target in self.named.get(self.references[at][1], ()):
                 if target not in self.weights:
-                    self.weights[target] = target[1] - target[0] + self.weight(*target, depth + 1)
+                    self.weights[target] = self.costs[target[1] - 1] - self.costs[target[0] - 1] + self.weight(*target, depth + 1)
                 drawn += self.weights[target]
         return drawn
 

@@ -1,4 +1,4 @@
-"""Answers as the page gets them: texts and formulas, at most so many characters of them, and pictures."""
+"""Answers as the page gets them: texts, errors and formulas, at most so many characters of them, and pictures."""
 
 from typing import Any, Dict, List, Union
 
@@ -12,24 +12,26 @@ LONGEST_FORMULA = 5_000
 
 SHOWN_WITHOUT_TAG = ("verbatim", "output")
 
-Part = Dict[str, str]  # {"text": ..}, {"tex": ..}, or {"picture": its address, "text": what stands for it}
+Part = Dict[str, str]  # {"text": ..}, {"error": ..}, {"tex": ..}, or {"picture": its address, "text": what stands for it}
 
 
 class Parts:
     """The parts of an answer, up to `LONGEST` characters, and all of its pictures."""
 
-    def __init__(self, pictures: Dict[int, Picture]) -> None:
+    def __init__(self, pictures: Dict[int, Picture], errors: List[Block]) -> None:
         self.pictures = pictures
+        self.errors = {id(error) for error in errors}
         self.parts: List[Part] = []
         self.left = LONGEST
+        self.kind = "text"
 
     def text(self, text: str) -> None:
         text = text[: self.left]
         self.left -= len(text)
-        if text and self.parts and list(self.parts[-1]) == ["text"]:
-            self.parts[-1]["text"] += text
+        if text and self.parts and list(self.parts[-1]) == [self.kind]:
+            self.parts[-1][self.kind] += text
         elif text:
-            self.parts.append({"text": text})
+            self.parts.append({self.kind: text})
 
     def add(self, block: Block) -> None:
         """A block as `tmhost show` prints it, but for its formulas. Blocks lie at most 32 deep in one another."""
@@ -43,7 +45,9 @@ class Parts:
             self.parts.append({"tex": tex})
             self.left -= len(tex)
             return
-        is_bare = tag in SHOWN_WITHOUT_TAG
+        is_error = id(block) in self.errors
+        is_bare = tag in SHOWN_WITHOUT_TAG or is_error
+        self.kind = "error" if is_error else self.kind
         if not is_bare:
             self.text("{" + tag + (":" if block.kind == "format" else "#"))
         for item in block.items:
@@ -52,6 +56,7 @@ class Parts:
             self.item(item)
         if not is_bare:
             self.text("}")
+        self.kind = "text" if is_error else self.kind
 
     def item(self, item: Union[str, bytes, Block]) -> None:
         if isinstance(item, Block):
@@ -90,10 +95,11 @@ def whole_text(answer: Answer, pictures: Dict[int, Picture]) -> str:
 def facts_of(answer: Answer) -> Dict[str, Any]:
     """An answer as the page shows it: its parts, the same as text, whether that is all of it, and how long the whole text is."""
     pictures = pictures_in(answer.output)
-    parts = Parts(pictures)
+    errors = answer.output.errors
+    parts = Parts(pictures, errors)
     parts.add(answer.output)
     text = whole_text(answer, pictures)
-    return {"parts": parts.parts, "text": text[:LONGEST], "isCut": len(text) > LONGEST, "length": len(text)}
+    return {"parts": parts.parts, "isError": bool(errors), "text": text[:LONGEST], "isCut": len(text) > LONGEST, "length": len(text)}
 
 
 def piece_of(answer: Answer, start: int) -> Dict[str, Any]:

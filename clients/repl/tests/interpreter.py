@@ -8,6 +8,7 @@
     die           ends
     count         how many lines this process has answered
     formula       a block in the answer
+    error TEXT    an error
 
 Another line is answered by itself. Completed are the words above. A line that an interrupt ends is answered by `interrupted`.
 """
@@ -47,6 +48,8 @@ class Interpreter:
             return str(self.answered).encode()
         if word == "formula":
             return b"\x02latex:$x$\x05"
+        if word == "error":
+            return b"\x02output#\x02output#" + escaped(rest.encode()) + b"\x05\x05"
         if word == "die":
             sys.exit(3)
         self.is_stuck = word == "stuck"

@@ -28,6 +28,11 @@ class Pipe(Case):
         )
         self.assertEqual((done.returncode, done.stdout), (0, b"\xe9\xff\n\xc2\x9bm\n\\x1b[m\n{latex:$x$}\n"))
 
+    def test_errors(self) -> None:
+        """It is told which answers are errors; they are answers."""
+        self.make()
+        self.assertEqual(self.pipe("a\nerror no way\nb\n", self.sheet, "t"), (0, "a\nno way\nb\n", "tmhost-repl: #2 is an error\n"))
+
     def test_lines_that_go_on(self) -> None:
         self.make()
         self.assertEqual(self.pipe("a\\\nb\\\n\\\nc\nd\\\\\n\ne\\", self.sheet, "t"), (0, "a\nb\n\nc\nd\\\ne\n", ""))

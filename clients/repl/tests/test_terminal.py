@@ -25,6 +25,16 @@ class Lines(Case):
         self.assertEqual(terminal.ends(), 0)
         self.assertEqual(self.pairs(), [("hello", "hello"), ("say a\\nb", "a\nb")])
 
+    def test_errors(self) -> None:
+        """The note below says it in words."""
+        self.make()
+        terminal = self.terminal()
+        terminal.sees("t>")
+        terminal.send("error no way\r")
+        terminal.sees(r"^Tester 1\.0\n1\] error no way\nno way\n\(#1 is an error\)\nt>\Z")
+        terminal.send("%list\r")
+        terminal.sees(r"no way\n\(#1 is an error\)\nt> %list\n#1 t\n1\] error no way\nno way\n\(#1 is an error\)\nt>\Z")
+
     def test_a_line_that_goes_on(self) -> None:
         self.make()
         terminal = self.terminal()

@@ -9,6 +9,8 @@ from tmhost import Answer, Field
 
 from .texts import harmless, rows, under
 
+ERROR = 31  # the style of a mark: red
+
 
 class Console:
     """Both show answers and fields; what else is to be said is a note. `failed` says that an answer was lost, or a line refused."""
@@ -46,6 +48,10 @@ class Console:
         self.failed = True
         self.note(text)
 
+    def mark(self, text: str) -> None:
+        """Says of the answer above it that it is an error."""
+        self.note(text)
+
     def field(self, field: Field) -> None:
         """A field with all that it has."""
         self.show(f"#{field.id} {field.session}")
@@ -53,6 +59,8 @@ class Console:
         self.show(under(harmless(prompt), harmless(field.input)))
         if field.answer:
             self.show(harmless(field.answer.text))
+            if field.answer.errors:
+                self.mark(f"#{field.id} is an error")
         else:
             self.unanswered(field)
 
@@ -129,6 +137,10 @@ class Terminal(Console):
     def note(self, text: str) -> None:
         self._typed = None
         self._print(self._styled(f"({harmless(text)})", 2) + "\n")
+
+    def mark(self, text: str) -> None:
+        self._typed = None
+        self._print(self._styled(f"({harmless(text)})", ERROR) + "\n")
 
     def unanswered(self, field: Field) -> None:
         """In the form of a note, which no output has."""

@@ -9,7 +9,7 @@ import time
 from types import FrameType
 from typing import Counter, Deque, Iterator, Optional, Tuple, Union
 
-from tmhost import Answered, Banner, Cell, Closed, Done, Ended, Event, Finished, LostItem, Stopped, Worksheet
+from tmhost import Answer, Answered, Banner, Cell, Closed, Done, Ended, Event, Finished, LostItem, Stopped, Worksheet
 
 from .console import Console
 
@@ -107,7 +107,7 @@ class Evaluator:
         if self._owed[cell.id] == 1:
             if isinstance(happening, Answered) and happening.id == cell.id:
                 self._owed[cell.id] = 0
-                self.console.answer(cell.input, happening.answer)
+                self._show(cell.id, cell.input, happening.answer)
                 return Outcome.ANSWERED
             if isinstance(happening, (Ended, Stopped)) and cell.id in lines_of(happening.lost):
                 self._tell(happening)
@@ -121,11 +121,16 @@ class Evaluator:
         elif isinstance(event, Answered):
             self._owed[event.id] -= 1
             self.console.note(f"the answer of #{event.id}:")
-            self.console.answer("", event.answer)
+            self._show(event.id, "", event.answer)
         elif isinstance(event, (Ended, Stopped)):
             self._tell_end(event)
         elif isinstance(event, Finished):
             raise event.error or Closed()
+
+    def _show(self, id: int, input: str, answer: Answer) -> None:
+        self.console.answer(input, answer)
+        if answer.errors:
+            self.console.mark(f"#{id} is an error")
 
     def _tell_end(self, event: Union[Ended, Stopped]) -> None:
         reason = event.reason if isinstance(event, Ended) else "Stopped"
