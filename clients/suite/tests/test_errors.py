@@ -44,7 +44,7 @@ class Errors(Case):
 
     def test_a_long_one_goes_on(self) -> None:
         said = "\U0001f600" * 900
-        self.write(apart(f"error 1|{said}\nstuck", "1\n? over 0.5 s", said), more="timeout: 0.5\n")
+        self.write(apart(f"error 1|{said}\nstuck", "1\n? over 5 s", said), more="timeout: 5\n")
         self.assertEqual(self.verdicts(self.path), ["ok"], self.outcome.output)
         self.assertEqual(self.verdicts(self.path, "--resume"), ["ok"])
 
