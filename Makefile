@@ -51,6 +51,9 @@ install:
 		cp -P adapters/bin/$$command $(HERE)/adapters/bin && \
 		ln -sf ../share/tmhost/adapters/bin/$$command $(DESTDIR)$(PREFIX)/bin/$$command || exit 1; \
 	done
+	install -d $(HERE)/adapters/loops
+	install -m 644 adapters/languages.py $(HERE)/adapters
+	install -m 644 adapters/loops/* $(HERE)/adapters/loops
 	install -d $(HERE)/adapters/octave/lines $(HERE)/adapters/octave/formulas/@sym
 	install -m 644 adapters/octave/lines/*.m $(HERE)/adapters/octave/lines
 	install -m 644 adapters/octave/formulas/@sym/*.m $(HERE)/adapters/octave/formulas/@sym

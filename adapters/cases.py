@@ -10,6 +10,7 @@ from completion_cases import COMPLETING, Completing
 from error_cases import ERRORS
 import jupyter_lines
 from gp_lines import MESSAGE, NO_INPUT, Line as Case, ones
+from language_lines import LANGUAGES, Lines
 from odd_lines import ODD_LINES
 
 
@@ -282,6 +283,7 @@ def ten_lines(name: str, call: str = "k(10)", said: str = "", told: str = "-5") 
 # From the first line to the second one of a pair nothing, or more than its own, is shown of a line. What `ploth` has started may write later.
 REDIRECTIONS: Dict[str, str] = {
     "set -x": "set +x", "exec >/dev/null": "exec >&199", 'sink("/dev/null")': "sink()", 'set print "/dev/null"': "set print", "ploth(x=0,1,x^2)": "while(1,)",
+    ".headers on": ".headers off", ".output /dev/null": ".output", ".echo on": ".echo off", ".mode box": ".mode list", ".changes on": ".changes off",
 }
 
 # For each interpreter a line that has a number, and its answer.
@@ -348,6 +350,10 @@ def by_jupyter(words: str, cases: List[Case]) -> Trial:
     return Trial(f"jupyter {words}", "/usr/share/jupyter/kernels/python3/kernel.json", "os._exit(0)", "while True: pass", cases, odd_lines, *NUMBERS["python"], failing=ERRORS.get(f"jupyter {words}", ()))
 
 
+def by_language(name: str, lines: Lines) -> Trial:
+    return Trial(f"prompted.py {name}", lines.program, lines.leaving, lines.busy, lines.cases, lines.odd, lines.number, lines.numbered)
+
+
 TRIALS = {
     "gp": trial("gp", "gp", "quit", "while (1, )", GP),
     "gp_lines": trial("gp", "gp", "\\q", "while (1, )", gp_lines.LINES),
@@ -377,4 +383,5 @@ TRIALS = {
     "singular": by_prompted("singular", "Singular", "quit;", "while (1) { int k = 1; kill k; }", SINGULAR + ten_lines("singular")),
     "gnuplot": by_prompted("gnuplot", "gnuplot", "quit", "while (1) { x = 1 }", GNUPLOT + ten_lines("gnuplot", "print k")),
     "yacas": by_prompted("yacas", "yacas", "quit", "While(True) a := 1;", YACAS + ten_lines("yacas", said="True")),
+    **{name: by_language(name, lines) for name, lines in LANGUAGES.items()},
 }

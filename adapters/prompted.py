@@ -24,7 +24,8 @@ from typing import List, NamedTuple, Optional, Set
 import blocks
 import pictures
 import waiting
-from profiles import COMMANDS, PROFILES, Profile
+from languages import PROFILES
+from profiles import COMMANDS, Profile
 
 PATIENCE = 0.25  # seconds without a word behind which it is looked whether a line waits for input; they double each time
 LONGEST_PATIENCE = 2.0

@@ -123,6 +123,19 @@ class Notebooks(Forms):
         text = self.run_suite("--convert", path).output
         self.assertEqual(self.verdicts(self.put("a.md", text)), ["ok", "ok", "differs"], text)
 
+    def test_formulas_and_pictures(self) -> None:
+        formula = {"output_type": "execute_result", "execution_count": 1, "metadata": {}, "data": {"text/latex": "$\\displaystyle x^{2}$", "text/plain": "x**2"}}
+        picture = {"output_type": "display_data", "metadata": {}, "data": {"image/png": "iVBORw0KGgo=", "text/plain": "<Figure>"}}
+        cells: List[Any] = [
+            ("class F:\n    def _repr_latex_(self): return '$x^{2}$'\nF()", [formula]),
+            ("class P:\n    def _repr_svg_(self): return '<svg xmlns=\"http://www.w3.org/2000/svg\"/>'\nP()", [picture]),
+            ("print('a'); P()", [picture]),
+        ]
+        path = self.notebook("python", cells)
+        self.assertEqual(self.verdicts(path), ["ok", "ok", "differs"], self.outcome.output)
+        text = self.run_suite("--convert", path).output
+        self.assertEqual(self.verdicts(self.put("a.md", text)), ["ok", "ok", "differs"], text)
+
     def test_only_the_last_value_is_shown(self) -> None:
         cells: List[Any] = [("x = 3\nx\nx + 1", [self.result("4")]), ("x;", []), ("x\ny = 2", [])]
         path = self.notebook("python", cells)
@@ -152,10 +165,19 @@ class Cram(Forms):
             ("printf '\\303\\251\\n'", "\\xc3\\xa9 (esc)"),
             ("echo 'a*[1]'", "?\\*[1] (glob)"),
             ("printf foo", "foo (no-eol)"),
+            ("echo foo", "foo (no-eol)"),
             ("echo 'ab[1]'", "a\\*[1] (glob)"),
         ]
         path = self.put("a.t", "".join(f"  $ {command}\n  {wanted}\n" for command, wanted in commands))
-        self.assertEqual(self.verdicts(path)[1:-1], ["ok"] * 5 + ["differs"], self.outcome.output)
+        self.assertEqual(self.verdicts(path)[1:-1], ["ok"] * 5 + ["differs"] * 2, self.outcome.output)
+
+    def test_output_is_no_terminal(self) -> None:
+        path = self.put("a.t", "  $ [ -t 1 ] || [ -t 2 ] || echo file\n  file\n  $ touch x y; ls\n  x\n  y\n  $ x=3\n  $ echo $x >&2\n  3\n")
+        self.assertEqual(self.verdicts(path)[1:-1], ["ok"] * 4, self.outcome.output)
+
+    def test_one_that_exits_with_80_is_skipped_from_there_on(self) -> None:
+        path = self.put("a.t", "  $ echo 1\n  1\n  $ (exit 80)\n  [80]\n  $ false || exit 80; echo no\n  $ echo 2\n  2\n")
+        self.assertEqual(self.verdicts(path)[1:-1], ["ok", "ok", "skip", "skip"], self.outcome.output)
 
     def test_a_pattern_that_is_none(self) -> None:
         path = self.put("a.t", "  $ echo 1\n  +++ (re)\n")

@@ -125,6 +125,21 @@ class Worksheets(Case):
         self.write(*[case("say 1", "1")] * 4751)
         self.assertIn("its 4,751 cases with 4,751 fields are more than 9,500 in all", self.run_suite(self.path).errors)
 
+    def test_a_line_that_no_field_holds_is_a_difference_of_its_case(self) -> None:
+        for length in (4_096, 20_000):
+            self.write(case("x" * length + "\n\nsay 1", "1"), case("say 2", "2"))
+            self.assertEqual(self.verdicts(self.path), ["differs", "ok"])
+            self.assertIn(f"? refused: it has {length:,} bytes, and a field has at most 4,095", self.outcome.output)
+
+    def test_a_suite_that_cannot_run_takes_no_other_with_it(self) -> None:
+        self.write(case("say 1", "1"))
+        self.write(*[case("say 1", "1")] * 4751, path=self.place("long.md"))
+        report = self.place("report.xml")
+        ran = self.run_suite(self.place("long.md"), self.path, "--junit", report)
+        self.assertEqual((ran.status, ran.output.split(" in ")[0]), (1, "1 ok"))
+        self.assertIn("long.md: its 4,751 cases", ran.errors)
+        self.assertIn('tests="1"', self.read(report))
+
     def test_line_ends_and_a_mark_of_bytes(self) -> None:
         self.write(case("say 1\nsay 2", "1\n2"))
         text = self.read()

@@ -18,6 +18,7 @@ class Marks:
     is_whole: bool = False
     xfail: Optional[str] = None
     skip: Optional[str] = None
+    skip_if: Optional[str] = None  # a pattern: where what comes has it, the case is skipped
     timeout: Optional[float] = None
     tags: FrozenSet[str] = frozenset()
     flaky: int = 0
@@ -26,7 +27,7 @@ class Marks:
 
 @dataclasses.dataclass(frozen=True)
 class Case:
-    """`line` is that of its fence, from 1. `wanted` is None where the text has no answer behind it."""
+    """`line` is that of its fence, from 1. `wanted` and `errors` are None where the text has no answer behind it, and no errors apart."""
 
     session: str
     marks: Marks
@@ -34,6 +35,7 @@ class Case:
     fields: Tuple[Group, ...]
     line: int
     wanted: Optional[str]
+    errors: Optional[str] = None
 
     @property
     def title(self) -> str:
@@ -56,7 +58,8 @@ class Suite:
     cases: Tuple[Case, ...]
 
     def rules_of(self, case: Case) -> Rules:
-        return dataclasses.replace(self.rules, any_spaces=True) if case.marks.any_spaces else self.rules
+        any_spaces, apart = self.rules.any_spaces or case.marks.any_spaces, self.rules.apart or case.errors is not None
+        return dataclasses.replace(self.rules, any_spaces=any_spaces, apart=apart)
 
     @property
     def digest(self) -> str:

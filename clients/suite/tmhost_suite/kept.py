@@ -6,12 +6,13 @@ import json
 import os
 import subprocess
 import time
-from typing import Dict, List, Optional
+from typing import Dict, List, Optional, Tuple
 
-from tmhost import Answer, Cell, InUse, Refused, Worksheet, find_program
+from tmhost import Cell, InUse, Refused, Worksheet, find_program
 from tmhost_fences.troubles import Trouble
 
 from .cases import Suite
+from .shown import Shown, shown_of
 
 # The session of notes: what a run is of, and what came of each case. It is never started.
 NOTES, NEVER = "tmhost-suite", ("true",)
@@ -23,7 +24,7 @@ PATIENCE, PAUSE = 10.0, 0.05  # seconds; the program of a run that was killed ne
 
 @dataclasses.dataclass
 class Result:
-    """What came of a case. `got` is what is compared; `tries` is how often it was evaluated; `began_anew` says that its interpreter was
+    """What came of a case. `got` is what is compared, and `errors` are those that are apart; `tries` is how often it was evaluated; `began_anew` says that its interpreter was
     started for it, other than for the first case of its session; `is_error` that an answer is an error, or has one."""
 
     got: str
@@ -31,6 +32,7 @@ class Result:
     tries: int = 1
     began_anew: bool = False
     is_error: bool = False
+    errors: str = ""
     verdict: str = ""
 
 
@@ -48,28 +50,27 @@ class Kept:
         """A case is done when this has returned. What came isn't kept twice where the case's own cells show it, and stands in notes of its own
         where it may be too long for one."""
         short = dataclasses.asdict(result)
-        if result.got == self.shown(at):
-            del short["got"]
-        elif len(result.got) > PART:
-            parts = [result.got[begin : begin + PART] for begin in range(0, len(result.got), PART)]
-            for part in parts:
-                self.sheet.new(NOTES, json.dumps({"case": at, "part": part}, ensure_ascii=True))
-            short.update(got=None, parts=len(parts))
+        kept = self.shown(at)
+        for name, own in (("got", kept.text), ("errors", kept.errors)):
+            said = short[name]
+            if said == own:
+                del short[name]
+            elif len(said) > PART:
+                parts = [said[begin : begin + PART] for begin in range(0, len(said), PART)]
+                for part in parts:
+                    self.sheet.new(NOTES, json.dumps({"case": at, "of": name, "part": part}, ensure_ascii=True))
+                short[name] = len(parts)
         self.sheet.new(NOTES, json.dumps({"case": at, "digest": self.suite.cases[at].digest, **short}, ensure_ascii=True))
 
-    def shown(self, at: int) -> str:
+    def shown(self, at: int) -> Shown:
         """What the cells of a case show, one after another."""
-        return joined([shown_of(cell.answer) if cell.answer else f"? {cell.reason}" for cell in self.cells[at] if cell.state != "empty"])
+        rules = self.suite.rules_of(self.suite.cases[at])
+        return joined([shown_of(cell.answer, rules) if cell.answer else Shown(f"? {cell.reason}") for cell in self.cells[at] if cell.state != "empty"])
 
 
-def shown_of(answer: Answer) -> str:
-    """An answer as it is compared: in print, without line ends behind it."""
-    return str(answer).rstrip("\n")
-
-
-def joined(parts: List[str]) -> str:
+def joined(parts: List[Shown]) -> Shown:
     """What the fields of a case show, one after another. A field that says nothing leaves no line."""
-    return "\n".join(part for part in parts if part)
+    return Shown("\n".join(part.text for part in parts if part.text), "\n".join(part.errors for part in parts if part.errors))
 
 
 def sheet_path(path: str, folder: Optional[str]) -> str:
@@ -131,10 +132,10 @@ def fill(sheet: Worksheet, suite: Suite) -> Kept:
     for at, case in enumerate(suite.cases):
         kept.cells.append([])
         for field in case.fields:
-            try:
+            if field.misfit is None:
                 kept.cells[at].append(sheet.new(case.session, field.input))
-            except Refused as refused:
-                kept.misfits[at] = field.misfit or str(refused)
+            else:
+                kept.misfits.setdefault(at, field.misfit)
     sheet.new(NOTES, json.dumps({"suite": suite.digest}))
     return kept
 
@@ -169,18 +170,18 @@ def found_in(sheet: Worksheet, suite: Suite) -> Optional[Kept]:
         kept.cells.append([cells[case.session].pop(0) for _ in fitting])
         if len(fitting) < len(case.fields):
             kept.misfits[at] = next(field.misfit for field in case.fields if field.misfit) or ""
-    parts: Dict[int, List[str]] = {}
+    parts: Dict[Tuple[int, str], List[str]] = {}
     for note in notes[1:]:
         at = int(str(note.pop("case")))
         if "part" in note:
-            parts.setdefault(at, []).append(str(note["part"]))
+            parts.setdefault((at, str(note["of"])), []).append(str(note["part"]))
             continue
         note.pop("digest")
-        count = int(str(note.pop("parts", 0)))
-        if count:
-            # Those of a run that was broken off between two of them stand in front.
-            note["got"] = "".join(parts[at][-count:])
-        note.setdefault("got", kept.shown(at))
+        for name, own in (("got", kept.shown(at).text), ("errors", kept.shown(at).errors)):
+            count = note.setdefault(name, own)
+            if isinstance(count, int):
+                # Those of a run that was broken off between two of them stand in front.
+                note[name] = "".join(parts[at, name][-count:])
         kept.results[at] = Result(**note)  # type: ignore[arg-type]
     for left in cells.values():
         for cell in left:  # of a replay that was cut off

@@ -53,6 +53,14 @@ def any_spaces(word: str) -> bool:
     return True
 
 
+def pattern(word: str) -> str:
+    try:
+        re.compile(word)
+    except re.error:
+        raise ValueError from None
+    return word
+
+
 def tries(word: str) -> int:
     value = int(word or "1")
     if not 1 <= value <= MOST_TRIES:
@@ -66,6 +74,7 @@ READERS: Dict[str, Tuple[str, Callable[[str], object]]] = {
     "whole": ("is_whole", lambda rest: True),
     "xfail": ("xfail", str),
     "skip": ("skip", str),
+    "skip_if": ("skip_if", pattern),
     "timeout": ("timeout", seconds),
     "tags": ("tags", lambda rest: frozenset(re.split(r"[\s,]+", rest)) - {""}),
     "flaky": ("flaky", tries),

@@ -1,5 +1,6 @@
 """The command line of tmhost-suite."""
 import argparse
+import contextlib
 import fnmatch
 import os
 import random
@@ -8,7 +9,7 @@ import sys
 import threading
 import time
 from concurrent.futures import ThreadPoolExecutor
-from typing import Callable, Dict, FrozenSet, List, Optional, Tuple
+from typing import Callable, Dict, Iterator, List, Optional, Tuple
 
 from tmhost import TmhostError, Worksheet
 from tmhost_weave.files import put
@@ -120,6 +121,7 @@ class Runner:
         self.slots, self.ended, self.is_broken_off = threading.Semaphore(given.jobs), threading.Event(), threading.Event()
         self.sheets: List[Worksheet] = []  # those of suites that have begun
         self.chosen = 0  # how many cases were to be run
+        self.troubles: List[str] = []  # why suites weren't run to their end; the others are
         self.seed = str(random.randrange(10**6)) if given.random == "new" else given.random
 
     def run(self) -> bool:
@@ -147,7 +149,9 @@ class Runner:
         self._write_reports(told)
         if not self.chosen and parts == 1 and (self.given.only or self.given.tags):
             raise Trouble("no case is one of those that are to be run")
-        return all(one.verdict in PASSED or one.verdict == "out" for one in told)
+        for trouble in self.troubles:
+            print(f"tmhost-suite: {trouble}", file=sys.stderr)
+        return not self.troubles and all(one.verdict in PASSED or one.verdict == "out" for one in told)
 
     def _break_off(self) -> None:
         """Ends what runs, at once: what is done stands in the worksheets, and another run goes on from there."""
@@ -163,10 +167,18 @@ class Runner:
             raise Trouble(f"{path}: {trouble}") from None
 
     def _run_one(self, suite: Suite, text: Optional[Text]) -> List[Told]:
-        try:
+        with self._told_of(suite):
             return self._run_suite(suite, text)
+        return []
+
+    @contextlib.contextmanager
+    def _told_of(self, suite: Suite) -> Iterator[None]:
+        """What goes wrong with a suite is told at the end, and the others are run."""
+        try:
+            yield
         except (Trouble, TmhostError) as trouble:
-            raise Trouble(f"{suite.path}: {trouble}") from None
+            if not self.is_broken_off.is_set():
+                self.troubles.append(f"{suite.path}: {trouble}")
 
     def _run_suite(self, suite: Suite, text: Optional[Text]) -> List[Told]:
         path = worksheets.sheet_path(suite.path, self.given.runs)
@@ -181,12 +193,11 @@ class Runner:
         with kept.sheet:
             self.sheets.append(kept.sheet)
             plan = Plan(chosen, self.given.seconds, self.slots, self.ended, self.is_broken_off, self.given.fail_fast, self.seed)
-            applied = run(kept, plan, lambda at: self.teller.one_more())
+            run(kept, plan, lambda at: self.teller.one_more())
         told = told_of(suite, kept.results)
         if self.given.accept:
-            self._accept(text, told)
-        if self.given.verbose and found is None:
-            self.teller.tell_idle_rules(suite, applied)
+            with self._told_of(suite):
+                self._accept(text, told)
         return told
 
     # ---- what is accepted
@@ -195,17 +206,22 @@ class Runner:
         if text is None:
             raise Trouble("nothing is accepted into a file of this form: --convert writes the text form")
         answers: Dict[int, str] = {}
-        for at, one in enumerate(told):
-            if one.verdict in ("differs", "new") and (not self.given.interactive or self._is_wanted(one)):
-                answers[at] = "\n".join(as_wanted(one.got))
-        if not answers:
+        errors: Dict[int, str] = {}
+        accepted = [at for at, one in enumerate(told) if one.verdict in ("differs", "new") and (not self.given.interactive or self._is_wanted(one))]
+        for at in accepted:
+            case, rules = told[at].case, text.suite.rules_of(told[at].case)
+            if not rules.is_wanted(case.wanted, told[at].got, set()):
+                answers[at] = "\n".join(as_wanted(told[at].got))
+            if rules.apart and not rules.is_wanted(case.errors, told[at].errors, set()):
+                errors[at] = "\n".join(as_wanted(told[at].errors))
+        if not accepted:
             return
-        new = text.checked(answers)
+        new = text.checked(answers, errors)
         with open(text.suite.path, "rb") as file:
             if file.read() != "".join(text.lines).encode("utf-8"):
                 raise Trouble("the text was changed while it was run: nothing is accepted")
         put(os.path.realpath(text.suite.path), new.encode("utf-8"))
-        self.teller.say(f"{text.suite.path}: {len(answers)} accepted")
+        self.teller.say(f"{text.suite.path}: {len(accepted)} accepted")
 
     def _is_wanted(self, told: Told) -> bool:
         self.teller.end_progress()
@@ -225,6 +241,7 @@ class Runner:
                 self.teller.tell_normalised(one)
         if self.given.slowest:
             self.teller.tell_slowest(told, self.given.slowest)
+        self.teller.tell_idle_rules(told)
         self.teller.tell_counts(told, taken)
 
     def _write_reports(self, told: List[Told]) -> None:

@@ -1,49 +1,29 @@
-"""Suites in the forms of others: doctest's `>>>`, cram's `.t`, a Jupyter notebook with its outputs, PARI's `in` and `32`. Each is read as
-cases of one session."""
+"""Suites in the forms of others: doctest's `>>>`, cram's `.t`, a Jupyter notebook with its outputs, PARI's `in` and `32`; those of GAP and of
+Octave are in transcripts.py. Each is read as cases of one session."""
 import ast
 import doctest
 import json
 import os
 import re
 import shlex
-from typing import Any, Callable, Dict, Iterator, List, NamedTuple, Optional, Tuple
+from typing import Any, Callable, Dict, Iterator, List, Optional, Tuple
 
 from tmhost_fences.blocks import LINE, cut
 from tmhost_fences.fields import LINE_END, Group, groups, language_in, whole
 from tmhost_fences.troubles import Trouble
 
 from .cases import Case, Marks, Suite
-from .rules import ANY_LINES, BY_GLOB, BY_PATTERN, Rules
+from .forms import GAP, GP, OCTAVE, PYTHON, SHELL, Session, session_of, whole_case
+from .rules import ANY_LINES, BY_GLOB, BY_PATTERN, PICTURES, Rules
+from .transcripts import is_gap, is_octave, read_gap, read_octave
 
 CRAM_CODE, CRAM_MORE = re.compile(r"  \$ (.*)"), re.compile(r"  > (.*)")
 NO_END, ESCAPED = " (no-eol)", " (esc)"
 CONTROL = re.compile(r"[\x00-\x08\x0a-\x1f\x7f]")
+FORMULA = re.compile(r"\s*(\${1,2})([^$]+)\1\s*")
+PICTURE_TYPES = ("image/svg+xml", "image/png", "image/jpeg")
 PARI_TIME = ("Total time spent:", '? print("Total time spent: "')
-TELLS_STATUS = 'tmhost_status=$?; [ $tmhost_status = 0 ] || echo "[$tmhost_status]"'
-
-
-class Session(NamedTuple):
-    name: str
-    words: Tuple[str, ...]
-
-
-PYTHON = Session("py", ("tmhost-python",))
-SHELL = Session("sh", ("tmhost-sh",))
-GP = Session("gp", ("tmhost-gp", "--text", "--no-numbers"))
-
-
-def session_of(words: str) -> Session:
-    """A session with words from outside. Its name is that of the adapter, or of what this is told to speak to."""
-    found = tuple(words.split())
-    if not found:
-        raise Trouble("--words names no interpreter")
-    name = os.path.basename(next((word for word in reversed(found) if word[0] != "-"), found[0])).removeprefix("tmhost-")
-    return Session(re.sub(r"\W", "_", name, flags=re.ASCII)[:20], found)
-
-
-def whole_case(session: str, source: str, wanted: Optional[str], line: int, marks: Marks) -> Case:
-    lines = source.rstrip("\n").split("\n")
-    return Case(session, marks, tuple(lines), tuple(whole(lines)), line, wanted)
+CRAM_OUTPUT, CRAM_SKIPS = '"$CRAMTMP"/tmhost-output', "skipped: exit 80"
 
 
 # ---- doctest
@@ -103,8 +83,6 @@ def cram_line(line: str) -> str:
     """A line that cram wants, without its two blanks, by the patterns of a suite. Cram takes one that ends in `(esc)` as it is, too, and
     its globs have no brackets, but backslashes."""
     line = line[2:]
-    if line.endswith(NO_END):
-        line = line[: -len(NO_END)]
     if line.endswith(ESCAPED):
         return "|".join(re.escape(text) for text in (line, without_escapes(line[: -len(ESCAPED)]))) + BY_PATTERN
     if line.endswith(BY_GLOB) and re.search(r"[\\[]", line):
@@ -114,18 +92,23 @@ def cram_line(line: str) -> str:
 
 
 def cram_case(session: str, code: List[str], wanted: List[str], line: int) -> Case:
-    """A command, and its status where that isn't 0, as cram tells it."""
-    field = Group(0, LINE_END.join([*code, TELLS_STATUS]))
-    return Case(session, Marks(), tuple(code), (field,), line, "\n".join(wanted).rstrip("\n"))
+    """A command, whose output goes to a file, since cram's is no terminal, with its status where that isn't 0, as cram tells it."""
+    field = Group(0, LINE_END.join(["tmhost_skips || {", "{", *code, f"}} >{CRAM_OUTPUT} 2>&1", "tmhost_tells $?", "}"]))
+    return Case(session, Marks(skip_if=f"^{CRAM_SKIPS}$"), tuple(code), (field,), line, "\n".join(wanted).rstrip("\n"))
 
 
 def cram_surroundings(session: str, path: str, last: int) -> Tuple[Case, Case]:
-    """What cram does for each file: a folder of its own, and the variables that its manual names. They are taken away at the end."""
+    """What cram does for each file: a folder of its own, and the variables that its manual names. They are taken away at the end. One that
+    exits with 80 is skipped from there on."""
     folder, name = os.path.split(os.path.abspath(path))
     begin = [
         f"CRAMTMP=$(mktemp -d -t cramtests-XXXXXX) && mkdir \"$CRAMTMP\"/{shlex.quote(name)} && cd \"$CRAMTMP\"/{shlex.quote(name)}",
-        "export CRAMTMP TMPDIR=\"$CRAMTMP\" LANG=C LC_ALL=C LANGUAGE=C TZ=GMT CDPATH= COLUMNS=80 GREP_OPTIONS=",
+        "export CRAMTMP TMPDIR=\"$CRAMTMP\" LANG=C LC_ALL=C LANGUAGE=C TZ=GMT CDPATH= COLUMNS=80 GREP_OPTIONS= TESTSHELL=/bin/bash",
         f"export TESTDIR={shlex.quote(folder)} TESTFILE={shlex.quote(name)}",
+        f"tmhost_skips () {{ [ -n \"$tmhost_skip\" ] && echo '{CRAM_SKIPS}'; }}",
+        f"tmhost_tells () {{ cat {CRAM_OUTPUT}; [ -z \"$(tail -c1 {CRAM_OUTPUT} | tr '\\0' x)\" ] || echo '{NO_END}'; [ $1 = 0 ] || echo \"[$1]\"; }}",
+        # An expansion that fails ends the line of an interactive shell, and not the shell.
+        f"exit () {{ [ \"${{1-}}\" = 80 ] && [ $BASH_SUBSHELL = 0 ] || builtin exit \"$@\"; tmhost_skip=1; echo '{CRAM_SKIPS}' >&199; : \"${{tmhost_none:?}}\"; }}",
     ]
     end = "cd / && rm -rf \"$CRAMTMP\""
     return (
@@ -162,8 +145,8 @@ def text_in(value: Any) -> str:
 
 
 def output_of(output: Dict[str, Any], language: str) -> str:
-    """An output as plain text. Of an error its last line is wanted; kernels of other languages than Python's name it in their own words, in which
-    it is what stands behind the last colon."""
+    """An output as the adapters show it: a formula, or plain text; pictures are left out. Of an error its last line is wanted; kernels of other
+    languages than Python's name it in their own words, in which it is what stands behind the last colon."""
     kind = output.get("output_type")
     if kind == "stream":
         return text_in(output.get("text")).rstrip("\n")
@@ -172,7 +155,11 @@ def output_of(output: Dict[str, Any], language: str) -> str:
             return f"{ANY_LINES}\n{output.get('ename')}: {output.get('evalue')}"
         said = str(output.get("evalue")).strip().split("\n")[-1].rpartition(": ")[2]
         return f"{ANY_LINES}\n.*{re.escape(said)}{BY_PATTERN}\n{ANY_LINES}"
-    return text_in(output.get("data", {}).get("text/plain")).rstrip("\n")
+    data = output.get("data", {})
+    formula = FORMULA.fullmatch(text_in(data.get("text/latex")))
+    if formula:
+        return "{latex:$" + " ".join(formula[2].replace("\\displaystyle", "").split()) + "$}"
+    return "" if any(name in data for name in PICTURE_TYPES) else text_in(data.get("text/plain")).rstrip("\n")
 
 
 def cell_lines(source: str, language: str) -> List[str]:
@@ -200,7 +187,7 @@ def read_notebook(path: str, text: str, session: Session) -> Suite:
         if cell.get("cell_type") == "code" and fields:
             wanted = "\n".join(part for part in (output_of(it, language) for it in cell.get("outputs", [])) if part)
             cases.append(Case(session.name, Marks(), tuple(lines), fields, number, wanted))
-    return Suite(path, dict([session]), Rules(), None, tuple(cases))
+    return Suite(path, dict([session]), Rules(without=frozenset([PICTURES])), None, tuple(cases))
 
 
 # ---- PARI
@@ -243,6 +230,10 @@ def reader_of(path: str, text: str, names_sessions: bool) -> Optional[Tuple[Read
     ending = os.path.splitext(path)[1]
     if pari_wanted(path) is not None:
         return read_pari, GP
+    if ending == ".tst" and is_gap(text):
+        return read_gap, GAP
+    if ending in (".tst", ".m") and is_octave(text):
+        return read_octave, OCTAVE
     if ending in READERS:
         return READERS[ending]
     return (read_doctest, PYTHON) if not names_sessions and PROMPT.search(text) else None
@@ -267,7 +258,7 @@ def fenced(kind: str, lines: List[str]) -> List[str]:
 
 def as_text(suite: Suite) -> str:
     """The text form of a suite of another form."""
-    rules = [*(["spaces: any"] if suite.rules.any_spaces else []), *([f"columns: {suite.rules.columns}"] if suite.rules.columns else [])]
+    rules = [*(["without: pictures"] if PICTURES in suite.rules.without else []), *(["spaces: any"] if suite.rules.any_spaces else []), *([f"columns: {suite.rules.columns}"] if suite.rules.columns else [])]
     lines = ["---", "sessions:", *(f"  {name}: {json.dumps(list(words))}" for name, words in suite.sessions.items()), *rules, "---", ""]
     for case in suite.cases:
         code = list(case.lines)
@@ -277,6 +268,7 @@ def as_text(suite: Suite) -> str:
         if case.fields != tuple(groups(code, language_in(suite.sessions[case.session]))):
             marks += " {whole}"
         marks += (" {spaces any}" if case.marks.any_spaces else "") + (f" {{skip {case.marks.skip}}}" if case.marks.skip else "")
+        marks += (f" {{skip_if {case.marks.skip_if}}}" if case.marks.skip_if else "") + (f" {{xfail {case.marks.xfail}}}" if case.marks.xfail else "")
         lines += fenced(case.session + marks, code)
         if case.wanted is not None:
             lines += ["", *fenced("answer", case.wanted.split("\n") if case.wanted else [])]

@@ -47,6 +47,10 @@ class Told:
         return self.result.got if self.result else ""
 
     @property
+    def errors(self) -> str:
+        return self.result.errors if self.result else ""
+
+    @property
     def seconds(self) -> float:
         return self.result.seconds if self.result else 0.0
 
@@ -54,7 +58,8 @@ class Told:
     def remark(self) -> str:
         """What is said of it beside its verdict."""
         marks = self.case.marks
-        parts = [marks.skip or "", marks.xfail or ""]
+        was_skipped = self.verdict == "skip" and self.result is not None
+        parts = [marks.skip or "", marks.xfail or "", self.got.split("\n")[0] if was_skipped else ""]
         if self.result and self.result.tries > 1:
             parts.append(f"tried {self.result.tries} times")
         if self.result and self.result.began_anew:
@@ -62,12 +67,24 @@ class Told:
         return ", ".join(part for part in parts if part)
 
     @property
+    def differs_in_text(self) -> bool:
+        """Whether it isn't only in its errors, where these are apart, that it differs."""
+        return not self.suite.rules_of(self.case).is_wanted(self.case.wanted, self.got, set())
+
+    @property
     def diff(self) -> List[str]:
-        """From what was wanted to what came."""
+        """From what was wanted to what came, and behind that the same of errors that are apart."""
         if not self.is_wrong or self.verdict == "xpass":
             return []
-        wanted, came = self.suite.rules_of(self.case).laid_out(self.case.wanted or "", self.got)
-        return list(difflib.unified_diff(wanted if self.case.wanted is not None else [], came, "wanted", "came", lineterm="", n=CONTEXT))
+        found = self._diff_of(self.case.wanted, self.got, "")
+        rules = self.suite.rules_of(self.case)
+        if rules.apart and not rules.is_wanted(self.case.errors, self.errors, set()):
+            found = (found if self.differs_in_text else []) + self._diff_of(self.case.errors, self.errors, " error")
+        return found
+
+    def _diff_of(self, wanted: Optional[str], came: str, what: str) -> List[str]:
+        lines, others = self.suite.rules_of(self.case).laid_out(wanted or "", came)
+        return list(difflib.unified_diff(lines if wanted is not None else [], others if came or not what else [], f"wanted{what}", f"came{what}", lineterm="", n=CONTEXT))
 
 
 def told_of(suite: Suite, results: "dict[int, Result]") -> List[Told]:
@@ -145,6 +162,8 @@ def json_lines(all_told: List[Told]) -> Iterator[str]:
             "remark": told.remark,
             "wanted": told.case.wanted,
             "came": told.result.got if told.result else None,
+            "wantedError": told.case.errors,
+            "error": told.errors,
             "isError": told.is_error,
             "seconds": round(told.seconds, 6),
             "tries": told.result.tries if told.result else 0,

@@ -4,12 +4,13 @@ import decimal
 import fnmatch
 import re
 from decimal import Decimal
-from typing import List, Optional, Sequence, Set, Tuple
+from typing import FrozenSet, List, Optional, Sequence, Set, Tuple
 
 # A number that was rounded: it has a point or an exponent, which gp writes behind a space. An integer is exact, and has no tolerance.
 NUMBER = re.compile(r"(?<![\w.])[-+]?(?:(?:\d+\.\d*|\.\d+)(?: ?[eE][-+]?\d+)?|\d+ ?[eE][-+]?\d+)(?!\w)")
 ANY_LINES = "..."
 BY_PATTERN, BY_GLOB = " (re)", " (glob)"
+PICTURES, FORMULAS = "pictures", "formulas"  # what can be left out
 
 
 @dataclasses.dataclass(frozen=True)
@@ -24,13 +25,16 @@ class Normal:
 class Rules:
     """`relative` and `absolute` are how far numbers may be apart that stand in equal text: the greater of the two allowances. With
     `any_spaces` blanks are compared as one, and those at the ends of lines, and lines without anything else, not at all. What comes is cut
-    into lines of `columns` characters, where what is wanted was written by an interpreter that does so."""
+    into lines of `columns` characters, where what is wanted was written by an interpreter that does so. `without` is what is left out of it,
+    and `apart` says that errors are compared for themselves."""
 
     normal: Tuple[Normal, ...] = ()
     relative: Decimal = Decimal(0)
     absolute: Decimal = Decimal(0)
     any_spaces: bool = False
     columns: Optional[int] = None
+    without: FrozenSet[str] = frozenset()
+    apart: bool = False
 
     def normalised(self, text: str, applied: Set[int]) -> str:
         """The text after each rule in turn; the places of those that found something are put into `applied`."""
@@ -39,6 +43,10 @@ class Rules:
             if found:
                 applied.add(at)
         return text
+
+    def is_wanted(self, wanted: Optional[str], got: str, applied: Set[int]) -> bool:
+        """Where nothing stands behind a case, it is wanted to say nothing."""
+        return not got if wanted is None else self.are_alike(wanted, got, applied)
 
     def are_alike(self, wanted: str, got: str, applied: Set[int]) -> bool:
         wanted, got = self.normalised(wanted, applied), self.normalised(got, applied)

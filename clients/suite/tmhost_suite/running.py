@@ -2,15 +2,17 @@
 import contextlib
 import dataclasses
 import random
+import re
 import threading
 import time
 from concurrent.futures import ThreadPoolExecutor
-from typing import Callable, FrozenSet, List, Optional
+from typing import Callable, List, Optional
 
 from tmhost import Answer, Cell, Lost, Refused, TimedOut
 
-from .cases import Case
-from .kept import Kept, Result, joined, shown_of
+from .cases import Case, Suite
+from .kept import Kept, Result, joined
+from .shown import Shown, shown_of
 
 GRACE = 2.0  # seconds for an interpreter that was interrupted to say so
 PASSED = ("ok", "flaky", "xfail", "skip", "setup")
@@ -31,14 +33,33 @@ class Plan:
     seed: Optional[int] = None
 
 
-def verdict_of(case: Case, is_good: bool, tries: int) -> str:
+def verdict_of(case: Case, got: str, is_good: bool, tries: int) -> str:
+    if is_skipped(case, got):
+        return "skip"
     if case.marks.xfail is not None:
         return "xpass" if is_good else "xfail"
     if is_good:
         return "flaky" if tries > 1 else "ok"
-    if case.wanted is None:
+    if case.wanted is None and case.errors is None:
         return "setup" if case.marks.is_setup or case.marks.is_teardown else "new"
     return "differs"
+
+
+def is_skipped(case: Case, got: str) -> bool:
+    """Whether what came says that the case can't be tried here."""
+    return case.marks.skip_if is not None and re.search(case.marks.skip_if, got, re.MULTILINE) is not None
+
+
+def is_good(suite: Suite, case: Case, result: Result) -> bool:
+    rules = suite.rules_of(case)
+    return rules.is_wanted(case.wanted, result.got, set()) and (not rules.apart or rules.is_wanted(case.errors, result.errors, set()))
+
+
+def judge_again(kept: Kept) -> None:
+    """What came before a run was broken off is compared with what is wanted now."""
+    for at, result in kept.results.items():
+        case = kept.suite.cases[at]
+        result.verdict = verdict_of(case, result.got, is_good(kept.suite, case, result), result.tries)
 
 
 class Over(Exception):
@@ -51,7 +72,6 @@ class Chain:
     def __init__(self, kept: Kept, session: str, plan: Plan, tell: Callable[[int], None]) -> None:
         self.kept, self.session, self.plan, self.tell = kept, session, plan, tell
         self.suite = kept.suite
-        self.applied: "set[int]" = set()  # the places of the rules that found something
         self.is_fresh = True  # its interpreter isn't started, or starts empty
         self.has_run = False
 
@@ -92,18 +112,14 @@ class Chain:
         while not good and tries <= case.marks.flaky and not self.plan.is_broken_off.is_set():
             tries += 1
             result = self._evaluate(at, case)
-            good = self._is_wanted(case, result.got)
+            good = is_good(self.suite, case, result)
         if self.plan.is_broken_off.is_set():
             return
-        result.tries, result.verdict = tries, verdict_of(case, good, tries)
+        result.tries, result.verdict = tries, verdict_of(case, result.got, good, tries)
         self.kept.note(at, result)
         self.kept.results[at] = result
         if self.plan.fails_fast and result.verdict in WRONG:
             self.plan.ended.set()
-
-    def _is_wanted(self, case: Case, got: str) -> bool:
-        """A case without an answer behind it is wanted to say nothing."""
-        return not got if case.wanted is None else self.suite.rules_of(case).are_alike(case.wanted, got, self.applied)
 
     # ---- one case
 
@@ -112,22 +128,23 @@ class Chain:
         self._begin_life(at)
         began = time.monotonic()
         until = began + (case.marks.timeout or self.suite.timeout or self.plan.seconds)
-        got: List[str] = []
-        is_error = False
+        got: List[Shown] = []
+        is_error, rules = False, self.suite.rules_of(case)
         try:
             for cell in self.kept.cells[at]:
                 answer = self._answer(cell, until)
-                got.append(shown_of(answer))
+                got.append(shown_of(answer, rules))
                 is_error = is_error or bool(answer.errors)
         except Lost as lost:
-            got.append(f"? {lost.reason}")
+            got.append(Shown(f"? {lost.reason}"))
         except Over:
-            got.append(f"? over {until - began:g} s")
+            got.append(Shown(f"? over {until - began:g} s"))
         except Refused as refused:
-            got.append(f"? {refused}")
+            got.append(Shown(f"? {refused}"))
         if at in self.kept.misfits:
-            got.append(f"? {self.kept.misfits[at]}")
-        return Result(joined(got), time.monotonic() - began, began_anew=began_anew, is_error=is_error)
+            got.append(Shown(f"? {self.kept.misfits[at]}"))
+        shown = joined(got)
+        return Result(shown.text, time.monotonic() - began, began_anew=began_anew, is_error=is_error, errors=shown.errors)
 
     def _answer(self, cell: Cell, until: float) -> Answer:
         """The answer of a cell. Raises Lost, where its interpreter ended, Over, where the time is, and Refused."""
@@ -193,10 +210,10 @@ class Chain:
             scratch.remove()
 
 
-def run(kept: Kept, plan: Plan, tell: Callable[[int], None]) -> "FrozenSet[int]":
-    """Runs all cases, each session in a thread of its own, and gives the places of the rules that found something."""
+def run(kept: Kept, plan: Plan, tell: Callable[[int], None]) -> None:
+    """Runs all cases that aren't done, each session in a thread of its own."""
+    judge_again(kept)
     chains = [Chain(kept, name, plan, tell) for name in kept.suite.sessions]
     with ThreadPoolExecutor(len(chains)) as pool:
         for done in [pool.submit(chain.run) for chain in chains]:
             done.result()
-    return frozenset().union(*(chain.applied for chain in chains))

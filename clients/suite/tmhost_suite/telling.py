@@ -1,9 +1,8 @@
 """What came of a run, for people: differences, counts, the slowest cases, and on a terminal how far it is."""
 import sys
 import threading
-from typing import Dict, List, TextIO
+from typing import Dict, List, Set, TextIO
 
-from .cases import Suite
 from .reports import Told, readable
 
 COLOURS = {"-": "31", "+": "32", "@": "36"}
@@ -47,7 +46,7 @@ class Teller:
         self.say(self.painted(readable(f"{told.verdict}{', an error' if told.is_error else ''}: {told.name}{remark}"), BOLD))
         if told.verdict == "xpass":
             self.say("  it is wanted to fail, and passes")
-        for line in told.diff[2:]:
+        for line in told.diff[2:] if told.differs_in_text else told.diff:
             self.say("  " + self.painted(readable(line), COLOURS.get(line[:1], "")))
 
     def tell_slowest(self, all_told: List[Told], count: int) -> None:
@@ -55,10 +54,18 @@ class Teller:
         for told in slowest:
             self.say(readable(f"{told.seconds:9.3f} s  {told.name}"))
 
-    def tell_idle_rules(self, suite: Suite, applied: "frozenset[int]") -> None:
-        for at, normal in enumerate(suite.rules.normal):
-            if at not in applied:
-                self.say(readable(f"{suite.path}: the rule {normal.pattern.pattern!r} found nothing"))
+    def tell_idle_rules(self, all_told: List[Told]) -> None:
+        """The rules that found nothing, of each suite of which all cases were run."""
+        by_suite: Dict[str, List[Told]] = {}
+        for told in all_told:
+            by_suite.setdefault(told.suite.path, []).append(told)
+        for path, own in by_suite.items():
+            if any(told.verdict == "out" for told in own):
+                continue
+            rules, applied = own[0].suite.rules, applied_in(own)
+            for at, normal in enumerate(rules.normal):
+                if at not in applied:
+                    self.say(readable(f"{path}: the rule {normal.pattern.pattern!r} found nothing"))
 
     def tell_normalised(self, told: Told) -> None:
         """What the rules made of what came, where they changed it."""
@@ -76,6 +83,15 @@ class Teller:
         left_out = counts.get("out", 0)
         more = f", {left_out} left out" if left_out else ""
         self.say(f"{', '.join(parts) or 'no cases'}{more} in {seconds:.1f} s")
+
+
+def applied_in(all_told: List[Told]) -> Set[int]:
+    """The places of the rules that found something."""
+    applied: Set[int] = set()
+    for told in all_told:
+        for text in (told.case.wanted or "", told.case.errors or "", told.got, told.errors):
+            told.suite.rules.normalised(text, applied)
+    return applied
 
 
 def standard() -> Teller:

@@ -1,8 +1,9 @@
-"""The text form of a suite: CommonMark, whose fences of sessions are cases, each with a fence `answer` behind it for what is wanted."""
+"""The text form of a suite: CommonMark, whose fences of sessions are cases, each with a fence `answer` behind it for what is wanted, and one
+`error` where errors are compared apart."""
 import dataclasses
 import re
 from decimal import Decimal, InvalidOperation
-from typing import Any, Dict, List, Optional, Sequence, Tuple
+from typing import Any, Dict, FrozenSet, List, Optional, Sequence, Tuple
 
 from tmhost_fences.blocks import LINE, Block, blocks_of, cut
 from tmhost_fences.fields import groups, language_in, whole
@@ -11,9 +12,9 @@ from tmhost_fences.troubles import Trouble, needed
 
 from .cases import Case, Suite
 from .marks import read_marks, seconds, session_in
-from .rules import Normal, Rules
+from .rules import FORMULAS, PICTURES, Normal, Rules
 
-ANSWER = "answer"
+ANSWER, ERROR = "answer", "error"
 RUN = re.compile("`+")
 COLUMNS = re.compile(r"[1-9][0-9]{0,5}", re.ASCII)
 
@@ -61,6 +62,8 @@ def rules_in(front: Dict[str, Any]) -> Rules:
         decimal_in(tolerance.get("absolute", "0")),
         spaces_in(front),
         columns_in(front),
+        without_in(front),
+        apart_in(front),
     )
 
 
@@ -79,6 +82,20 @@ def columns_in(front: Dict[str, Any]) -> Optional[int]:
     return int(word)
 
 
+def without_in(front: Dict[str, Any]) -> FrozenSet[str]:
+    names = front.get("without") or []
+    found = frozenset([names] if isinstance(names, str) else names)
+    if not found <= {PICTURES, FORMULAS}:
+        raise Trouble(f"`without` can have {PICTURES} and {FORMULAS}")
+    return found
+
+
+def apart_in(front: Dict[str, Any]) -> bool:
+    if front.get("errors", "apart") != "apart":
+        raise Trouble("`errors` can only be `apart`")
+    return "errors" in front
+
+
 def timeout_in(front: Dict[str, Any]) -> Optional[float]:
     if "timeout" not in front:
         return None
@@ -88,9 +105,9 @@ def timeout_in(front: Dict[str, Any]) -> Optional[float]:
         raise Trouble("`timeout` is no number of seconds") from None
 
 
-def is_answer_to(block: Block, other: Block, lines: Sequence[str]) -> bool:
-    """Whether the other fence is an answer, with nothing but empty lines between them."""
-    return session_in(other.info_text) == ANSWER and not any(line.strip(" \t>") for line in lines[block.end : other.begin])
+def is_behind(block: Block, other: Block, lines: Sequence[str]) -> bool:
+    """Whether there is nothing but empty lines between the fences."""
+    return not any(line.strip(" \t>") for line in lines[block.end : other.begin])
 
 
 def names_sessions(text: str) -> bool:
@@ -111,7 +128,7 @@ class Text:
         yaml = needed("yaml", "python3-yaml")
         front = yaml.load("\n".join(contents[1 : first - 1]), Loader=yaml.BaseLoader)
         self.cases: List[Case] = []
-        self.spans: List[Span] = []
+        self.spans: List[Dict[str, Span]] = []
         self._read(contents, blocks_of(contents, first))
         self.suite = Suite(path, self.sessions, rules_in(front), timeout_in(front), tuple(self.cases))
 
@@ -121,36 +138,45 @@ class Text:
             block = blocks[at]
             at += 1
             name = session_in(block.info_text)
-            if name == ANSWER:
-                raise Trouble(f"line {block.begin + 1}: an answer stands behind no case")
+            if name in (ANSWER, ERROR) and name not in self.sessions:
+                raise Trouble(f"line {block.begin + 1}: an {name} stands behind no case")
             if name is None or name not in self.sessions:
                 continue
-            answer = blocks[at] if at < len(blocks) and is_answer_to(block, blocks[at], lines) else None
-            at += answer is not None
-            self._add(name, block, answer)
+            found: Dict[str, Block] = {}
+            while at < len(blocks) and is_behind(blocks[at - 1], blocks[at], lines):
+                kind = session_in(blocks[at].info_text) or ""
+                if kind not in (ANSWER, ERROR) or kind in found or kind in self.sessions:
+                    break
+                found[kind] = blocks[at]
+                at += 1
+            self._add(name, block, found)
 
-    def _add(self, session: str, block: Block, answer: Optional[Block]) -> None:
+    def _add(self, session: str, block: Block, found: Dict[str, Block]) -> None:
         line = block.begin + 1
         marks = read_marks(block.info_text, line)
-        for one in (block, answer):
-            if one is not None and not one.is_closed:
+        for one in (block, *found.values()):
+            if not one.is_closed:
                 raise Trouble(f"the fence in line {one.begin + 1} isn't closed")
         lines = list(block.content)
         fields = tuple(whole(lines) if marks.is_whole else groups(lines, language_in(self.sessions[session])))
         if not fields:
             raise Trouble(f"line {line}: the case has no code")
-        wanted = None if answer is None else "\n".join(answer.content)
-        begin, end = (block.end, block.end) if answer is None else (answer.begin, answer.end)
-        self.cases.append(Case(session, marks, block.content, fields, line, wanted))
-        self.spans.append(Span(begin, end, block.before_end))
+        wanted, errors = ("\n".join(found[kind].content) if kind in found else None for kind in (ANSWER, ERROR))
+        self.cases.append(Case(session, marks, block.content, fields, line, wanted, errors))
+        behind = found[ANSWER].end if ANSWER in found else block.end
+        places = {ANSWER: block.end, ERROR: behind}
+        places_of = {kind: (found[kind].begin, found[kind].end) if kind in found else (places[kind],) * 2 for kind in (ANSWER, ERROR)}
+        self.spans.append({kind: Span(*place, block.before_end) for kind, place in places_of.items()})
 
-    def accepted(self, answers: Dict[int, str]) -> str:
-        """The text with these answers, by the place of their case, in place of those that stand there."""
+    def accepted(self, answers: Dict[int, str], errors: Dict[int, str]) -> str:
+        """The text with these answers and errors, by the place of their case, in place of those that stand there."""
         lines = list(self.lines)
-        for at in sorted(answers, reverse=True):
-            span, line_end = self.spans[at], cut(self.lines[0])[1] or "\n"
-            mark = "`" * max(3, 1 + max((len(run) for run in RUN.findall(answers[at])), default=0))
-            block = [mark + ANSWER, *answers[at].split("\n"), mark]
+        given = [(self.spans[at][kind], kind, text) for kind, texts in ((ANSWER, answers), (ERROR, errors)) for at, text in texts.items()]
+        # From the last one on, so that the places of the others stay; of two at one place the answer comes first.
+        for span, kind, text in sorted(given, key=lambda one: (one[0].begin, one[1]), reverse=True):
+            line_end = cut(self.lines[0])[1] or "\n"
+            mark = "`" * max(3, 1 + max((len(run) for run in RUN.findall(text)), default=0))
+            block = [mark + kind, *text.split("\n"), mark]
             put = [(span.prefix + line).rstrip() if not line else span.prefix + line for line in block]
             if span.begin == span.end:
                 # The fence may be the last line of the text, without an end.
@@ -159,12 +185,13 @@ class Text:
             lines[span.begin : span.end] = [line + line_end for line in put]
         return "".join(lines)
 
-    def checked(self, answers: Dict[int, str]) -> str:
-        """The same, where it reads as the same cases with these answers and nothing else."""
-        text = self.accepted(answers)
+    def checked(self, answers: Dict[int, str], errors: Optional[Dict[int, str]] = None) -> str:
+        """The same, where it reads as the same cases with these answers and errors and nothing else."""
+        errors = errors or {}
+        text = self.accepted(answers, errors)
         again = Text(self.suite.path, text)
         same = [(case.session, case.lines, case.marks) for case in again.cases] == [(case.session, case.lines, case.marks) for case in self.cases]
-        wanted = [answers.get(at, case.wanted) for at, case in enumerate(self.cases)]
-        if not same or [case.wanted for case in again.cases] != wanted:
+        wanted = [(answers.get(at, case.wanted), errors.get(at, case.errors)) for at, case in enumerate(self.cases)]
+        if not same or [(case.wanted, case.errors) for case in again.cases] != wanted:
             raise Trouble("these answers can't stand in the text as they are; it stays as it is")
         return text

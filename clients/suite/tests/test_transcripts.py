@@ -1,0 +1,124 @@
+"""Test files of GAP and of Octave: how they are read, and what comes of them over the real interpreters."""
+import shutil
+import unittest
+from typing import List, Tuple
+
+from .support import Case
+from tmhost_suite.forms import GAP, OCTAVE
+from tmhost_suite.transcripts import read_gap, read_octave
+
+GAP_TEXT = """# A remark before the first prompt.
+gap> START_TEST("a.tst");
+gap> l := [1, 2,
+>   3];
+[ 1, 2, 3 ]
+gap> Print("a\\n\\n#b\\n");
+a
+
+# A remark behind an empty line,
+# and one more.
+
+# And one more.
+
+gap> a := 1; b := 2;
+1
+2
+
+gap> List([1 .. 30], n -> n^3);
+[ 1, 8, 27, 64, 125, 216, 343, 512, 729, 1000, 1331, 1728, 2197, 2744, 3375,
+  4096, 4913, 5832, 6859, 8000, 9261, 10648, 12167, 13824, 15625, 17576,
+  19683, 21952, 24389, 27000 ]
+#@if true
+gap> 5;
+6
+#@fi
+gap> a + b;
+4
+gap> STOP_TEST("a.tst", 1);
+"""
+
+OCTAVE_TEXT = """## A function of nobody's.
+function a ()
+endfunction
+
+%!shared x, y  # a remark
+%! x = 3;
+%!function z = twice (z)
+%!  z = 2 * z;
+%!endfunction
+%!assert (twice (x), 6)
+%!assert (isempty (y))
+%!test
+%! x = 5;
+%! v = 1;
+%!
+%! assert (x, 5);
+%!test
+%! assert (x, 5);
+%! assert (! exist ("v"));
+%!assert (x,
+%!        4)
+%!error <no such> error ("my:id", "there is no such thing")
+%!error <^there> error ("my:id", "there is no such thing")
+%!error <^is> error ("my:id", "there is no such thing")
+%!error id=my:id error ("my:id", "there is no such thing")
+%!error id=my:other error ("my:id", "there is no such thing")
+%!error <no such> x = 1;
+%!error <syntax error> eval ("1 +")
+%!warning <care> warning ("take care")
+%!warning <care> x = 1;
+%!test <*12345>
+%! assert (true);
+%!test <12345>
+%! assert (false);
+%!testif HAVE_NOTHING_OF_THE_KIND
+%! assert (false);
+%!testif ; false
+%! assert (false);
+%!testif ; true
+%! assert (true);
+%!fail ("error ('of course')", "course")
+%!demo
+%! plot (1)
+"""
+OCTAVE_WANTED = (
+    ["ok"] * 3 + ["ok"] * 4 + ["differs"]
+    + ["ok", "ok", "differs", "ok", "differs", "differs", "ok", "ok", "differs"]
+    + ["ok", "xfail", "skip", "skip", "ok", "ok"]
+)
+
+
+class Reading(unittest.TestCase):
+    def test_of_gap_no_remark_is_wanted(self) -> None:
+        suite = read_gap("a.tst", GAP_TEXT, GAP)
+        found: List[Tuple[int, Tuple[str, ...], object]] = [(case.line, case.lines, case.wanted) for case in suite.cases[2:4]]
+        self.assertEqual(found, [(3, ("l := [1, 2,", "  3];"), "[ 1, 2, 3 ]"), (6, ('Print("a\\n\\n#b\\n");',), "a")])
+        self.assertEqual([case.marks.skip is not None for case in suite.cases], [False, True, False, False, False, False, True, False, True])
+
+    def test_a_package_of_gap_is_loaded(self) -> None:
+        self.assertIn('LoadPackage("laguna", false);;', read_gap("/usr/share/gap/pkg/laguna/tst/a.tst", GAP_TEXT, GAP).cases[0].lines)
+
+    def test_of_octave_no_demonstration_is_read(self) -> None:
+        suite = read_octave("a.m", OCTAVE_TEXT, OCTAVE)
+        self.assertEqual(len(suite.cases), len(OCTAVE_WANTED) - 1)
+        self.assertEqual([case.line for case in suite.cases][:5], [5, 7, 10, 11, 12])
+
+
+class Running(Case):
+    def put(self, name: str, text: str) -> str:
+        self.write(path=self.place(name))
+        with open(self.place(name), "w", encoding="utf-8") as file:
+            file.write(text)
+        return self.place(name)
+
+    @unittest.skipUnless(shutil.which("gap"), "there is no gap")
+    def test_gap(self) -> None:
+        found = self.verdicts(self.put("a.tst", GAP_TEXT))
+        # The remark that `Print` writes looks like one of the file, as to GAP's own `Test`.
+        self.assertEqual(found[1:], ["skip", "ok", "differs", "ok", "ok", "skip", "differs", "skip"], self.outcome.output)
+
+    @unittest.skipUnless(shutil.which("octave-cli"), "there is no octave-cli")
+    def test_octave(self) -> None:
+        self.assertEqual(self.verdicts(self.put("a.tst", OCTAVE_TEXT)), OCTAVE_WANTED, self.outcome.output)
+        text = self.run_suite("--convert", self.place("a.tst")).output
+        self.assertEqual(self.verdicts(self.put("a.md", text)), OCTAVE_WANTED, text)

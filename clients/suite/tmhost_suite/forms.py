@@ -1,0 +1,35 @@
+"""What the readers of other forms share: the interpreters of their files, and cases of one field."""
+import os
+import re
+from typing import NamedTuple, Optional, Tuple
+
+from tmhost_fences.fields import whole
+from tmhost_fences.troubles import Trouble
+
+from .cases import Case, Marks
+
+
+class Session(NamedTuple):
+    name: str
+    words: Tuple[str, ...]
+
+
+PYTHON = Session("py", ("tmhost-python",))
+SHELL = Session("sh", ("tmhost-sh",))
+GP = Session("gp", ("tmhost-gp", "--text", "--no-numbers"))
+GAP = Session("gap", ("tmhost-gap",))
+OCTAVE = Session("octave", ("tmhost-octave",))
+
+
+def session_of(words: str) -> Session:
+    """A session with words from outside. Its name is that of the adapter, or of what this is told to speak to."""
+    found = tuple(words.split())
+    if not found:
+        raise Trouble("--words names no interpreter")
+    name = os.path.basename(next((word for word in reversed(found) if word[0] != "-"), found[0])).removeprefix("tmhost-")
+    return Session(re.sub(r"\W", "_", name, flags=re.ASCII)[:20], found)
+
+
+def whole_case(session: str, source: str, wanted: Optional[str], line: int, marks: Marks) -> Case:
+    lines = source.rstrip("\n").split("\n")
+    return Case(session, marks, tuple(lines), tuple(whole(lines)), line, wanted)

@@ -1,0 +1,157 @@
+"""Test files of GAP and of Octave, as they are: `gap> ` in GAP's `.tst`, and blocks `%!` in Octave's `.tst` and `.m`."""
+import os
+import re
+from typing import Iterator, List, Optional, Tuple
+
+from .cases import Case, Marks, Suite
+from .forms import Session, whole_case
+from .rules import ANY_LINES, BY_PATTERN, Rules
+
+GAP_PROMPT, GAP_MORE, GAP_CHOICE, GAP_END = "gap> ", "> ", "#@if", "#@fi"
+GAP_PACKAGE = re.compile(r"/pkg/([\w-]+)/")
+GAP_BORDER = re.compile(r"\s*(?:START|STOP)_TEST\b.*")
+
+OCTAVE_BLOCK = re.compile(r"^%!([a-z]+)(.*(?:\n%!(?:[ \t].*)?$)*)", re.MULTILINE)
+OCTAVE_MORE = re.compile(r"\n%! ?")
+OCTAVE_BUG = re.compile(r"\s*<(\*?)\d+>")
+OCTAVE_MESSAGE = re.compile(r"\s*(?:id=([\w:-]+)|<((?:\\.|[^>\\])*)>)?", re.DOTALL)
+PASSED, SKIPPED = "passed", "skipped: it wants"
+
+
+# ---- GAP
+
+
+def is_gap(text: str) -> bool:
+    return re.search(rf"^{GAP_PROMPT}", text, re.MULTILINE) is not None
+
+
+def counted(text: str) -> Iterator[Tuple[int, str]]:
+    """The lines that count, with their numbers from 1: no empty one with a remark behind it, and none of the remarks that follow."""
+    lines = text.split("\n")
+    is_remark = False
+    for number, (line, after) in enumerate(zip(lines, [*lines[1:], ""]), 1):
+        is_remark = is_remark and line.startswith("#") and not line.startswith("#@") or not line and after.startswith("#")
+        if not is_remark:
+            yield number, line
+
+
+def gap_groups(text: str) -> Iterator[Tuple[int, List[str], List[str], bool]]:
+    """The line of each prompt, its code, what is wanted, and whether it hangs on a condition of GAP's."""
+    begin, depends, is_inside = 0, False, False
+    code: List[str] = []
+    wanted: List[str] = []
+    for number, line in [*counted(text), (0, GAP_PROMPT)]:
+        if line.startswith(GAP_PROMPT):
+            if code:
+                yield begin, code, wanted, depends
+            begin, code, wanted, depends = number, [line[len(GAP_PROMPT) :]], [], is_inside
+        elif line.startswith(GAP_MORE) and code:
+            code.append(line[len(GAP_MORE) :])
+        elif line.startswith("#@"):
+            is_inside = line.startswith(GAP_CHOICE) or is_inside and not line.startswith(GAP_END)
+        else:
+            wanted.append(line)
+
+
+def gap_skip(code: List[str], depends: bool) -> Optional[str]:
+    if GAP_BORDER.fullmatch(code[0]):
+        return "it tells the time"
+    return "it hangs on a condition of #@if" if depends else None
+
+
+def read_gap(path: str, text: str, session: Session) -> Suite:
+    """Each prompt is a case, in lines of 80 columns, as GAP's `Test` has them, and up to blanks, as packages let it compare. A test of a package has
+    that loaded."""
+    package = GAP_PACKAGE.search(path)
+    begin = ["SizeScreen([80, 24]);;", *([f'LoadPackage("{package[1]}", false);;'] if package else [])]
+    cases = [whole_case(session.name, "\n".join(begin), None, 1, Marks(is_setup=True))]
+    for line, code, wanted, depends in gap_groups(text):
+        cases.append(whole_case(session.name, "\n".join(code), "\n".join(wanted).rstrip("\n"), line, Marks(skip=gap_skip(code, depends))))
+    return Suite(path, dict([session]), Rules(any_spaces=True), None, tuple(cases))
+
+
+# ---- Octave
+
+
+def is_octave(text: str) -> bool:
+    return OCTAVE_BLOCK.search(text) is not None
+
+
+def called(code: str, shared: str) -> str:
+    """What Octave's `test` does with the code of a block: its names are its own, but for those that are shared."""
+    gives = f"[{shared}] = " if shared else ""
+    return f"function {gives}tmhost_test ({shared})\n{code}\nendfunction\n{gives}tmhost_test ({shared});"
+
+
+def declared(code: str) -> Tuple[str, str]:
+    """The names that a block shares with those behind it, and the code that sets them up."""
+    first, _, rest = code.partition("\n")
+    names = re.split(r"[#%]", first)[0].strip()
+    begin = "".join(f"{name.strip()} = [];\n" for name in names.split(",") if name.strip())
+    return names, begin + (called(rest, names) if rest.strip() else "")
+
+
+def message(code: str, shared: str, kind: str) -> Tuple[str, str]:
+    """The code of a block that wants an error or a warning, and what is wanted."""
+    found = OCTAVE_MESSAGE.match(code)
+    assert found
+    code = called(code[found.end() :], shared)
+    if found[1] is not None:
+        return f'lastwarn (""); lasterr ("");\ntry\n{code}\nend_try_catch\n[~, tmhost_id] = last{kind[:4].replace("erro", "err")} ();\ndisp (tmhost_id)', f"{ANY_LINES}\n{found[1]}"
+    pattern = found[2] or ""
+    inner = f"(?:{pattern[1:]})" if pattern.startswith("^") else f".*(?:{pattern})"
+    # Of what can't be parsed that is told on a line of its own.
+    before = f"error: parse error:\n{ANY_LINES}\n  " if "syntax error" in pattern else f"{kind}: "
+    return code, f"{ANY_LINES}\n{before}{inner}.*{BY_PATTERN}\n{ANY_LINES}"
+
+
+def where_it_can(code: str, shared: str) -> str:
+    """A block that wants what Octave was built with, or what is so when it runs, and says where it can't."""
+    first, _, rest = code.partition("\n")
+    features, _, condition = re.split(r"[#%<]", first)[0].partition(";")
+    names = [name.removeprefix("HAVE_") for name in re.findall(r"\w+", features)]
+    has = " && ".join([f"__have_feature__ ({{{', '.join(map(repr, names))}}})", *([f"({condition.strip()})"] if condition.strip() else [])])
+    function, _, call = called(rest, shared).rpartition("\n")
+    return f"{function}\nif ({has})\n{call}\ndisp ({PASSED!r})\nelse\ndisp ({(SKIPPED + ' '.join(first.split())).replace(chr(39), '')!r})\nendif"
+
+
+def octave_case(session: str, kind: str, code: str, shared: str, line: int) -> Optional[Case]:
+    """The case of a block. None where it has nothing to evaluate."""
+    if kind == "function":
+        return whole_case(session, f"function{code}\nendfunction", None, line, Marks(is_setup=True))
+    if kind in ("error", "warning"):
+        return whole_case(session, *message(code, shared, kind), line, Marks())
+    bug = OCTAVE_BUG.match(code)
+    if bug and kind != "testif":
+        code = code[bug.end() :]
+    marks = Marks(xfail="a known bug" if kind == "xtest" or bug and not bug[1] else None)
+    passes = f"{ANY_LINES}\n{PASSED}"
+    if kind == "testif":
+        return whole_case(session, where_it_can(code, shared), passes, line, Marks(skip_if=f"^{SKIPPED}"))
+    if kind in ("test", "xtest", "assert", "fail"):
+        code = code if kind in ("test", "xtest") else kind + code
+        return whole_case(session, f"{called(code, shared)}\ndisp ({PASSED!r})", passes, line, marks)
+    return None
+
+
+def octave_blocks(text: str) -> Iterator[Tuple[str, str, int]]:
+    """The kind of each block, its code, and its line, from 1."""
+    for found in OCTAVE_BLOCK.finditer(text):
+        yield found[1], OCTAVE_MORE.sub("\n", found[2]), text.count("\n", 0, found.start()) + 1
+
+
+def read_octave(path: str, text: str, session: Session) -> Suite:
+    """Each block of a test is a case that says at its end that it has passed; demonstrations are left out."""
+    cases: List[Case] = []
+    shared = ""
+    if path.endswith(".tst"):
+        cases.append(whole_case(session.name, f"addpath ('{os.path.dirname(os.path.abspath(path))}');", None, 1, Marks(is_setup=True)))
+    for kind, code, line in octave_blocks(text):
+        if kind == "shared":
+            shared, begin = declared(code)
+            found = whole_case(session.name, begin, None, line, Marks(is_setup=True)) if begin.strip() else None
+        else:
+            found = octave_case(session.name, kind, code, shared, line)
+        if found:
+            cases.append(found)
+    return Suite(path, dict([session]), Rules(), None, tuple(cases))
