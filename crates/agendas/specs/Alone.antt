@@ -34,8 +34,8 @@ AsksCommand number c t =
     ⊎ ((is_checkpoint (event.Command c) ≡ false) × AsksLines number (event.Command c ∷ []) t)
 
 -- No wait is begun. This is asked for, and this is done then.
-abbrev pub Asks : Turn → Chosen → Type 0
-Asks t c = (c.turn ≡ t) × (c.held ≡ hold.Free)
+abbrev pub AsksTurn : Turn → Chosen → Type 0
+AsksTurn t c = (c.turn ≡ t) × (c.held ≡ hold.Free)
 
 -- A wait begins. Where no item waits it is over at once, and that is told.
 abbrev pub BeginsWait : ℕ → World → Hold → Chosen → Type 0
@@ -46,15 +46,15 @@ BeginsWait number w begun c =
 -- What the line with this number asks for, in this manner, where the clock reads this. A line that isn't known goes wrong, and so does one
 -- that asks for what isn't there.
 abbrev pub AsksAlone : Manner → ℕ → World → ℕ → Option LiveLine → Chosen → Type 0
-AsksAlone m number w now None c = Asks (turn.Show (show.Note (note.Bad number))) c × (c.doing ≡ doing.Line true)
-AsksAlone m number w now (Some (live.Script line.Skip)) c = Asks (turn.Show (show.Note (note.Nothing number))) c × (c.doing ≡ doing.Line false)
+AsksAlone m number w now None c = AsksTurn (turn.Show (show.Note (note.Bad number))) c × (c.doing ≡ doing.Line true)
+AsksAlone m number w now (Some (live.Script line.Skip)) c = AsksTurn (turn.Show (show.Note (note.Nothing number))) c × (c.doing ≡ doing.Line false)
 AsksAlone m number w now (Some (live.Script (line.Command command))) c =
     AsksCommand number command c.turn × (c.held ≡ hold.Free) × (c.doing ≡ doing.Commands)
 AsksAlone m number w now (Some (live.Script line.Wait)) c = BeginsWait number w (begun m.limit now (Some (live.Script line.Wait))) c
-AsksAlone m number w now (Some (live.Script line.Print)) c = Asks (turn.Show (show.Sheet number)) c × (c.doing ≡ doing.Line false)
+AsksAlone m number w now (Some (live.Script line.Print)) c = AsksTurn (turn.Show (show.Sheet number)) c × (c.doing ≡ doing.Line false)
 AsksAlone m number w now (Some (live.PrintField id)) c =
-    Asks (turn.Show (show.Field number id)) c × (c.doing ≡ doing.Line (asks_in_vain w (live.PrintField id)))
+    AsksTurn (turn.Show (show.Field number id)) c × (c.doing ≡ doing.Line (asks_in_vain w (live.PrintField id)))
 AsksAlone m number w now (Some (live.WaitFor seconds)) c = BeginsWait number w (begun m.limit now (Some (live.WaitFor seconds))) c
 AsksAlone m number w now (Some (live.Interrupt name)) c =
-    Asks (turn.Interrupt name) c × (c.doing ≡ doing.Interrupt name (asks_in_vain w (live.Interrupt name)))
-AsksAlone m number w now (Some (live.Export format)) c = Asks (turn.Show (show.Export number format)) c × (c.doing ≡ doing.Line false)
+    AsksTurn (turn.Interrupt name) c × (c.doing ≡ doing.Interrupt name (asks_in_vain w (live.Interrupt name)))
+AsksAlone m number w now (Some (live.Export format)) c = AsksTurn (turn.Show (show.Export number format)) c × (c.doing ≡ doing.Line false)

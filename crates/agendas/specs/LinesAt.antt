@@ -1,4 +1,4 @@
--- Where an agenda of lines stands.
+-- Where an agenda of lines lines_stand.
 use Rattle.std.specs.Prelude.{ℕ, ◌+◌, List, Option, None}
 use Rattle.child_calls.specs.declared.seat.Seat.{Seat}
 use Rattle.arrivals.specs.Lines.{InputLine}
@@ -30,8 +30,8 @@ pub record LinesAt : Type 0 where
   pub late : List Seat
 
 -- the agenda, where this is known of its input
-abbrev pub stands : {R : Type 0} → (R → Option (List ℕ)) → ByLines R → LinesAt
-stands remaining a = record {
+abbrev pub lines_stand : {R : Type 0} → (R → Option (List ℕ)) → ByLines R → LinesAt
+lines_stand remaining a = record {
   buffer = a.lines.held;
   remaining = remaining a.lines.reader;
   manner = a.manner;
@@ -79,8 +79,8 @@ abbrev pub counted : LinesAt → LinesAt
 counted a = record a { number = a.number + 1 }
 
 -- a line was taken, and this was chosen for it
-abbrev pub behind_line : LinesAt → Chosen → LinesAt
-behind_line a c = record a { number = a.number + 1; held = c.held; doing = c.doing }
+abbrev pub after_line : LinesAt → Chosen → LinesAt
+after_line a c = record a { number = a.number + 1; held = c.held; doing = c.doing }
 
 -- so many lines were taken as one group
 abbrev pub behind_group : LinesAt → ℕ → LinesAt

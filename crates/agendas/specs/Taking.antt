@@ -13,7 +13,7 @@ use Rattle.live.specs.Arrivals.{said_by}
 use Rattle.driver.specs.declared.turn.Turn.{Turn}
 use Rattle.driver.specs.declared.turn.Turn.TheVariants as turn
 use Rattle.agendas.specs.declared.doing.Chosen.{Chosen}
-use Rattle.agendas.specs.LinesAt.{LinesAt, behind_group, behind_line, counted, given_to, read_to}
+use Rattle.agendas.specs.LinesAt.{LinesAt, behind_group, after_line, counted, given_to, read_to}
 use Rattle.agendas.specs.Alone.{AsksAlone, AsksLines}
 
 -- These lines come next, whatever reads give later, and those of the other are left then.
@@ -22,12 +22,12 @@ ComeNext lines h k = (more : List ℕ) → left_with h more ≡ lines ++ left_wi
 
 -- A line that says this was taken, and this is asked for.
 abbrev pub TakesAlone : LinesAt → World → ℕ → Option LiveLine → Turn → LinesAt → Type 0
-TakesAlone a w now l t b = (c : Chosen) × AsksAlone a.manner (a.number + 1) w now l c × (t ≡ c.turn) × (b ≡ behind_line a c)
+TakesAlone a w now l t b = (c : Chosen) × AsksAlone a.manner (a.number + 1) w now l c × (t ≡ c.turn) × (b ≡ after_line a c)
 
 -- A line was taken, or there was no memory for the command that it says.
-abbrev pub TakesLine : LinesAt → World → ℕ → Option LiveLine → Result Turn RunFault → LinesAt → Type 0
-TakesLine a w now l (Ok t) b = TakesAlone a w now l t b
-TakesLine a w now l (Err why) b = (why ≡ fault.OutOfMemory) × IsCommand l × (b ≡ counted a)
+abbrev pub TakesGivenLine : LinesAt → World → ℕ → Option LiveLine → Result Turn RunFault → LinesAt → Type 0
+TakesGivenLine a w now l (Ok t) b = TakesAlone a w now l t b
+TakesGivenLine a w now l (Err why) b = (why ≡ fault.OutOfMemory) × IsCommand l × (b ≡ counted a)
 
 -- More of the input was read, or it couldn't be: no line is lost.
 abbrev pub ReadsOn : LinesAt → Result Turn RunFault → LinesAt → Type 0
@@ -35,14 +35,14 @@ ReadsOn a r b =
     (k : Held) × (remaining : Option (List ℕ)) × (b ≡ read_to a k remaining) × KeepsLines (to_come a.buffer a.remaining) (to_come k remaining)
     × ((r ≡ Ok turn.Nothing) ⊎ (r ≡ Err fault.Input))
 
--- What is asked for of the input, or why nothing is, and where the agenda stands then.
+-- What is asked for of the input, or why nothing is, and where the agenda lines_stand then.
 pub data TakesInput (a : LinesAt) (w : World) (now : ℕ) (r : Result Turn RunFault) (b : LinesAt) : Type 0 where
   -- Lines that are there together, of which each says a command other than `checkpoint`. A strict input takes its lines one by one.
   together : (given : List (List ℕ)) (k : Held) (t : Turn) → a.manner.strict ≡ false → AllByRecursion SaysGrouped given → 1 ≤ length given
       → length given ≤ most_commands → Readiness a.buffer true → ComeNext (map whole given) a.buffer k → r ≡ Ok t
       → AsksLines (a.number + 1) (lines_events given) t → b ≡ behind_group (given_to a k) (length given) → TakesInput a w now r b
   -- the next line by itself
-  alone : (l : InputLine) (k : Held) → Readiness a.buffer true → ComeNext (l ∷ []) a.buffer k → TakesLine (given_to a k) w now (said_by l) r b → TakesInput a w now r b
+  alone : (l : InputLine) (k : Held) → Readiness a.buffer true → ComeNext (l ∷ []) a.buffer k → TakesGivenLine (given_to a k) w now (said_by l) r b → TakesInput a w now r b
   -- No line is there, and more is read.
   reads_on : (k : Held) → Readiness a.buffer false → ((more : List ℕ) → left_with k more ≡ left_with a.buffer more) → ReadsOn (given_to a k) r b → TakesInput a w now r b
   -- the end of the input

@@ -6,7 +6,7 @@ ghost use Rattle.session_engine.specs.World.{World};
 ghost use Rattle.session_engine.specs.Host.{IsHost};
 ghost use Rattle.live.specs.LiveLines.{live_line_of};
 ghost use Rattle.live.specs.Saying.{IsCommand};
-ghost use Rattle.agendas.specs.Alone.{Asks, AsksAlone, AsksCommand, BeginsWait};
+ghost use Rattle.agendas.specs.Alone.{AsksTurn, AsksAlone, AsksCommand, BeginsWait};
 ghost use Rattle.agendas.specs.declared.doing.Doing.TheVariants as does;
 
 use crate::doing::{Chosen, Doing};
@@ -33,7 +33,7 @@ pub(crate) struct Reading {
 
 /// This is asked for, of a line that says no command, which goes wrong or not.
 fn by_itself(turn: Turn, wrong: bool) -> Chosen
-    ensures asks { Asks turn result }
+    ensures asks { AsksTurn turn result }
     ensures doing { result.doing ≡ does.Line wrong }
 {
     Chosen {

@@ -162,14 +162,14 @@ fn behind_warning(strict: bool, now: u64, late: &[Seat], held: Hold) -> Hold
 }
 
 impl<R: Read> ByLines<R> {
-    ghost use Rattle.agendas.specs.LinesAt.{holding, stands};
+    ghost use Rattle.agendas.specs.LinesAt.{holding, lines_stand};
     ghost use Rattle.agendas.specs.Heeds.{HeedsDone};
 
     /// What is noted of what lives gave, and which wait goes on.
     fn heed_life<D: Disk>(&mut self, host: &Host<D>, now: u64, came: &Came) -> Option<Note>
         ensures { (w : World) → IsHost host.now w → (held : TheHold)
-            × HeedsDone (stands R.remaining self.old) w now (came_of came.now) Doing.Life result held
-            × (stands R.remaining self.new ≡ holding (stands R.remaining self.old) held) }
+            × HeedsDone (lines_stand R.remaining self.old) w now (came_of came.now) Doing.Life result held
+            × (lines_stand R.remaining self.new ≡ holding (lines_stand R.remaining self.old) held) }
     {
         let before = self.held;
         let on = behind_life(host, self.manner.limit, now, closed_one(came), before);
@@ -186,8 +186,8 @@ impl<R: Read> ByLines<R> {
         doing: Doing,
     ) -> Option<Note>
         ensures { (w : World) → IsHost host.now w → (held : TheHold)
-            × HeedsDone (stands R.remaining self.old) w now (came_of came.now) doing result held
-            × (stands R.remaining self.new ≡ holding (stands R.remaining self.old) held) }
+            × HeedsDone (lines_stand R.remaining self.old) w now (came_of came.now) doing result held
+            × (lines_stand R.remaining self.new ≡ holding (lines_stand R.remaining self.old) held) }
     {
         let strict = self.manner.strict;
         match doing {

@@ -20,14 +20,14 @@ use std::io::Read;
 
 impl<R: Read> ByLines<R> {
     ghost use Rattle.agendas.specs.Alone.{AsksLines};
-    ghost use Rattle.agendas.specs.LinesAt.{behind_group, behind_line, stands};
-    ghost use Rattle.agendas.specs.Taking.{ReadsOn, TakesAlone, TakesInput, TakesLine};
+    ghost use Rattle.agendas.specs.LinesAt.{behind_group, after_line, lines_stand};
+    ghost use Rattle.agendas.specs.Taking.{ReadsOn, TakesAlone, TakesInput, TakesGivenLine};
 
     /// These commands of lines that were there together are taken as one group.
     fn group(&mut self, events: Vec<Event>, count: u64) -> Turn
         requires { self.old.number + count + 1 < 2 ^ 64 }
         ensures turn { AsksLines (self.old.number + 1) events.items result }
-        ensures stands { stands R.remaining self.new ≡ behind_group (stands R.remaining self.old) count }
+        ensures stands { lines_stand R.remaining self.new ≡ behind_group (lines_stand R.remaining self.old) count }
     {
         let first = self.number + 1;
         self.number += count;
@@ -39,7 +39,7 @@ impl<R: Read> ByLines<R> {
     fn follow(&mut self, chosen: Chosen) -> Turn
         requires { self.old.number + 1 < 2 ^ 64 }
         ensures turn { result ≡ chosen.turn }
-        ensures stands { stands R.remaining self.new ≡ behind_line (stands R.remaining self.old) chosen }
+        ensures stands { lines_stand R.remaining self.new ≡ after_line (lines_stand R.remaining self.old) chosen }
     {
         let Chosen { turn, doing, held } = chosen;
         self.number += 1;
@@ -71,7 +71,7 @@ impl<R: Read> ByLines<R> {
     ) -> Result<Turn, RunFault>
         requires { self.old.number + 1 < 2 ^ 64 }
         ensures { (w : World) → IsHost host.now w
-            → TakesLine (stands R.remaining self.old) w now (live_line_of self.old.lines.held.line) result (stands R.remaining self.new) }
+            → TakesGivenLine (lines_stand R.remaining self.old) w now (live_line_of self.old.lines.held.line) result (lines_stand R.remaining self.new) }
     {
         let at = self.reading(now);
         match choose_line(alloc, host, at, self.lines.line()) {
@@ -86,7 +86,7 @@ impl<R: Read> ByLines<R> {
     /// Takes a line that is too long.
     fn take_too_long(&mut self, now: u64) -> Turn
         requires { self.old.number + 1 < 2 ^ 64 }
-        ensures { (w : World) → TakesAlone (stands R.remaining self.old) w now None result (stands R.remaining self.new) }
+        ensures { (w : World) → TakesAlone (lines_stand R.remaining self.old) w now None result (lines_stand R.remaining self.new) }
     {
         let at = self.reading(now);
         self.follow(bad(at))
@@ -94,7 +94,7 @@ impl<R: Read> ByLines<R> {
 
     /// Reads more of the input.
     fn read_on(&mut self) -> Result<Turn, RunFault>
-        ensures { ReadsOn (stands R.remaining self.old) result (stands R.remaining self.new) }
+        ensures { ReadsOn (lines_stand R.remaining self.old) result (lines_stand R.remaining self.new) }
     {
         match self.lines.fill() {
             Ok(()) => Ok(Turn::Nothing),
@@ -110,7 +110,7 @@ impl<R: Read> ByLines<R> {
         now: u64,
     ) -> Result<Turn, RunFault>
         requires { self.old.number + 1 < 2 ^ 64 }
-        ensures { (w : World) → IsHost host.now w → TakesInput (stands R.remaining self.old) w now result (stands R.remaining self.new) }
+        ensures { (w : World) → IsHost host.now w → TakesInput (lines_stand R.remaining self.old) w now result (lines_stand R.remaining self.new) }
     {
         match self.lines.next() {
             NextLine::Line => self.take_line(alloc, host, now),
@@ -128,7 +128,7 @@ impl<R: Read> ByLines<R> {
         now: u64,
     ) -> Result<Turn, RunFault>
         requires { self.old.number + most_commands + 1 < 2 ^ 64 }
-        ensures { (w : World) → IsHost host.now w → TakesInput (stands R.remaining self.old) w now result (stands R.remaining self.new) }
+        ensures { (w : World) → IsHost host.now w → TakesInput (lines_stand R.remaining self.old) w now result (lines_stand R.remaining self.new) }
     {
         if self.manner.strict {
             return self.take_next(alloc, host, now);

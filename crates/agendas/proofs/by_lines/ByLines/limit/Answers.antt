@@ -3,7 +3,7 @@ use Rattle.std.specs.Prelude.{Ok, ◌&&◌}
 use Rattle.live.specs.Saying.{stop_if}
 use Rattle.agendas.specs.declared.doing.Doing.TheVariants as doing
 use Rattle.agendas.specs.Waits.{warned}
-use Rattle.agendas.specs.LinesAt.{doing_now, holding, stands, with_late}
+use Rattle.agendas.specs.LinesAt.{doing_now, holding, lines_stand, with_late}
 use Rattle.agendas.specs.Says.{first_of, of_none, unlisted}
 use Rattle.agendas.proofs.by_lines.ByLines.limit.Goals as goal
 
@@ -17,7 +17,7 @@ returns-in-Some g c = λ w none h.
 
 pub returns-in-None : goal.returns-in-None
 returns-in-None g c = λ w none h.
-    let before = stands g.R.Read.remaining c.args.self.now in
+    let before = lines_stand g.R.Read.remaining c.args.self.now in
     of_none (sym (c.in-Ok.ensures w h) ∙ c.in-None.ensures.none.0) (ap Ok c.give_respite.ensures.turn)
     (c.give_respite.ensures.stands
     ∙ ap (λ a. holding a (stop_if (a.manner.strict && true) (warned c.args.now)))

@@ -1,7 +1,7 @@
 use Rattle.std.proofs.Common.{◌∙◌, ap, subst, sym}
 use Rattle.std.specs.Prelude.{Ok}
 use Rattle.agendas.specs.declared.doing.Doing.TheVariants as doing
-use Rattle.agendas.specs.LinesAt.{doing_now, heeded, stands, with_late}
+use Rattle.agendas.specs.LinesAt.{doing_now, heeded, lines_stand, with_late}
 use Rattle.agendas.specs.Says.{IsAbout, SaysMatter, says, warns}
 use Rattle.agendas.proofs.by_lines.ByLines.next_turn.Goals as goal
 
@@ -12,7 +12,7 @@ returns-in-Some g c = λ w h.
 
 pub returns-in-None : goal.returns-in-None
 returns-in-None g c = λ w h.
-    let before = stands g.R.Read.remaining c.args.self.now in
+    let before = lines_stand g.R.Read.remaining c.args.self.now in
     let none = c.in-None.ensures.none in
     -- nothing was taken off
     let still = c.next_late.ensures.stands ∙ ap (λ late. with_late before late) (none.1 ∙ sym none.0) in
@@ -20,4 +20,4 @@ returns-in-None g c = λ w h.
     says c.about-matter.result
     (c.is_stopped.ensures.going c.if-is_stopped.false) none.0
     (subst (λ a. IsAbout a c.args.now c.about-matter.result) still c.about-matter.ensures.about)
-    (subst (λ a. SaysMatter a w c.args.now c.about-matter.result c.say.result (stands g.R.Read.remaining c.say.new.self)) here (c.say.ensures w (ap (λ a. a.late) here ∙ none.0) h))
+    (subst (λ a. SaysMatter a w c.args.now c.about-matter.result c.say.result (lines_stand g.R.Read.remaining c.say.new.self)) here (c.say.ensures w (ap (λ a. a.late) here ∙ none.0) h))

@@ -1,6 +1,6 @@
 use Rattle.std.proofs.Common.{◌≡◌, ◌+◌, ◌∙◌, ap, arith, length, refl, subst}
 use Rattle.agendas.specs.Alone.{AsksLines}
-use Rattle.agendas.specs.LinesAt.{behind_group, read_to, stands}
+use Rattle.agendas.specs.LinesAt.{behind_group, read_to, lines_stand}
 use Rattle.agendas.specs.Taking.{TakesInput, together}
 use Rattle.live.proofs.Gatherings.{nothing_gathered, some_gathered}
 use Rattle.agendas.proofs.Taken.{as_many}
@@ -8,16 +8,16 @@ use Rattle.agendas.proofs.by_lines.ByLines.take_input.Goals as goal
 
 pub returns-then-count-eq0 : goal.returns-then-count-eq0
 returns-then-count-eq0 g c = λ w h.
-    let before = stands g.R.Read.remaining c.args.self.now in
+    let before = lines_stand g.R.Read.remaining c.args.self.now in
     let k = c.gather-events.new.lines in
     let same = nothing_gathered before.buffer k.held c.gather-events.result.items c.gather-events.ensures.gathered (omega arith) in
-    subst (λ a. TakesInput a w c.args.now c.take_next-then-count-eq0.result (stands g.R.Read.remaining c.take_next-then-count-eq0.new.self))
+    subst (λ a. TakesInput a w c.args.now c.take_next-then-count-eq0.result (lines_stand g.R.Read.remaining c.take_next-then-count-eq0.new.self))
     (ap (λ b. read_to before b (g.R.Read.remaining k.reader)) same ∙ ap (λ r. read_to before before.buffer (g.R.Read.remaining r)) c.gather-events.ensures.reader)
     (c.take_next-then-count-eq0.ensures w h)
 
 pub returns : goal.returns
 returns g c = λ w h.
-    let before = stands g.R.Read.remaining c.args.self.now in
+    let before = lines_stand g.R.Read.remaining c.args.self.now in
     let k = c.gather-events.new.lines in
     let gathered = c.gather-events.ensures.gathered in
     let many = as_many before.buffer k.held c.gather-events.result.items gathered in
