@@ -23,7 +23,7 @@ use Rattle.agendas.specs.declared.doing.Chosen.{Chosen}
 use Rattle.agendas.specs.declared.doing.Doing.TheVariants as doing
 use Rattle.agendas.specs.Waits.{begun}
 
--- it asks that these events are taken behind one gate, those of lines from this one on
+-- it asks that these events are taken as one group, those of lines from this one on
 abbrev pub AsksLines : ℕ → List Event → Turn → Type 0
 AsksLines first events t = (taken : Vec Event Global) × (t ≡ turn.Lines first taken) × (taken.items ≡ events)
 
@@ -37,7 +37,7 @@ AsksCommand number c t =
 abbrev pub AsksTurn : Turn → Chosen → Type 0
 AsksTurn t c = (c.turn ≡ t) × (c.held ≡ hold.Free)
 
--- A wait begins. Where no item waits it is over at once, and that is told.
+-- A wait begins. Where no item waits it is over at once, and that is printed.
 abbrev pub BeginsWait : ℕ → World → Hold → Chosen → Type 0
 BeginsWait number w begun c =
     ((waits w ≡ []) × (c.turn ≡ turn.Show (show.Note (note.Waited number false))) × (c.held ≡ hold.Free) × (c.doing ≡ doing.Line false))

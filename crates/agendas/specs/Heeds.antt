@@ -44,7 +44,7 @@ abbrev pub LifeGoesOn : Option ℕ → World → ℕ → Bool → Hold → Hold 
 LifeGoesOn limit w now closed held behind =
     ((waits w ≡ []) × (behind ≡ hold.Free)) ⊎ ((waits w ≢ []) × (behind ≡ begun_again limit now (has_limit held && closed) held))
 
--- the wait behind an interrupt of a life whose time is over: after the last one there are two seconds more, and a strict input stops
+-- the wait after an interrupt of a life whose time is over: after the last one there are two seconds more, and a strict input stops
 abbrev pub behind_warning : Bool → ℕ → List Seat → Hold → Hold
 behind_warning strict now [] held = stop_if (strict && true) (warned now)
 behind_warning strict now (seat ∷ rest) held = held

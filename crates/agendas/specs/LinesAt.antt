@@ -46,7 +46,7 @@ lines_stand remaining a = record {
 abbrev pub coming : LinesAt → Option (List InputLine)
 coming a = to_come a.buffer a.remaining
 
--- what a watch told is heeded
+-- what a watch returned is heeded
 abbrev pub heeded : LinesAt → LinesAt
 heeded a = record a { due = None }
 

@@ -9,12 +9,12 @@ use Rattle.live.specs.Arrivals.{IsOver}
 use Rattle.agendas.specs.declared.matter.Matter.{Matter}
 use Rattle.agendas.specs.declared.matter.Matter.TheVariants as matter
 
--- The time of a wait is over: a watch told it, or none told anything and the clock reads it.
+-- The time of a wait is over: a watch returned it, or none returned anything and the clock reads it.
 abbrev pub TimeIsOver : Hold → Option Woken → ℕ → Type 0
 TimeIsOver held due now = (due ≡ Some woken.TimeOver) ⊎ ((due ≡ None) × IsOver held now)
 
--- What is next, where lines come first or not, by the wait, by what a watch told, and by what the clock reads. The input is next where a watch
--- told it, or where lines come first and none told anything; and in both cases only while no wait holds it back.
+-- What is next, where lines come first or not, by the wait, by what a watch returned, and by what the clock reads. The input is next where a watch
+-- returned it, or where lines come first and none returned anything; and in both cases only while no wait holds it back.
 abbrev pub IsMatter : Bool → Hold → Option Woken → ℕ → Matter → Type 0
 IsMatter first held due now matter.Untimely = ((due ≡ Some woken.Input) × (held ≡ hold.Free → ⊥)) ⊎ ((due ≡ Some woken.TimeOver) × (IsTimed held → ⊥))
 IsMatter first held due now matter.Watch = (due ≡ None) × (IsOver held now → ⊥) × (first ≡ true → held ≡ hold.Free → ⊥)
@@ -32,7 +32,7 @@ EndsSo held (matter.Life seat) = ⊥
 EndsSo held matter.Limit = IsLimited held
 EndsSo held matter.Stall = StallsAtEnd held
 
--- what is next where no watch told anything
+-- what is next where no watch returned anything
 abbrev pub IsUnwatched : Bool → Hold → ℕ → Matter → Type 0
 IsUnwatched first held now m = IsMatter first held None now m
 

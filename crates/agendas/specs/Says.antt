@@ -53,6 +53,6 @@ pub data LinesSay (a : LinesAt) (w : World) (now : ℕ) (r : Result Turn RunFaul
   warns : (seat : Seat) (rest : List Seat) → a.late ≡ seat ∷ rest → r ≡ Ok (turn.Interrupt seat.name) → b ≡ warning a seat rest → LinesSay a w now r b
   says : (m : Matter) → (a.held ≡ hold.Stopped → ⊥) → a.late ≡ [] → IsAbout a now m → SaysMatter (heeded a) w now m r b → LinesSay a w now r b
 
--- Whose turn it is was told.
+-- Whose turn it is was returned.
 abbrev pub LinesWoken : LinesAt → Woken → LinesAt → Type 0
 LinesWoken a told b = b ≡ record a { due = Some told }

@@ -38,7 +38,7 @@ pub struct ByLines<R> {
     pub(crate) number: u64,
     pub(crate) held: Hold,
     pub(crate) doing: Doing,
-    /// Whose turn a watch told.
+    /// Whose turn a watch returned.
     pub(crate) due: Option<Woken>,
     /// Lives that are still to be interrupted.
     pub(crate) late: Vec<Seat>,
@@ -183,7 +183,7 @@ impl<R: Read> ByLines<R> {
         }
     }
 
-    /// What the next turn is about; what a watch told is heeded by that.
+    /// What the next turn is about; what a watch returned is heeded by that.
     fn about(&mut self, now: u64) -> Matter
         ensures about { IsMatter self.old.manner.lines_first self.old.held self.old.due now result }
         ensures stands { lines_stand R.remaining self.new ≡ heeded (lines_stand R.remaining self.old) }

@@ -1,4 +1,4 @@
-//! Lines that are there together and say commands, but for `checkpoint`: those may be behind one gate.
+//! Lines that are there together and say commands, but for `checkpoint`: those may be as one group.
 ghost use Rattle.std.specs.Prelude.{◌≡◌, ◌+◌, ◌≤◌, ◌++◌, ◌∷◌, [], length, false, true};
 ghost use Rattle.host_events.specs.declared.event.Event.TheVariants as asks;
 ghost use Rattle.session_engine.specs.Gathers.{is_checkpoint};

@@ -151,7 +151,7 @@ fn behind_life<D: Disk>(
     }
 }
 
-/// The wait behind the interrupt of a life whose time is over: after the last one there are two seconds more.
+/// The wait after the interrupt of a life whose time is over: after the last one there are two seconds more.
 fn behind_warning(strict: bool, now: u64, late: &[Seat], held: Hold) -> Hold
     ensures { result ≡ heeds.behind_warning strict now late.now held }
 {

@@ -13,7 +13,7 @@ use live::Hold;
 /// What the next turn is about.
 #[derive(Clone, Copy, Debug)]
 pub enum Matter {
-    /// Nothing: what a watch told can't come now.
+    /// Nothing: what a watch returned can't come now.
     Untimely,
     /// The sources are watched.
     Watch,
@@ -49,7 +49,7 @@ fn over(held: Hold) -> Matter
     }
 }
 
-/// What is next where no watch told whose turn it is.
+/// What is next where no watch returned whose turn it is.
 fn unwatched(lines_first: bool, held: Hold, now: u64) -> Matter
     ensures { matters.IsUnwatched lines_first held now result }
 {
@@ -62,7 +62,7 @@ fn unwatched(lines_first: bool, held: Hold, now: u64) -> Matter
     Matter::Watch
 }
 
-/// What the next turn is about, where lines come first or not, by the wait, by what a watch told, and by what the clock reads.
+/// What the next turn is about, where lines come first or not, by the wait, by what a watch returned, and by what the clock reads.
 pub(crate) fn matter_of(lines_first: bool, held: Hold, due: Option<Woken>, now: u64) -> Matter
     ensures { IsMatter lines_first held due now result }
 {
