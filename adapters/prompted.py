@@ -252,8 +252,7 @@ def main() -> None:
     words.add_argument("profile", metavar="PROFILE", choices=PROFILES, help=" ".join(PROFILES))
     words.add_argument("--latex", action="store_true", help="show values as formulas: " + " ".join(name for name in PROFILES if PROFILES[name].latex))
     words.add_argument("--no-pictures", action="store_true", help="leave alone what is drawn, of " + " ".join(name for name in PROFILES if PROFILES[name].pictures))
-    name = os.path.basename(sys.argv[0]).removeprefix("tmhost-")  # by which it is called as the command of a profile
-    chosen = words.parse_args([name, *sys.argv[1:]] if name in PROFILES else None)
+    chosen = words.parse_args()
     profile = PROFILES[chosen.profile]
     if chosen.latex and not profile.latex:
         words.error(f"{chosen.profile} has no way to write formulas")
