@@ -44,6 +44,14 @@ def with_prompt(tag: bytes, body: bytes, prompt: bytes) -> bytes:
     return block(tag, body + block(b"prompt#", escaped(prompt)) if prompt else body)
 
 
+AS_WRITTEN = False  # whether escape sequences, carriage returns and tabs beside them are left as an interpreter wrote them
+
+
+def shown(text: bytes) -> bytes:
+    """A text as a terminal shows it at last, unless all is wanted as it was written."""
+    return text if AS_WRITTEN else terminal.folded_bytes(text)
+
+
 class Part(NamedTuple):
     """A part of an answer."""
 
@@ -53,7 +61,7 @@ class Part(NamedTuple):
     @property
     def folded(self) -> "Part":
         """The part as a terminal shows it at last, where it is a text."""
-        return Part(terminal.folded_bytes(self.text), self.format) if self.format in (b"", ERROR) else self
+        return Part(shown(self.text), self.format) if self.format in (b"", ERROR) else self
 
     @property
     def shown(self) -> bytes:
@@ -93,7 +101,7 @@ def without_surplus(parts: List[Part], before: bytes) -> List[Part]:
 def answer(parts: List[Part], prompt: bytes, before: bytes = b"") -> bytes:
     """The block of an answer: a formula or a picture alone, or a text, in which each of them, and each error, is a block. Texts are as a
     terminal shows them at last. What stands before the parts is a text that ends in its own line feed."""
-    before = terminal.folded_bytes(before)
+    before = shown(before)
     parts = without_surplus([part for part in (one.folded for one in parts) if part.text], before)
     if len(parts) == 1 and parts[0].format not in (b"", ERROR) and not before:
         return with_prompt(parts[0].format + b":", escaped(parts[0].text), prompt)

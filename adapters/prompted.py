@@ -252,7 +252,9 @@ def main() -> None:
     words.add_argument("profile", metavar="PROFILE", choices=PROFILES, help=" ".join(PROFILES))
     words.add_argument("--latex", action="store_true", help="show values as formulas: " + " ".join(name for name in PROFILES if PROFILES[name].latex))
     words.add_argument("--no-pictures", action="store_true", help="leave alone what is drawn, of " + " ".join(name for name in PROFILES if PROFILES[name].pictures))
+    words.add_argument("--as-written", action="store_true", help="leave escape sequences and carriage returns as they were written")
     chosen = words.parse_args()
+    blocks.AS_WRITTEN = chosen.as_written
     profile = PROFILES[chosen.profile]
     if chosen.latex and not profile.latex:
         words.error(f"{chosen.profile} has no way to write formulas")

@@ -238,7 +238,7 @@ def call_eval_from(book: Book, asked: Facts) -> Facts:
 
 def call_eval_stale(book: Book, asked: Facts) -> Facts:
     """Evaluates the cells whose answers are stale, or that have none, and those above them whose interpreter has ended, whose variables they may need."""
-    return evaluate_each(book, stale(book), {})
+    return evaluate_each(book, stale(book), {}, asked.get("stops") is True)
 
 
 def stale(book: Book) -> List[Field]:

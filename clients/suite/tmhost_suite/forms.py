@@ -15,7 +15,7 @@ class Session(NamedTuple):
 
 
 PYTHON = Session("py", ("tmhost-python",))
-SHELL = Session("sh", ("tmhost-sh",))
+SHELL = Session("sh", ("tmhost-sh", "--as-written"))
 GP = Session("gp", ("tmhost-gp", "--text", "--no-numbers"))
 GAP = Session("gap", ("tmhost-gap",))
 OCTAVE = Session("octave", ("tmhost-octave",))
