@@ -55,6 +55,8 @@ class Speech:
     def _block(self, block: Block) -> bytes:
         tag = data_of(block.tag)
         if block.kind != "format":
+            if tag == b"output":  # the mark of an error: TeXmacs shows its text as any other
+                return self._inside(block)
             return BEGIN + tag + b"#" + self._inside(block) + END
         picture = self._picture(block)
         if picture is not None:
