@@ -2,6 +2,7 @@
 # make install        proves it where that is needed, and installs it at PREFIX; with PROGRAM=.. a program that is there, as one that was given
 # make uninstall      removes what that installs
 # make dist           proves it where that is needed, and packs what is installed as one archive, in this folder
+# make deb            the same as a package of Debian, for `dpkg -i`
 # make check-quick    runs all stored cases over a build that is checked as it runs, and not proved
 # DESTDIR goes in front of each path, for packages.
 PREFIX ?= /usr/local
@@ -18,7 +19,7 @@ OTHERS = import/tmhost-prose jupyter/tmhost-jupyter-kernel
 # Where GNU TeXmacs looks for plugins: the system's, or the user's own.
 TEXMACS_PLUGINS ?= $(if $(filter /usr /usr/local,$(PREFIX)),/etc/texmacs/plugins,$(HOME)/.TeXmacs/plugins)
 
-.PHONY: all proved check-quick dist install uninstall
+.PHONY: all proved check-quick deb dist install uninstall
 
 all: proved
 
@@ -30,6 +31,9 @@ check-quick:
 
 dist: proved
 	install/dist
+
+deb: proved
+	install/deb
 
 ifneq ($(origin PROGRAM),command line)
 install: proved
