@@ -7,7 +7,7 @@ use sheet_check::ProgressLine;
 use sheet_files::{Closed, FileDisk, FileNames, FilePlaces};
 use std::alloc::AllocError;
 use std::fs::File;
-use std::io::{BufWriter, ErrorKind, IsTerminal, Stderr};
+use std::io::{BufWriter, ErrorKind, IsTerminal, Stderr, Stdout};
 use std::marker::PhantomData;
 use std::os::fd::AsRawFd;
 
@@ -31,9 +31,9 @@ impl<'a> System for Real<'a> {
 
     type Input = PatientInput;
 
-    type Output = BufWriter<PatientOutput>;
+    type Output = BufWriter<PatientOutput<Stdout>>;
 
-    type Errors = Stderr;
+    type Errors = PatientOutput<Stderr>;
 
     type Progress = ProgressLine<BufWriter<Stderr>>;
 }
@@ -74,7 +74,7 @@ pub fn outside<'a>(rt: &'a HostRuntime) -> Result<Outside<Real<'a>>, AllocError>
         sources,
         input: PatientInput::new(rt.stdin()),
         output,
-        errors: rt.stderr(),
+        errors: PatientOutput::new(rt.stderr()),
         progress: progress(rt),
     })
 }

@@ -4,8 +4,9 @@
 //! wait fails, and has done nothing.
 use libc::net::{POLLIN, POLLOUT, poll};
 use libc::types::pollfd;
+use offline_programs::{Message, Says};
 use std::io;
-use std::io::{ErrorKind, Read, Stdin, Stdout, Write};
+use std::io::{ErrorKind, Read, Stdin, Write};
 use std::os::fd::{AsRawFd, RawFd};
 
 /// How often a call is tried, but the first time after a wait: others may take what there was.
@@ -17,10 +18,10 @@ pub struct PatientInput {
     stream: Stdin,
 }
 
-/// Standard output, which is waited for.
+/// Standard output or standard error, which is waited for.
 #[derive(Drop)]
-pub struct PatientOutput {
-    stream: Stdout,
+pub struct PatientOutput<S> {
+    stream: S,
 }
 
 impl PatientInput {
@@ -30,9 +31,9 @@ impl PatientInput {
     }
 }
 
-impl PatientOutput {
+impl<S> PatientOutput<S> {
     /// This one.
-    pub fn new(stream: Stdout) -> PatientOutput {
+    pub fn new(stream: S) -> PatientOutput<S> {
         PatientOutput { stream }
     }
 }
@@ -68,7 +69,7 @@ impl Read for PatientInput {
     }
 }
 
-impl Write for PatientOutput {
+impl<S: Write + AsRawFd> Write for PatientOutput<S> {
     fn write(&mut self, buf: &[u8]) -> io::Result<usize> {
         for _ in 1..MOST_TRIES {
             let written = self.stream.write(buf);
@@ -82,5 +83,13 @@ impl Write for PatientOutput {
 
     fn flush(&mut self) -> io::Result<()> {
         self.stream.flush()
+    }
+}
+
+impl<S: Write + AsRawFd> Says for PatientOutput<S> {
+    ghost tried = { λ _ _ _ _. Unit {0} };
+
+    fn say<M: Message>(&mut self, message: &M) -> bool {
+        message.write(self).is_ok()
     }
 }

@@ -200,14 +200,20 @@ for program in show 'export html' live run 'run --strict'; do
     without_memory "$program" 'fault 33 OutOfMemory\n' $program big
 done
 # Streams that don't block, as one may be that another program has too: they are waited for. in SCRIPT WORDS: the script comes a line at a
-# time over such an input. out SCRIPT WORDS: the output is such a one, and is read late.
+# time over such an input. out SCRIPT WORDS: the output is such a one, and is read late. full SCRIPT WORDS: so it is, and it has no room
+# until then.
 cat >patient.py <<'END_OF_PATIENT'
-import os, subprocess, sys, time
+import contextlib, os, subprocess, sys, time
 
 way, script, *words = sys.argv[1:]
 given, kept = os.pipe()
 taken, put = os.pipe()
 os.set_blocking(given if way == "in" else put, False)
+held = 0
+if way == "full":
+    with contextlib.suppress(BlockingIOError):
+        while True:
+            held += os.write(put, b"x" * 512)
 child = subprocess.Popen(words, stdin=given, stdout=put, stderr=subprocess.STDOUT)
 os.close(given)
 os.close(put)
@@ -216,9 +222,9 @@ with open(script, "rb") as lines:
         time.sleep(0.2 if way == "in" else 0)
         os.write(kept, line)
 os.close(kept)
-time.sleep(0.5 if way == "out" else 0)
+time.sleep(0 if way == "in" else 0.5)
 with open(taken, "rb") as text:
-    sys.stdout.buffer.write(text.read())
+    sys.stdout.buffer.write(text.read()[held:])
 sys.stdout.buffer.write(b"status %d\n" % child.wait())
 END_OF_PATIENT
 printf 'session b plain true\nnew 0 b y\nremove 1\n' >given
@@ -234,6 +240,7 @@ for program in show 'export html' 'export json' run live 'live --json'; do
     compare "$program into an output that doesn't block" "$(python3 patient.py out given "$tmhost" $program big | cksum)" \
         "$({ "$tmhost" $program big <given; echo 'status 0'; } | cksum)"
 done
+compare "errors that don't block, without room" "$(python3 patient.py full given "$tmhost" show nothing)" "$(answer show nothing)"
 rm -f big big.alt saved saved.alt many page.awk patient.py
 
 # Calls on real files that fail each time: NAME CALL ERROR STATUS TEXT WORDS. Where the system has no filter of calls the case counts so.

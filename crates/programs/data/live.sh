@@ -396,23 +396,30 @@ looping() {
     for n in $(seq 100); do [ -e looping ] && break; sleep 0.05; done
     rm -f looping
 }
-rm -f looping
-talk
-say 'session a plain python3 loops.py keeps\nsession b plain python3 loops.py ends\nnew 0 a loop\nnew 1 b loop\nnew 2 a x\ninterrupt a\ninterrupt c\n'
-hears 'nothing to interrupt' 'ok\nok\nfield 1\nfield 2\nfield 3\nidle a\nrefused 1 NoSession\n'
-say 'eval 1\n'
-hears 'a line that loops' 'asked\nbanner a\n'
-looping
-say 'interrupt b\ninterrupt a\n'
-hears 'an interrupt' 'idle b\ninterrupted a\nanswered 1\n'
-say 'eval 3\n'
-hears 'the line after it' 'asked\nanswered 3\n'
-say 'interrupt a\neval 2\n'
-hears 'a line of another session' 'idle a\nasked\nbanner b\n'
-looping
-say 'interrupt b\n'
-hears 'an interrupt that ends' 'interrupted b\nended b Ended lost 1\n'
-hang_up 'interrupts' '' '#1 a\n> loop\ninterrupted\n#2 b\n> loop\n? Ended\n#3 a\n> x\nline 2\n'
+interrupts() {
+    rm -f looping
+    talk
+    say 'session a plain python3 loops.py keeps\nsession b plain python3 loops.py ends\nnew 0 a loop\nnew 1 b loop\nnew 2 a x\ninterrupt a\ninterrupt c\n'
+    hears "nothing to interrupt$1" 'ok\nok\nfield 1\nfield 2\nfield 3\nidle a\nrefused 1 NoSession\n'
+    say 'eval 1\n'
+    hears "a line that loops$1" 'asked\nbanner a\n'
+    looping
+    say 'interrupt b\ninterrupt a\n'
+    hears "an interrupt$1" 'idle b\ninterrupted a\nanswered 1\n'
+    say 'eval 3\n'
+    hears "the line after it$1" 'asked\nanswered 3\n'
+    say 'interrupt a\neval 2\n'
+    hears "a line of another session$1" 'idle a\nasked\nbanner b\n'
+    looping
+    say 'interrupt b\n'
+    hears "an interrupt that ends$1" 'interrupted b\nended b Ended lost 1\n'
+    hang_up "interrupts$1" '' '#1 a\n> loop\ninterrupted\n#2 b\n> loop\n? Ended\n#3 a\n> x\nline 2\n'
+}
+interrupts ''
+# The system keeps no status of a child where whoever starts the program ignores SIGCHLD.
+before='env --ignore-signal=CHLD'
+interrupts ', where SIGCHLD is ignored'
+before=
 
 # The end of the input while a line is evaluated.
 interpreter p "$banner" '' ''
