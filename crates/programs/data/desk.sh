@@ -116,12 +116,12 @@ live() {
 
 # Begins a talk with `live` and these words over a new worksheet, which ten seconds cut off: bytes are written by `say TEXT`, and what they
 # give is read before more are written by `hears NAME TEXT`.
-before=
+launcher=
 talk() {
     rm -f sheet sheet.alt talk.in talk.out
     mkfifo talk.in talk.out
     "$tmhost" create sheet
-    timeout 10 $before "$tmhost" live "$@" sheet <talk.in >talk.out 2>talk.errors &
+    timeout 10 $launcher "$tmhost" live "$@" sheet <talk.in >talk.out 2>talk.errors &
     host=$!
     exec 3>talk.in 4<talk.out
 }

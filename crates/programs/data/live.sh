@@ -417,9 +417,9 @@ interrupts() {
 }
 interrupts ''
 # The system keeps no status of a child where whoever starts the program ignores SIGCHLD.
-before='env --ignore-signal=CHLD'
+launcher='env --ignore-signal=CHLD'
 interrupts ', where SIGCHLD is ignored'
-before=
+launcher=
 
 # The end of the input while a line is evaluated.
 interpreter p "$banner" '' ''
