@@ -9,7 +9,7 @@ import { byId } from "./dom.js";
 import { beginStopBox } from "./errors.js";
 import { listen } from "./feed.js";
 import { Keys } from "./keys.js";
-import { savePicture } from "./output.js";
+import { savePicture, showPicture } from "./output.js";
 import { Find } from "./find.js";
 import { Folds } from "./folds.js";
 import { Help } from "./help.js";
@@ -140,6 +140,7 @@ const DOES_TO_CELL = {
   remove: (view) => several.remove("removal", view),
   showMore: (view) => actions.showMore(view),
   savePicture: (view, node) => savePicture(node, `cell-${view.id}`),
+  showPicture: (_, node) => showPicture(node),
   keepMine: (view) => actions.keepMine(view),
   takeTheirs: (view) => actions.takeTheirs(view),
 };

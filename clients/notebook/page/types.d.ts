@@ -1,7 +1,10 @@
 // What the server tells; tmhost_notebook/book.py writes it.
 
-/** A text, an error, a formula, or a picture: an address that has all of it, which the server has looked at, and the text that stands for it. */
-export interface Part { text?: string; error?: string; tex?: string; picture?: string }
+/**
+ * A text, an error, a formula, or a picture: an address that has all of it, which the server has looked at, and the text that stands for it. A heavy
+ * picture is drawn when somebody asks for it.
+ */
+export interface Part { text?: string; error?: string; tex?: string; picture?: string; heavy?: string }
 
 export interface Output { parts: Part[]; isError: boolean; text: string; isCut: boolean; length: number }
 
