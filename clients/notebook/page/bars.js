@@ -61,6 +61,15 @@ export function showConnection(isThere, hasEnded) {
   place.classList.toggle("bad", !isThere || hasEnded);
 }
 
+/** The worksheet was closed in the list: this page looks for it no more. */
+export function showClosed() {
+  const place = byId("connection", HTMLElement);
+  place.textContent = "closed in the list of worksheets: what is typed now is not saved. ";
+  const again = make("a", "", "Open it again");
+  again.href = "";
+  place.append(again);
+}
+
 /**
  * Why nothing goes any more.
  * @param {string | null} ended

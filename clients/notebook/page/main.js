@@ -50,6 +50,7 @@ function hear(message, isFirst) {
   if (isFirst) page.isThere = true; // it is said behind what is told
   if (message.sessions) page.sessions = new Map(message.sessions.map((session) => [session.name, session]));
   if (message.path !== undefined) bars.showPath(message.path);
+  if (message.isOfFolder) byId("list", HTMLAnchorElement).hidden = false;
   if (message.ended !== undefined) {
     hasEnded = message.ended !== null;
     bars.showTrouble(message.ended);
@@ -79,7 +80,7 @@ function saveAll() {
 }
 
 beginStopBox();
-listen({ hear, connect });
+listen({ hear, connect, end: bars.showClosed });
 setInterval(() => cells.views.forEach((view) => view.tick()), 1_000);
 
 // ---- what the user does

@@ -55,6 +55,7 @@ export interface Message {
   cells?: Cell[];
   marks?: Record<string, [boolean, boolean]>;
   path?: string;
+  isOfFolder?: boolean; // whether the server has a list of worksheets
   order?: number[];
   sessions?: Session[];
   removed?: Removed[];
@@ -82,6 +83,17 @@ export interface Reply {
   text?: string;
   start?: number;
   length?: number;
+  folder?: string;
+  sheets?: Sheet[];
+}
+
+/** A worksheet in the list of a folder: its size in bytes, when it was changed last, and how many cells wait for answers. */
+export interface Sheet {
+  name: string;
+  changed: number; // milliseconds since 1970
+  size: number;
+  state: "open" | "ended" | "inUse" | "closed";
+  waiting: number;
 }
 
 /** An element before it is made: its name, attributes and children. */

@@ -43,6 +43,7 @@ class Book:
 
     def __init__(self, path: str, program: Optional[str]) -> None:
         self.path, self.program = path, program
+        self.is_of_folder = False  # whether its server has a list of worksheets, too
         self.server = secrets.token_urlsafe(8)  # a page whose server was started again sees that by it
         self.lock, self.order = threading.Lock(), threading.Lock()
         self.heard = threading.Condition(self.lock)

@@ -87,6 +87,7 @@ def others(book: "Book") -> Message:
     return {
         "server": book.server,
         "path": os.path.basename(book.path),
+        "isOfFolder": book.is_of_folder,
         "sessions": [session_facts(ended(session) if book.ended else session, book.feed.count(session.name)) for session in sessions],
         "removed": removed,
         "ended": book.ended,
