@@ -150,6 +150,14 @@ const DOES_TO_CELL = {
 const sessionOf = (node) => node.closest("li")?.dataset.session ?? "";
 
 document.addEventListener("click", (event) => {
+  const link = event.target instanceof Element ? event.target.closest(".reading a[href^='#cell-']") : null;
+  const linked = link && cells.of(document.querySelector(link.getAttribute("href") ?? ""));
+  if (linked) {
+    event.preventDefault();
+    cells.select(linked);
+    linked.box.scrollIntoView({ block: "start" });
+    return;
+  }
   const node = event.target instanceof Element ? event.target.closest("button[data-do]") : null;
   if (!(node instanceof HTMLElement)) return;
   const what = node.dataset.do ?? "";

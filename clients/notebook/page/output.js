@@ -46,7 +46,7 @@ function imageOf(part) {
  * A picture with its buttons. One that takes long to draw is drawn when its button is pressed.
  * @type {(part: Part) => HTMLElement}
  */
-function pictureOf(part) {
+export function pictureOf(part) {
   const place = make("span", "picture"), about = aboutOf(part);
   const first = part.heavy === undefined ? imageOf(part)
     : button("showPicture", `Show the picture (${about})`, `Show the picture (${about}), which may take seconds`);

@@ -85,6 +85,7 @@ export interface Reply {
   length?: number;
   folder?: string;
   sheets?: Sheet[];
+  part?: Part;
 }
 
 /** A worksheet in the list of a folder: its size in bytes, when it was changed last, and how many cells wait for answers. */

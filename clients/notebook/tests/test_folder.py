@@ -7,7 +7,7 @@ import subprocess
 import sys
 import tempfile
 import unittest
-from typing import Any, Dict, List
+from typing import Any, Dict, List, Tuple
 from unittest import mock
 
 from harness import NOTEBOOK, PROGRAM, READY, SPOKEN, Case, Page, Server, children_of, needs_chromium, needs_program
@@ -137,8 +137,10 @@ class Requests(FolderCase):
         one = SheetPage(listed, "one")
         one.get()
         for path in (listed.path, one.path):
-            for name, headers in (("", {}), ("", {"Cookie": "tmhost=x"}), ("events", {"Cookie": listed.cookie, "Origin": "http://evil.example"}),
-                ("", {"Cookie": listed.cookie, "Host": "localhost"}), ("", {"Cookie": listed.cookie, "Sec-Fetch-Site": "cross-site"})):
+            asked: List[Tuple[str, Dict[str, str]]] = [
+                ("", {}), ("", {"Cookie": "tmhost=x"}), ("events", {"Cookie": listed.cookie, "Origin": "http://evil.example"}),
+                ("", {"Cookie": listed.cookie, "Host": "localhost"}), ("", {"Cookie": listed.cookie, "Sec-Fetch-Site": "cross-site"})]
+            for name, headers in asked:
                 with self.subTest(path=path, name=name, headers=headers):
                     self.assertEqual(listed.request("GET", path + name, headers)[0], 403)
             headers = listed.headers()
@@ -173,7 +175,7 @@ class Renames(unittest.TestCase):
                     return call(*words, **named)
                 return done
 
-            with mock.patch.multiple(folder.os, rename=step(os.rename), replace=step(os.replace), remove=step(os.remove), fsync=step(os.fsync)):
+            with mock.patch.multiple(os, rename=step(os.rename), replace=step(os.replace), remove=step(os.remove), fsync=step(os.fsync)):
                 try:
                     folder.rename(place, "one", "two")
                 except KeyboardInterrupt:
@@ -198,7 +200,7 @@ class Renames(unittest.TestCase):
 
 @needs_program
 @needs_chromium
-class List(FolderCase):
+class Listed(FolderCase):
     def test_by_a_user(self) -> None:
         """Makes, fills, closes, renames, copies worksheets, two of which are open side by side."""
         self.begin("one")

@@ -215,6 +215,12 @@ def of_base64(kind: str, text: str) -> Picture:
     data = decoded(text)
     if (kind == "png") != (data[:1] == b"\x89"):
         raise NotDrawn
+    return of_bytes(data)
+
+
+def of_bytes(data: bytes) -> Picture:
+    """The picture that a PNG or JPEG is."""
+    kind = "png" if data[:1] == b"\x89" else "jpeg"
     width, height = of_dots(data)
     address = f"data:image/{kind};base64," + base64.b64encode(data).decode()
     return Picture(address, f"{kind.upper()}, {width} by {height}, {len(data):,} bytes", width * height / DOTS_AT_ONCE)
