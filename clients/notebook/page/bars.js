@@ -9,6 +9,7 @@ import { button, byId, make, visible } from "./dom.js";
 function stateOf(session, isThere) {
   if (!isThere) return "no connection";
   if (session.waiting) return `${session.waiting} to answer`;
+  if (session.isMissing) return `no program ${visible(session.words.split(" ")[0])} on this machine`;
   return session.runs ? "idle" : "not started";
 }
 
@@ -25,6 +26,10 @@ function itemOf(session, isThere) {
     const node = button(what, label, `${label} ${name}${what === "restartSession" ? ", and evaluate its cells" : ""}`);
     node.disabled = !isFit || !isThere;
     item.append(node);
+  }
+  if (session.isMissing && isThere) {
+    item.classList.add("missing");
+    item.append(button("chooseWords", "Choose one", `Choose the program of ${name}`));
   }
   return item;
 }

@@ -4,7 +4,7 @@ import { Actions } from "./actions.js";
 import * as bars from "./bars.js";
 import { Cells, emptyLine } from "./cells.js";
 import { Completions } from "./completions.js";
-import { keysDialog, sessionDialog } from "./dialogs.js";
+import { keysDialog, sessionDialog, wordsDialog } from "./dialogs.js";
 import { byId } from "./dom.js";
 import { beginStopBox } from "./errors.js";
 import { listen } from "./feed.js";
@@ -38,6 +38,7 @@ const askSession = sessionDialog(async (name, words, tab) => {
   const told = await actions.ask("session", { name, words, tab });
   if (!told.refused && isForCell) await actions.make(cells.order.at(-1) ?? 0, name, true);
 }, (name) => page.sessions.has(name));
+const askWords = wordsDialog((session, words) => actions.ask("words", { session, words }));
 new Keys(cells, actions, { several, completions, help, find, folds }, showKeys);
 showNumbers();
 fitOnPaper();
@@ -103,6 +104,7 @@ const DOES = {
   interruptSession: (node) => actions.interruptSession(sessionOf(node)),
   stopSession: (node) => actions.stopSession(sessionOf(node)),
   restartSession: (node) => actions.restartSession(sessionOf(node)),
+  chooseWords: (node) => askWords(sessionOf(node), page.sessions.get(sessionOf(node))?.words ?? ""),
   evaluateAll: () => actions.evaluateAll(),
   evaluateStale: () => actions.evaluateStale(),
   restartAll: () => actions.restartAll(),

@@ -31,6 +31,7 @@ export interface Session {
   words: string;
   tab: boolean;
   runs: boolean;
+  isMissing: boolean; // the program that its words name isn't here
   waiting: number;
   isProse: boolean;
 }

@@ -8,7 +8,7 @@ from typing import Any, Callable, Dict, Iterable, Iterator, List, Optional, Set
 
 from tmhost import Answer, Answered, BadLine, Closed, Died, Done, Ended, Event, Field, Finished, Gone, InUse, ProtocolError, Refused, Stopped, TimedOut, Worksheet
 
-from . import prose, startable, telling
+from . import prose, rewording, startable, telling
 from .drafts import Draft, Drafts, NotKept
 from .feed import Feed
 from .helping import Helper
@@ -85,6 +85,15 @@ class Book:
         with self.order:
             if self.ended is None:
                 return
+            self._open(create=False)
+            self._tell_all()
+
+    def reword(self, session: str, words: List[str]) -> None:
+        """Gives a session other words, with `order`. The program is ended for that, with its interpreters, and started again. Raises NotDone."""
+        self.sheet.close()
+        try:
+            rewording.reword(self.path, session, words, self.program)
+        finally:
             self._open(create=False)
             self._tell_all()
 

@@ -289,6 +289,18 @@ def call_session(book: Book, asked: Facts) -> Facts:
     return {}
 
 
+def call_words(book: Book, asked: Facts) -> Facts:
+    """Gives a session other words, as where its program isn't on this machine. Nothing may wait for an answer, since all interpreters end."""
+    name, words = text(asked, "session"), text(asked, "words").split()
+    with book.order:
+        if any(session.waiting or book.feed.count(one) for one, session in book.sheet.sessions.items()):
+            raise NotDone("InFlight", "cells wait for their answers: let them end, or stop them")
+        if name not in book.sheet.sessions or not words:
+            raise NotDone("NoSession", "there is no such session, or no word")
+        book.reword(name, words)
+    return {}
+
+
 def call_complete(book: Book, asked: Facts) -> Facts:
     """What can stand at a cursor in a text, which the cell needn't have yet. The cursor counts the characters before it, as JavaScript does. An
     interpreter that has other things to answer isn't asked: that would come when nobody waits for it any more."""
