@@ -22,13 +22,18 @@ def part_at(folder: str, address: str) -> Part:
     """The picture of an address, as the page shows it. Raises NoPicture."""
     try:
         found = DATA.fullmatch(address)
-        data = decoded(found[2]) if found else read(folder, urllib.parse.unquote(address))
+        data = decoded(found[2]) if found else read(folder, path_of(address))
         picture = picture_of(data)
     except NotDrawn:
         raise NoPicture("it is no PNG, JPEG or SVG that is drawn here") from None
     except (OSError, ValueError) as error:
         raise NoPicture(f"it can't be read: {getattr(error, 'strerror', None) or error}") from None
     return {"heavy" if picture.weight > 1 else "picture": picture.address, "text": picture.about}
+
+
+def path_of(address: str) -> str:
+    """The path of a file that an address names."""
+    return urllib.parse.unquote(address)
 
 
 def picture_of(data: bytes) -> Picture:

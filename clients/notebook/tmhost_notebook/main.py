@@ -13,8 +13,10 @@ from typing import Iterator, List, NoReturn, Optional, Union
 
 from tmhost import Died, InUse, ProtocolError, TimedOut
 
+from . import packing
 from .book import Book
 from .files import Files
+from .folder import NotDone
 from .server import Server, served
 from .shelf import Alone, Shelf
 
@@ -22,11 +24,13 @@ from .shelf import Alone, Shelf
 def words() -> argparse.ArgumentParser:
     parser = argparse.ArgumentParser(
         prog="tmhost-notebook",
-        usage="tmhost-notebook [-h] [--no-browser] [--port N] [--libraries FOLDER] SHEET|FOLDER",
+        usage="tmhost-notebook [-h] [--no-browser] [--port N] [--libraries FOLDER] SHEET|FOLDER\n"
+        "       tmhost-notebook pack SHEET FILE.zip\n       tmhost-notebook unpack FILE.zip FOLDER",
         description="Opens a worksheet of tmhost as a page in the browser, and prints its address. Where there is no worksheet it is made. "
         "What the page shows as saved is on the disk. Of a folder it opens a page with the list of its worksheets.",
         epilog="The program is the one that TMHOST names, or tmhost on PATH. Interpreters are started in the folder in which this is started, "
-        "and those of FOLDER in that.",
+        "and those of FOLDER in that. `pack` writes a worksheet, with its drafts, own adapters and pictures of prose, as one file for a colleague; `unpack` makes "
+        "it in a folder, and runs nothing.",
     )
     parser.add_argument("sheet", metavar="SHEET", help="the worksheet, or a folder with some")
     parser.add_argument("--no-browser", action="store_true", help="print the address alone")
@@ -81,7 +85,23 @@ def shelf_of(path: str) -> Shelf:
     return shelf
 
 
+def pack_or_unpack(given: List[str]) -> int:
+    """Does `pack SHEET FILE` or `unpack FILE FOLDER`."""
+    try:
+        if given[0] == "pack":
+            told = ["packed " + name for name in packing.pack(given[1], given[2], None)]
+        else:
+            told = packing.unpack(given[1], given[2], None)
+    except (NotDone, OSError) as error:
+        return tell(str(error))
+    print("\n".join(told))
+    return 0
+
+
 def main(given: Optional[List[str]] = None) -> int:
+    given = sys.argv[1:] if given is None else given
+    if len(given) == 3 and given[0] in ("pack", "unpack"):
+        return pack_or_unpack(given)
     asked = words().parse_args(given)
     try:
         place: Union[Alone, Shelf] = shelf_of(asked.sheet) if os.path.isdir(asked.sheet) else Alone(Book(asked.sheet, None))
