@@ -9,6 +9,7 @@ import { button, byId, make, visible } from "./dom.js";
 function stateOf(session, isThere) {
   if (!isThere) return "no connection";
   if (session.waiting) return `${session.waiting} to answer`;
+  if (session.isMissing) return `no program ${visible(session.words.split(" ")[0])} on this machine`;
   return session.runs ? "idle" : "not started";
 }
 
@@ -25,6 +26,10 @@ function itemOf(session, isThere) {
     const node = button(what, label, `${label} ${name}${what === "restartSession" ? ", and evaluate its cells" : ""}`);
     node.disabled = !isFit || !isThere;
     item.append(node);
+  }
+  if (session.isMissing && isThere) {
+    item.classList.add("missing");
+    item.append(button("chooseWords", "Choose one", `Choose the program of ${name}`));
   }
   return item;
 }
@@ -59,6 +64,15 @@ export function showConnection(isThere, hasEnded) {
   const ended = "the program has ended: what is typed now is not saved";
   place.textContent = !isThere ? lost : hasEnded ? ended : "connected: what is shown as saved is on the disk";
   place.classList.toggle("bad", !isThere || hasEnded);
+}
+
+/** The worksheet was closed in the list: this page looks for it no more. */
+export function showClosed() {
+  const place = byId("connection", HTMLElement);
+  place.textContent = "closed in the list of worksheets: what is typed now is not saved. ";
+  const again = make("a", "", "Open it again");
+  again.href = "";
+  place.append(again);
 }
 
 /**

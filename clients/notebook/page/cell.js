@@ -6,6 +6,7 @@ import { button, make, visible } from "./dom.js";
 import { Layer } from "./layer.js";
 import { languageOf } from "./languages.js";
 import { OutputView } from "./output.js";
+import { fillPictures } from "./reading.js";
 import { answerState, textState, took } from "./said.js";
 import { AT_FIRST, childrenOf, copyOfShape, isOther, show } from "./shape.js";
 import { setInto } from "./setter.js";
@@ -249,8 +250,10 @@ export class CellView {
     this.read = text;
     this.reading.classList.remove("set");
     this.reading.textContent = visible(text).trim() || "empty prose";
-    const isOver = await setInto(this.reading, "markdown", text, () => this.read === text && text.trim() !== "");
+    const { reading } = this;
+    const isOver = await setInto(reading, "markdown", text, () => this.read === text && text.trim() !== "");
     if (!isOver && this.read === text) this.read = null;
+    else await fillPictures(reading);
   }
 
   offerBoth() {

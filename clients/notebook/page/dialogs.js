@@ -23,10 +23,8 @@ function freeName(wanted, isTaken) {
   return name;
 }
 
-/** @type {(known: Suggestion[], choose: (one: Suggestion) => void) => void} */
-function showKnown(known, choose) {
-  byId("session-suggestions", HTMLDataListElement).replaceChildren(...known.map(({ words }) => new Option(words, words)));
-  const place = byId("session-known", HTMLElement);
+/** @type {(place: HTMLElement, known: Suggestion[], choose: (one: Suggestion) => void) => void} */
+function showKnown(place, known, choose) {
   place.hidden = known.length === 0;
   place.replaceChildren("On this machine: ", ...known.map((one) => {
     const node = make("button", "", one.name);
@@ -61,10 +59,36 @@ export function sessionDialog(made, isTaken) {
   return async () => {
     const found = await Promise.race([known, later(SUGGESTED_WITHIN)]);
     if (dialog.open) return;
-    showKnown(found ?? [], choose);
+    byId("session-suggestions", HTMLDataListElement).replaceChildren(...(found ?? []).map(({ words: one }) => new Option(one, one)));
+    showKnown(byId("session-known", HTMLElement), found ?? [], choose);
     dialog.returnValue = name.value = words.value = suggested = "";
     tab.checked = false;
     check();
+    dialog.showModal();
+  };
+}
+
+/**
+ * Asks for other words of a session, whose program isn't on this machine.
+ * @type {(given: (name: string, words: string) => void) => (name: string, words: string) => Promise<void>}
+ */
+export function wordsDialog(given) {
+  const dialog = byId("words-dialog", HTMLDialogElement), words = field("words");
+  let name = "";
+  dialog.addEventListener("close", () => {
+    if (dialog.returnValue === "give" && words.value.trim()) given(name, words.value);
+  });
+  return async (session, old) => {
+    const found = await Promise.race([suggestions(), later(SUGGESTED_WITHIN)]);
+    if (dialog.open) return;
+    showKnown(byId("words-known", HTMLElement), found ?? [], (one) => {
+      words.value = one.words;
+      byId("words-give", HTMLButtonElement).focus();
+    });
+    name = session;
+    words.value = old;
+    dialog.returnValue = "";
+    byId("words-title", HTMLElement).textContent = `Another program for ${session}`;
     dialog.showModal();
   };
 }

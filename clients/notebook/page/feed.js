@@ -6,6 +6,7 @@
  * @typedef {object} Hearer
  * @property {(message: Message, isFirst: boolean) => void} hear
  * @property {(isThere: boolean) => void} connect
+ * @property {() => void} end the worksheet was closed, and isn't looked for any more
  */
 
 const AGAIN_BEHIND = 1_000; // milliseconds; a browser gives up by itself where a server refuses once
@@ -32,6 +33,11 @@ export function listen(hearer) {
       hearer.connect(false);
       clearTimeout(again);
       again = setTimeout(open, AGAIN_BEHIND);
+    });
+    source.addEventListener("over", () => {
+      source?.close();
+      hearer.connect(false);
+      hearer.end();
     });
     source.addEventListener("message", (event) => {
       hearer.hear(JSON.parse(event.data), isFirst);

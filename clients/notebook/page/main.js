@@ -4,12 +4,12 @@ import { Actions } from "./actions.js";
 import * as bars from "./bars.js";
 import { Cells, emptyLine } from "./cells.js";
 import { Completions } from "./completions.js";
-import { keysDialog, sessionDialog } from "./dialogs.js";
+import { keysDialog, sessionDialog, wordsDialog } from "./dialogs.js";
 import { byId } from "./dom.js";
 import { beginStopBox } from "./errors.js";
 import { listen } from "./feed.js";
 import { Keys } from "./keys.js";
-import { savePicture } from "./output.js";
+import { savePicture, showPicture } from "./output.js";
 import { Find } from "./find.js";
 import { Folds } from "./folds.js";
 import { Help } from "./help.js";
@@ -38,6 +38,7 @@ const askSession = sessionDialog(async (name, words, tab) => {
   const told = await actions.ask("session", { name, words, tab });
   if (!told.refused && isForCell) await actions.make(cells.order.at(-1) ?? 0, name, true);
 }, (name) => page.sessions.has(name));
+const askWords = wordsDialog((session, words) => actions.ask("words", { session, words }));
 new Keys(cells, actions, { several, completions, help, find, folds }, showKeys);
 showNumbers();
 fitOnPaper();
@@ -50,6 +51,7 @@ function hear(message, isFirst) {
   if (isFirst) page.isThere = true; // it is said behind what is told
   if (message.sessions) page.sessions = new Map(message.sessions.map((session) => [session.name, session]));
   if (message.path !== undefined) bars.showPath(message.path);
+  if (message.isOfFolder) byId("list", HTMLAnchorElement).hidden = false;
   if (message.ended !== undefined) {
     hasEnded = message.ended !== null;
     bars.showTrouble(message.ended);
@@ -79,7 +81,7 @@ function saveAll() {
 }
 
 beginStopBox();
-listen({ hear, connect });
+listen({ hear, connect, end: bars.showClosed });
 setInterval(() => cells.views.forEach((view) => view.tick()), 1_000);
 
 // ---- what the user does
@@ -102,6 +104,7 @@ const DOES = {
   interruptSession: (node) => actions.interruptSession(sessionOf(node)),
   stopSession: (node) => actions.stopSession(sessionOf(node)),
   restartSession: (node) => actions.restartSession(sessionOf(node)),
+  chooseWords: (node) => askWords(sessionOf(node), page.sessions.get(sessionOf(node))?.words ?? ""),
   evaluateAll: () => actions.evaluateAll(),
   evaluateStale: () => actions.evaluateStale(),
   restartAll: () => actions.restartAll(),
@@ -140,6 +143,7 @@ const DOES_TO_CELL = {
   remove: (view) => several.remove("removal", view),
   showMore: (view) => actions.showMore(view),
   savePicture: (view, node) => savePicture(node, `cell-${view.id}`),
+  showPicture: (_, node) => showPicture(node),
   keepMine: (view) => actions.keepMine(view),
   takeTheirs: (view) => actions.takeTheirs(view),
 };
@@ -148,6 +152,14 @@ const DOES_TO_CELL = {
 const sessionOf = (node) => node.closest("li")?.dataset.session ?? "";
 
 document.addEventListener("click", (event) => {
+  const link = event.target instanceof Element ? event.target.closest(".reading a[href^='#cell-']") : null;
+  const linked = link && cells.of(document.querySelector(link.getAttribute("href") ?? ""));
+  if (linked) {
+    event.preventDefault();
+    cells.select(linked);
+    linked.box.scrollIntoView({ block: "start" });
+    return;
+  }
   const node = event.target instanceof Element ? event.target.closest("button[data-do]") : null;
   if (!(node instanceof HTMLElement)) return;
   const what = node.dataset.do ?? "";

@@ -7,6 +7,11 @@
  * @typedef {(tex: string, isDisplay: boolean) => Tree[]} Formula
  */
 
+/**
+ * What becomes of addresses: that of a link, null where there is to be none; and a picture with what stands for it.
+ * @typedef {{link: (address: string) => string | null, picture: (address: string, text: string) => Tree}} Addresses
+ */
+
 const LOWEST = 6; // heading of HTML
 
 const FORMULAS = [
@@ -59,10 +64,19 @@ function doubleDollars(state, start, end, silent) {
   return true;
 }
 
-/** @type {(token: any) => Record<string, string>} */
-function kept(token) {
+/** @type {(address: string) => string | null} */
+export const linkElsewhere = (address) => (/^(https?:\/\/|mailto:)/i.test(address) ? address : null);
+
+/** @type {Addresses} */
+const ELSEWHERE_ALONE = { link: linkElsewhere, picture: (_, text) => `[${text}]` };
+
+/** @type {(token: any, addresses: Addresses) => Record<string, string>} */
+function kept(token, addresses) {
   const given = Object.fromEntries(token.attrs ?? []);
-  if (token.tag === "a") return /^(https?:\/\/|mailto:)/i.test(given.href) ? { href: given.href } : {};
+  if (token.tag === "a") {
+    const href = addresses.link(given.href);
+    return href === null ? {} : { href };
+  }
   if (token.tag === "ol" && given.start) return { start: String(given.start) };
   const side = /^text-align:(left|center|right)$/.exec(given.style ?? "");
   return side ? { class: side[1] } : {};
@@ -70,9 +84,9 @@ function kept(token) {
 
 /**
  * What reads Markdown by markdown-it, whose function this is. Its headings begin `down` levels below the first one, which the page itself has.
- * @type {(markdownit: any, down: number, formula: Formula) => (text: string) => Tree[]}
+ * @type {(markdownit: any, down: number, formula: Formula, addresses?: Addresses) => (text: string) => Tree[]}
  */
-export function readerOf(markdownit, down, formula) {
+export function readerOf(markdownit, down, formula, addresses = ELSEWHERE_ALONE) {
   const parser = markdownit({ html: false, linkify: false, typographer: false });
   parser.inline.ruler.before("escape", "dollars", dollars);
   parser.block.ruler.before("fence", "dollars", doubleDollars, { alt: ["paragraph", "blockquote", "list"] });
@@ -100,7 +114,7 @@ export function readerOf(markdownit, down, formula) {
       case "code_inline": return [["code", {}, [token.content]]];
       case "softbreak": return ["\n"];
       case "hardbreak": case "hr": return [[token.tag, {}, []]];
-      case "image": return [`[${token.content}]`];
+      case "image": return [addresses.picture(String(Object.fromEntries(token.attrs).src), token.content)];
       case "tex": return token.block ? [["p", {}, mathIn(token)]] : mathIn(token);
       default: return [token.content];
     }
@@ -115,7 +129,7 @@ export function readerOf(markdownit, down, formula) {
       if (token.nesting === 1 && !token.hidden) {
         /** @type {Tree[]} */
         const within = [];
-        into.push([nameOf(token.tag), kept(token), within]);
+        into.push([nameOf(token.tag), kept(token, addresses), within]);
         open.push(within);
       } else if (token.nesting === -1 && !token.hidden) {
         open.pop();

@@ -17,7 +17,8 @@ const isClass = like(/^[A-Za-z0-9 _-]{0,200}$/);
 const isNumbers = like(/^[\d\s.eE-]{1,100}$/);
 const isColour = like(/^(#[0-9a-fA-F]{3,8}|[a-zA-Z]{1,30})$/);
 const isPath = like(/^[MLHVCSQTAZmlhvcsqtaz\d\s.,eE+-]{1,20000}$/);
-const isLink = like(/^(https?:\/\/|mailto:)[^\s\u0000-\u001f]{1,2000}$/i);
+const isLink = like(/^(?:(https?:\/\/|mailto:)[^\s\u0000-\u001f]{1,2000}|#cell-\d{1,10}|\.\.\/[^/\\\s\u0000-\u001f]{1,1000}\/)$/i);
+const isShort = (/** @type {string} */ value) => value.length <= 4_095;
 
 /** @type {Record<string, Form>} */
 const IN_MATHML = {
@@ -39,7 +40,7 @@ const ALLOWED = new Map([
   ...group(SVG, "svg", { width: isLength, height: isLength, viewBox: isNumbers, preserveAspectRatio: like(/^[A-Za-z ]{1,30}$/) }),
   ...group(SVG, "path", { d: isPath }),
   ...group(SVG, "line", { x1: isLength, x2: isLength, y1: isLength, y2: isLength, "stroke-width": isLength }),
-  ...group("", "span", { class: isClass, "aria-hidden": isFlag }),
+  ...group("", "span", { class: isClass, "aria-hidden": isFlag, "data-picture": isShort, "data-text": isShort }), // the server looks at a picture
   ...group("", "p h3 h4 h5 h6 em strong s code pre blockquote ul li hr br table thead tbody tr", {}),
   ...group("", "th td", { class: like(/^(left|center|right)$/) }),
   ...group("", "ol", { start: like(/^\d{1,9}$/) }),
@@ -79,7 +80,7 @@ function elementOf(name, attributes) {
     else if (Object.hasOwn(found.attributes, key) && found.attributes[key](value)) node.setAttribute(key, value);
     else throw new NotAllowed(`${key} of ${name}`);
   }
-  if (name === "a") {
+  if (name === "a" && !attributes.href?.startsWith("#")) {
     node.setAttribute("rel", "noopener noreferrer");
     node.setAttribute("target", "_blank");
   }

@@ -17,24 +17,58 @@ function formulaOf(tex) {
 }
 
 /**
+ * The pictures of the page, by the elements that they are shown in.
+ * @type {WeakMap<Element, Part>}
+ */
+const pictures = new WeakMap();
+
+/** @type {(part: Part) => boolean} */
+const isPicture = (part) => (part.picture ?? part.heavy) !== undefined;
+
+/** @type {(part: Part) => string} */
+const aboutOf = (part) => visible(part.text ?? "").replace(/^\{[^:]*: |\}$/g, "");
+
+/**
  * A picture, all of which stands in its address: a browser runs no script of it, and loads nothing for it. One that it can't draw is the text that stands
  * for it.
  * @type {(part: Part) => HTMLElement}
  */
-function pictureOf(part) {
-  const place = make("span", "picture"), image = make("img");
-  const about = visible(part.text ?? "").replace(/^\{[^:]*: |\}$/g, "");
-  image.alt = `A picture (${about})`;
+function imageOf(part) {
+  const image = make("img");
+  image.alt = `A picture (${aboutOf(part)})`;
   image.decoding = "async";
   image.addEventListener("error", () => image.replaceWith(visible(part.text ?? "")));
-  image.src = part.picture ?? "";
-  place.append(image, button("savePicture", "Save", `Save the picture (${about})`));
+  image.src = part.picture ?? part.heavy ?? "";
+  return image;
+}
+
+/**
+ * A picture with its buttons. One that takes long to draw is drawn when its button is pressed.
+ * @type {(part: Part) => HTMLElement}
+ */
+export function pictureOf(part) {
+  const place = make("span", "picture"), about = aboutOf(part);
+  const first = part.heavy === undefined ? imageOf(part)
+    : button("showPicture", `Show the picture (${about})`, `Show the picture (${about}), which may take seconds`);
+  place.append(first, button("savePicture", "Save", `Save the picture (${about})`));
+  pictures.set(place, part);
   return place;
+}
+
+/**
+ * Draws a picture that waits for that.
+ * @type {(button: HTMLElement) => void}
+ */
+export function showPicture(button) {
+  const place = button.parentElement, part = place && pictures.get(place);
+  if (!part) return;
+  button.replaceWith(imageOf(part));
+  /** @type {HTMLElement | null} */ (place.querySelector("button"))?.focus(); // the one that had it is gone
 }
 
 /** @type {(part: Part) => Node | string} */
 function nodeOf(part) {
-  if (part.picture !== undefined) return pictureOf(part);
+  if (isPicture(part)) return pictureOf(part);
   if (part.error !== undefined) return errorOf(part.error);
   return part.tex === undefined ? visible(part.text ?? "") : formulaOf(part.tex);
 }
@@ -44,7 +78,8 @@ function nodeOf(part) {
  * @type {(button: HTMLElement, name: string) => void}
  */
 export function savePicture(button, name) {
-  const [head, text] = (button.parentElement?.querySelector("img")?.src ?? "").split(";base64,");
+  const part = button.parentElement && pictures.get(button.parentElement);
+  const [head, text] = (part?.picture ?? part?.heavy ?? "").split(";base64,");
   if (text === undefined) return;
   const bytes = Uint8Array.from(atob(text), (character) => character.charCodeAt(0));
   const link = make("a");
@@ -118,7 +153,7 @@ export class OutputView {
    */
   appendPictures(shown) {
     this.pictures = make("div", "pictures");
-    this.pictures.append(...shown.parts.filter((part) => part.picture !== undefined).map(nodeOf));
+    this.pictures.append(...shown.parts.filter(isPicture).map(nodeOf));
     this.box.append(this.pictures);
   }
 

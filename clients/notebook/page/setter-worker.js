@@ -2,7 +2,7 @@
 // page makes nodes by its own list.
 
 import { partsOf, wordsOfKatex } from "./latex.js";
-import { readerOf } from "./markdown.js";
+import { linkElsewhere, readerOf } from "./markdown.js";
 
 /** @typedef {import("./types").Tree} Tree */
 /** @typedef {{number: number, kind: "tex" | "markdown", text: string}} Job */
@@ -80,13 +80,36 @@ function block(text) {
 
 // ---- Markdown
 
+const OF_FOLDER = /\/sheet\/[^/]+\/[^/]*$/.test(self.location.pathname); // other worksheets have their pages beside this one
+const LONGEST_ADDRESS = 4_095;
+
+/**
+ * A link may also lead to a cell of the page, and to another worksheet of the folder.
+ * @type {(address: string) => string | null}
+ */
+function link(address) {
+  if (/^#cell-\d{1,10}$/.test(address)) return address;
+  return OF_FOLDER && /^[^/\\:?#.][^/\\:?#]{0,300}$/.test(address) ? `../${address}/` : linkElsewhere(address);
+}
+
+/**
+ * The page asks for a picture of the worksheet's folder, or with all of its bytes in its address. One elsewhere is a link, so nothing is loaded until that
+ * is pressed.
+ * @type {(address: string, text: string) => Tree}
+ */
+function picture(address, text) {
+  if (/^https?:\/\/[^\s]{1,2000}$/i.test(address)) return ["a", { href: address }, [`[${text || "a picture"}, elsewhere]`]];
+  const isHere = /^data:image\//i.test(address) || !/^(?:[a-z][a-z\d+.-]*:|[/\\])/i.test(address);
+  return isHere && address.length <= LONGEST_ADDRESS ? ["span", { "data-picture": address, "data-text": text }, [`[${text}]`]] : `[${text}]`;
+}
+
 /** @type {((text: string) => Tree[]) | undefined} */
 let reader;
 
 /** @type {(text: string) => Tree[] | null} */
 function markdown(text) {
   if (!here.markdownit || text.length > LONGEST_PROSE) return null;
-  reader ??= readerOf(here.markdownit, HEADINGS_DOWN, formula);
+  reader ??= readerOf(here.markdownit, HEADINGS_DOWN, formula, { link, picture });
   return reader(text);
 }
 

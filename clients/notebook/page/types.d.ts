@@ -1,7 +1,10 @@
 // What the server tells; tmhost_notebook/book.py writes it.
 
-/** A text, an error, a formula, or a picture: an address that has all of it, which the server has looked at, and the text that stands for it. */
-export interface Part { text?: string; error?: string; tex?: string; picture?: string }
+/**
+ * A text, an error, a formula, or a picture: an address that has all of it, which the server has looked at, and the text that stands for it. A heavy
+ * picture is drawn when somebody asks for it.
+ */
+export interface Part { text?: string; error?: string; tex?: string; picture?: string; heavy?: string }
 
 export interface Output { parts: Part[]; isError: boolean; text: string; isCut: boolean; length: number }
 
@@ -28,6 +31,7 @@ export interface Session {
   words: string;
   tab: boolean;
   runs: boolean;
+  isMissing: boolean; // the program that its words name isn't here
   waiting: number;
   isProse: boolean;
 }
@@ -52,6 +56,7 @@ export interface Message {
   cells?: Cell[];
   marks?: Record<string, [boolean, boolean]>;
   path?: string;
+  isOfFolder?: boolean; // whether the server has a list of worksheets
   order?: number[];
   sessions?: Session[];
   removed?: Removed[];
@@ -79,6 +84,18 @@ export interface Reply {
   text?: string;
   start?: number;
   length?: number;
+  folder?: string;
+  sheets?: Sheet[];
+  part?: Part;
+}
+
+/** A worksheet in the list of a folder: its size in bytes, when it was changed last, and how many cells wait for answers. */
+export interface Sheet {
+  name: string;
+  changed: number; // milliseconds since 1970
+  size: number;
+  state: "open" | "ended" | "inUse" | "closed";
+  waiting: number;
 }
 
 /** An element before it is made: its name, attributes and children. */

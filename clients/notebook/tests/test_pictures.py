@@ -14,7 +14,7 @@ from harness import NOTEBOOK, SPOKEN, Case, Page, needs_chromium, needs_program,
 sys.path[:0] = [NOTEBOOK, f"{NOTEBOOK}/../python"]
 from tmhost import Answer, Block  # noqa: E402
 from tmhost_notebook import shown  # noqa: E402
-from tmhost_notebook.pictures import LONGEST_SVG, MOST_ELEMENTS, picture_of  # noqa: E402
+from tmhost_notebook.pictures import CHARACTERS_AT_ONCE, ELEMENTS_AT_ONCE, LONGEST_SVG, MOST_ELEMENTS, picture_of  # noqa: E402
 
 SVG = '<svg xmlns="http://www.w3.org/2000/svg" xmlns:xlink="http://www.w3.org/1999/xlink" width="120" height="80" viewBox="0 0 120 80">%s</svg>'
 CIRCLE = '<circle cx="60" cy="40" r="30" fill="#0b57a4"/>'
@@ -56,6 +56,8 @@ DRAWN: List[Tuple[str, bytes]] = [
         '<line x1="9" y1="9" x2="99" y2="70" stroke="red" stroke-dasharray="4,4"/>')).encode()),
     ("image/svg+xml", (SVG % f'<image width="9" height="9" xlink:href="data:image/png;base64,{base64.b64encode(png()).decode()}"/>').encode()),
 ]
+CIRCLES = ("image/svg+xml", (SVG % ("<g fill='#0b57a4' opacity='.5'>" + "<circle r='99' opacity='.5'/>" * 120_000 + "</g>")).encode())
+USE = "<use href='#a'/>"
 CHAIN = "".join(f'<g id="a{k}">' + f'<use xlink:href="#a{k + 1}"/>' * 10 + "</g>" for k in range(9)) + f'<g id="a9">{CIRCLE}</g>'
 PATTERNS = "".join(
     f'<pattern id="p{k}" width="9" height="9" patternUnits="userSpaceOnUse">' + f'<rect width="9" height="9" fill="url(#p{k + 1})"/>' * 10 + "</pattern>" for k in range(9))
@@ -127,6 +129,24 @@ class Looked(unittest.TestCase):
         self.assertIsNone(picture_of(Block("image/svg+xml", "channel", (SVG % CIRCLE,))))
         self.assertIsNone(picture_of(Block("image/svg+xml", "format", (SVG, Block("verbatim", "format", ("x",))))))
 
+    def test_what_is_drawn_at_once(self) -> None:
+        """Of an answer so many elements, characters and dots; what is more is to be asked for."""
+        def are_heavy(*pictures: Tuple[str, bytes]) -> List[bool]:
+            answer = Answer("> ", Block("verbatim", "format", tuple(picture_block(*one) for one in pictures)), "not looked at")
+            return ["heavy" in part for part in shown.facts_of(answer)["parts"]]
+
+        self.assertEqual(are_heavy(*DRAWN), [False] * len(DRAWN))
+        self.assertEqual(are_heavy(CIRCLES, DRAWN[2]), [True, False])
+        half = ("image/svg+xml", (SVG % (CIRCLE * (ELEMENTS_AT_ONCE * 2 // 5))).encode())
+        self.assertEqual(are_heavy(half, half, half, DRAWN[0]), [False, True, True, False])
+        again = ("image/svg+xml", (SVG % f"<g id='a'>{CIRCLE * 100}</g>{USE * (ELEMENTS_AT_ONCE // 100)}").encode())
+        self.assertEqual(are_heavy(again), [True])
+        long = ("image/svg+xml", (SVG % f"<path d='M0 0{' ' * CHARACTERS_AT_ONCE}'/>").encode())
+        dashed = ("image/svg+xml", (SVG % ("<path d='M0 0 L900 0' stroke='red' stroke-dasharray='.015'/>")).encode())
+        self.assertEqual(are_heavy(long, dashed), [True, True])
+        large = ("image/png;base64", base64.b64encode(png(5000, 5000)))
+        self.assertEqual(are_heavy(*[large] * 5), [False] * 4 + [True])
+
     def test_an_answer_with_pictures(self) -> None:
         one, other = (picture_block(*DRAWN[number]) for number in (0, 2))
         text = "x" * (shown.LONGEST + 5)
@@ -138,6 +158,17 @@ class Looked(unittest.TestCase):
         answer = Answer("> ", Block("verbatim", "format", (one, text, other)), "not looked at")
         rest = shown.piece_of(answer, shown.LONGEST)["text"]
         self.assertEqual(facts["text"] + rest, about + text + facts["parts"][2]["text"])
+
+
+# The name of the file that the first button of a cell saves, and its length.
+SAVED = """
+new Promise((done) => {
+  let kept = null;
+  URL.createObjectURL = (blob) => { kept = blob; return "#" };
+  HTMLAnchorElement.prototype.click = function () { done([this.download, kept.size]) };
+  document.querySelector("#cell-%d [data-do=savePicture]").click();
+})
+"""
 
 
 @needs_program
@@ -190,6 +221,30 @@ class Drawn(Case):
             })""")
         self.assertEqual(saved[0], "cell-3.svg")
         self.assertEqual(saved[1].encode(), DRAWN[2][1])
+        self.assertEqual(tab.browser.trouble, [])
+
+    def test_a_picture_that_takes_long(self) -> None:
+        """120,000 circles through which others are seen: the page works, draws them when asked to, and saves them before, too."""
+        self.begin()
+        id = self.add(*CIRCLES)
+        other = self.add_line("say after")
+        tab = self.evaluated()
+        shown = f"#cell-{id} [data-do=showPicture]"
+        tab.until(f"document.querySelector('{shown}').textContent", f"Show the picture (SVG, {len(CIRCLES[1]):,} bytes)")
+        self.assertEqual(tab.value(f"{PICTURES}.length"), 0)
+        begin = time.monotonic()
+        tab.click(f"#cell-{other} .number")
+        tab.key("Enter")
+        for letter in "typed":
+            tab.type(letter)
+            tab.value("new Promise((done) => requestAnimationFrame(() => requestAnimationFrame(done)))")
+        self.assertEqual(tab.value(f"document.querySelector('#cell-{other} textarea').value"), "say aftertyped")
+        self.assertLess(time.monotonic() - begin, 10)  # on a busy machine, too
+        self.assertEqual(tab.value(SAVED % id), [f"cell-{id}.svg", len(CIRCLES[1])])
+        tab.value(f"document.querySelector('{shown}').click()")
+        tab.until(f"{PICTURES}.filter((one) => one.complete && one.naturalWidth > 0).length", 1)
+        self.assertEqual(tab.value(f"document.querySelectorAll('{shown}').length"), 0)
+        self.assertEqual(tab.value("document.activeElement.dataset.do"), "savePicture")
         self.assertEqual(tab.browser.trouble, [])
 
     def test_hostile_pictures(self) -> None:

@@ -8,7 +8,7 @@ from typing import Any, Callable, Dict, Iterable, Iterator, List, Optional, Set
 
 from tmhost import Answer, Answered, BadLine, Closed, Died, Done, Ended, Event, Field, Finished, Gone, InUse, ProtocolError, Refused, Stopped, TimedOut, Worksheet
 
-from . import prose, startable, telling
+from . import prose, rewording, startable, telling
 from .drafts import Draft, Drafts, NotKept
 from .feed import Feed
 from .helping import Helper
@@ -43,6 +43,7 @@ class Book:
 
     def __init__(self, path: str, program: Optional[str]) -> None:
         self.path, self.program = path, program
+        self.is_of_folder = False  # whether its server has a list of worksheets, too
         self.server = secrets.token_urlsafe(8)  # a page whose server was started again sees that by it
         self.lock, self.order = threading.Lock(), threading.Lock()
         self.heard = threading.Condition(self.lock)
@@ -84,6 +85,15 @@ class Book:
         with self.order:
             if self.ended is None:
                 return
+            self._open(create=False)
+            self._tell_all()
+
+    def reword(self, session: str, words: List[str]) -> None:
+        """Gives a session other words, with `order`. The program is ended for that, with its interpreters, and started again. Raises NotDone."""
+        self.sheet.close()
+        try:
+            rewording.reword(self.path, session, words, self.program)
+        finally:
             self._open(create=False)
             self._tell_all()
 

@@ -1,11 +1,12 @@
 """What a page may ask for: each call returns when what it did is on the disk."""
 
 import contextlib
+import os
 from typing import Any, Callable, Dict, List, Optional, Sequence, TypeVar
 
 from tmhost import BadLine, Closed, Completions, Died, Field, Gone, Lost, ProtocolError, Refused, TimedOut, readable
 
-from . import shown, startable
+from . import in_prose, shown, startable
 from .book import Book
 from .drafts import Draft, NotKept
 from .helping import NoHelp
@@ -288,6 +289,18 @@ def call_session(book: Book, asked: Facts) -> Facts:
     return {}
 
 
+def call_words(book: Book, asked: Facts) -> Facts:
+    """Gives a session other words, as where its program isn't on this machine. Nothing may wait for an answer, since all interpreters end."""
+    name, words = text(asked, "session"), text(asked, "words").split()
+    with book.order:
+        if any(session.waiting or book.feed.count(one) for one, session in book.sheet.sessions.items()):
+            raise NotDone("InFlight", "cells wait for their answers: let them end, or stop them")
+        if name not in book.sheet.sessions or not words:
+            raise NotDone("NoSession", "there is no such session, or no word")
+        book.reword(name, words)
+    return {}
+
+
 def call_complete(book: Book, asked: Facts) -> Facts:
     """What can stand at a cursor in a text, which the cell needn't have yet. The cursor counts the characters before it, as JavaScript does. An
     interpreter that has other things to answer isn't asked: that would come when nobody waits for it any more."""
@@ -330,6 +343,14 @@ def call_output(book: Book, asked: Facts) -> Facts:
     return shown.piece_of(answer, number(asked, "start"))
 
 
+def call_picture(book: Book, asked: Facts) -> Facts:
+    """A picture that prose names by its address."""
+    try:
+        return {"part": in_prose.part_at(os.path.dirname(os.path.abspath(book.path)), text(asked, "address"))}
+    except in_prose.NoPicture as error:
+        raise NotDone("NoPicture", str(error)) from None
+
+
 def call_reopen(book: Book, asked: Facts) -> Facts:
     book.reopen()
     return {}
@@ -339,7 +360,7 @@ CALLS: Dict[str, Callable[[Book, Facts], Facts]] = {
     name[len("call_") :]: call for name, call in list(globals().items()) if name.startswith("call_")
 }
 
-WITHOUT_PROGRAM = (call_output, call_reopen)
+WITHOUT_PROGRAM = (call_output, call_picture, call_reopen)
 
 
 def do(book: Book, asked: Any) -> Facts:

@@ -1,10 +1,10 @@
 """What an interpreter says of a word, asked of a second one with the same words, in a worksheet of the server's own that ends with it. So a question changes
-nothing: no cell, no variable, no number of an answer; and it is answered while the session is at work."""
+nothing: no cell, no variable, no number of an answer; and it is answered while the session is at work. The worksheet's files are open, and in no folder any
+more, so nothing of them stays, whatever ends the server."""
 
 import keyword
 import os
 import re
-import shutil
 import tempfile
 import threading
 from typing import Dict, Iterable, List, Optional, Set
@@ -24,7 +24,7 @@ class NoHelp(Exception):
 
 class Helper:
     def __init__(self, program: Optional[str]) -> None:
-        self.program, self.folder = program, ""
+        self.program = program
         self.sheet: Optional[Worksheet] = None
         self.lock = threading.Lock()
         self.imported: Dict[str, Set[str]] = {}  # of each session
@@ -33,13 +33,13 @@ class Helper:
         sheet, self.sheet = self.sheet, None
         if sheet is not None:
             sheet.close()
-        shutil.rmtree(self.folder, ignore_errors=True)
 
     def _opened(self) -> Worksheet:
         if self.sheet is None or self.sheet.error is not None:
             self.close()
-            self.folder, self.imported = tempfile.mkdtemp(prefix="tmhost-help-"), {}
-            self.sheet = Worksheet(os.path.join(self.folder, "help"), create=True, program=self.program, timeout=ANSWERED_WITHIN)
+            self.imported = {}
+            with tempfile.TemporaryDirectory(prefix="tmhost-help-") as folder:
+                self.sheet = Worksheet(os.path.join(folder, "help"), create=True, program=self.program, timeout=ANSWERED_WITHIN)
         return self.sheet
 
     def ask(self, session: Session, language: str, word: str, fields: Iterable[Field]) -> Answer:

@@ -9,23 +9,30 @@ import sys
 import tempfile
 import threading
 import webbrowser
-from typing import Iterator, List, NoReturn, Optional
+from typing import Iterator, List, NoReturn, Optional, Union
 
 from tmhost import Died, InUse, ProtocolError, TimedOut
 
+from . import packing
 from .book import Book
 from .files import Files
+from .folder import NotDone
 from .server import Server, served
+from .shelf import Alone, Shelf
 
 
 def words() -> argparse.ArgumentParser:
     parser = argparse.ArgumentParser(
         prog="tmhost-notebook",
+        usage="tmhost-notebook [-h] [--no-browser] [--port N] [--libraries FOLDER] SHEET|FOLDER\n"
+        "       tmhost-notebook pack SHEET FILE.zip\n       tmhost-notebook unpack FILE.zip FOLDER",
         description="Opens a worksheet of tmhost as a page in the browser, and prints its address. Where there is no worksheet it is made. "
-        "What the page shows as saved is on the disk.",
-        epilog="The program is the one that TMHOST names, or tmhost on PATH. Interpreters are started in the folder in which this is started.",
+        "What the page shows as saved is on the disk. Of a folder it opens a page with the list of its worksheets.",
+        epilog="The program is the one that TMHOST names, or tmhost on PATH. Interpreters are started in the folder in which this is started, "
+        "and those of FOLDER in that. `pack` writes a worksheet, with its drafts, own adapters and pictures of prose, as one file for a colleague; `unpack` makes "
+        "it in a folder, and runs nothing.",
     )
-    parser.add_argument("sheet", metavar="SHEET", help="the worksheet")
+    parser.add_argument("sheet", metavar="SHEET", help="the worksheet, or a folder with some")
     parser.add_argument("--no-browser", action="store_true", help="print the address alone")
     parser.add_argument("--port", type=int, default=0, metavar="N", help="the port on 127.0.0.1; if it isn't given the one that the worksheet had "
                         "last, or one that is free")
@@ -68,19 +75,45 @@ def serve(server: Server, has_browser: bool) -> None:
         server.server_close()
 
 
+def shelf_of(path: str) -> Shelf:
+    """The worksheets of a folder, which becomes the one in which interpreters are started."""
+    program = os.environ.get("TMHOST", "")
+    if "/" in program:
+        os.environ["TMHOST"] = os.path.abspath(program)
+    shelf = Shelf(path, None)
+    os.chdir(shelf.path)
+    return shelf
+
+
+def pack_or_unpack(given: List[str]) -> int:
+    """Does `pack SHEET FILE` or `unpack FILE FOLDER`."""
+    try:
+        if given[0] == "pack":
+            told = ["packed " + name for name in packing.pack(given[1], given[2], None)]
+        else:
+            told = packing.unpack(given[1], given[2], None)
+    except (NotDone, OSError) as error:
+        return tell(str(error))
+    print("\n".join(told))
+    return 0
+
+
 def main(given: Optional[List[str]] = None) -> int:
+    given = sys.argv[1:] if given is None else given
+    if len(given) == 3 and given[0] in ("pack", "unpack"):
+        return pack_or_unpack(given)
     asked = words().parse_args(given)
     try:
-        book = Book(asked.sheet, None)
+        place: Union[Alone, Shelf] = shelf_of(asked.sheet) if os.path.isdir(asked.sheet) else Alone(Book(asked.sheet, None))
     except InUse:
         return tell(f"{asked.sheet} is in use: another program, as a second tmhost-notebook, has it open")
     except (Died, ProtocolError, TimedOut, OSError) as error:
         return tell(f"{asked.sheet} can't be opened: {error}")
     try:
-        server = served(book, asked.port, Files(asked.libraries))
+        server = served(place, asked.port, Files(asked.libraries))
     except (OSError, OverflowError) as error:
-        book.close()
+        place.close()
         return tell(f"port {asked.port} can't be taken: {error}")
     serve(server, not asked.no_browser)
-    book.close()
+    place.close()
     return 0

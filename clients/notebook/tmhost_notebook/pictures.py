@@ -3,6 +3,9 @@
 A browser runs no script of a picture in an `img`, and loads nothing for it; but one may be made so that it takes minutes to draw. So a PNG or JPEG
 has so many dots at most, and an SVG is of elements that draw at once: no scripts, filters, animations or pages in it, and references draw
 only so many elements again. Each dash of a line counts as an element.
+
+Such a picture may still take a second or more, as one of 120,000 circles through which others are seen. So of an answer only some are drawn at once,
+and the page asks before it draws the others.
 """
 
 import base64
@@ -10,7 +13,7 @@ import binascii
 import bisect
 import itertools
 import re
-from typing import Dict, List, NamedTuple, Optional, Tuple
+from typing import Dict, Iterable, List, NamedTuple, Optional, Tuple
 from xml.parsers import expat
 
 from tmhost import Block, readable
@@ -24,6 +27,12 @@ MOST_ELEMENTS = 300_000  # with those that references draw again, and dashes
 MOST_IMAGES = 100  # within an SVG
 DEEPEST = 64  # elements in one another
 DEEPEST_REFERENCE = 8  # what refers to what refers ..
+
+# What an answer may have of each, to be drawn unasked.
+ELEMENTS_AT_ONCE = 10_000  # with those that references draw again
+DASHES_AT_ONCE = 200_000
+CHARACTERS_AT_ONCE = 1_000_000  # of an SVG
+DOTS_AT_ONCE = 100_000_000
 
 ELEMENTS = frozenset(
     "svg g defs symbol use path rect circle ellipse line polyline polygon text tspan textPath image clipPath mask pattern marker "
@@ -40,6 +49,8 @@ IMAGE = re.compile(r"data:image/(?:png|jpe?g);base64,(.*)", re.DOTALL)
 class Picture(NamedTuple):
     address: str  # which has all of it
     about: str
+    weight: float  # as a part of what an answer has drawn at once
+    is_heavy: bool = False  # it is drawn when a user asks for it
 
 
 class NotDrawn(Exception):
@@ -163,11 +174,17 @@ class Drawing:
     def look_at_references(self) -> None:
         """What is drawn with all that is drawn again, references within what is referred to among it, has so many elements at most."""
         self.references.sort()
-        each = (1 + self.dashes.of(number) for number in range(1, self.count + 1)) if self.dashes else itertools.repeat(1, self.count)
+        self.elements = self.drawn(itertools.repeat(1, self.count))
+        dashes = (self.dashes.of(number) for number in range(1, self.count + 1)) if self.dashes else None
+        self.dashes_drawn = self.drawn(dashes) if dashes else 0
+        if self.elements + self.dashes_drawn > MOST_ELEMENTS:
+            raise NotDrawn
+
+    def drawn(self, each: Iterable[int]) -> int:
+        """How much is drawn where each element has so much."""
         self.costs = list(itertools.accumulate(each, initial=0))
         self.weights: Dict[Tuple[int, int], int] = {}
-        if self.costs[-1] + self.weight(0, self.count + 1, 0) > MOST_ELEMENTS:
-            raise NotDrawn
+        return self.costs[-1] + self.weight(0, self.count + 1, 0)
 
     def weight(self, begin: int, end: int, depth: int) -> int:
         """How many elements the references in a range of elements draw again."""
@@ -189,16 +206,24 @@ def refuse(*told: object) -> None:
 def of_svg(text: str) -> Picture:
     if len(text) > LONGEST_SVG:
         raise NotDrawn
-    Drawing(text)
-    return Picture("data:image/svg+xml;base64," + base64.b64encode(text.encode()).decode(), f"SVG, {len(text.encode()):,} bytes")
+    drawing = Drawing(text)
+    weight = drawing.elements / ELEMENTS_AT_ONCE + drawing.dashes_drawn / DASHES_AT_ONCE + len(text) / CHARACTERS_AT_ONCE
+    return Picture("data:image/svg+xml;base64," + base64.b64encode(text.encode()).decode(), f"SVG, {len(text.encode()):,} bytes", weight)
 
 
 def of_base64(kind: str, text: str) -> Picture:
     data = decoded(text)
     if (kind == "png") != (data[:1] == b"\x89"):
         raise NotDrawn
+    return of_bytes(data)
+
+
+def of_bytes(data: bytes) -> Picture:
+    """The picture that a PNG or JPEG is."""
+    kind = "png" if data[:1] == b"\x89" else "jpeg"
     width, height = of_dots(data)
-    return Picture(f"data:image/{kind};base64," + base64.b64encode(data).decode(), f"{kind.upper()}, {width} by {height}, {len(data):,} bytes")
+    address = f"data:image/{kind};base64," + base64.b64encode(data).decode()
+    return Picture(address, f"{kind.upper()}, {width} by {height}, {len(data):,} bytes", width * height / DOTS_AT_ONCE)
 
 
 def picture_of(block: Block) -> Optional[Picture]:
@@ -216,15 +241,17 @@ def picture_of(block: Block) -> Optional[Picture]:
 
 
 def pictures_in(block: Block) -> Dict[int, Picture]:
-    """The pictures in a block, by the identity of theirs."""
+    """The pictures in a block, by the identity of theirs. Those behind what is drawn at once are heavy."""
     found: Dict[int, Picture] = {}
-    left, open_blocks = LONGEST, [block]
+    left, at_once, open_blocks = LONGEST, 1.0, [block]
     while open_blocks:
         one = open_blocks.pop()
         picture = picture_of(one)
         if picture is not None and len(picture.address) <= left:
             left -= len(picture.address)
-            found[id(one)] = picture
+            is_heavy = picture.weight > at_once
+            at_once -= 0 if is_heavy else picture.weight
+            found[id(one)] = picture._replace(is_heavy=is_heavy)
         else:
             open_blocks += [item for item in reversed(one.items) if isinstance(item, Block)]
     return found

@@ -15,13 +15,15 @@ import os
 import socket
 import sys
 import urllib.parse
-from typing import Any, Dict, Optional, Tuple
+from typing import Any, Dict, Optional, Tuple, Union
 
 from . import address, calls
 from .address import Address
 from .book import Book
 from .exported import FORMATS, NotExported, exported
 from .files import Files
+from .folder import NotDone
+from .shelf import Alone, Shelf
 from .suggested import suggestions
 
 ADDRESS = "127.0.0.1"
@@ -41,6 +43,8 @@ SAFE = {
 }
 COOKIE = "tmhost"
 EXPORT = "export/"
+LIST = "folder.html"
+OVER = b"event: over\ndata: {}\n\n"  # the worksheet was closed by a user, so that its page looks for it no more
 JSON = "application/json"
 TEXT = "text/plain; charset=utf-8"
 REFUSED = b"Refused. Open the address that tmhost-notebook printed.\n"
@@ -55,9 +59,9 @@ class Server(http.server.ThreadingHTTPServer):
     daemon_threads = True
     request_queue_size = 64
 
-    def __init__(self, book: Book, own: Address, files: Files) -> None:
+    def __init__(self, place: Union[Alone, Shelf], own: Address, files: Files) -> None:
         super().__init__((ADDRESS, own.port), Handler)
-        self.book, self.files = book, files
+        self.place, self.files = place, files
         self.own = dataclasses.replace(own, port=self.server_port)
         self.token, self.cookie, self.path = own.token, own.cookie, own.path
         self.host = f"{ADDRESS}:{self.server_port}"
@@ -73,16 +77,16 @@ class Server(http.server.ThreadingHTTPServer):
             super().handle_error(request, client_address)
 
 
-def served(book: Book, port: int, files: Files) -> Server:
+def served(place: Union[Alone, Shelf], port: int, files: Files) -> Server:
     """The server, at the address that it had before where that is free; `port` is 0 where none is wanted."""
-    kept = address.read(book.path)
+    kept = address.read(place.path)
     server = None
     if kept is not None and port in (0, kept.port):
         with contextlib.suppress(OSError):
-            server = Server(book, kept, files)
+            server = Server(place, kept, files)
     if server is None:
-        server = Server(book, Address(port), files)
-    address.keep(book.path, server.own)
+        server = Server(place, Address(port), files)
+    address.keep(place.path, server.own)
     return server
 
 
@@ -125,7 +129,7 @@ class Handler(http.server.BaseHTTPRequestHandler):
 
     def name_asked(self) -> Optional[str]:
         """What stands behind the page's path; None where the request isn't from a page of ours."""
-        path = urllib.parse.urlsplit(self.path).path
+        path = urllib.parse.unquote(urllib.parse.urlsplit(self.path).path)
         own = f"/{self.server.path}/"
         if not (self.is_for_us() and self.has_cookie() and self.is_from_our_page() and path.startswith(own)):
             return None
@@ -148,19 +152,36 @@ class Handler(http.server.BaseHTTPRequestHandler):
         name = self.name_asked()
         if name is None:
             self.lead_in()
-        elif name == "events":
-            self.tell_events()
+            return
+        sheet, rest = self.server.place.split(name)
+        if sheet is None:
+            self.give_file(rest or LIST)
+            return
+        try:
+            self.give(sheet, rest)
+        except NotDone as error:
+            self.answer(409, f"{error}\n".encode(), TEXT)
+
+    def give(self, sheet: str, name: str) -> None:
+        """What is asked of a worksheet. Raises NotDone."""
+        if name == "events":
+            self.tell_events(sheet)
         elif name == "suggestions":
             self.answer(200, json.dumps(suggestions()).encode(), JSON)
         elif name.startswith(EXPORT) and name[len(EXPORT) :] in FORMATS:
-            self.export(name[len(EXPORT) :])
+            self.export(self.server.place.opened(sheet, is_asked=False), name[len(EXPORT) :])
         else:
-            found = self.server.files.read(name)
-            self.answer(404, b"There is no such file.\n", TEXT) if found is None else self.answer(200, *found)
+            if not name:
+                self.server.place.opened(sheet, is_asked=True)
+            self.give_file(name)
 
-    def export(self, name: str) -> None:
+    def give_file(self, name: str) -> None:
+        found = self.server.files.read(name)
+        self.answer(404, b"There is no such file.\n", TEXT) if found is None else self.answer(200, *found)
+
+    def export(self, book: Book, name: str) -> None:
         """A file with the worksheet, to be kept."""
-        book, (end, kind) = self.server.book, FORMATS[name]
+        end, kind = FORMATS[name]
         try:
             data = exported(book.path, book.program, name, book.prose)
         except NotExported as error:
@@ -183,15 +204,22 @@ class Handler(http.server.BaseHTTPRequestHandler):
     def do_POST(self) -> None:
         length = self.headers.get("Content-Length", "")
         is_fit = length.isascii() and length.isdigit() and int(length) <= LONGEST and self.headers.get("Content-Type") == JSON
-        if self.name_asked() != "call" or not is_fit or self.headers.get("Origin") is None:
+        name = self.name_asked()
+        sheet, rest = (None, None) if name is None else self.server.place.split(name)
+        if rest != "call" or not is_fit or self.headers.get("Origin") is None:
             self.refuse()
             return
-        status, told = self.done(self.rfile.read(int(length)))
+        status, told = self.done(sheet, self.rfile.read(int(length)))
         self.answer(status, json.dumps(told).encode(), JSON)
 
-    def done(self, asked: bytes) -> Tuple[int, Dict[str, Any]]:
+    def done(self, sheet: Optional[str], asked: bytes) -> Tuple[int, Dict[str, Any]]:
+        """Does a call of a worksheet's page, or, where there is none, of the list's."""
+        place = self.server.place
         try:
-            return 200, calls.do(self.server.book, json.loads(asked))
+            told = json.loads(asked)
+            return 200, place.do(told) if sheet is None else calls.do(place.opened(sheet, is_asked=False), told)
+        except NotDone as error:
+            return 200, {"refused": "NotDone", "says": str(error)}
         except calls.NotDone as error:
             return 400 if error.name == "NotUnderstood" else 200, {"refused": error.name, "says": error.says}
         except (ValueError, RecursionError):
@@ -199,19 +227,24 @@ class Handler(http.server.BaseHTTPRequestHandler):
 
     # ---- events
 
-    def tell_events(self) -> None:
-        """Tells a page what the worksheet is, and then each change, until the page is closed."""
+    def tell_events(self, sheet: str) -> None:
+        """Tells a page what the worksheet is, and then each change, until the page is closed, or the worksheet."""
         self.close_connection = True
         self.send_response(200)
         for name, value in (*SAFE.items(), ("Content-Type", "text/event-stream"), ("Connection", "close")):
             self.send_header(name, value)
         self.end_headers()
-        book = self.server.book
+        try:
+            book = self.server.place.opened(sheet, is_asked=False)
+        except NotDone:
+            self.wfile.write(OVER)
+            return
         watcher = book.watch()
         try:
             while (message := book.next_message(watcher)) is not None:
                 data = b"data: " + json.dumps(message).encode() if message else b": here"
                 self.wfile.write(data + b"\n\n")
+            self.wfile.write(OVER if book.is_of_folder else b"")
         except OSError:
             pass  # the page was closed
         finally:

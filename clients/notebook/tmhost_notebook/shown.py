@@ -12,7 +12,8 @@ LONGEST_FORMULA = 5_000
 
 SHOWN_WITHOUT_TAG = ("verbatim", "output")
 
-Part = Dict[str, str]  # {"text": ..}, {"error": ..}, {"tex": ..}, or {"picture": its address, "text": what stands for it}
+# {"text": ..}, {"error": ..}, {"tex": ..}, or {"picture": its address, "text": what stands for it}; one that is drawn when asked for is "heavy".
+Part = Dict[str, str]
 
 
 class Parts:
@@ -37,7 +38,7 @@ class Parts:
         """A block as `tmhost show` prints it, but for its formulas. Blocks lie at most 32 deep in one another."""
         picture = self.pictures.get(id(block))
         if picture is not None:
-            self.parts.append({"picture": picture.address, "text": named(block, picture)})
+            self.parts.append({"heavy" if picture.is_heavy else "picture": picture.address, "text": named(block, picture)})
             return
         tag = readable(block.tag)
         tex = formula_of(block)

@@ -1,11 +1,16 @@
 """Whether the interpreter of a session can be started, which is looked at before a cell of it is asked: its old answer would go for an evaluation that
 never begins."""
 
+import functools
 import os
+import time
 from typing import Optional
 
 from tmhost import Session
 from tmhost.program import search_path
+
+
+LOOKED_AGAIN_BEHIND = 2.0  # seconds
 
 
 def can_be_run(path: str) -> bool:
@@ -25,3 +30,13 @@ def why_not(session: Session) -> Optional[str]:
     if is_found(word):
         return None
     return f"session {session.name} can't be started: there is no program {word}. Its words are: {' '.join(session.words)}"
+
+
+def is_missing(session: Session) -> bool:
+    """Whether a session can't be started, as far as was looked a moment ago: pages are told it often."""
+    return not _was_found(session.words[0] if session.words else "", int(time.monotonic() / LOOKED_AGAIN_BEHIND))
+
+
+@functools.lru_cache(maxsize=256)
+def _was_found(word: str, moment: int) -> bool:
+    return is_found(word)

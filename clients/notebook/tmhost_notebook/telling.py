@@ -7,7 +7,7 @@ from typing import TYPE_CHECKING, Any, Dict, Iterable, List, Optional, Set
 
 from tmhost import Field, Session, readable
 
-from . import prose, shown
+from . import prose, shown, startable
 from .notes import Note
 
 if TYPE_CHECKING:
@@ -87,6 +87,7 @@ def others(book: "Book") -> Message:
     return {
         "server": book.server,
         "path": os.path.basename(book.path),
+        "isOfFolder": book.is_of_folder,
         "sessions": [session_facts(ended(session) if book.ended else session, book.feed.count(session.name)) for session in sessions],
         "removed": removed,
         "ended": book.ended,
@@ -155,6 +156,7 @@ def session_facts(session: Session, fed: int) -> Message:
         "words": " ".join(session.words),
         "tab": session.tab,
         "runs": session.life is not None,
+        "isMissing": session.life is None and startable.is_missing(session),
         "waiting": session.waiting + fed,
         "isProse": prose.is_prose(session),
     }
