@@ -11,6 +11,7 @@ from error_cases import ERRORS
 import jupyter_lines
 import kernel_lines
 from gp_lines import MESSAGE, NO_INPUT, Line as Case, ones
+from language_errors import LANGUAGE_ERRORS
 from language_lines import LANGUAGES, Lines
 from odd_lines import ODD_LINES
 
@@ -354,12 +355,11 @@ def by_jupyter(words: str, cases: List[Case], drawing: Sequence[Tuple[str, str]]
 
 def by_kernel(words: str, leaving: str, busy: str, cases: List[Case], number: Tuple[str, str]) -> Trial:
     """Any kernel of Jupyter."""
-    program = f"/usr/share/jupyter/kernels/{words.split()[0]}/kernel.json"
-    return Trial(f"jupyter {words}", program, leaving, busy, cases, (), *number, failing=ERRORS.get(f"jupyter {words}", ()))
+    return Trial(f"jupyter {words}", f"/usr/share/jupyter/kernels/{words.split()[0]}/kernel.json", leaving, busy, cases, (), *number, failing=ERRORS.get(f"jupyter {words}", ()))
 
 
 def by_language(name: str, lines: Lines) -> Trial:
-    return Trial(f"prompted.py {name}", lines.program, lines.leaving, lines.busy, lines.cases, lines.odd, lines.number, lines.numbered)
+    return Trial(f"prompted.py {name}", lines.program, lines.leaving, lines.busy, lines.cases, lines.odd, lines.number, lines.numbered, failing=LANGUAGE_ERRORS.get(name, ()))
 
 
 TRIALS = {
