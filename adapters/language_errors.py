@@ -26,6 +26,11 @@ LANGUAGE_ERRORS: Dict[str, List[Tuple[str, str]]] = {
         ("X is 1 / 0.", "..zero_divisor"), ("foo(.", "..Syntax error"), ("write(so), nl, throw(no).", "Unknown message: no"), ("nothing.", "Unknown procedure: nothing/0"), ("write('Warning: none'), nl.", ""),
         ("catch(throw(caught), _, true).", ""), ("fail.", ""), ("X = 2.", ""),
     ],
+    "ghci": [
+        ("1 `div` 0", "*** Exception: divide by zero"), ("foo(", "..parse error"), ('putStrLn "so" >> error "no"', "..*** Exception: no"), ("nothing", "..Variable not in scope: nothing"), ('putStrLn "Exception: none"', ""), ("2", ""),
+    ],
+    "fricas": [("1/0", "..division by zero"), ("foo(", "..Missing mate."), ('error "no"', "..no"), ("nothing", ""), ("2", "")],
+    "coqtop": [("Check nothing.", "..The reference nothing was not found"), ("Check (", "..Syntax error"), ("Eval compute in 1 + true.", "..has type \"bool\""), ("Foo.", "..Syntax error"), ("Check 2.", "")],
     "sqlite3": [
         ("select 1 / nothing", "..Parse error"), ("selec 1", '..Parse error: near "selec": syntax error'), ("insert into t values (1)", "Parse error: no such table: t"), (".nothing", "..Error: unknown command"),
         ("select 1/0", ""), ("select 2", ""),
