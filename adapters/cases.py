@@ -9,7 +9,9 @@ import gp_lines
 from completion_cases import COMPLETING, Completing
 from error_cases import ERRORS
 import jupyter_lines
+import kernel_lines
 from gp_lines import MESSAGE, NO_INPUT, Line as Case, ones
+from language_errors import LANGUAGE_ERRORS
 from language_lines import LANGUAGES, Lines
 from odd_lines import ODD_LINES
 
@@ -307,7 +309,8 @@ DRAWING: Dict[str, List[Tuple[str, str]]] = {
         ("p = plt.scatter(range(20000), range(20000))", "{image/png;base64}"), ("p = plt.plot([2, 1]); 1/0", "..ZeroDivisionError: division by zero\n{image/svg+xml}"),
         ("p = plt.title('$\\\\frac$')", "..ValueError"), ("plt.show()", ""),
     ],
-    "gp": [("2", r"{latex:$\%1 = 2$}"), ('plothexport("svg", x = 0, 1, x^2)', "%2 =\n{image/svg+xml}"), ('plothexport("svg", x = 0, 1, x); 3', r"{latex:$\%3 = 3$}"), ("#%2 > 99", r"{latex:$\%4 = 1$}")],
+    "gp": [("2", r"{latex:$\%1 = 2$}"), ('plothexport("svg", x = 0, 1, x^2)', "%2 =\n{image/svg+xml}"), ('plothexport("svg", x = 0, 1, x); 3', r"{latex:$\%3 = 3$}"), ("#%2 > 99", r"{latex:$\%4 = 1$}"),
+           ("ploth(x = 0, 1, x^2)", "%5 =\n{image/svg+xml}"), ("ploth(x = 0, 1, x * (1 - x));", "%6 =\n{image/svg+xml}"), ("plothraw([1, 2], [3, 1])", "%7 =\n{image/svg+xml}"), ("ploth(", "..syntax error")],
     "gp --no-numbers": [('plothexport("svg", x = 0, 1, x^2)', "{image/svg+xml}"), ('"<svg"', '"<svg"')],
     "prompted.py R": [
         ("plot(1:3)", "{image/svg+xml}"), ('plot(1:3); hist(1:4); "two"', '[1] "two"\n{image/svg+xml}\n{image/svg+xml}'), (".Last.value", '[1] "two"'),
@@ -344,14 +347,19 @@ def by_prompted(profile: str, program: str, leaving: str, busy: str, cases: List
     return trial(f"prompted.py {profile}", program, leaving, busy, cases)
 
 
-def by_jupyter(words: str, cases: List[Case]) -> Trial:
+def by_jupyter(words: str, cases: List[Case], drawing: Sequence[Tuple[str, str]] = ()) -> Trial:
     """The kernel of Python. A line that forks is left out, which would go on as a second kernel."""
     odd_lines = [line for line in ODD_LINES["python"] if "fork" not in line]
-    return Trial(f"jupyter {words}", "/usr/share/jupyter/kernels/python3/kernel.json", "os._exit(0)", "while True: pass", cases, odd_lines, *NUMBERS["python"], failing=ERRORS.get(f"jupyter {words}", ()))
+    return dataclasses.replace(by_kernel(words, "os._exit(0)", "while True: pass", cases, NUMBERS["python"]), odd_lines=odd_lines, drawing=drawing)
+
+
+def by_kernel(words: str, leaving: str, busy: str, cases: List[Case], number: Tuple[str, str]) -> Trial:
+    """Any kernel of Jupyter."""
+    return Trial(f"jupyter {words}", f"/usr/share/jupyter/kernels/{words.split()[0]}/kernel.json", leaving, busy, cases, (), *number, failing=ERRORS.get(f"jupyter {words}", ()))
 
 
 def by_language(name: str, lines: Lines) -> Trial:
-    return Trial(f"prompted.py {name}", lines.program, lines.leaving, lines.busy, lines.cases, lines.odd, lines.number, lines.numbered)
+    return Trial(f"prompted.py {name}", lines.program, lines.leaving, lines.busy, lines.cases, lines.odd, lines.number, lines.numbered, failing=LANGUAGE_ERRORS.get(name, ()))
 
 
 TRIALS = {
@@ -366,6 +374,10 @@ TRIALS = {
     "python_matplotlib": by_matplotlib(""),
     "python_matplotlib_no_pictures": by_matplotlib(" --no-pictures"),
     "jupyter": by_jupyter("python3", jupyter_lines.LINES + ten_lines("python")),
+    "jupyter_pictures": by_jupyter("python3", [("import os", "")], kernel_lines.PICTURES),
+    "jupyter_ir": by_kernel("ir", "q()", "while (TRUE) 0", kernel_lines.IR, NUMBERS["R"]),
+    "jupyter_octave": by_kernel("octave", "", "while true, end", kernel_lines.OCTAVE, ('printf("n%d\\n")', "\nn%d")),
+    "jupyter_xpython": by_kernel("xpython", "import os; os._exit(0)", "while True: pass", kernel_lines.XPYTHON, NUMBERS["python"]),
     "jupyter_seconds": by_jupyter("python3 --seconds 5", [("import os", ""), *PYTHON_SECONDS]),
     "prompted_python": by_prompted("python", "python3", "quit()", "while True: pass", PROMPTED_PYTHON + ten_lines("python")),
     "sh": by_prompted("sh", "bash", "exit", "while :; do :; done", SH + ten_lines("sh", "k 10")),

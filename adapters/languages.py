@@ -69,7 +69,7 @@ LANGUAGES = {
         b"-> ",
         (")set messages prompt none", ")set messages type off", ")set breakmode nobreak", ")set quit unprotected", ")set output length 200"),
         lambda text: text.replace(b"\n", b" "),
-        errors=rb"(?ms)^ *>> .*|^  Line +\d+: .*? error\(s\) parsing *$|^   (?:There are \w+|Cannot find) .*",
+        errors=rb"(?ms)^ *>> .*|^  Line +\d+: .*? error\(s\) parsing *$|^   (?:There are \w+|Cannot find|Error signalled from user code:)\s.*",
         noise=rb"\AValue = NIL\n",
     ),
     # It can't print a text at every place, so the marker is a name that nothing has.

@@ -58,6 +58,40 @@ That is a block of the channel `error', or of `output' in another of these."
                                 (tmhost-text--is-output item))))
                      (alist-get 'items block)))))
 
+(defun tmhost-text--pictures (block)
+  "The blocks in BLOCK, or it, that are pictures, as (FORMAT . TEXT)."
+  (when (consp block)
+    (let ((items (append (alist-get 'items block) nil))
+          (format (alist-get 'tag block)))
+      (if (and (equal (alist-get 'kind block) "format")
+               (stringp format) (string-prefix-p "image/" format)
+               (stringp (car items)) (null (cdr items)))
+          (list (cons format (car items)))
+        (mapcan #'tmhost-text--pictures items)))))
+
+(defun tmhost-text--replaced (whole brief text)
+  "TEXT with BRIEF in the place of the first WHOLE in it."
+  (with-temp-buffer
+    (insert text)
+    (goto-char (point-min))
+    (let ((case-fold-search nil))
+      (when (search-forward whole nil t)
+        (replace-match brief t t)))
+    (buffer-string)))
+
+(defun tmhost-text-shown (told)
+  "The output in TOLD as the program prints it, pictures in a few words."
+  (let ((text (tmhost-text-of (alist-get 'shown told))))
+    (dolist (picture (tmhost-text--pictures (alist-get 'output told)) text)
+      (setq text (tmhost-text--replaced
+                  (format "{%s:%s}" (car picture)
+                          (replace-regexp-in-string
+                           "[\x00-\x08\x0b-\x1f\x7f]"
+                           #'tmhost-text--escaped (cdr picture) t t))
+                  (format "{%s: %d bytes}" (car picture)
+                          (tmhost-text-bytes (cdr picture)))
+                  text)))))
+
 (defun tmhost-text-input (text)
   "The input of a worksheet, one line, that TEXT of a buffer stands for."
   (replace-regexp-in-string "\n" tmhost-text-line-end text t t))

@@ -47,7 +47,7 @@ An object of another type, and what there isn't, is passed over."
   (setf (tmhost-field-refused field) nil)
   (tmhost-sheet--become field 'answered
                         :prompt (tmhost-text-of (alist-get 'prompt object))
-                        :shown (tmhost-text-of (alist-get 'shown object))
+                        :shown (tmhost-text-shown object)
                         :wrong (tmhost-text-is-error
                                 (alist-get 'output object)))
   (tmhost-sheet--go-on))
@@ -98,7 +98,7 @@ so it is looked at."
    :input (tmhost-text-input (alist-get 'input told))
    :state (intern (alist-get 'state told)) :reason (alist-get 'reason told)
    :prompt (and (assq 'prompt told) (tmhost-text-of (alist-get 'prompt told)))
-   :shown (and (assq 'shown told) (tmhost-text-of (alist-get 'shown told)))
+   :shown (and (assq 'shown told) (tmhost-text-shown told))
    :wrong (tmhost-text-is-error (alist-get 'output told))))
 
 (defun tmhost-told--take-over (told)

@@ -125,6 +125,21 @@ It has the session t, which completes."
                  "a\u2028b\u2028"))
   (should (= (tmhost-text-bytes "a\u00e9\u2028") 6)))
 
+(ert-deftest tmhost-pictures-are-told-in-a-few-words ()
+  (let* ((picture '((tag . "image/svg+xml") (kind . "format")
+                    (items . ["<svg>\u0001\u00e9</svg>"])))
+         (told (lambda (shown &rest items)
+                 (tmhost-text-shown
+                  `((shown . ,shown)
+                    (output (tag . "verbatim") (kind . "format")
+                            (items . ,(apply #'vector items))))))))
+    (should (equal (funcall told "a\n{image/svg+xml:<svg>\\x01\u00e9</svg>}b"
+                            "a\n" picture "b")
+                   "a\n{image/svg+xml: 14 bytes}b"))
+    (should (equal (funcall told "{image/svg+xml:x}" "{image/svg+xml:x}")
+                   "{image/svg+xml:x}"))
+    (should (equal (funcall told "none" picture) "none"))))
+
 (ert-deftest tmhost-tests-json ()
   "Both readers of JSON give the same."
   (let ((line (concat "{\"a\":null,\"b\":[1,true,false,\"\\u0000\u00e9\"],"

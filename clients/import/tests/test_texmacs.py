@@ -78,7 +78,7 @@ class TeXmacs(Case):
         self.assertIn(" python def f(n):\u2028    return n < 2 | n == 'caf\u00e9 \u03b1 \u4e2d \\\\'\n", done.out)
         self.assertIn(" gp factor(12)\n", done.out)
         self.assertIn(" one 1/3;\n", done.out)
-        self.assertIn("prompted.py maxima", done.out)
+        self.assertIn("tmhost-maxima", done.out)
         self.assertNotIn("%tmhost", done.out)
         self.assertIn("outputs: 2", done.errors)
 

@@ -7,6 +7,7 @@ import re
 import unicodedata
 from typing import Union
 
+from tmhost_fences.cork import CORK, QUOTES
 from tmhost_fences.troubles import Trouble
 
 from .cells import Cell, Document, plain, prose_cell
@@ -21,13 +22,6 @@ IO = {"input", "unfolded-io", "folded-io", "input-math", "unfolded-io-math", "fo
 HEADINGS = {"chapter": "#", "chapter*": "#", "section": "##", "section*": "##", "subsection": "###", "subsection*": "###", "doc-title": "#"}
 HIDDEN = {"output", "TeXmacs", "style", "initial", "references", "auxiliary", "label", "hide-preamble"}
 LANGUAGES = {"r": "R", "shell": "sh", "pari": "gp", "macaulay2": "M2", "sympy": "python"}
-# The upper half of the Cork encoding.
-CORK = (
-    "\u0102\u0104\u0106\u010c\u010e\u011a\u0118\u011e\u0139\u013d\u0141\u0143\u0147\u014a\u0150\u0154\u0158\u015a\u0160\u015e\u0164\u0162\u0170\u016e\u0178\u0179\u017d\u017b\u0132\u0130\u0111\u00a7"
-    "\u0103\u0105\u0107\u010d\u010f\u011b\u0119\u011f\u013a\u013e\u0142\u0144\u0148\u014b\u0151\u0155\u0159\u015b\u0161\u015f\u0165\u0163\u0171\u016f\u00ff\u017a\u017e\u017c\u0133\u00a1\u00bf\u00a3"
-    "\u00c0\u00c1\u00c2\u00c3\u00c4\u00c5\u00c6\u00c7\u00c8\u00c9\u00ca\u00cb\u00cc\u00cd\u00ce\u00cf\u00d0\u00d1\u00d2\u00d3\u00d4\u00d5\u00d6\u0152\u00d8\u00d9\u00da\u00db\u00dc\u00dd\u00de\u1e9e"
-    "\u00e0\u00e1\u00e2\u00e3\u00e4\u00e5\u00e6\u00e7\u00e8\u00e9\u00ea\u00eb\u00ec\u00ed\u00ee\u00ef\u00f0\u00f1\u00f2\u00f3\u00f4\u00f5\u00f6\u0153\u00f8\u00f9\u00fa\u00fb\u00fc\u00fd\u00fe\u00df")
-QUOTES = {0x00: "`", 0x10: "\u201c", 0x11: "\u201d", 0x12: "\u201e", 0x13: "\u00ab", 0x14: "\u00bb", 0x15: "\u2013", 0x16: "\u2014", 0x27: "'"}
 
 
 def letters(text: str) -> str:

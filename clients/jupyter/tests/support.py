@@ -22,7 +22,7 @@ BUILT = [os.path.join(ROOT, "crates", "tmhost", "out", *names) for names in (("t
 HERE_BUILT: str = next((path for path in BUILT if os.path.exists(path)), BUILT[0])
 PROGRAM = os.environ.get("TMHOST") or shutil.which("tmhost") or HERE_BUILT
 INTERPRETER = [sys.executable, "-S", "-E", os.path.join(HERE, "interpreter.py")]
-LESSON = os.path.join(HERE, "lesson.ipynb")
+LESSON = os.path.abspath(os.environ.get("TMHOST_LESSON", os.path.join(HERE, "lesson.ipynb")))
 SECONDS = 300.0  # in which everything comes, on a slow machine too
 
 Told = Dict[str, Any]

@@ -5,7 +5,7 @@ import unittest
 
 from support import SECONDS, Case, needs_program
 
-from tmhost import Block, Completions, Evaluation, Lost, LostItem, Refused, TimedOut, readable
+from tmhost import Answer, Block, Completions, Evaluation, Lost, LostItem, Refused, TimedOut, readable
 
 
 @needs_program
@@ -37,6 +37,14 @@ class Answers(Case):
         self.assertEqual(answer.output, Block("verbatim", "format", ("so ", latex, warning)))
         self.assertEqual((answer.find("latex"), answer.find("verbatim"), answer.find("no")), ([latex], [answer.output], []))
         self.assertEqual((answer.text, answer.output.plain), ("so {latex:$x^2$}{warning#odd}", "so $x^2$odd"))
+
+    def test_pictures_in_a_few_words(self) -> None:
+        picture = Block("image/svg+xml", "format", ("<svg>\x01\u00e9</svg>",))
+        text = "a\n{image/svg+xml:<svg>\\x01\u00e9</svg>}b {image/svg+xml:x}"
+        answer = Answer("", Block("verbatim", "format", ("a\n", picture, "b {image/svg+xml:x}")), text)
+        self.assertEqual(answer.brief, "a\n{image/svg+xml: 14 bytes}b {image/svg+xml:x}")
+        self.assertEqual(answer.output.pictures, [picture])
+        self.assertEqual(Block("image/png", "format", (picture,)).pictures, [picture])
 
     def test_errors(self) -> None:
         """Those that adapters write, which print shows bare, and those of the channel `error`."""

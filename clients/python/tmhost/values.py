@@ -1,6 +1,7 @@
 """What a worksheet has: frozen values, which any thread may read."""
 
 import dataclasses
+import re
 from typing import List, Literal, Optional, Tuple, Union
 
 Text = Union[str, bytes]
@@ -11,6 +12,10 @@ Turn = Literal["running", "queued"]
 
 LINE_END = "\u2028"
 """Stands in an input for the end of a line, since an input is one line."""
+
+
+CONTROL = re.compile(r"[\x00-\x08\x0b-\x1f\x7f]")
+"""What `tmhost show` prints as `\\xNN`."""
 
 
 def to_bytes(value: Text) -> bytes:
@@ -65,6 +70,13 @@ class Block:
         return found
 
     @property
+    def pictures(self) -> "List[Block]":
+        """The blocks in it whose format is the MIME type of a picture and that have one text."""
+        if self.kind == "format" and readable(self.tag).startswith("image/") and len(self.items) == 1 and not isinstance(self.items[0], Block):
+            return [self]
+        return [picture for item in self.items if isinstance(item, Block) for picture in item.pictures]
+
+    @property
     def is_output(self) -> bool:
         return self.kind == "channel" and self.tag == "output"
 
@@ -90,6 +102,16 @@ class Answer:
     def shown_bytes(self) -> bytes:
         """`text` as bytes, whatever they are."""
         return to_bytes(self.text)
+
+    @property
+    def brief(self) -> str:
+        """`text` with each picture in a few words, as `{image/png;base64: 5,120 bytes}`."""
+        text = readable(self.text)
+        for picture in self.output.pictures:
+            tag, data = readable(picture.tag), readable(picture.plain)
+            whole = CONTROL.sub(lambda found: f"\\x{ord(found[0]):02x}", f"{{{tag}:{data}}}")
+            text = text.replace(whole, f"{{{tag}: {len(to_bytes(data)):,} bytes}}", 1)
+        return text
 
     def find(self, tag: Text) -> List[Block]:
         """The blocks of the output with this tag, in the order in which they open."""

@@ -58,7 +58,7 @@ class Console:
         prompt = field.answer.prompt if field.answer else "> "
         self.show(under(harmless(prompt), harmless(field.input)))
         if field.answer:
-            self.show(harmless(field.answer.text))
+            self.show(harmless(field.answer.brief))
             if field.answer.errors:
                 self.mark(f"#{field.id} is an error")
         else:
@@ -76,7 +76,7 @@ class Pipe(Console):
         self._write(text.encode("utf-8", "backslashreplace"))
 
     def answer(self, input: str, answer: Answer) -> None:
-        self._write(harmless(answer.text).encode("utf-8") if sys.stdout.isatty() else answer.shown_bytes)
+        self._write(harmless(answer.brief).encode("utf-8") if sys.stdout.isatty() else answer.shown_bytes)
 
     def _write(self, text: bytes) -> None:
         if text:
@@ -160,7 +160,7 @@ class Terminal(Console):
     def answer(self, input: str, answer: Answer) -> None:
         prompt = harmless(answer.prompt)
         self.show(self._styled(under(prompt, harmless(input)) if self._take_off() else prompt.rstrip(), 1) if prompt.strip() else "")
-        self.show(harmless(answer.text))
+        self.show(harmless(answer.brief))
 
     def choose(self, question: str, keys: str) -> Optional[str]:
         self._typed = None

@@ -86,8 +86,8 @@ class Case(unittest.TestCase):
         except FileNotFoundError:
             return []
 
-    def run_suite(self, *more: str, given: str = "") -> Outcome:
-        ran = subprocess.run(words(*more), input=given, capture_output=True, text=True, env=environment(), cwd=self.folder, timeout=120)
+    def run_suite(self, *more: str, given: str = "", **variables: str) -> Outcome:
+        ran = subprocess.run(words(*more), input=given, capture_output=True, text=True, env={**environment(), **variables}, cwd=self.folder, timeout=120)
         return Outcome(ran.returncode, ran.stdout, ran.stderr)
 
     def objects(self, *more: str) -> List[Dict[str, Any]]:

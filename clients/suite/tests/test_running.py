@@ -251,6 +251,8 @@ class Reports(Case):
     def test_remarks(self) -> None:
         github = self.run_suite(self.path, "--github", "-").output
         self.assertIn(f"::error file={self.path},line=17,title=differs%3A ", github)
+        inside = self.run_suite(self.path, "--github", "-", GITHUB_WORKSPACE=os.path.dirname(self.path)).output
+        self.assertIn(f"::error file={os.path.basename(self.path)},line=17,title=differs%3A ", inside)
         report = self.place("gitlab.json")
         self.run_suite(self.path, "--gitlab", report)
         self.assertEqual([one["location"]["lines"]["begin"] for one in json.loads(self.read(report))], [17])

@@ -3,6 +3,7 @@ import dataclasses
 import difflib
 import hashlib
 import json
+import os
 import re
 from typing import Iterator, List, Optional
 from xml.sax.saxutils import escape, quoteattr
@@ -176,11 +177,19 @@ def github_text(text: str) -> str:
     return readable(text).replace("%", "%25").replace("\r", "%0D").replace("\n", "%0A")
 
 
+def path_in_repository(path: str) -> str:
+    """The path that GitHub and GitLab know: from the top of the repository, which their runs name, where the suite is in it."""
+    top = os.environ.get("GITHUB_WORKSPACE") or os.environ.get("CI_PROJECT_DIR")
+    whole = os.path.realpath(path)
+    inside = os.path.relpath(whole, os.path.realpath(top)) if top else path
+    return path if inside.startswith("..") else inside
+
+
 def github(all_told: List[Told]) -> Iterator[str]:
     """Workflow commands, which GitHub shows at the lines of the text."""
     for told in all_told:
         if told.is_wrong:
-            path = github_text(told.suite.path).replace(":", "%3A").replace(",", "%2C")
+            path = github_text(path_in_repository(told.suite.path)).replace(":", "%3A").replace(",", "%2C")
             title = github_text(f"{told.verdict}: {told.case.title}").replace(":", "%3A").replace(",", "%2C")
             yield f"::error file={path},line={told.case.line},title={title}::{github_text(chr(10).join(told.diff) or told.verdict)}"
 
@@ -193,7 +202,7 @@ def gitlab(all_told: List[Told]) -> Iterator[str]:
             "check_name": "tmhost-suite",
             "fingerprint": hashlib.sha256(f"{told.suite.path} {told.case.line} {told.case.digest}".encode()).hexdigest(),
             "severity": "major",
-            "location": {"path": told.suite.path, "lines": {"begin": told.case.line}},
+            "location": {"path": path_in_repository(told.suite.path), "lines": {"begin": told.case.line}},
         }
         for told in all_told
         if told.is_wrong

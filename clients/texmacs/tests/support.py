@@ -22,7 +22,7 @@ COMMAND = os.path.join(os.path.dirname(HERE), "tmhost-texmacs")
 PROGRAM = os.environ.get("TMHOST") or shutil.which("tmhost") or os.path.join(ROOT, "crates/tmhost/out/tmhost")
 INTERPRETER = [sys.executable, os.path.join(ROOT, "clients/repl/tests/interpreter.py")]
 SECONDS = 120.0  # in which everything comes, beside other work too
-sys.path[:0] = [os.path.join(ROOT, "clients/python"), os.path.join(ROOT, "clients/notebook"), os.path.dirname(HERE)]
+sys.path[:0] = [*(os.path.join(ROOT, "clients", name) for name in ("python", "notebook", "fences")), os.path.dirname(HERE)]
 
 from tmhost import Died, Field, Worksheet as Worksheet  # noqa: E402
 from tmhost_texmacs import scheme  # noqa: E402

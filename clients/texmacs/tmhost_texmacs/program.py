@@ -16,6 +16,7 @@ from typing import List, Optional, Tuple
 from tmhost import TmhostError, Worksheet
 
 from . import keeper, scheme
+from .document import document
 from .offered import adapters
 from .places import sheet_of, socket_of
 from .speech import END, escaped, whole
@@ -219,6 +220,7 @@ def words_given(words: List[str]) -> argparse.Namespace:
                                      "`plugins/tmhost` into ~/.TeXmacs/plugins.")
     parser.add_argument("--list", action="store_true", help="print the names of the sessions that are offered, as a list of Scheme")
     parser.add_argument("--sessions", metavar="SHEET", help="print the names of the sessions of a worksheet so; #f where it can't be opened")
+    parser.add_argument("--export", metavar="SHEET", help="write a worksheet as a document of TeXmacs to standard output")
     parser.add_argument("--keep", nargs=2, metavar=("SHEET", "SOCKET"), help="keep a worksheet open for its sessions (it is started so by itself)")
     parser.add_argument("session", metavar="SESSION", nargs="?", default="sh", help=f"where {SESSION} names none")
     parser.add_argument("sheet", metavar="SHEET", nargs="?", default="", help=f"where {SHEET} names none; else one in ~/tmhost")
@@ -235,6 +237,18 @@ def sessions_of(sheet: str) -> str:
         return "#f"
 
 
+def export(sheet: str) -> int:
+    """Writes the document of a worksheet; the status."""
+    try:
+        with Worksheet(sheet) as worksheet:
+            told = document(worksheet)
+    except (OSError, TmhostError) as error:
+        print(f"tmhost-texmacs: {sheet}: {error}", file=sys.stderr)
+        return 1
+    sys.stdout.buffer.write(told)
+    return 0
+
+
 def main(words: List[str]) -> int:
     given = words_given(words)
     if given.list:
@@ -243,6 +257,8 @@ def main(words: List[str]) -> int:
     if given.sessions:
         print(sessions_of(given.sessions))
         return 0
+    if given.export:
+        return export(given.export)
     if given.keep:
         return keeper.keep(*given.keep)
     session = os.environ.get(SESSION) or given.session

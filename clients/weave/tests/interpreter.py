@@ -5,6 +5,7 @@ lines that it has got, so that an answer tells what was evaluated before it.
     bytes HEX     these bytes
     latex TEXT    a block `latex`
     both TEXT|LATEX|TEXT ..    texts, and blocks `latex` between them
+    picture TEXT|FORMAT|DATA    a text, and a picture behind it
     error TEXT|TEXT   a text, and an error behind it
     file PATH     what stands in a file
     quiet         nothing
@@ -47,6 +48,9 @@ def answer(lines: List[str]) -> bytes:
     if word == "both":
         parts = [written(part) for part in rest.split("|")]
         return b"\x02verbatim:" + b"".join(b"\x02latex:" + part + b"\x05" if at % 2 else part for at, part in enumerate(parts)) + b"\x05"
+    if word == "picture":
+        told, tag, data = rest.split("|")
+        return b"\x02verbatim:" + written(told) + b"\x02" + tag.encode() + b":" + written(data) + b"\x05\x05"
     if word == "error":
         text, _, told = rest.partition("|")
         return b"\x02verbatim:" + written(text) + b"\x02output#\x02output#" + written(told) + b"\x05\x05\x05"

@@ -17,7 +17,7 @@ PROGRAM = os.environ.get("TMHOST") or shutil.which("tmhost") or os.path.join(ROO
 INTERPRETER = os.path.join(HERE, "interpreter.py")
 FENCED = re.compile(r"^```tmhost-answer\n(.*?)\n```$", re.MULTILINE | re.DOTALL)
 
-sys.path[:0] = [os.path.dirname(HERE), os.path.join(ROOT, "clients/python"), os.path.join(ROOT, "clients/fences")]
+sys.path[:0] = [os.path.dirname(HERE), *(os.path.join(ROOT, "clients", name) for name in ("python", "fences", "notebook"))]
 
 
 def missing() -> str:

@@ -5,17 +5,18 @@ from typing import Any, List, Optional, Sequence, Tuple
 
 from tmhost_fences.troubles import Trouble
 
-ANSWER, ERROR, NO_ANSWER, FORMULA = "tmhost-answer", "tmhost-error", "tmhost-no-answer", "formula"
+ANSWER, ERROR, NO_ANSWER, FORMULA, PICTURE = "tmhost-answer", "tmhost-error", "tmhost-no-answer", "formula", "picture"
 FORMULA_BEGINS, FORMULA_ENDS = "<!-- tmhost-answer -->", "<!-- /tmhost-answer -->"
 # A remark in front, since a block of HTML that begins with one ends on its line, without an empty line behind it.
 FOLD_BEGINS = "<!-- tmhost-answer --><details><summary>Answer</summary>"
 FOLD_ENDS = "<!-- tmhost-answer --></details>"
 RUN = re.compile("`+")
+SHOWN = re.compile(r"!\[\]\(([^()\s]+)\)")  # a picture in Markdown
 
 
 @dataclasses.dataclass(frozen=True)
 class Piece:
-    """An answer or a part of it, or why there is none; `kind` is one of the four above."""
+    """An answer or a part of it, or why there is none; `kind` is one of the five above. The text of a picture is where its file is."""
 
     kind: str
     text: str
@@ -46,8 +47,8 @@ def blocks_of(shown: Shown) -> List[List[str]]:
     """The lines of each block of Markdown that is put behind a fence."""
     blocks: List[List[str]] = []
     for piece in shown.pieces:
-        if piece.kind == FORMULA:
-            blocks += [[FORMULA_BEGINS], [piece.text], [FORMULA_ENDS]]
+        if piece.kind in (FORMULA, PICTURE):
+            blocks += [[FORMULA_BEGINS], [piece.text if piece.kind == FORMULA else f"![]({piece.text})"], [FORMULA_ENDS]]
         else:
             blocks.append(fenced(piece))
     return [[FOLD_BEGINS], *blocks, [FOLD_ENDS]] if shown.is_folded and blocks else blocks
@@ -117,7 +118,8 @@ class Finder:
         if not end:
             raise self.refuse(begin)
         self.take(end)
-        return Piece(FORMULA, text)
+        picture = SHOWN.fullmatch(text)
+        return Piece(PICTURE, picture[1]) if picture else Piece(FORMULA, text)
 
     def pieces(self) -> List[Piece]:
         found: List[Piece] = []

@@ -4,7 +4,9 @@ from typing import List, Optional, Tuple, Union
 
 from tmhost import Block, readable
 
-from .answers import ANSWER, ERROR, FORMULA
+from tmhost_notebook.pictures import picture_of
+
+from .answers import ANSWER, ERROR, FORMULA, PICTURE
 
 NOT_PLAIN = re.compile(rb"[\x00-\x1f\x7f`]")
 # An address of a link, an element, attributes of kramdown, and a brace that pandoc takes for an escaped one.
@@ -57,17 +59,27 @@ def error_of(item: Block) -> Optional[str]:
     return printed(item.plain) if is_all else None
 
 
+def part_of(block: Block) -> Optional[Tuple[str, str]]:
+    """The formula, the picture or the error that a block is."""
+    formula, picture, error = formula_of(block), picture_of(block), error_of(block)
+    if formula is not None:
+        return formula, FORMULA
+    if picture is not None:
+        return picture.address, PICTURE
+    return None if error is None else (error, ERROR)
+
+
 def parts_of(output: Block) -> Optional[List[Tuple[str, str]]]:
-    """The texts, the formulas and the errors of an output, each with its kind, where it has no other block: a formula alone, what is
-    printed in front of a value, an error behind that."""
+    """The texts, the formulas, the errors and the pictures of an output, each with its kind, where it has no other block: a formula alone, what
+    is printed in front of a value, an error behind that. The text of a picture is the address of its data."""
     items = output.items if (output.tag, output.kind) == ("verbatim", "format") else (output,)
     parts: List[Tuple[str, str]] = []
     for item in items:
         if isinstance(item, Block):
-            formula, error = formula_of(item), error_of(item)
-            if formula is None and error is None:
+            part = part_of(item)
+            if part is None:
                 return None
-            parts.append((error or "", ERROR) if formula is None else (formula, FORMULA))
+            parts.append(part)
         elif parts and parts[-1][1] == ANSWER:
             parts[-1] = (parts[-1][0] + printed(item), ANSWER)
         else:

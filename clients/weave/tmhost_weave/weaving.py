@@ -8,11 +8,12 @@ from typing import Dict, List, Optional
 
 from tmhost import Field, Session
 
-from .answers import ANSWER, ERROR, FORMULA, NO_ANSWER, Piece, Shown
+from .answers import ANSWER, ERROR, FORMULA, NO_ANSWER, PICTURE, Piece, Shown
 from .document import FOLD, HIDE, Document
 from .evaluation import Evaluator
 from .files import new_name, put, read
 from .formulas import parts_of
+from .pictures import Pictures
 from .plan import Plan
 from .sheets import LARGE, fit, largest_file, make, opened, sheet_path
 from tmhost_fences.troubles import Trouble
@@ -30,13 +31,13 @@ def bytes_of(text: str) -> bytes:
     return text.encode("utf-8", "surrogateescape")
 
 
-def pieces_of(field: Field, is_in_container: bool) -> List[Piece]:
-    """What is shown of an answer: its formulas, its errors, and its texts without the line feed at their ends. What shows nothing leaves nothing.
-    In quotes and lists all is one text."""
+def pieces_of(field: Field, is_in_container: bool, pictures: Pictures) -> List[Piece]:
+    """What is shown of an answer: its formulas, its pictures, its errors, and its texts without the line feed at their ends. What shows nothing
+    leaves nothing. In quotes and lists all is one text."""
     assert field.answer is not None
     parts = None if is_in_container else parts_of(field.answer.output)
-    whole = [(str(field.answer), ERROR if field.answer.errors else ANSWER)]
-    return [piece_of(text, kind) for text, kind in parts or whole if text.strip()]
+    whole = [(field.answer.brief, ERROR if field.answer.errors else ANSWER)]
+    return [Piece(PICTURE, pictures.add(text)) if kind == PICTURE else piece_of(text, kind) for text, kind in parts or whole if text.strip()]
 
 
 def piece_of(text: str, kind: str) -> Piece:
@@ -71,6 +72,7 @@ class Weave:
         self.data = read(self.path)
         self.document = Document(text_of(self.data))
         self.fields: Dict[int, Field] = {}
+        self.pictures = Pictures(self.target or self.path)
         for line in self.document.strays:
             self.say(f"line {line}: an answer that is behind no fence of a session stays as text")
         if not self.document.fences:
@@ -128,7 +130,7 @@ class Weave:
                 failed.add(fence.begin)
                 pieces[fence.begin].append(Piece(NO_ANSWER, wanted.failure))
             elif fence.begin not in failed and HIDE not in fence.flags and wanted.id is not None:
-                pieces[fence.begin] += pieces_of(self.fields[wanted.id], fence.is_in_container)
+                pieces[fence.begin] += pieces_of(self.fields[wanted.id], fence.is_in_container, self.pictures)
         found = [(fence, tuple(pieces[fence.begin])) for fence in self.document.fences]
         return [Shown(these, bool(these) and FOLD in fence.flags) for fence, these in found]
 
@@ -136,6 +138,8 @@ class Weave:
         return bytes_of(self.document.checked(self.shown(plan)))
 
     def write(self, woven: bytes) -> None:
+        """The pictures first, which the text names then."""
+        self.pictures.write()
         if self.target is None:
             sys.stdout.buffer.write(woven)
             sys.stdout.buffer.flush()
@@ -146,6 +150,7 @@ class Weave:
             raise Trouble("the text was changed meanwhile, and stays as it is; the answers are kept: weave it again")
         if not os.path.exists(self.target) or read(self.target) != woven:
             put(self.target, woven)
+        self.pictures.remove_others()
 
     # ---- what is asked for
 
@@ -173,4 +178,6 @@ class Weave:
         old = read(self.target) if self.target and os.path.exists(self.target) else b""
         if woven != old:
             print(f"{self.name}: nothing would be evaluated, and the text would change from line {first_other_line(old, woven)} on")
-        return woven == old
+        for name in self.pictures.missing():
+            print(f"{self.name}: the picture {name} isn't there")
+        return woven == old and not self.pictures.missing()
