@@ -1,3 +1,4 @@
+pub mod Base64
 pub mod Pieces
 pub mod Still
 pub mod Adding
