@@ -1,5 +1,5 @@
 -- Pictures of a page: images with all of their bytes in their addresses (HTML standard, "The img element"; RFC 2397).
-use Rattle.std.specs.Prelude.{ℕ, ◌+◌, ◌-◌, ◌*◌, ◌/◌, ◌%◌, ◌==◌, nat_lt, List, [], ◌∷◌, ◌++◌, Option, Some, None, codes, cond}
+use Rattle.std.specs.Prelude.{ℕ, ◌+◌, ◌-◌, ◌*◌, ◌/◌, ◌%◌, ◌==◌, nat_lt, false, List, [], ◌∷◌, ◌++◌, Option, Some, None, codes, cond}
 use Rattle.sheet_notebook.specs.Pictures.{drawn_as}
 use Rattle.sheet_notebook.specs.declared.pictures.PictureKind.{PictureKind}
 use Rattle.sheet_notebook.specs.declared.pictures.PictureKind.TheVariants as kind
