@@ -4,4 +4,5 @@ pub mod Still
 pub mod Adding
 pub mod Blocks
 pub mod Cells
+pub mod Parts
 pub mod Shallow

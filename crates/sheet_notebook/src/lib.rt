@@ -4,6 +4,7 @@
 mod formulas;
 pub mod laws;
 mod notebook;
+mod outputs;
 mod pictures;
 mod strings;
 
