@@ -8,7 +8,6 @@ mod formats;
 mod html;
 pub mod laws;
 mod markdown;
-mod pictures;
 mod references;
 mod script;
 mod style;

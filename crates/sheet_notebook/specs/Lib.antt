@@ -1,6 +1,5 @@
 pub mod inside
 pub mod Formulas
-pub mod Pictures
 pub mod Laws
 pub mod Strings
 pub mod Notebook
