@@ -230,7 +230,7 @@ const HISTORY_NOTES: &str =
 NAME`, `set ID`, `remove ID`, `move ID AFTER`, `eval ID`, `answered ID`, `lost ID\n\
 REASON` or `ids N`, after which the next new field has the number N.\n\
 `show --at N`, `export --at N` and `restore` take the worksheet after the first N.\n\n\
-A `checkpoint` ends the past: it writes the worksheet anew, as changes that make\n\
+A `checkpoint` ends the past: it writes the worksheet again, as changes that make\n\
 it again, and those before it are gone. They come first then: the sessions, and\n\
 each field by its number, with its answer.\n\n\
 It reads PATH as `show` does, and writes and makes no file. Where PATH is damaged,\n\
@@ -243,7 +243,7 @@ const RESTORE_ABOUT: &str = "Write a worksheet as it was to a new worksheet";
 const RESTORE_NOTES: &str =
     "NEW has the worksheet that PATH was after the first N of its changes, with the\n\
 answers that it had then; `history` has their numbers. It reads PATH alone, and\n\
-makes NEW as `rescue` does: the worksheet is written anew, so its own past begins\n\
+makes NEW as `rescue` does: the worksheet is written again, and its past begins\n\
 there. It writes `kept N, whole`.\n\n\
 Where PATH has fewer changes (39), is damaged before that (30), is no worksheet\n\
 (31), can't be read (32), or is run by another program (35), NEW isn't made. Where\n\

@@ -142,3 +142,42 @@ module _ {D : Type 0} (view : D → DiskView) (n : ℕ) (disk : D) (found : Resc
     failed = λ e. absurd cc;
     steady = λ none. faults;
   }
+
+headed : (i : Image) (cause : OpenCause) → TellsHeader i cause → TellsHeadless i (past.Run (fault.Open cause))
+headed i (causes.Damaged gate) told = tt
+headed i causes.NotASheet told = told
+headed i causes.Disk told = tt
+headed i causes.OutOfMemory told = tt
+
+nothing_after : (n : ℕ) (all : List Op) (damage : Option ℕ) (i : Image) (cause : OpenCause) → TellsHeader i cause → TellsOfLack n all damage cause
+nothing_after n all damage i (causes.Damaged gate) told = absurd told
+nothing_after n all damage i causes.NotASheet told = tt
+nothing_after n all damage i causes.Disk told = tt
+nothing_after n all damage i causes.OutOfMemory told = tt
+
+pub passing_told : (i : Image) (cause : OpenCause) → IsPassing cause → TellsHeader i cause
+passing_told i (causes.Damaged gate) passing = absurd passing
+passing_told i causes.NotASheet passing = absurd passing
+passing_told i causes.Disk passing = tt
+passing_told i causes.OutOfMemory passing = tt
+
+same_cause : {T : Type 0} (one two : OpenCause) → Err {T = T} (past.Run (fault.Open one)) ≡ Err (past.Run (fault.Open two)) → one ≡ two
+same_cause one two e = cc
+
+-- a disk that isn't read as far, for a cause that isn't in the bytes behind its header
+pub read_none : {D : Type 0} (view : D → DiskView) (n : ℕ) (disk after : D) (cause : OpenCause) → SameDisk (view disk) (view after) → InModel (view disk) (Looks (view disk).history (view after).history)
+    → InModel (view disk) (TellsHeader (bytes_on (view disk)) cause) → (cause ≡ causes.Disk → Rises (view disk).faults (view after).faults)
+    → ((cause ≡ causes.Disk → ⊥) → (view after).faults ≡ (view disk).faults) → FirstAreRead view n disk after (Err (past.Run (fault.Open cause)))
+read_none view n disk after cause same looks told failed steady = record {
+  same = same;
+  looks = looks;
+  disk_is = tt;
+  made = tt;
+  counted = tt;
+  whole = λ model. tt;
+  found = λ model. tt;
+  after_them = λ model all damage rescued. nothing_after n all damage (bytes_on (view disk)) cause (told model);
+  headless = λ model. headed (bytes_on (view disk)) cause (told model);
+  failed = λ e. failed (same_cause cause causes.Disk e);
+  steady = λ none. steady (λ e. none (ap (λ (c : OpenCause). Err (past.Run (fault.Open c))) e));
+}

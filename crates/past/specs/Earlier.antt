@@ -28,10 +28,10 @@ pub record StandFirst (i : Image) (ops : List Op) : Type 0 where
   pub makes : Makes ops (sheet_of ops)
 
 -- What the cause of a refused reading of n changes says, where these stand on the disk before this damage: there are fewer,
--- and the damage is why; or it isn't in the bytes.
+-- and the damage is why; or it isn't in the bytes. Of a missing header says `headless`.
 abbrev pub TellsOfLack : ℕ → List Op → Option ℕ → OpenCause → Type 0
 TellsOfLack n all damage (opens.Damaged gate) = (length all < n) × (damage ≡ Some gate)
-TellsOfLack n all damage opens.NotASheet = ⊥
+TellsOfLack n all damage opens.NotASheet = Unit {0}
 TellsOfLack n all damage opens.Disk = Unit {0}
 TellsOfLack n all damage opens.OutOfMemory = Unit {0}
 
@@ -40,7 +40,7 @@ abbrev pub TellsOfRun : ℕ → List Op → Option ℕ → RunFault → Type 0
 TellsOfRun n all damage (fault.Open cause) = TellsOfLack n all damage cause
 TellsOfRun n all damage _ = ⊥
 
--- that there is no such change is answered only where they are fewer, and no damage is behind them
+-- that there is no such change is answered only where they are fewer, and no damage is after them
 abbrev pub TellsOfPast : ℕ → List Op → Option ℕ → PastFault → Type 0
 TellsOfPast n all damage (past.NoChange number) = (number ≡ n) × (length all < n) × (damage ≡ None)
 TellsOfPast n all damage (past.Run why) = TellsOfRun n all damage why

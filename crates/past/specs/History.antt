@@ -58,7 +58,7 @@ TellsListFault i written nothing fault.Output = Unit {0}
 TellsListFault i written nothing _ = ⊥
 
 -- What a list of changes answers of an image, where the text that was written is seen so: with `Ok` all changes stand in it, and no
--- damage is behind them.
+-- damage is after them.
 abbrev pub TellsList : Image → (List ℕ → Type 0) → Type 0 → Result Unit RunFault → Type 0
 TellsList i written nothing (Ok u) = Lists i None written
 TellsList i written nothing (Err why) = TellsListFault i written nothing why

@@ -20,7 +20,7 @@ FindsEnough i n found = (found.kept ≡ n) × (found.damage ≡ None)
 abbrev pub FindsFirst : {D : Type 0} → Image → ℕ → Rescued D → Type 0
 FindsFirst i n found = ((found.kept < n) × FindsRescued i found) ⊎ FindsEnough i n found
 
--- why there are fewer than n, where this damage is behind them
+-- why there are fewer than n, where this damage is after them
 abbrev pub lack : ℕ → Option ℕ → PastFault
 lack n None = past.NoChange n
 lack n (Some gate) = past.Run (fault.Open (opens.Damaged gate))
