@@ -7,6 +7,7 @@ mod blocks;
 mod checks;
 mod outlet;
 mod outside;
+mod pasts;
 mod plans;
 mod refusing;
 mod runs;
