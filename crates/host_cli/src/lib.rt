@@ -7,7 +7,6 @@ mod blocks;
 mod checks;
 mod outlet;
 mod outside;
-mod pasts;
 mod plans;
 mod refusing;
 mod runs;

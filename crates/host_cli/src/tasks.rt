@@ -13,7 +13,6 @@ use crate::blocks::{blocks, blocks_in_json};
 use crate::checks::check_at;
 use crate::outlet::Outlet;
 use crate::outside::{Outside, System};
-use crate::pasts::{export_as_past, export_past_at, history_at, restore_at, show_past_at};
 use crate::plans::read_plan;
 use crate::refusing::{refuse_format, refuse_plan};
 use crate::runs::{live_at, live_json_at, run_at};
@@ -182,8 +181,8 @@ fn export_at<Y: System>(alloc: Global, outside: &mut Outside<Y>, name: &str, pat
 }
 
 /// Does a task: `blocks` reads the input, `run` its script and `live` its lines from it; `create`,
-/// `run`, `live`, `eval`, `show`, `check`, `rescue`, `export`, `history` and `restore` work on the worksheet at
-/// the path, once the places of closed streams are held. What they give goes to the output, and the line of a fault to the
+/// `run`, `live`, `eval`, `show`, `check`, `rescue` and `export` work on the worksheet at the path, once the
+/// places of closed streams are held. What they give goes to the output, and the line of a fault to the
 /// errors. `check` alone has `progress` show something.
 pub fn do_task<Y: System>(alloc: Global, task: Task<'_>, outside: &mut Outside<Y>) -> Ending
     ensures does { DoesTask (outer Y.Places.Places (disks_seen Y.Disk.Disk Y.Disk.closed) (sources_seen Y.Sources.after Y.Sources.clock Y.Sources.wakes)
@@ -203,15 +202,6 @@ pub fn do_task<Y: System>(alloc: Global, task: Task<'_>, outside: &mut Outside<Y
         Task::Check(path, words) => check_at(alloc, outside, path, words),
         Task::Rescue(path, new) => rescue_at(alloc, outside, path, new),
         Task::Export(format, path) => export_at(alloc, outside, format, path),
-        Task::History(path) => history_at(alloc, outside, path),
-        Task::ShowAt(path, changes) => show_past_at(alloc, outside, path, changes),
-        Task::ShowJsonAt(path, changes) => {
-            export_as_past(alloc, outside, Format::Json, path, changes)
-        }
-        Task::ExportAt(format, path, changes) => {
-            export_past_at(alloc, outside, format, path, changes)
-        }
-        Task::Restore(path, changes, new) => restore_at(alloc, outside, path, changes, new),
     }
 }
 

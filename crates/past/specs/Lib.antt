@@ -1,4 +1,0 @@
-pub mod Faults
-pub mod Earlier
-pub mod History
-pub mod inside
