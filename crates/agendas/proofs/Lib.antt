@@ -1,4 +1,2 @@
 pub mod Faults
-pub mod InOrder
-pub mod OwnFaults
 pub mod Taken

@@ -6,5 +6,3 @@ pub mod Fronts
 pub mod Doing
 pub mod Heard
 pub mod Overs
-pub mod Seen
-pub mod TrueFaults
