@@ -1,4 +1,3 @@
-pub mod Lasts
 pub mod Meant
 pub mod Rounds
 pub mod Laws

@@ -6,7 +6,6 @@ mod beside;
 mod choosing;
 mod evaluating;
 mod fault;
-mod lasts;
 mod laws;
 pub mod plan;
 mod rounds;
