@@ -131,6 +131,15 @@ fn write_parts<T: Write + AsRawFd>(pipe: &mut T, bytes: &[u8]) -> Result<(), Chi
     Ok(())
 }
 
+/// Whether a pipe has the word `sent` first. It is written at once, so it comes with one read.
+fn is_sent<T: Read>(pipe: &mut T) -> bool {
+    let mut room = *b"....";
+    match read_once(pipe, &mut room) {
+        Ok(_) => room == *b"sent",
+        Err(ChildFault) => false,
+    }
+}
+
 /// What a call answers that succeeded or not.
 fn answer(called: io::Result<()>) -> Result<(), ChildFault> {
     match called {
@@ -183,12 +192,12 @@ fn command_of(alloc: Global, words: &[Octets]) -> io::Result<Command> {
     Ok(command)
 }
 
-/// The command that sends the signal SIGINT to the process of this number. std has no call for it, so `sh`
-/// does it by its own `kill`.
+/// The command that sends the signal SIGINT to the process of this number, and then prints `sent`. std has no
+/// call for it, so `sh` does it by its own `kill`.
 fn kill_of(alloc: Global, number: &str) -> io::Result<Command> {
     let mut command = Command::new(alloc, "/bin/sh")?;
     command.arg("-c")?;
-    command.arg("kill -INT \"$0\"")?;
+    command.arg("kill -INT \"$0\" && printf sent")?;
     command.arg(number)?;
     Ok(command)
 }
@@ -204,15 +213,21 @@ impl<R: process::Processes + Drop> Spawner<R> {
         command.spawn(&self.runtime)
     }
 
-    /// Runs a command that has no streams, and waits for it. It fails where the command does.
+    /// Runs a command that prints `sent` where it does what it is for, and waits for its end. It fails where nothing is sent. Its
+    /// status isn't asked for: where SIGCHLD is ignored the system keeps none.
     fn run(&self, command: Command) -> io::Result<()> {
         let mut command = command;
         command
             .stdin(Stdio::null())
-            .stdout(Stdio::null())
+            .stdout(Stdio::piped())
             .stderr(Stdio::null());
         let mut started = command.spawn(&self.runtime)?;
-        if started.wait()?.success() {
+        let sent = match &mut started.stdout {
+            Some(pipe) => is_sent(pipe),
+            None => false,
+        };
+        let _ = started.wait();
+        if sent {
             Ok(())
         } else {
             Err(io::Error::from(ErrorKind::NotFound))

@@ -416,6 +416,10 @@ interrupts() {
     hang_up "interrupts$1" '' '#1 a\n> loop\ninterrupted\n#2 b\n> loop\n? Ended\n#3 a\n> x\nline 2\n'
 }
 interrupts ''
+# The system keeps no status of a child where whoever starts the program ignores SIGCHLD.
+launcher='env --ignore-signal=CHLD'
+interrupts ', where SIGCHLD is ignored'
+launcher=
 
 # The end of the input while a line is evaluated.
 interpreter p "$banner" '' ''
