@@ -24,6 +24,8 @@ pub struct Calls {
     pub interrupts: Cell<u32>,
     /// Whether the input is closed.
     pub closed: Cell<bool>,
+    /// Whether each read gives the word `sent`, as the program does that sends a signal.
+    pub says_sent: Cell<bool>,
     /// Where a start takes all memory: it is held here.
     pub memory: Cell<Option<Global>>,
     pub held: Cell<Vec<Vec<u8>>>,
@@ -41,6 +43,7 @@ impl Calls {
             ends: Cell::new(0),
             interrupts: Cell::new(0),
             closed: Cell::new(false),
+            says_sent: Cell::new(false),
             memory: Cell::new(None),
             held: Cell::new(Vec::new(alloc)),
         }
@@ -74,7 +77,7 @@ pub struct Input<'a> {
     calls: &'a Calls,
 }
 
-/// Its output: as many dots as there is room for, at each read that isn't interrupted.
+/// Its output: the word `sent`, or as many dots as there is room for, at each read that isn't interrupted.
 #[derive(Drop)]
 pub struct Output<'a> {
     calls: &'a Calls,
@@ -161,6 +164,10 @@ impl Read for Output<'_> {
         if left > 0 {
             self.calls.interrupts.set(left - 1);
             return Err(io::Error::from(ErrorKind::Interrupted));
+        }
+        if self.calls.says_sent.get() {
+            let mut word: &[u8] = b"sent";
+            return word.read(buf);
         }
         for i in 0..buf.len() {
             buf[i] = b'.';

@@ -162,14 +162,14 @@ where
     }
 }
 
-// Whether an interrupt of this life alone starts another program, with three words and no pipe, and is a fault
-// where that can't be waited for. The child isn't killed and goes on.
+// Whether an interrupt of this life alone starts another program, with three words and no pipe for its input, and is a
+// fault where that doesn't say that it sent it. The child isn't killed and goes on.
 fn is_interrupted(alloc: Global, calls: &Calls) -> bool {
     let mut children = Processes::new(calls.runtime(), alloc);
     let is_started = starts(alloc, &mut children, &WORDS);
     let another = (interrupts(&mut children, 2), calls.starts.get());
     let unsent = (interrupts(&mut children, 1), calls.starts.get());
-    calls.kills.set(1);
+    calls.says_sent.set(true);
     let it = (
         interrupts(&mut children, 1),
         calls.starts.get(),
@@ -179,7 +179,7 @@ fn is_interrupted(alloc: Global, calls: &Calls) -> bool {
     is_started
         && another == (false, 1)
         && unsent == (false, 2)
-        && it == (true, 3, 1)
+        && it == (true, 3, 0)
         && calls.words.get() == 3
         && !calls.pipes.get()
         && goes_on
