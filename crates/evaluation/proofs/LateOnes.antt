@@ -27,10 +27,10 @@ use Rattle.evaluation.proofs.Goings.{SoFar, all_taken, broke_off, one_taken, too
 
 -- In each step the field is found whose time was over in it.
 
-none-late : (ids : List ℕ) (from next : Stand) → next.overs ≡ from.overs → listed (late_between ids from next) ≡ []
+none-late : (ids : List ℕ) (from next : Stand) → next.overs ≡ from.overs → listed (late_between ids from.overs next) ≡ []
 none-late ids from next is = ap (λ b. listed (late_if b ids next)) (le-ltb from.overs next.overs (omega (arith, is)))
 
-one-late : (ids : List ℕ) (from : Stand) (n id : ℕ) (held : Hold) → slice_get ids (n - 1) ≡ Some id → listed (late_between ids from (warned_at from n held)) ≡ id ∷ []
+one-late : (ids : List ℕ) (from : Stand) (n id : ℕ) (held : Hold) → slice_get ids (n - 1) ≡ Some id → listed (late_between ids from.overs (warned_at from n held)) ≡ id ∷ []
 one-late ids from n id held there = ap (λ b. listed (late_if b ids (warned_at from n held))) (lt-ltb from.overs (from.overs + 1) (omega arith)) ∙ ap listed there
 
 held-last : (ids : List ℕ) (stand : Stand) → stand.held ≢ hold.Free → IsLastTaken ids stand → slice_get ids (stand.taken - 1) ≡ Some stand.field
@@ -50,10 +50,10 @@ over-held o p n id c (inl first) = first.1.waits_on
 over-held o p n id c (inr further) = further.1
 
 module _ {C : Type 0} (o : Setting C) (p q : EvalPlace C) (c : C) (beats : List Beat) (text : List ℕ) (last : IsLastTaken o.meant p.stand) where
-  pub late_found : (s : Step) → StepComes o p s c → TakesStep o (woken_in p c) s beats text q → listed (late_between o.meant p.stand q.stand) ≡ late_in s
+  pub late_found : (s : Step) → StepComes o p s c → TakesStep o (woken_in p c) s beats text q → listed (late_between o.meant p.stand.overs q.stand) ≡ late_in s
   late_found (ask k id) comes takes = none-late o.meant p.stand q.stand (ap (λ (x : Stand). x.overs) takes.1.4)
   late_found (heard seat) comes takes = none-late o.meant p.stand q.stand (ap (λ (x : Stand). x.overs) takes.1.2)
-  late_found (over n id) comes takes = ap (λ (x : Stand). listed (late_between o.meant p.stand x)) takes.1.2 ∙ one-late o.meant p.stand n id _ (over-there o p n id c comes last)
+  late_found (over n id) comes takes = ap (λ (x : Stand). listed (late_between o.meant p.stand.overs x)) takes.1.2 ∙ one-late o.meant p.stand n id _ (over-there o p n id c comes last)
   late_found stalled comes takes = none-late o.meant p.stand q.stand (ap (λ (x : Stand). x.overs) takes.1)
 
   pub last_stays : (s : Step) → StepComes o p s c → TakesStep o (woken_in p c) s beats text q → IsLastTaken o.meant q.stand
@@ -87,15 +87,15 @@ module _ {C : Type 0} (o : Setting C) (p : EvalPlace C) (stand : Stand) (h g : H
   unfolding one_taken
   steps-then next t = refl
 
-  found-in : (next : Stand) → IsLastTaken o.meant p.stand → (t : StepGave o (stands (at noted.so.leads c h.store.disk) stand) (left g d b e) (Some next)) → listed (late_between o.meant stand next) ≡ late_in t.0
+  found-in : (next : Stand) → IsLastTaken o.meant p.stand → (t : StepGave o (stands (at noted.so.leads c h.store.disk) stand) (left g d b e) (Some next)) → listed (late_between o.meant stand.overs next) ≡ late_in t.0
   found-in next begins t = late_found o (stands (at noted.so.leads c h.store.disk) stand) (stands (at t.3.2 d g.store.disk) next) t.1 t.3.0 t.3.1
       (last-taken o p noted.so.steps noted.so.beats noted.so.text (stands (at noted.so.leads c h.store.disk) stand) noted.so.evaluated begins) t.0 t.2 t.3.3
 
-  late-then : (next : Stand) (more : List ℕ) → IsLastTaken o.meant p.stand → (t : StepGave o (stands (at noted.so.leads c h.store.disk) stand) (left g d b e) (Some next)) → more ≡ late ++ listed (late_between o.meant stand next)
+  late-then : (next : Stand) (more : List ℕ) → IsLastTaken o.meant p.stand → (t : StepGave o (stands (at noted.so.leads c h.store.disk) stand) (left g d b e) (Some next)) → more ≡ late ++ listed (late_between o.meant stand.overs next)
       → more ≡ late_of (noted.so.steps ++ t.0 ∷ [])
-  late-then next more begins t is = is ∙ ap (λ x. x ++ listed (late_between o.meant stand next)) noted.late_is ∙ ap (λ x. late_of noted.so.steps ++ x) (found-in next begins t) ∙ sym (late-more noted.so.steps t.0)
+  late-then next more begins t is = is ∙ ap (λ x. x ++ listed (late_between o.meant stand.overs next)) noted.late_is ∙ ap (λ x. late_of noted.so.steps ++ x) (found-in next begins t) ∙ sym (late-more noted.so.steps t.0)
 
-  pub one_noted : (next : Stand) (more : List ℕ) → IsLastTaken o.meant p.stand → StepGave o (stands (at noted.so.leads c h.store.disk) stand) (left g d b e) (Some next) → more ≡ late ++ listed (late_between o.meant stand next)
+  pub one_noted : (next : Stand) (more : List ℕ) → IsLastTaken o.meant p.stand → StepGave o (stands (at noted.so.leads c h.store.disk) stand) (left g d b e) (Some next) → more ≡ late ++ listed (late_between o.meant stand.overs next)
       → NotedSoFar o p next g d a e (n + 1) more
   one_noted next more begins t is = record {
     so = one_taken o p stand h g c d a b e n noted.so next t;

@@ -7,6 +7,7 @@ use Rattle.std.proofs.lemmas.Option.{slice_get_within}
 use Rattle.std.proofs.lemmas.List.{length-map}
 use Rattle.std.proofs.lemmas.List.Sums.{count_by-le-length, length-filter}
 use Rattle.worksheet.specs.declared.field.Field.{Field}
+use Rattle.evaluation.specs.declared.lasts.Last.{Last}
 use Rattle.evaluation.specs.declared.plan.Plan.{Plan}
 use Rattle.evaluation.specs.declared.plan.Stand.{Stand}
 use Rattle.evaluation.specs.declared.plan.Which.{Which}
@@ -104,17 +105,17 @@ few_meant plan fields =
     omega (arith, length-map (filter (is_meant plan) asked) (λ (field : Field). field.id), length-filter (is_meant plan) asked, count_by-le-length (is_meant plan) asked, few-asked plan.which fields)
 
 -- one more is passed over
-pub next_one : (plan : Plan) (fields : List Field) (meant : List ℕ) (from at : ℕ) → IsNext plan fields meant from at → is_passed plan fields meant at ≡ true → IsNext plan fields meant from (at + 1)
-next_one plan fields meant from at q is = (omega (arith, q.0), λ k low high. up_to k low (cases_lt k at) high)
+pub next_one : (plan : Plan) (fields : List Field) (lasts : List Last) (meant : List ℕ) (from at : ℕ) → IsNext plan fields lasts meant from at → is_passed plan fields lasts meant at ≡ true → IsNext plan fields lasts meant from (at + 1)
+next_one plan fields lasts meant from at q is = (omega (arith, q.0), λ k low high. up_to k low (cases_lt k at) high)
   where
-    up_to : (k : ℕ) → from ≤ k → (k < at) ⊎ (at ≤ k) → k < at + 1 → is_passed plan fields meant k ≡ true
+    up_to : (k : ℕ) → from ≤ k → (k < at) ⊎ (at ≤ k) → k < at + 1 → is_passed plan fields lasts meant k ≡ true
     up_to k low (inl below) high = q.1 k low below
     up_to k low (inr last) high =
         let here : at ≡ k = omega (arith, last, high) in
-        subst (λ n. is_passed plan fields meant n ≡ true) here is
+        subst (λ n. is_passed plan fields lasts meant n ≡ true) here is
 
-pub next_here : (plan : Plan) (fields : List Field) (meant : List ℕ) (from : ℕ) → IsNext plan fields meant from from
-next_here plan fields meant from = (omega arith, λ k low high. absurd (omega (arith, low, high)))
+pub next_here : (plan : Plan) (fields : List Field) (lasts : List Last) (meant : List ℕ) (from : ℕ) → IsNext plan fields lasts meant from from
+next_here plan fields lasts meant from = (omega arith, λ k low high. absurd (omega (arith, low, high)))
 
 pub ruleset next_steps = (next_one, next_here)
 
@@ -125,7 +126,7 @@ stopped_asks_none plan fields meant stand stops = record {
 }
 
 -- nor where all to come are passed over
-pub passed_asks_none : (plan : Plan) (fields : List Field) (meant : List ℕ) (stand : Stand) (at : ℕ) → IsNext plan fields meant stand.taken at → length meant ≤ at → AsksNone plan fields meant stand
+pub passed_asks_none : (plan : Plan) (fields : List Field) (meant : List ℕ) (stand : Stand) (at : ℕ) → IsNext plan fields stand.lasts meant stand.taken at → length meant ≤ at → AsksNone plan fields meant stand
 passed_asks_none plan fields meant stand at next end = record {
   each = λ k id asked.
       let within : k < length meant = slice_get_within meant k id asked.there in

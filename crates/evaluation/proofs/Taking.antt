@@ -3,6 +3,7 @@ use Rattle.std.proofs.Common.{◌≡◌, ◌+◌, inl, inr, ℕ, true, false, Li
 use Rattle.host_events.specs.declared.command.Command.TheVariants as command
 use Rattle.host_events.specs.declared.event.Event.{Event}
 use Rattle.host_events.specs.declared.event.Event.TheVariants as event
+use Rattle.worksheet.specs.Checks.{field_in}
 use Rattle.session_engine.specs.World.{sheet_in}
 use Rattle.session_engine.specs.Host.{HostView}
 use Rattle.child_calls.specs.declared.seat.Seat.{Seat}
@@ -110,7 +111,7 @@ module _ {C : Type 0} (o : Setting C) (p : EvalPlace C) (h : HostView) (c : C) (
     ask_failed f (lives.unwritten q) = steps.unwritten (ask-unwritten q)
 
     pub ask_took : (free begun held : Hold) (stand : Stand) (q : Said (edge_of o) (line_behind (k + 1)) its-line p.run (left h c a b) free) → LimitBegins o.clock c o.plan.limit begun → WaitGoesOn begun q.1 held
-        → stand ≡ asked_at p.stand k id held → Took o p (ask k id) (left h c a b) stand
+        → stand ≡ asked_at p.stand k id (field_in (fields_at p) id) held → Took o p (ask k id) (left h c a b) stand
     ask_took none begun held stand q limits on is-stand = (q.0.beats, q.0.text, q.1, ((is, q.2.0, q.2.1), (begun, held, limits, on, is-stand)), q.4, q.5)
 
 -- A turn.

@@ -102,16 +102,16 @@ is_not false h = refl
 -- the first field that wasn't taken is the next where it is due
 pub due_asked : (plan : Plan) (fields : List Field) (meant : List ℕ) (stand : Stand) (id : ℕ) → slice_get meant stand.taken ≡ Some id → is_due plan fields meant stand ≡ true → IsAsked plan fields meant stand stand.taken id
 due_asked plan fields meant stand id there due =
-    let both = and_parts (not (is_some (stop_line plan.strict fields stand))) (not (is_passed plan fields meant stand.taken)) due in
+    let both = and_parts (not (is_some (stop_line plan.strict fields stand))) (not (is_passed plan fields stand.lasts meant stand.taken)) due in
     record {
       goes_on = none_is (stop_line plan.strict fields stand) both.0;
-      next = next_here plan fields meant stand.taken;
+      next = next_here plan fields stand.lasts meant stand.taken;
       there = there;
-      asked = is_not (is_passed plan fields meant stand.taken) both.1;
+      asked = is_not (is_passed plan fields stand.lasts meant stand.taken) both.1;
     }
 
 asked_due : (plan : Plan) (fields : List Field) (meant : List ℕ) (stand : Stand) (id : ℕ) → IsAsked plan fields meant stand stand.taken id → is_due plan fields meant stand ≡ true
-asked_due plan fields meant stand id asked = ap (λ (o : Option ℕ). not (is_some o) && not (is_passed plan fields meant stand.taken)) asked.goes_on ∙ ap (λ (b : Bool). not b) asked.asked
+asked_due plan fields meant stand id asked = ap (λ (o : Option ℕ). not (is_some o) && not (is_passed plan fields stand.lasts meant stand.taken)) asked.goes_on ∙ ap (λ (b : Bool). not b) asked.asked
 
 taken_joins : (plan : Plan) (w : World) (stand : Stand) (k id : ℕ) → joins plan w stand k id ≡ true → k ≡ stand.taken
 taken_joins plan w stand k id h = by (eqb_tells k stand.taken) (and_parts (k == stand.taken) (not stand.warned && has_room_beside plan w id) h).0

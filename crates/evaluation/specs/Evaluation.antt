@@ -1,5 +1,5 @@
 -- The evaluation of a worksheet's fields: what it leaves at its end, and what a fault of it leaves. (docs/SCRIPT.md, "Evaluating a worksheet".)
-use Rattle.std.specs.Prelude.{◌≡◌, ◌⊎◌, ℕ, false, true, List, ◌++◌, Option, Some, None, length}
+use Rattle.std.specs.Prelude.{◌≡◌, ◌⊎◌, ℕ, false, true, List, [], ◌++◌, Option, Some, None, length}
 use Rattle.std.specs.Io.KnownBytes.{Appends}
 use Rattle.disk_model.specs.Disk.{DiskView, InModel, bytes_on}
 use Rattle.journal.specs.declared.opening.OpenCause.{OpenCause}
@@ -43,7 +43,7 @@ OpenedFor o disk start now = OpenedOn disk start now × HasThem o start
 
 -- nothing was asked yet
 abbrev pub not_begun : Stand
-not_begun = record { taken = 0; first = 0; field = 0; held = hold.Free; warned = false; at_once = false; asked = 0; overs = 0 }
+not_begun = record { taken = 0; first = 0; field = 0; held = hold.Free; warned = false; at_once = false; asked = 0; overs = 0; lasts = [] }
 
 -- No item waits, and it comes to its end.
 abbrev pub Ends : {C : Type 0} → Setting C → EvalPlace C → Option ℕ → Type 0

@@ -1,3 +1,4 @@
+pub mod Lasts
 pub mod Meant
 pub mod Rounds
 pub mod Laws

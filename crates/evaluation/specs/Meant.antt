@@ -1,11 +1,12 @@
 -- Which fields are evaluated, which of them are passed over, and what an evaluation comes to. (docs/SCRIPT.md, "Evaluating a worksheet".)
-use Rattle.std.specs.Prelude.{◌≡◌, ◌==◌, ◌<◌, ◌≤◌, ◌-◌, ◌*◌, ◌&&◌, ℕ, Bool, true, false, not, List, [], ◌∷◌, Option, Some, None, count_by, filter, find, if◌then◌else◌, is_some, length, map, slice_get, take}
+use Rattle.std.specs.Prelude.{◌≡◌, ◌==◌, ◌<◌, ◌≤◌, ◌-◌, ◌*◌, ◌&&◌, ℕ, Bool, true, false, not, List, [], ◌∷◌, Option, Some, None, count_by, filter, find, if◌then◌else◌, is_some, length, map, slice_get}
 use Rattle.std.specs.List.{list_any}
-use Rattle.std.specs.Str.{bytes_eq}
 use Rattle.worksheet.specs.Checks.{field_in}
 use Rattle.worksheet.specs.declared.field.Field.{Field}
 use Rattle.tellings.specs.declared.note.Counts.{Counts}
 use Rattle.tellings.specs.declared.note.Overs.{Overs}
+use Rattle.evaluation.specs.Lasts.{last_asked}
+use Rattle.evaluation.specs.declared.lasts.Last.{Last}
 use Rattle.evaluation.specs.declared.plan.Plan.{Plan}
 use Rattle.evaluation.specs.declared.plan.Stand.{Stand}
 use Rattle.evaluation.specs.declared.plan.Which.{Which}
@@ -56,18 +57,15 @@ shows_none (Some field) = not (is_answered field)
 abbrev pub is_unanswered : List Field → ℕ → Bool
 is_unanswered fields id = shows_none (field_in fields id)
 
--- this one of these fields is of this session, and shows no answer
-abbrev pub shows_none_of : List ℕ → Option Field → Bool
-shows_none_of session None = false
-shows_none_of session (Some field) = bytes_eq field.session session && not (is_answered field)
+-- the field with this number, where there is one, shows no answer
+abbrev pub is_lost : List Field → Option ℕ → Bool
+is_lost fields None = false
+is_lost fields (Some id) = is_unanswered fields id
 
-abbrev pub is_lost_of : List Field → List ℕ → ℕ → Bool
-is_lost_of fields session id = shows_none_of session (field_in fields id)
-
--- one of these numbers is that of a field of this one's session which shows no answer
-abbrev pub is_behind_lost : List Field → List ℕ → Option Field → Bool
-is_behind_lost fields front None = false
-is_behind_lost fields front (Some field) = list_any (is_lost_of fields field.session) front
+-- the field that was asked last of this one's session shows no answer
+abbrev pub is_behind_lost : List Field → List Last → Option Field → Bool
+is_behind_lost fields lasts None = false
+is_behind_lost fields lasts (Some field) = is_lost fields (last_asked lasts field.session)
 
 -- whether fields are passed over
 abbrev pub is_passing : Plan → Bool
@@ -77,13 +75,13 @@ abbrev pub field_at : List Field → Option ℕ → Option Field
 field_at fields None = None
 field_at fields (Some id) = field_in fields id
 
--- The field at this place of those that are to be evaluated is passed over where one in front of it that is of its session shows no answer.
-abbrev pub is_passed : Plan → List Field → List ℕ → ℕ → Bool
-is_passed plan fields meant k = is_passing plan && is_behind_lost fields (take k meant) (field_at fields (slice_get meant k))
+-- The field at this place of those that are to be evaluated is passed over where the one that was asked last of its session shows no answer.
+abbrev pub is_passed : Plan → List Field → List Last → List ℕ → ℕ → Bool
+is_passed plan fields lasts meant k = is_passing plan && is_behind_lost fields lasts (field_at fields (slice_get meant k))
 
 -- This place is after that one, or the same, and the fields from that one up to it are passed over.
-abbrev pub IsNext : Plan → List Field → List ℕ → ℕ → ℕ → Type 0
-IsNext plan fields meant from at = (from ≤ at) × ((k : ℕ) → from ≤ k → k < at → is_passed plan fields meant k ≡ true)
+abbrev pub IsNext : Plan → List Field → List Last → List ℕ → ℕ → ℕ → Type 0
+IsNext plan fields lasts meant from at = (from ≤ at) × ((k : ℕ) → from ≤ k → k < at → is_passed plan fields lasts meant k ≡ true)
 
 -- The number of the line that asks for the last of so many fields; that of its wait is the next one.
 abbrev pub line_behind : ℕ → ℕ
@@ -107,14 +105,14 @@ stop_line true fields stand = wrong_line fields stand
 -- doesn't stop here.
 pub record IsAsked (plan : Plan) (fields : List Field) (meant : List ℕ) (stand : Stand) (k id : ℕ) : Type 0 where
   pub goes_on : stop_line plan.strict fields stand ≡ None
-  pub next : IsNext plan fields meant stand.taken k
+  pub next : IsNext plan fields stand.lasts meant stand.taken k
   pub there : slice_get meant k ≡ Some id
-  pub asked : is_passed plan fields meant k ≡ false
+  pub asked : is_passed plan fields stand.lasts meant k ≡ false
 
 -- It comes to its end here: a strict one stops after this line, or all fields that are to come are passed over.
 pub record EndsHere (plan : Plan) (fields : List Field) (meant : List ℕ) (stand : Stand) (stopped : Option ℕ) : Type 0 where
   pub is : stopped ≡ stop_line plan.strict fields stand
-  pub all : stopped ≡ None → IsNext plan fields meant stand.taken (length meant)
+  pub all : stopped ≡ None → IsNext plan fields stand.lasts meant stand.taken (length meant)
 
 -- what a limit of time came to where so many fields were to be evaluated
 abbrev pub overs_by : Option ℕ → ℕ → Stand → Option Overs

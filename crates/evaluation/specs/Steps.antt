@@ -23,6 +23,7 @@ use Rattle.live.specs.Saying.{IsTimed, WaitGoesOn, is_held, seconds_behind}
 use Rattle.live.specs.Arrivals.{WatchTells, Comes, respite, time_over}
 use Rattle.evaluation.specs.declared.plan.Plan.{Plan}
 use Rattle.evaluation.specs.declared.plan.Stand.{Stand}
+use Rattle.evaluation.specs.Lasts.{after_asking}
 use Rattle.evaluation.specs.Meant.{IsAsked, line_behind}
 use Rattle.evaluation.specs.Beside.{IsFirstWaiting, IsLate, IsWatchDue, joins}
 
@@ -105,8 +106,9 @@ abbrev pub first_by : Bool → ℕ → ℕ → ℕ
 first_by true first k = first
 first_by false first k = k
 
-abbrev pub asked_at : Stand → ℕ → ℕ → Hold → Stand
-asked_at s k id held = record {
+-- the field with this number, which is this one, was asked at this place
+abbrev pub asked_at : Stand → ℕ → ℕ → Option Field → Hold → Stand
+asked_at s k id field held = record {
   taken = k + 1;
   first = first_by (is_held s.held) s.first k;
   field = id;
@@ -115,6 +117,7 @@ asked_at s k id held = record {
   at_once = not (is_held held);
   asked = s.asked + 1;
   overs = s.overs;
+  lasts = after_asking s.lasts field;
 }
 
 abbrev pub held_at : Stand → Hold → Stand
@@ -127,6 +130,7 @@ held_at s held = record {
   at_once = s.at_once;
   asked = s.asked;
   overs = s.overs;
+  lasts = s.lasts;
 }
 
 abbrev pub warned_at : Stand → ℕ → Hold → Stand
@@ -139,6 +143,7 @@ warned_at s n held = record {
   at_once = s.at_once;
   asked = s.asked;
   overs = s.overs + 1;
+  lasts = s.lasts;
 }
 
 -- the life of this field's session is interrupted where an item waits in it
@@ -166,7 +171,7 @@ StepDone o p stalled beats text t = OneTurn (hearing o.after false) (waits p.run
 
 -- How the evaluation stands after a step that led there.
 abbrev pub StandsBehind : {C : Type 0} → Setting C → EvalPlace C → Step → At C → Stand → Type 0
-StandsBehind o p (ask k id) t stand = (begun : Hold) × (held : Hold) × LimitBegins o.clock t.children o.plan.limit begun × WaitGoesOn begun t.world held × (stand ≡ asked_at p.stand k id held)
+StandsBehind o p (ask k id) t stand = (begun : Hold) × (held : Hold) × LimitBegins o.clock t.children o.plan.limit begun × WaitGoesOn begun t.world held × (stand ≡ asked_at p.stand k id (field_in (fields_at p) id) held)
 StandsBehind o p (heard seat) t stand = (held : Hold) × WaitGoesOn p.stand.held t.world held × (stand ≡ held_at p.stand held)
 StandsBehind o p (over n id) t stand = (now : ℕ) × o.clock t.children now × (stand ≡ warned_at p.stand n (hold.Until (seconds_behind now respite)))
 StandsBehind o p stalled t stand = stand ≡ held_at p.stand hold.Free

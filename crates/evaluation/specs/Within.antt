@@ -35,7 +35,7 @@ waiting R K W seconds = setting silent R K W (waiting_plan seconds) []
 
 -- this field was asked, and this is the wait for its answer
 abbrev pub asked_one : ℕ → Hold → Stand
-asked_one id held = record { taken = 0; first = 0; field = id; held = held; warned = false; at_once = false; asked = 0; overs = 0 }
+asked_one id held = record { taken = 0; first = 0; field = id; held = held; warned = false; at_once = false; asked = 0; overs = 0; lasts = [] }
 
 -- Where the wait begins, right after the line of this field was sent: its time is so many seconds from what the clock reads there.
 pub record WaitBegins {C : Type 0} (o : Setting C) (id : ℕ) (s : At C) (p : EvalPlace C) : Type 0 where

@@ -1,13 +1,13 @@
 //! Which field is asked next.
 ghost use Rattle.std.specs.Prelude.{◌≡◌, ◌<◌, ◌≤◌, ◌^◌, ℕ, Option, None, Some, IfSome, false, length, slice_get};
-ghost use Rattle.std.specs.List.{list_any};
 ghost use Rattle.std.specs.Option.{option_copied};
 ghost use Rattle.evaluation.specs.Meant as meant;
 ghost use Rattle.evaluation.specs.inside.Beside as inside;
 
 use crate::choosing::is_answered;
+use crate::lasts::{Last, last_asked};
 use crate::plan::{Plan, Stand};
-use worksheet::{Field, Name, Sheet};
+use worksheet::{Field, Sheet};
 
 /// Whether this field shows no answer.
 fn shows_none(field: Option<&Field>) -> bool
@@ -19,55 +19,47 @@ fn shows_none(field: Option<&Field>) -> bool
     }
 }
 
-/// Whether this field is of this session, and shows no answer.
-fn shows_none_of(session: Name, field: Option<&Field>) -> bool
-    ensures { result ≡ meant.shows_none_of session (option_copied field.entry) }
+/// Whether the field with this number, where there is one, shows no answer.
+fn is_lost(sheet: &Sheet, id: Option<u32>) -> bool
+    ensures { result ≡ meant.is_lost sheet.now.contents.fields id }
 {
-    match field {
+    match id {
         None => false,
-        Some(field) => field.session == session && !is_answered(field),
+        Some(id) => shows_none(sheet.field(id)),
     }
 }
 
-/// Whether one of these numbers is that of a field of this session which shows no answer.
-fn are_lost_of(sheet: &Sheet, ids: &[u32], session: Name) -> bool
-    ensures { result ≡ list_any (meant.is_lost_of sheet.now.contents.fields session) ids.now }
-{
-    ids.iter()
-        .any(|id| shows_none_of(session, sheet.field(*id)))
-}
-
-/// Whether a field stands after one of its session that shows no answer.
-fn is_behind_lost(sheet: &Sheet, front: &[u32], field: Option<&Field>) -> bool
-    ensures { result ≡ meant.is_behind_lost sheet.now.contents.fields front.now (option_copied field.entry) }
+/// Whether the field that was asked last of this one's session shows no answer.
+fn is_behind_lost(sheet: &Sheet, lasts: &[Last], field: Option<&Field>) -> bool
+    ensures { result ≡ meant.is_behind_lost sheet.now.contents.fields lasts.now (option_copied field.entry) }
 {
     match field {
         None => false,
-        Some(field) => are_lost_of(sheet, front, field.session),
+        Some(field) => is_lost(sheet, last_asked(lasts, field.session)),
     }
 }
 
 /// Whether the field at this place of those that are to be evaluated is passed over.
-fn is_passed(plan: &Plan, sheet: &Sheet, ids: &[u32], at: usize) -> bool
+fn is_passed(plan: &Plan, sheet: &Sheet, lasts: &[Last], ids: &[u32], at: usize) -> bool
     requires { at < length ids.now }
-    ensures { result ≡ meant.is_passed plan.now sheet.now.contents.fields ids.now at }
+    ensures { result ≡ meant.is_passed plan.now sheet.now.contents.fields lasts.now ids.now at }
 {
     if plan.limit.is_none() || plan.keep_going {
         return false;
     }
-    is_behind_lost(sheet, &ids[..at], sheet.field(ids[at]))
+    is_behind_lost(sheet, lasts, sheet.field(ids[at]))
 }
 
 /// The next place, from this one on, whose field isn't passed over, or their number where there is none.
 #[tactic(auto, using(crate::proofs::Meaning::next_steps))]
-pub(crate) fn next_of(plan: &Plan, sheet: &Sheet, ids: &[u32], from: usize) -> usize
+pub(crate) fn next_of(plan: &Plan, sheet: &Sheet, lasts: &[Last], ids: &[u32], from: usize) -> usize
     requires { from ≤ length ids.now }
-    ensures next { meant.IsNext plan.now sheet.now.contents.fields ids.now from result }
+    ensures next { meant.IsNext plan.now sheet.now.contents.fields lasts.now ids.now from result }
     ensures within { result ≤ length ids.now }
-    ensures found { result < length ids.now → meant.is_passed plan.now sheet.now.contents.fields ids.now result ≡ false }
+    ensures found { result < length ids.now → meant.is_passed plan.now sheet.now.contents.fields lasts.now ids.now result ≡ false }
 {
     for at in from..ids.len() {
-        if !is_passed(plan, sheet, ids, at) {
+        if !is_passed(plan, sheet, lasts, ids, at) {
             return at;
         }
     }
@@ -83,9 +75,9 @@ pub(crate) fn line_behind(taken: usize) -> u64
 }
 
 /// The line of the field that was asked last, where that went wrong.
-fn wrong_line(sheet: &Sheet, stand: Stand) -> Option<u64>
-    requires { stand.taken < 2 ^ 32 }
-    ensures { result ≡ meant.wrong_line sheet.now.contents.fields stand }
+fn wrong_line(sheet: &Sheet, stand: &Stand) -> Option<u64>
+    requires { stand.now.taken < 2 ^ 32 }
+    ensures { result ≡ meant.wrong_line sheet.now.contents.fields stand.now }
 {
     if stand.at_once {
         Some(line_behind(stand.taken))
@@ -97,9 +89,9 @@ fn wrong_line(sheet: &Sheet, stand: Stand) -> Option<u64>
 }
 
 /// The line after which a strict evaluation stops here, if it does.
-pub(crate) fn stop_line(plan: &Plan, sheet: &Sheet, stand: Stand) -> Option<u64>
-    requires { stand.taken < 2 ^ 32 }
-    ensures { result ≡ meant.stop_line plan.now.strict sheet.now.contents.fields stand }
+pub(crate) fn stop_line(plan: &Plan, sheet: &Sheet, stand: &Stand) -> Option<u64>
+    requires { stand.now.taken < 2 ^ 32 }
+    ensures { result ≡ meant.stop_line plan.now.strict sheet.now.contents.fields stand.now }
 {
     if plan.strict {
         wrong_line(sheet, stand)
@@ -109,12 +101,13 @@ pub(crate) fn stop_line(plan: &Plan, sheet: &Sheet, stand: Stand) -> Option<u64>
 }
 
 /// Whether the first field that was neither asked nor passed over is the next one.
-pub(crate) fn is_due(plan: &Plan, sheet: &Sheet, ids: &[u32], stand: Stand) -> bool
+pub(crate) fn is_due(plan: &Plan, sheet: &Sheet, ids: &[u32], stand: &Stand) -> bool
     requires few { length ids.now < 2 ^ 32 }
-    requires there { stand.taken < length ids.now }
-    ensures { result ≡ inside.is_due plan.now sheet.now.contents.fields ids.now stand }
+    requires there { stand.now.taken < length ids.now }
+    ensures { result ≡ inside.is_due plan.now sheet.now.contents.fields ids.now stand.now }
 {
-    stop_line(plan, sheet, stand).is_none() && !is_passed(plan, sheet, ids, stand.taken)
+    stop_line(plan, sheet, stand).is_none()
+        && !is_passed(plan, sheet, stand.lasts.as_slice(), ids, stand.taken)
 }
 
 /// The number at this place.
@@ -127,19 +120,19 @@ pub(crate) fn id_at(ids: &[u32], place: usize) -> u32
 
 /// The place of the field that is asked next, where it doesn't come to its end here.
 #[tactic(auto, using(crate::proofs::Meaning::none_asked_steps))]
-pub(crate) fn next_place(plan: &Plan, sheet: &Sheet, ids: &[u32], stand: Stand) -> Option<usize>
+pub(crate) fn next_place(plan: &Plan, sheet: &Sheet, ids: &[u32], stand: &Stand) -> Option<usize>
     requires few { length ids.now < 2 ^ 32 }
-    requires taken { stand.taken ≤ length ids.now }
+    requires taken { stand.now.taken ≤ length ids.now }
     ensures within { IfSome result (λ at. at < length ids.now) }
     ensures next { (id : ℕ) → IfSome result (λ at. slice_get ids.now at ≡ Some id
-        → meant.IsAsked plan.now sheet.now.contents.fields ids.now stand at id) }
+        → meant.IsAsked plan.now sheet.now.contents.fields ids.now stand.now at id) }
     ensures ends { result ≡ None → (stopped : Option ℕ)
-        × meant.EndsHere plan.now sheet.now.contents.fields ids.now stand stopped }
-    ensures none { result ≡ None → inside.AsksNone plan.now sheet.now.contents.fields ids.now stand }
+        × meant.EndsHere plan.now sheet.now.contents.fields ids.now stand.now stopped }
+    ensures none { result ≡ None → inside.AsksNone plan.now sheet.now.contents.fields ids.now stand.now }
 {
     if stop_line(plan, sheet, stand).is_some() {
         return None;
     }
-    let at = next_of(plan, sheet, ids, stand.taken);
+    let at = next_of(plan, sheet, stand.lasts.as_slice(), ids, stand.taken);
     if at == ids.len() { None } else { Some(at) }
 }

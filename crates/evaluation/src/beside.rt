@@ -75,28 +75,28 @@ fn has_room<D: Disk>(host: &Host<D>, plan: &Plan, id: u32) -> bool
 }
 
 /// Whether the field with this number may be asked while others wait.
-fn may_join<D: Disk>(host: &Host<D>, plan: &Plan, stand: Stand, id: u32) -> bool
+fn may_join<D: Disk>(host: &Host<D>, plan: &Plan, stand: &Stand, id: u32) -> bool
     ensures { (w : World) → IsHost host.now w
-        → result ≡ (not stand.warned && beside.has_room_beside plan.now w id) }
+        → result ≡ (not stand.now.warned && beside.has_room_beside plan.now w id) }
 {
     !stand.warned && has_room(host, plan, id)
 }
 
 /// Whether the field at this place, with this number, is asked although others wait, if it is the next. Whether
 /// one is passed over is known only when none waits.
-fn joins<D: Disk>(host: &Host<D>, plan: &Plan, stand: Stand, at: usize, id: u32) -> bool
-    ensures { (w : World) → IsHost host.now w → result ≡ beside.joins plan.now w stand at id }
+fn joins<D: Disk>(host: &Host<D>, plan: &Plan, stand: &Stand, at: usize, id: u32) -> bool
+    ensures { (w : World) → IsHost host.now w → result ≡ beside.joins plan.now w stand.now at id }
 {
     at == stand.taken && may_join(host, plan, stand, id)
 }
 
 /// Whether the field with this number, the first that was neither asked nor passed over, is the next one and
 /// is asked although others wait.
-fn joins_next<D: Disk>(host: &Host<D>, plan: &Plan, ids: &[u32], stand: Stand, id: u32) -> bool
+fn joins_next<D: Disk>(host: &Host<D>, plan: &Plan, ids: &[u32], stand: &Stand, id: u32) -> bool
     requires few { length ids.now < 2 ^ 32 }
-    requires there { stand.taken < length ids.now }
-    ensures { (w : World) → IsHost host.now w → result ≡ (beside.joins plan.now w stand stand.taken id
-        && inside.is_due plan.now (sheet_in w).fields ids.now stand) }
+    requires there { stand.now.taken < length ids.now }
+    ensures { (w : World) → IsHost host.now w → result ≡ (beside.joins plan.now w stand.now stand.now.taken id
+        && inside.is_due plan.now (sheet_in w).fields ids.now stand.now) }
 {
     joins(host, plan, stand, stand.taken, id) && is_due(plan, host.sheet(), ids, stand)
 }
@@ -106,15 +106,15 @@ pub(crate) fn joining<D: Disk>(
     host: &Host<D>,
     plan: &Plan,
     ids: &[u32],
-    stand: Stand,
+    stand: &Stand,
 ) -> Option<usize>
     requires few { length ids.now < 2 ^ 32 }
-    requires taken { stand.taken ≤ length ids.now }
+    requires taken { stand.now.taken ≤ length ids.now }
     ensures within { IfSome result (λ at. at < length ids.now) }
     ensures next { (w : World) (id : ℕ) → IsHost host.now w → IfSome result (λ at. slice_get ids.now at ≡ Some id
-        → IsAsked plan.now (sheet_in w).fields ids.now stand at id × (beside.joins plan.now w stand at id ≡ true)) }
+        → IsAsked plan.now (sheet_in w).fields ids.now stand.now at id × (beside.joins plan.now w stand.now at id ≡ true)) }
     ensures none { (w : World) → IsHost host.now w → result ≡ None
-        → beside.NoneJoins plan.now w ids.now stand }
+        → beside.NoneJoins plan.now w ids.now stand.now }
 {
     let at = stand.taken;
     if at == ids.len() {
@@ -145,12 +145,12 @@ fn first_waiting<D: Disk>(host: &Host<D>, ids: &[u32], from: usize, to: usize) -
 }
 
 /// The first that waits of the fields whose interpreters weren't interrupted.
-fn next_late<D: Disk>(host: &Host<D>, ids: &[u32], stand: Stand) -> Option<Late>
-    requires { stand.taken ≤ length ids.now }
+fn next_late<D: Disk>(host: &Host<D>, ids: &[u32], stand: &Stand) -> Option<Late>
+    requires { stand.now.taken ≤ length ids.now }
     ensures found { (w : World) → IsHost host.now w → IfSome result (λ late.
-        beside.IsFirstWaiting w ids.now stand late.place late.id) }
-    ensures none { (w : World) → IsHost host.now w → result ≡ None → beside.NoneWaits w ids.now stand }
-    ensures taken { IfSome result (λ late. late.place ≤ stand.taken) }
+        beside.IsFirstWaiting w ids.now stand.now late.place late.id) }
+    ensures none { (w : World) → IsHost host.now w → result ≡ None → beside.NoneWaits w ids.now stand.now }
+    ensures taken { IfSome result (λ late. late.place ≤ stand.now.taken) }
 {
     let at = first_waiting(host, ids, stand.first, stand.taken);
     if at < stand.taken {
@@ -164,10 +164,10 @@ fn next_late<D: Disk>(host: &Host<D>, ids: &[u32], stand: Stand) -> Option<Late>
 }
 
 /// The field whose time is over first: the one that was asked last where none is known to wait.
-pub(crate) fn first_late<D: Disk>(host: &Host<D>, ids: &[u32], stand: Stand) -> Late
-    requires { stand.taken ≤ length ids.now }
-    ensures late { (w : World) → IsHost host.now w → beside.IsLate w ids.now stand result.place result.id }
-    ensures taken { result.place ≤ stand.taken }
+pub(crate) fn first_late<D: Disk>(host: &Host<D>, ids: &[u32], stand: &Stand) -> Late
+    requires { stand.now.taken ≤ length ids.now }
+    ensures late { (w : World) → IsHost host.now w → beside.IsLate w ids.now stand.now result.place result.id }
+    ensures taken { result.place ≤ stand.now.taken }
 {
     match next_late(host, ids, stand) {
         Some(late) => late,
@@ -179,13 +179,13 @@ pub(crate) fn first_late<D: Disk>(host: &Host<D>, ids: &[u32], stand: Stand) -> 
 }
 
 /// The next field whose interpreter is interrupted after that of another one whose time was over.
-pub(crate) fn further_late<D: Disk>(host: &Host<D>, ids: &[u32], stand: Stand) -> Option<Late>
-    requires { stand.taken ≤ length ids.now }
-    ensures found { (w : World) → IsHost host.now w → IfSome result (λ late. (stand.warned ≡ true)
-        × beside.IsFirstWaiting w ids.now stand late.place late.id) }
+pub(crate) fn further_late<D: Disk>(host: &Host<D>, ids: &[u32], stand: &Stand) -> Option<Late>
+    requires { stand.now.taken ≤ length ids.now }
+    ensures found { (w : World) → IsHost host.now w → IfSome result (λ late. (stand.now.warned ≡ true)
+        × beside.IsFirstWaiting w ids.now stand.now late.place late.id) }
     ensures none { (w : World) → IsHost host.now w → result ≡ None
-        → stand.warned ≡ true → beside.NoneWaits w ids.now stand }
-    ensures taken { IfSome result (λ late. late.place ≤ stand.taken) }
+        → stand.now.warned ≡ true → beside.NoneWaits w ids.now stand.now }
+    ensures taken { IfSome result (λ late. late.place ≤ stand.now.taken) }
 {
     if stand.warned {
         next_late(host, ids, stand)

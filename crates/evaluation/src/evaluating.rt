@@ -24,8 +24,9 @@ use crate::choosing::missing_in;
 use crate::fault::EvalFault;
 use crate::plan::{Plan, Stand, counts_of};
 use crate::rounds::asked_in;
-use crate::stepping::step;
+use crate::stepping::{Stepped, step};
 use arrivals::Sources;
+use block_tree::Sequence;
 use child_edge::stop_all;
 use disk_model::Disk;
 use journal::OpenFault;
@@ -57,7 +58,7 @@ pub struct Evaluated<D: Disk> {
 }
 
 /// The place where nothing was asked yet.
-pub(crate) fn not_begun() -> Stand
+pub(crate) fn not_begun(alloc: Global) -> Stand
     ensures { result ≡ begins }
 {
     Stand {
@@ -69,6 +70,7 @@ pub(crate) fn not_begun() -> Stand
         at_once: false,
         asked: 0,
         overs: 0,
+        lasts: Sequence::new(alloc),
     }
 }
 
@@ -98,8 +100,8 @@ pub(crate) fn evaluate_on<D: Disk, S: Sources, T: Tells, W: Write>(
     let mut stand = from;
     for _ in 0..u64::MAX {
         match step(alloc, host, sources, plan, ids, stand, tells, writer) {
-            Ok(Some(next)) => stand = next,
-            Ok(None) => return Ok(stand),
+            Ok(Stepped::Next(next)) => stand = next,
+            Ok(Stepped::Ended(last)) => return Ok(last),
             Err(fault) => return Err(fault),
         }
     }
@@ -127,7 +129,16 @@ fn evaluate_and_stop<D: Disk, S: Sources, T: Tells, W: Write>(
         (left host.new sources.new (W.contents writer.old) (W.contents writer.new))) }
     ensures taken { IfOk result (λ stand. stand.taken ≤ length ids.now) }
 {
-    let done = evaluate_on(alloc, host, sources, plan, ids, not_begun(), tells, writer);
+    let done = evaluate_on(
+        alloc,
+        host,
+        sources,
+        plan,
+        ids,
+        not_begun(alloc),
+        tells,
+        writer,
+    );
     stop_all(host, sources);
     done
 }
@@ -170,10 +181,10 @@ fn ids_in<D: Disk>(alloc: Global, plan: &Plan, host: &Host<D>) -> Result<Vec<u32
 }
 
 /// What an evaluation of so many fields came to, by the worksheet of a host.
-fn counts_in<D: Disk>(plan: &Plan, all: u64, host: &Host<D>, stand: Stand) -> Counts
+fn counts_in<D: Disk>(plan: &Plan, all: u64, host: &Host<D>, stand: &Stand) -> Counts
     requires { (w : World) × IsHost host.now w }
     ensures { (w : World) → IsHost host.now w
-        → result ≡ meant.evaluation_counts plan.now all (sheet_in w).fields stand }
+        → result ≡ meant.evaluation_counts plan.now all (sheet_in w).fields stand.now }
 {
     worksheet::laws::ops_make_worksheets();
     counts_of(plan, all, host.sheet(), stand)
@@ -251,8 +262,8 @@ pub fn evaluate<W: Write, D: Disk, S: Sources, T: Tells>(
     let done = evaluate_and_stop(alloc, &mut host, sources, plan, asked, tells, writer);
     match done {
         Ok(stand) => {
-            let stopped_at = stop_line(plan, host.sheet(), stand);
-            let counts = counts_in(plan, ids.len() as u64, &host, stand);
+            let stopped_at = stop_line(plan, host.sheet(), &stand);
+            let counts = counts_in(plan, ids.len() as u64, &host, &stand);
             let disk = host.close();
             match tells.note(Note::Counted(counts), writer) {
                 Ok(()) => Evaluated {

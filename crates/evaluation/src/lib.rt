@@ -6,6 +6,7 @@ mod beside;
 mod choosing;
 mod evaluating;
 mod fault;
+mod lasts;
 mod laws;
 pub mod plan;
 mod rounds;

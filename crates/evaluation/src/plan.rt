@@ -4,6 +4,7 @@ ghost use Rattle.evaluation.specs.Meant as meant;
 ghost use Rattle.evaluation.specs.Steps as steps;
 
 use crate::choosing::is_answered;
+use crate::lasts::Last;
 use block_tree::Sequence;
 use live::Hold;
 use tellings::{Counts, Overs};
@@ -39,7 +40,7 @@ pub struct Plan {
 }
 
 /// Where an evaluation stands.
-#[derive(Clone, Copy, Debug)]
+#[derive(Debug, Drop)]
 pub struct Stand {
     /// How many of the fields that are to be evaluated were asked or passed over.
     pub taken: usize,
@@ -57,6 +58,8 @@ pub struct Stand {
     pub asked: u64,
     /// For how many the time was over.
     pub overs: u64,
+    /// The field of each session that was asked last.
+    pub lasts: Sequence<Last>,
 }
 
 /// The same place after a watch, with this wait.
@@ -72,6 +75,7 @@ pub(crate) fn held_at(stand: Stand, held: Hold) -> Stand
         at_once: stand.at_once,
         asked: stand.asked,
         overs: stand.overs,
+        lasts: stand.lasts,
     }
 }
 
@@ -89,12 +93,13 @@ pub(crate) fn warned_at(stand: Stand, place: usize, held: Hold) -> Stand
         at_once: stand.at_once,
         asked: stand.asked,
         overs: stand.overs + 1,
+        lasts: stand.lasts,
     }
 }
 
 /// What a limit of time came to, where there is one.
-fn overs_by(limit: Option<u32>, all: u64, stand: Stand) -> Option<Overs>
-    ensures { result ≡ meant.overs_by limit all stand }
+fn overs_by(limit: Option<u32>, all: u64, stand: &Stand) -> Option<Overs>
+    ensures { result ≡ meant.overs_by limit all stand.now }
 {
     match limit {
         None => None,
@@ -106,9 +111,9 @@ fn overs_by(limit: Option<u32>, all: u64, stand: Stand) -> Option<Overs>
 }
 
 /// What an evaluation of so many fields came to.
-pub(crate) fn counts_of(plan: &Plan, all: u64, sheet: &Sheet, stand: Stand) -> Counts
+pub(crate) fn counts_of(plan: &Plan, all: u64, sheet: &Sheet, stand: &Stand) -> Counts
     requires { length sheet.now.contents.fields < 2 ^ 31 }
-    ensures { result ≡ meant.evaluation_counts plan.now all sheet.now.contents.fields stand }
+    ensures { result ≡ meant.evaluation_counts plan.now all sheet.now.contents.fields stand.now }
 {
     Counts {
         answered: sheet.fields().filter(|field| is_answered(field)).count(),

@@ -15,7 +15,7 @@ use crate::evaluating::{few_fields, not_begun};
 use crate::plan::{Plan, Stand};
 use crate::rounds::asked_in;
 use crate::silence::Silence;
-use crate::stepping::step;
+use crate::stepping::{Stepped, step};
 use crate::within::wait_fault;
 use arrivals::Sources;
 use disk_model::Disk;
@@ -26,10 +26,10 @@ use std::io::Write;
 use tellings::Tells;
 
 /// The number of the field whose time was over in the step from one place to the next, where there is one.
-fn late_in(ids: &[u32], from: Stand, next: Stand) -> Option<u32>
-    ensures { result ≡ late_between ids.now from next }
+fn late_in(ids: &[u32], overs: u64, next: &Stand) -> Option<u32>
+    ensures { result ≡ late_between ids.now overs next.now }
 {
-    if from.overs < next.overs {
+    if overs < next.overs {
         ids.get(next.first.saturating_sub(1)).copied()
     } else {
         None
@@ -66,15 +66,16 @@ fn evaluate_noting<D: Disk, S: Sources, T: Tells, W: Write>(
         (setting T.voice S.after S.clock S.wakes plan.now ids.now) (stands (at w sources.old host.old.store.disk) begins)
         (left host.new sources.new (W.contents writer.old) (W.contents writer.new))) }
 {
-    let mut stand = not_begun();
+    let mut stand = not_begun(alloc);
     let mut late = Vec::new(alloc);
     for _ in 0..u64::MAX {
+        let overs = stand.overs;
         match step(alloc, host, sources, plan, ids, stand, tells, writer) {
-            Ok(Some(next)) => match put_late(&mut late, late_in(ids, stand, next)) {
+            Ok(Stepped::Next(next)) => match put_late(&mut late, late_in(ids, overs, &next)) {
                 Ok(()) => stand = next,
                 Err(fault) => return Err(fault),
             },
-            Ok(None) => return Ok(late),
+            Ok(Stepped::Ended(_)) => return Ok(late),
             Err(fault) => return Err(fault),
         }
     }

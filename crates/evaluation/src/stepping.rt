@@ -1,5 +1,5 @@
 //! The steps of an evaluation.
-ghost use Rattle.std.specs.Prelude.{◌≡◌, ◌+◌, ◌<◌, ◌≤◌, ◌^◌, ℕ, List, IfErr, IfOk, IfSome, Some, not, length, slice_get};
+ghost use Rattle.std.specs.Prelude.{◌≡◌, ◌+◌, ◌<◌, ◌≤◌, ◌^◌, ℕ, List, Option, IfErr, IfOk, IfSome, Some, not, length, slice_get};
 ghost use Rattle.disk_model.specs.Disk.{SameDisk};
 ghost use Rattle.session_engine.specs.World.{World, sheet_in};
 ghost use Rattle.session_engine.specs.Host.{IsHost};
@@ -7,19 +7,23 @@ ghost use Rattle.child_edge.specs.Faithful.{at};
 ghost use Rattle.live.specs.Records.{left};
 ghost use Rattle.evaluation.specs.declared.plan.Plan.{Plan};
 ghost use Rattle.evaluation.specs.Beside.{IsWatchDue, NoneJoins};
+ghost use Rattle.evaluation.specs.Lasts.{after_asking};
 ghost use Rattle.evaluation.specs.Meant.{IsAsked};
+ghost use Rattle.worksheet.specs.declared.field.Field.{Field};
 ghost use Rattle.live.specs.Saying.{is_held};
 ghost use Rattle.evaluation.specs.Steps as steps;
 ghost use Rattle.evaluation.specs.Steps.{ask, heard, setting, stands};
 ghost use Rattle.evaluation.specs.inside.Beside.{IsDueAt};
-ghost use Rattle.evaluation.specs.inside.Stepping.{StepFailed, StepGave, StepTook, TakingFailed, Took, Turned, TurnFailed};
+ghost use Rattle.evaluation.specs.inside.Stepping.{StepFailed, StepGave, StepTook, EndsThere, TakingFailed, Took, Turned, TurnFailed, next_by};
 ghost use Rattle.live.specs.Taking.{MayTurn};
 
 use crate::asking::{id_at, line_behind, next_place};
 use crate::beside::{further_late, joining};
+use crate::lasts::{Last, after_asking as last_ones};
 use crate::plan::{Plan, Stand, held_at};
 use crate::timing::{end_time, limit_from, take_time};
 use arrivals::{Sources, Woken};
+use block_tree::Sequence;
 use child_calls::Seat;
 use disk_model::Disk;
 use host_events::Command;
@@ -29,6 +33,15 @@ use session_engine::Host;
 use std::alloc::Global;
 use std::io::Write;
 use tellings::Tells;
+
+/// Where a step led.
+#[derive(Debug, Drop)]
+pub(crate) enum Stepped {
+    /// It was taken, and the evaluation goes on here.
+    Next(Stand),
+    /// There was none: the evaluation is at its end here.
+    Ended(Stand),
+}
 
 /// Whether no item waits for an answer right after an `eval`.
 fn is_free(held: Hold) -> bool
@@ -41,30 +54,32 @@ fn is_free(held: Hold) -> bool
 }
 
 /// The first place of the fields that wait together, where the one at this place is asked.
-fn first_at(stand: Stand, at: usize) -> usize
-    ensures { result ≡ steps.first_by (is_held stand.held) stand.first at }
+fn first_at(held: Hold, first: usize, at: usize) -> usize
+    ensures { result ≡ steps.first_by (is_held held) first at }
 {
-    match stand.held {
+    match held {
         Hold::Free | Hold::Stopped => at,
-        Hold::Wait | Hold::Until(_) | Hold::Limited(_) | Hold::Warned(_) => stand.first,
+        Hold::Wait | Hold::Until(_) | Hold::Limited(_) | Hold::Warned(_) => first,
     }
 }
 
-/// The place after the field with this number, which was asked at this place.
-fn asked_at(stand: Stand, at: usize, id: u32, held: Hold) -> Stand
+/// The place after the field with this number, which was asked at this place: these were then asked last.
+fn asked_at(stand: Stand, at: usize, id: u32, lasts: Vec<Last>, held: Hold) -> Stand
     requires few { at + 1 < 2 ^ 64 }
     requires counted { stand.asked + 1 < 2 ^ 64 }
-    ensures { result ≡ steps.asked_at stand at id held }
+    ensures { (field : Option Field) → lasts.items ≡ after_asking stand.lasts field
+        → result ≡ steps.asked_at stand at id field held }
 {
     Stand {
         taken: at + 1,
-        first: first_at(stand, at),
+        first: first_at(stand.held, stand.first, at),
         field: id,
         held,
         warned: false,
         at_once: is_free(held),
         asked: stand.asked + 1,
         overs: stand.overs,
+        lasts: Sequence::from_vec(lasts),
     }
 }
 
@@ -92,6 +107,10 @@ fn ask_field<D: Disk, S: Sources, T: Tells, W: Write>(
     ensures taken { IfOk result (λ next. next.taken ≡ place + 1) }
     ensures counts { IfOk result (λ next. (next.asked ≡ stand.asked + 1) × (next.overs ≡ stand.overs)) }
 {
+    let lasts = match last_ones(alloc, stand.lasts.as_slice(), host.sheet().field(id)) {
+        Ok(lasts) => lasts,
+        Err(_) => return Err(RunFault::OutOfMemory),
+    };
     match say_command(
         alloc,
         host,
@@ -103,7 +122,7 @@ fn ask_field<D: Disk, S: Sources, T: Tells, W: Write>(
     ) {
         Ok(_) => {
             let held = go_on(limit_from(sources, plan.limit), host);
-            Ok(asked_at(stand, place, id, held))
+            Ok(asked_at(stand, place, id, lasts, held))
         }
         Err(fault) => Err(fault),
     }
@@ -130,7 +149,10 @@ fn take_life<D: Disk, S: Sources, T: Tells, W: Write>(
     ensures counts { IfOk result (λ next. (next.asked ≡ stand.asked) × (next.overs ≡ stand.overs)) }
 {
     match hear(alloc, host, sources, seat, tells, writer) {
-        Ok(()) => Ok(held_at(stand, go_on(stand.held, host))),
+        Ok(()) => {
+            let held = go_on(stand.held, host);
+            Ok(held_at(stand, held))
+        }
         Err(fault) => Err(fault),
     }
 }
@@ -225,7 +247,7 @@ fn take_late_or_turn<D: Disk, S: Sources, T: Tells, W: Write>(
     ensures taken { IfOk result (λ next. next.taken ≡ stand.taken) }
     ensures counts { IfOk result (λ next. (next.asked ≡ stand.asked) × (next.overs ≤ stand.overs + 1)) }
 {
-    match further_late(host, ids, stand) {
+    match further_late(host, ids, &stand) {
         Some(late) => end_time(host, sources, late, stand, tells, writer),
         None => take_turn(alloc, host, sources, plan, ids, stand, tells, writer),
     }
@@ -288,13 +310,13 @@ fn take_beside<D: Disk, S: Sources, T: Tells, W: Write>(
     ensures counts { IfOk result (λ next.
         (next.asked ≤ stand.asked + 1) × (next.overs ≤ stand.overs + 1)) }
 {
-    match joining(host, plan, ids, stand) {
+    match joining(host, plan, ids, &stand) {
         Some(place) => ask_at(alloc, host, sources, plan, ids, place, stand, tells, writer),
         None => take_late_or_turn(alloc, host, sources, plan, ids, stand, tells, writer),
     }
 }
 
-/// Asks the next field. `None` at the end.
+/// Asks the next field, where there is one.
 fn take_next<D: Disk, S: Sources, T: Tells, W: Write>(
     alloc: Global,
     host: &mut Host<D>,
@@ -304,35 +326,36 @@ fn take_next<D: Disk, S: Sources, T: Tells, W: Write>(
     stand: Stand,
     tells: &T,
     writer: &mut W,
-) -> Result<Option<Stand>, RunFault>
+) -> Result<Stepped, RunFault>
     requires few { length ids.now < 2 ^ 31 }
     requires taken { stand.taken ≤ length ids.now }
     requires counted { stand.asked + 1 < 2 ^ 64 }
     requires free { stand.held ≡ Hold.Free }
     ensures same { SameDisk host.old.store.disk host.new.store.disk }
-    ensures ok { (w : World) → IsHost host.old w → IfOk result (StepGave
+    ensures ok { (w : World) → IsHost host.old w → IfOk result (λ s. StepGave
         (setting T.voice S.after S.clock S.wakes plan.now ids.now) (stands (at w sources.old host.old.store.disk) stand)
-        (left host.new sources.new (W.contents writer.old) (W.contents writer.new))) }
+        (left host.new sources.new (W.contents writer.old) (W.contents writer.new)) (next_by s)) }
+    ensures end { IfOk result (EndsThere stand) }
     ensures err { (w : World) → IsHost host.old w → IfErr result (StepFailed
         (setting T.voice S.after S.clock S.wakes plan.now ids.now) (stands (at w sources.old host.old.store.disk) stand)
         (left host.new sources.new (W.contents writer.old) (W.contents writer.new))) }
-    ensures taken { IfOk result (λ next. IfSome next (λ after. after.taken ≤ length ids.now)) }
-    ensures counts { IfOk result (λ next. IfSome next (λ after.
+    ensures taken { IfOk result (λ s. IfSome (next_by s) (λ after. after.taken ≤ length ids.now)) }
+    ensures counts { IfOk result (λ s. IfSome (next_by s) (λ after.
         (after.asked ≤ stand.asked + 1) × (after.overs ≤ stand.overs + 1))) }
 {
-    match next_place(plan, host.sheet(), ids, stand) {
+    match next_place(plan, host.sheet(), ids, &stand) {
         Some(place) => {
             match ask_at(alloc, host, sources, plan, ids, place, stand, tells, writer) {
-                Ok(next) => Ok(Some(next)),
+                Ok(next) => Ok(Stepped::Next(next)),
                 Err(fault) => Err(fault),
             }
         }
-        None => Ok(None),
+        None => Ok(Stepped::Ended(stand)),
     }
 }
 
 /// Asks the next field while no item waits, and takes what comes while one does, but for a field that joins
-/// those that wait. `None` at the end.
+/// those that wait.
 pub(crate) fn step<D: Disk, S: Sources, T: Tells, W: Write>(
     alloc: Global,
     host: &mut Host<D>,
@@ -342,26 +365,27 @@ pub(crate) fn step<D: Disk, S: Sources, T: Tells, W: Write>(
     stand: Stand,
     tells: &T,
     writer: &mut W,
-) -> Result<Option<Stand>, RunFault>
+) -> Result<Stepped, RunFault>
     requires few { length ids.now < 2 ^ 31 }
     requires taken { stand.taken ≤ length ids.now }
     requires counted { (stand.asked + 1 < 2 ^ 64) × (stand.overs + 1 < 2 ^ 64) }
     ensures same { SameDisk host.old.store.disk host.new.store.disk }
-    ensures ok { (w : World) → IsHost host.old w → IfOk result (StepGave
+    ensures ok { (w : World) → IsHost host.old w → IfOk result (λ s. StepGave
         (setting T.voice S.after S.clock S.wakes plan.now ids.now) (stands (at w sources.old host.old.store.disk) stand)
-        (left host.new sources.new (W.contents writer.old) (W.contents writer.new))) }
+        (left host.new sources.new (W.contents writer.old) (W.contents writer.new)) (next_by s)) }
+    ensures end { IfOk result (EndsThere stand) }
     ensures err { (w : World) → IsHost host.old w → IfErr result (StepFailed
         (setting T.voice S.after S.clock S.wakes plan.now ids.now) (stands (at w sources.old host.old.store.disk) stand)
         (left host.new sources.new (W.contents writer.old) (W.contents writer.new))) }
-    ensures taken { IfOk result (λ next. IfSome next (λ after. after.taken ≤ length ids.now)) }
-    ensures counts { IfOk result (λ next. IfSome next (λ after.
+    ensures taken { IfOk result (λ s. IfSome (next_by s) (λ after. after.taken ≤ length ids.now)) }
+    ensures counts { IfOk result (λ s. IfSome (next_by s) (λ after.
         (after.asked ≤ stand.asked + 1) × (after.overs ≤ stand.overs + 1))) }
 {
     match stand.held {
         Hold::Free => take_next(alloc, host, sources, plan, ids, stand, tells, writer),
         Hold::Wait | Hold::Until(_) | Hold::Limited(_) | Hold::Warned(_) | Hold::Stopped => {
             match take_beside(alloc, host, sources, plan, ids, stand, tells, writer) {
-                Ok(next) => Ok(Some(next)),
+                Ok(next) => Ok(Stepped::Next(next)),
                 Err(fault) => Err(fault),
             }
         }

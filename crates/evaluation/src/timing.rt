@@ -123,7 +123,7 @@ pub(crate) fn take_time<D: Disk, S: Sources, T: Tells, W: Write>(
     if stand.warned {
         end_grace(alloc, host, sources, stand, tells, writer)
     } else {
-        let late = first_late(host, ids, stand);
+        let late = first_late(host, ids, &stand);
         end_time(host, sources, late, stand, tells, writer)
     }
 }

@@ -12,6 +12,7 @@ use crate::plan::{Plan, Stand, Which};
 use crate::silence::Silence;
 use crate::timing::limit_from;
 use arrivals::Sources;
+use block_tree::Sequence;
 use disk_model::Disk;
 use live::{Hold, go_on};
 use offline_programs::RunFault;
@@ -33,7 +34,7 @@ fn waiting_plan(seconds: u32) -> Plan
 }
 
 /// Where a wait begins for the answer to this field.
-fn asked_last(id: u32, held: Hold) -> Stand
+fn asked_last(alloc: Global, id: u32, held: Hold) -> Stand
     ensures { result ≡ asked_one id held }
 {
     Stand {
@@ -45,6 +46,7 @@ fn asked_last(id: u32, held: Hold) -> Stand
         at_once: false,
         asked: 0,
         overs: 0,
+        lasts: Sequence::new(alloc),
     }
 }
 
@@ -94,7 +96,7 @@ pub fn wait_within<D: Disk, S: Sources>(
         sources,
         &plan,
         ids.as_slice(),
-        asked_last(id, held),
+        asked_last(alloc, id, held),
         &Silence,
         &mut unwritten,
     );

@@ -22,8 +22,9 @@ abbrev pub late_if : Bool → List ℕ → Stand → Option ℕ
 late_if false ids next = None
 late_if true ids next = slice_get ids (next.first - 1)
 
-abbrev pub late_between : List ℕ → Stand → Stand → Option ℕ
-late_between ids from next = late_if (nat_lt from.overs next.overs) ids next
+-- of one after so many whose time was over
+abbrev pub late_between : List ℕ → ℕ → Stand → Option ℕ
+late_between ids overs next = late_if (nat_lt overs next.overs) ids next
 
 -- no item waits, or the field that was asked last is the last of those that were taken
 abbrev pub IsLastTaken : List ℕ → Stand → Type 0

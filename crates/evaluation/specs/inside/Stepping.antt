@@ -17,6 +17,8 @@ use Rattle.sheet_programs.specs.Told.{StandsOrStopped}
 use Rattle.offline_programs.specs.declared.fault.RunFault.{RunFault}
 use Rattle.offline_programs.specs.declared.fault.RunFault.TheVariants as fault
 use Rattle.evaluation.specs.declared.plan.Stand.{Stand}
+use Rattle.evaluation.specs.declared.stepping.Stepped.{Stepped}
+use Rattle.evaluation.specs.declared.stepping.Stepped.TheVariants as stepped
 use Rattle.evaluation.specs.Beside.{IsLate}
 use Rattle.evaluation.specs.Steps.{Setting, EvalPlace, Step, heard, over, stalled, StepComes, TakesStep, StepsTaken, stands, step_text, woken_in, watches_of}
 use Rattle.evaluation.specs.Broken.{Cut, StepUpTo, StepSoFar, StepLed, Unwatched, TooMany}
@@ -83,6 +85,16 @@ pub data StepFailed {C : Type 0} (o : Setting C) (p : EvalPlace C) (left : Left 
 abbrev pub StepGave : {C : Type 0} → Setting C → EvalPlace C → Left C → Option Stand → Type 0
 StepGave o p left (Some stand) = StepTook o p left stand
 StepGave o p left None = Rests p left × (left.sources ≡ p.run.children) × ((stopped : Option ℕ) × Ends o p stopped)
+
+-- where the evaluation goes on, if it does
+abbrev pub next_by : Stepped → Option Stand
+next_by (stepped.Next stand) = Some stand
+next_by (stepped.Ended stand) = None
+
+-- where there was no step it is at its end where it stood
+abbrev pub EndsThere : Stand → Stepped → Type 0
+EndsThere before (stepped.Next stand) = Unit {0}
+EndsThere before (stepped.Ended stand) = stand ≡ before
 
 -- All steps up to the end were taken.
 abbrev pub Through : {C : Type 0} → Setting C → EvalPlace C → Left C → Stand → Type 0

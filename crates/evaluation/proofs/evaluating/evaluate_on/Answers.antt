@@ -1,10 +1,12 @@
-use Rattle.std.proofs.Common.{◌+◌, ◌≤◌, arith, length, subst}
+use Rattle.std.proofs.Common.{◌+◌, ◌≤◌, arith, length, subst, sym}
 use Rattle.std.specs.Prelude.{IfSome}
 use Rattle.child_edge.specs.Faithful.{at}
 use Rattle.child_edge.proofs.Faulting.{same-at, same-on}
 use Rattle.live.specs.Records.{left}
 use Rattle.evaluation.specs.Steps.{setting, stands}
-use Rattle.evaluation.specs.inside.Stepping.{StepGave}
+use Rattle.evaluation.specs.declared.plan.Stand.{Stand}
+use Rattle.evaluation.specs.declared.stepping.Stepped.{Stepped}
+use Rattle.evaluation.specs.inside.Stepping.{EndsThere, StepGave, Through, next_by}
 use Rattle.evaluation.proofs.Goings.{all_taken, broke_off, none_taken, one_taken, too_many}
 use Rattle.evaluation.proofs.evaluating.evaluate_on.Goals as goal
 
@@ -17,15 +19,22 @@ loop-init g c = record {
   runs = λ w h. none_taken (setting g.T.Tells.voice g.S.Children.after g.S.Sources.clock g.S.Sources.wakes c.args.plan.now c.args.ids.now) w c.args.host.now c.args.sources.now c.args.from (g.W.Write.contents c.args.writer.now) h;
 }
 
-pub returns-in-Ok-None-clause-same : goal.returns-in-Ok-None-clause-same
-returns-in-Ok-None-clause-same g c = same-on c.args.host.now.store.disk c.loop.host.store.disk c.step.new.host.store.disk c.loop.invariant.same c.in-Ok-None.ensures.same
+pub returns-in-Ok-Ended-clause-same : goal.returns-in-Ok-Ended-clause-same
+returns-in-Ok-Ended-clause-same g c = same-on c.args.host.now.store.disk c.loop.host.store.disk c.step.new.host.store.disk c.loop.invariant.same c.in-Ok-Ended.ensures.same
 
-pub returns-in-Ok-None-clause-ok : goal.returns-in-Ok-None-clause-ok
-returns-in-Ok-None-clause-ok g c = λ w h.
+-- where it ends it stands as before
+pub returns-in-Ok-Ended-clause-taken : goal.returns-in-Ok-Ended-clause-taken
+returns-in-Ok-Ended-clause-taken g c = subst (λ (s : Stand). s.taken ≤ length c.args.ids.now) (sym (subst (EndsThere c.loop.stand) c.in-Ok-Ended.field-0-is c.in-Ok-Ended.ensures.end)) c.loop.invariant.taken
+
+pub returns-in-Ok-Ended-clause-ok : goal.returns-in-Ok-Ended-clause-ok
+returns-in-Ok-Ended-clause-ok g c = λ w h.
     let so = c.loop.invariant.runs w h in
-    all_taken (setting g.T.Tells.voice g.S.Children.after g.S.Sources.clock g.S.Sources.wakes c.args.plan.now c.args.ids.now) (stands (at w c.args.sources.now c.args.host.now.store.disk) c.args.from) c.loop.stand c.loop.host c.step.new.host c.loop.sources c.step.new.sources
+    let o = setting g.T.Tells.voice g.S.Children.after g.S.Sources.clock g.S.Sources.wakes c.args.plan.now c.args.ids.now in
+    subst (λ (s : Stand). Through o (stands (at w c.args.sources.now c.args.host.now.store.disk) c.args.from) (left c.step.new.host c.step.new.sources (g.W.Write.contents c.args.writer.now) (g.W.Write.contents c.step.new.writer)) s)
+    (sym (subst (EndsThere c.loop.stand) c.in-Ok-Ended.field-0-is c.in-Ok-Ended.ensures.end))
+    (all_taken o (stands (at w c.args.sources.now c.args.host.now.store.disk) c.args.from) c.loop.stand c.loop.host c.step.new.host c.loop.sources c.step.new.sources
     (g.W.Write.contents c.args.writer.now) (g.W.Write.contents c.loop.writer) (g.W.Write.contents c.step.new.writer) _ so
-    (subst (StepGave (setting g.T.Tells.voice g.S.Children.after g.S.Sources.clock g.S.Sources.wakes c.args.plan.now c.args.ids.now) (stands (at so.leads c.loop.sources c.loop.host.store.disk) c.loop.stand) (left c.step.new.host c.step.new.sources (g.W.Write.contents c.loop.writer) (g.W.Write.contents c.step.new.writer))) c.in-Ok-None.field-0-is (c.in-Ok-None.ensures.ok so.leads so.stands))
+    (subst (λ (s : Stepped). StepGave o (stands (at so.leads c.loop.sources c.loop.host.store.disk) c.loop.stand) (left c.step.new.host c.step.new.sources (g.W.Write.contents c.loop.writer) (g.W.Write.contents c.step.new.writer)) (next_by s)) c.in-Ok-Ended.field-0-is (c.in-Ok-Ended.ensures.ok so.leads so.stands)))
 
 pub returns-in-Err-clause-same : goal.returns-in-Err-clause-same
 returns-in-Err-clause-same g c = same-on c.args.host.now.store.disk c.loop.host.store.disk c.step.new.host.store.disk c.loop.invariant.same c.in-Err.ensures.same
@@ -38,15 +47,15 @@ returns-in-Err-clause-err g c = λ w h.
 
 pub loop-preserved : goal.loop-preserved
 loop-preserved g c = record {
-  taken = subst (λ o. IfSome o (λ s. s.taken ≤ length c.args.ids.now)) c.in-Ok-Some.field-0-is c.in-Ok-Some.ensures.taken;
-  asked = omega (arith, c.loop.invariant.asked, (subst (λ o. IfSome o (λ s. (s.asked ≤ c.loop.stand.asked + 1) × (s.overs ≤ c.loop.stand.overs + 1))) c.in-Ok-Some.field-0-is c.in-Ok-Some.ensures.counts).0);
-  overs = omega (arith, c.loop.invariant.overs, (subst (λ o. IfSome o (λ s. (s.asked ≤ c.loop.stand.asked + 1) × (s.overs ≤ c.loop.stand.overs + 1))) c.in-Ok-Some.field-0-is c.in-Ok-Some.ensures.counts).1);
-  same = same-on c.args.host.now.store.disk c.loop.host.store.disk c.step.new.host.store.disk c.loop.invariant.same c.in-Ok-Some.ensures.same;
+  taken = subst (λ (o : Stepped). IfSome (next_by o) (λ s. s.taken ≤ length c.args.ids.now)) c.in-Ok-Next.field-0-is c.in-Ok-Next.ensures.taken;
+  asked = omega (arith, c.loop.invariant.asked, (subst (λ (o : Stepped). IfSome (next_by o) (λ s. (s.asked ≤ c.loop.stand.asked + 1) × (s.overs ≤ c.loop.stand.overs + 1))) c.in-Ok-Next.field-0-is c.in-Ok-Next.ensures.counts).0);
+  overs = omega (arith, c.loop.invariant.overs, (subst (λ (o : Stepped). IfSome (next_by o) (λ s. (s.asked ≤ c.loop.stand.asked + 1) × (s.overs ≤ c.loop.stand.overs + 1))) c.in-Ok-Next.field-0-is c.in-Ok-Next.ensures.counts).1);
+  same = same-on c.args.host.now.store.disk c.loop.host.store.disk c.step.new.host.store.disk c.loop.invariant.same c.in-Ok-Next.ensures.same;
   runs = λ w h.
       let so = c.loop.invariant.runs w h in
       one_taken (setting g.T.Tells.voice g.S.Children.after g.S.Sources.clock g.S.Sources.wakes c.args.plan.now c.args.ids.now) (stands (at w c.args.sources.now c.args.host.now.store.disk) c.args.from) c.loop.stand c.loop.host c.step.new.host c.loop.sources c.step.new.sources
-      (g.W.Write.contents c.args.writer.now) (g.W.Write.contents c.loop.writer) (g.W.Write.contents c.step.new.writer) _ so c.in-Ok-Some.next
-      (subst (StepGave (setting g.T.Tells.voice g.S.Children.after g.S.Sources.clock g.S.Sources.wakes c.args.plan.now c.args.ids.now) (stands (at so.leads c.loop.sources c.loop.host.store.disk) c.loop.stand) (left c.step.new.host c.step.new.sources (g.W.Write.contents c.loop.writer) (g.W.Write.contents c.step.new.writer))) c.in-Ok-Some.field-0-is (c.in-Ok-Some.ensures.ok so.leads so.stands));
+      (g.W.Write.contents c.args.writer.now) (g.W.Write.contents c.loop.writer) (g.W.Write.contents c.step.new.writer) _ so c.in-Ok-Next.next
+      (subst (λ (s : Stepped). StepGave (setting g.T.Tells.voice g.S.Children.after g.S.Sources.clock g.S.Sources.wakes c.args.plan.now c.args.ids.now) (stands (at so.leads c.loop.sources c.loop.host.store.disk) c.loop.stand) (left c.step.new.host c.step.new.sources (g.W.Write.contents c.loop.writer) (g.W.Write.contents c.step.new.writer)) (next_by s)) c.in-Ok-Next.field-0-is (c.in-Ok-Next.ensures.ok so.leads so.stands));
 }
 
 pub returns-clause-err : goal.returns-clause-err
