@@ -2,6 +2,7 @@ pub mod Meaning
 pub mod InRounds
 pub mod Together
 pub mod InVain
+pub mod Looking
 pub mod Taking
 pub mod Goings
 pub mod Ends

@@ -1,8 +1,9 @@
 -- The evaluation of a worksheet's fields: what it leaves at its end, and what a fault of it leaves. (docs/SCRIPT.md, "Evaluating a worksheet".)
-use Rattle.std.specs.Prelude.{◌≡◌, ◌⊎◌, ℕ, false, true, List, [], ◌++◌, Option, Some, None, length}
+use Rattle.std.specs.Prelude.{◌≡◌, ◌⊎◌, ℕ, false, true, List, [], ◌++◌, Option, Some, None, Result, Ok, Err, length}
 use Rattle.std.specs.Io.KnownBytes.{Appends}
 use Rattle.disk_model.specs.Disk.{DiskView, InModel, bytes_on}
 use Rattle.journal.specs.declared.opening.OpenCause.{OpenCause}
+use Rattle.worksheet.specs.Contents.{Contents}
 use Rattle.recovery.specs.Sheets.{TellsOfSheet}
 use Rattle.host_events.specs.declared.event.Event.{Event}
 use Rattle.host_events.specs.declared.outcome.HostFault.{HostFault}
@@ -23,8 +24,10 @@ use Rattle.tellings.specs.declared.note.Counts.{Counts}
 use Rattle.tellings.specs.declared.note.Note.TheVariants as note
 use Rattle.live.specs.declared.holding.Hold.TheVariants as hold
 use Rattle.live.specs.Records.{Brought, Outside}
+use Rattle.evaluation.specs.declared.plan.Plan.{Plan}
 use Rattle.evaluation.specs.declared.plan.Stand.{Stand}
 use Rattle.evaluation.specs.Meant.{EndsHere, evaluation_counts, missing_in}
+use Rattle.evaluation.specs.Programs.{Finds, HaveAll, IsFirstLacking}
 use Rattle.evaluation.specs.Rounds.{asking_order}
 use Rattle.evaluation.specs.Steps.{Setting, EvalPlace, Step, StepsTaken, fields_at, stands}
 use Rattle.evaluation.specs.Broken.{Cut, StepUpTo, StepSoFar, StepLed, Unwatched, TooMany}
@@ -147,9 +150,28 @@ pub data TellsEvaluation {C : Type 0} (o : Setting C) (first last : Outside C) (
   untold : o.voice.takes_memory ≡ true → Untold o first.disk last.disk first.sources last.sources → TellsEvaluation o first last nothing fault.OutOfMemory
   unwritten : Untold o first.disk last.disk first.sources last.sources → TellsEvaluation o first last nothing fault.Output
 
--- What a fault of it says where that may be a field that isn't there: then this is the first number that no field of the worksheet found
--- on the disk has, and nothing was done.
-abbrev pub TellsEvalFault : {C : Type 0} → Setting C → Outside C → Outside C → Type 0 → EvalFault → Type 0
-TellsEvalFault o first last nothing (evals.NoField id) =
+-- The program of each session that has a field which is to be evaluated was found.
+abbrev pub AreReady : Finds → Plan → Contents → Type 0
+AreReady finds plan sheet = HaveAll finds sheet.fields (asking_order plan sheet.fields) sheet.sessions
+
+-- The session of this name is the first whose program wasn't found of those that have a field which is to be evaluated.
+abbrev pub IsUnfound : Finds → Plan → Contents → List ℕ → Type 0
+IsUnfound finds plan sheet name = IsFirstLacking finds sheet.fields (asking_order plan sheet.fields) sheet.sessions name
+
+-- What a fault of it says where that may be a field or a program that isn't there. Then this is the first number that no field of the
+-- worksheet found on the disk has; or each field is there that is asked for, and this session's program isn't; and nothing was done.
+abbrev pub TellsEvalFault : {C : Type 0} → Finds → Setting C → Outside C → Outside C → Type 0 → EvalFault → Type 0
+TellsEvalFault finds o first last nothing (evals.NoField id) =
     nothing × ((start : World) × (now : DiskView) × OpenedOn first.disk start now × (missing_in o.plan.which (sheet_in start).fields ≡ Some id))
-TellsEvalFault o first last nothing (evals.Run why) = TellsEvaluation o first last nothing why
+TellsEvalFault finds o first last nothing (evals.NoProgram name) =
+    nothing × ((start : World) × (now : DiskView) × OpenedFor o first.disk start now × IsUnfound finds o.plan (sheet_in start) name)
+TellsEvalFault finds o first last nothing (evals.Run why) = TellsEvaluation o first last nothing why
+
+-- each program was found that the worksheet on this disk needs
+abbrev pub FoundAll : Finds → Plan → DiskView → Type 0
+FoundAll finds plan disk = (start : World) × (now : DiskView) × OpenedOn disk start now × AreReady finds plan (sheet_in start)
+
+-- Each program was found before anything was done: where a field was evaluated, and where an evaluation ended early that had done something.
+abbrev pub LooksFirst : {T : Type 0} → Finds → Plan → DiskView → Type 0 → Result T EvalFault → Type 0
+LooksFirst finds plan disk nothing (Ok end) = FoundAll finds plan disk
+LooksFirst finds plan disk nothing (Err why) = nothing ⊎ FoundAll finds plan disk

@@ -1,6 +1,7 @@
 pub mod Lasts
 pub mod Meant
 pub mod Rounds
+pub mod Programs
 pub mod Laws
 pub mod Beside
 pub mod Steps

@@ -11,9 +11,9 @@ ghost use Rattle.live.specs.Records.{left, outside};
 ghost use Rattle.evaluation.specs.Meant as meant;
 ghost use Rattle.evaluation.specs.Rounds.{asking_order};
 ghost use Rattle.evaluation.specs.Steps.{setting, stands};
-ghost use Rattle.evaluation.specs.Evaluation.{EvaluationDone, TellsEvalFault, not_begun as begins};
+ghost use Rattle.evaluation.specs.Evaluation.{AreReady, EvaluationDone, LooksFirst, TellsEvalFault, not_begun as begins};
 ghost use Rattle.evaluation.specs.declared.fault.EvalFault.TheVariants as evals;
-ghost use Rattle.evaluation.specs.inside.Choosing.{AsksInVain};
+ghost use Rattle.evaluation.specs.inside.Choosing.{AsksInVain, IsUnready};
 ghost use Rattle.evaluation.specs.inside.Stepping.{BrokeOff, Through, ThroughAnd};
 ghost use Rattle.offline_programs.specs.declared.fault.RunFault.TheVariants as told;
 ghost use Rattle.journal.specs.declared.opening.OpenCause.TheVariants as opens;
@@ -23,6 +23,7 @@ use crate::asking::stop_line;
 use crate::choosing::missing_in;
 use crate::fault::EvalFault;
 use crate::plan::{Plan, Stand, counts_of};
+use crate::programs::{Programs, lacking_in};
 use crate::rounds::asked_in;
 use crate::stepping::{Stepped, step};
 use arrivals::Sources;
@@ -162,21 +163,49 @@ fn ids_of(alloc: Global, plan: &Plan, sheet: &Sheet) -> Result<Vec<u32>, EvalFau
     }
 }
 
+/// The same, where the program of each session that has one of these fields is there.
+fn ready_ids<P: Programs>(
+    alloc: Global,
+    plan: &Plan,
+    programs: &P,
+    sheet: &Sheet,
+) -> Result<Vec<u32>, EvalFault>
+    ensures ids { IfOk result (λ ids. ids.items ≡ asking_order plan.now sheet.now.contents.fields) }
+    ensures ready { IfOk result (λ _. AreReady (P.finds programs.now) plan.now sheet.now.contents) }
+    ensures fault { IfErr result (IsUnready (P.finds programs.now) plan.now sheet.now.contents) }
+{
+    let ids = match ids_of(alloc, plan, sheet) {
+        Ok(ids) => ids,
+        Err(why) => return Err(why),
+    };
+    match lacking_in(programs, sheet, ids.as_slice()) {
+        Some(session) => Err(EvalFault::NoProgram(session)),
+        None => Ok(ids),
+    }
+}
+
 /// The numbers of the fields that are to be evaluated of the worksheet of a host, in which each that is
-/// asked for is there.
-fn ids_in<D: Disk>(alloc: Global, plan: &Plan, host: &Host<D>) -> Result<Vec<u32>, EvalFault>
+/// asked for is there, and so is each program that it needs.
+fn ids_in<D: Disk, P: Programs>(
+    alloc: Global,
+    plan: &Plan,
+    programs: &P,
+    host: &Host<D>,
+) -> Result<Vec<u32>, EvalFault>
     requires { (w : World) × IsHost host.now w }
     ensures ids { (w : World) → IsHost host.now w
         → IfOk result (λ ids. (meant.missing_in plan.now.which (sheet_in w).fields ≡ None)
         × (ids.items ≡ asking_order plan.now (sheet_in w).fields)) }
+    ensures ready { (w : World) → IsHost host.now w
+        → IfOk result (λ _. AreReady (P.finds programs.now) plan.now (sheet_in w)) }
     ensures few { IfOk result (λ ids. length ids.items < 2 ^ 31) }
     ensures fault { (w : World) → IsHost host.now w
-        → IfErr result (AsksInVain plan.now.which (sheet_in w).fields) }
+        → IfErr result (AsksInVain (P.finds programs.now) plan.now (sheet_in w)) }
 {
     few_fields(host);
     match missing_in(&plan.which, host.sheet()) {
         Some(id) => Err(EvalFault::NoField(id)),
-        None => ids_of(alloc, plan, host.sheet()),
+        None => ready_ids(alloc, plan, programs, host.sheet()),
     }
 }
 
@@ -206,15 +235,17 @@ fn counts_in<D: Disk>(plan: &Plan, all: u64, host: &Host<D>, stand: &Stand) -> C
 ///
 /// So no more fields than that are without their old answers at a time, and what was reported is on the disk.
 ///
-/// `Open` where the disk isn't opened, `NoField` where no field has a number that is asked for, and
+/// `Open` where the disk isn't opened, `NoField` where no field has a number that is asked for, `NoProgram` where the
+/// program of a session isn't there that has a field to evaluate, and
 /// `OutOfMemory` where there is no memory for the fields' numbers: nothing was written, and no child was
 /// called. `Input` where the sources can't be watched, `InputTooLong` after 2^64 - 1 steps, `Host` where the
 /// host has a fault, `OutOfMemory`: what was reported before is written.
 /// `Output` where the writer fails: a part of the text may have gone out. A voice that takes memory has
 /// `OutOfMemory` for that too.
-pub fn evaluate<W: Write, D: Disk, S: Sources, T: Tells>(
+pub fn evaluate<W: Write, D: Disk, S: Sources, T: Tells, P: Programs>(
     alloc: Global,
     plan: &Plan,
+    programs: &P,
     tells: &T,
     writer: &mut W,
     disk: D,
@@ -225,12 +256,17 @@ pub fn evaluate<W: Write, D: Disk, S: Sources, T: Tells>(
         (outside (D.view disk) sources.old (W.contents writer.old))
         (outside (D.view result.disk) sources.new (W.contents writer.new)) end.stopped_at end.counts) }
     ensures same { SameDisk (D.view disk) (D.view result.disk) }
-    ensures fault { IfErr result.answer (TellsEvalFault
+    ensures fault { IfErr result.answer (TellsEvalFault (P.finds programs.now)
         (setting T.voice S.after S.clock S.wakes plan.now [])
         (outside (D.view disk) sources.old (W.contents writer.old))
         (outside (D.view result.disk) sources.new (W.contents writer.new))
         (((writer.new ≡ writer.old) × (sources.new ≡ sources.old))
         × Untouched (D.view disk) (D.view result.disk))) }
+
+    // Where anything was done, each program that it needs was found before.
+    ensures looked { LooksFirst (P.finds programs.now) plan.now (D.view disk)
+        (((writer.new ≡ writer.old) × (sources.new ≡ sources.old))
+        × Untouched (D.view disk) (D.view result.disk)) result.answer }
 
     // That the disk failed, at the opening or later, is reported only where it did.
     ensures unopened { IsErrOf result.answer (evals.Run (told.Open opens.Disk))
@@ -249,7 +285,7 @@ pub fn evaluate<W: Write, D: Disk, S: Sources, T: Tells>(
             return Evaluated { disk, answer };
         }
     };
-    let ids = match ids_in(alloc, plan, &host) {
+    let ids = match ids_in(alloc, plan, programs, &host) {
         Ok(ids) => ids,
         Err(why) => {
             return Evaluated {

@@ -18,7 +18,7 @@ pub(crate) struct Placed {
 }
 
 /// Whether this field is of this session.
-fn is_field_of(session: Name, field: Option<&Field>) -> bool
+pub(crate) fn is_field_of(session: Name, field: Option<&Field>) -> bool
     ensures { result ≡ rounds.is_field_of session (option_copied field.entry) }
 {
     match field {

@@ -256,7 +256,7 @@ module _ {Y D P S I W E Q : Type 0} (o : OutsideView D P S I W E) where
   -- `eval` on a disk, printed in a voice
   abbrev pub EvaluatesOn : Voice → Plan → Outside Y D P S I W E Q → Outside Y D P S I W E Q → Ending → D → Type 0
   EvaluatesOn V plan old new ending disk =
-      EvaluationEnded (setting V o.sources.after o.sources.clock o.sources.wakes plan []) (given_disk o.disks disk) (calling_of old new) (streams_of old new) ending
+      EvaluationEnded (o.places.finds new.places) (setting V o.sources.after o.sources.clock o.sources.wakes plan []) (given_disk o.disks disk) (calling_of old new) (streams_of old new) ending
 
   -- `eval` over what the places open at a path, by a plan
   abbrev pub EvaluatesAs : Voice → Plan → Outside Y D P S I W E Q → Outside Y D P S I W E Q → Ending → Text → Type 0

@@ -5,6 +5,7 @@
 
 mod blocks;
 mod checks;
+mod finding;
 mod outlet;
 mod outside;
 mod plans;

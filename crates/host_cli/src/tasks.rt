@@ -12,6 +12,7 @@ ghost use Rattle.offline_programs.specs.declared.fault.RunFault.TheVariants as f
 use crate::blocks::{blocks, blocks_in_json};
 use crate::checks::check_at;
 use crate::outlet::Outlet;
+use crate::finding::FoundIn;
 use crate::outside::{Outside, System};
 use crate::plans::read_plan;
 use crate::refusing::{refuse_format, refuse_plan};
@@ -72,18 +73,22 @@ fn eval_as<Y: System, T: Tells>(
     ensures leaves { (outside.new.input ≡ outside.old.input)
         × (outside.new.progress ≡ outside.old.progress) }
 {
-    match outside.places.hold() {
-        Ok(()) => run_evaluation(
-            alloc,
-            plan,
-            tells,
-            &mut outside.output,
-            &mut outside.errors,
-            outside.places.open(path),
-            &mut outside.sources,
-        ),
-        Err(why) => end_unheld(why, &mut outside.errors),
+    if let Err(why) = outside.places.hold() {
+        return end_unheld(why, &mut outside.errors);
     }
+    let files = outside.places.open(path);
+    run_evaluation(
+        alloc,
+        plan,
+        &FoundIn::<Y> {
+            places: &outside.places,
+        },
+        tells,
+        &mut outside.output,
+        &mut outside.errors,
+        files,
+        &mut outside.sources,
+    )
 }
 
 /// `eval` of the fields of the worksheet at a path, by a plan, in words or in lines of JSON.

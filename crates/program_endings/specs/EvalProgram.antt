@@ -10,11 +10,13 @@ use Rattle.offline_programs.specs.declared.fault.RunFault.{RunFault}
 use Rattle.offline_programs.specs.declared.fault.RunFault.TheVariants as fault
 use Rattle.tellings.specs.Voice.{IsUntold, Voice}
 use Rattle.tellings.specs.declared.note.Counts.{Counts}
+use Rattle.tellings.specs.declared.note.Frame.{Frame}
 use Rattle.tellings.specs.declared.note.Frame.TheVariants as frame
 use Rattle.tellings.specs.declared.note.Overs.{Overs}
 use Rattle.evaluation.specs.Steps.{Setting}
-use Rattle.evaluation.specs.Evaluation.{EvaluationDone, TellsEvalFault}
+use Rattle.evaluation.specs.Evaluation.{EvaluationDone, LooksFirst, TellsEvalFault}
 use Rattle.evaluation.specs.Faults.{eval_fault_text}
+use Rattle.evaluation.specs.Programs.{Finds}
 use Rattle.evaluation.specs.declared.evaluating.EvalEnd.{EvalEnd}
 use Rattle.evaluation.specs.declared.fault.EvalFault.{EvalFault}
 use Rattle.evaluation.specs.declared.fault.EvalFault.TheVariants as evals
@@ -49,45 +51,52 @@ abbrev pub TellsEval : {E : Type 0} → Saying E → Bool → EvaluationAnswer �
 TellsEval errors told (Ok end) = TellsStop errors told (Ok end.stopped_at)
 TellsEval errors told (Err why) = IsSaid errors (eval_fault_text why) told
 
+-- what stands last is written whole where all was told, and where the voice takes no memory it is nothing
+abbrev pub FramedLast : {O : Type 0} → Voice → (O → Option (List ℕ)) → O → O → Bool → Frame → Type 0
+FramedLast V contents old new told last = (V.takes_memory ≡ false → new ≡ old) × (told ≡ true → Appends (contents old) (contents new) (V.frame last))
+
 -- A fault is reported last of all, where the voice has it and the output takes it.
 abbrev pub LastOfEval : {O : Type 0} → Voice → (O → Option (List ℕ)) → O → O → Bool → EvaluationAnswer → Type 0
 LastOfEval V contents old new told (Ok end) = new ≡ old
-LastOfEval V contents old new told (Err (evals.NoField id)) = (V.takes_memory ≡ false → new ≡ old) × (told ≡ true → Appends (contents old) (contents new) (V.frame (frame.NoField id)))
+LastOfEval V contents old new told (Err (evals.NoField id)) = FramedLast V contents old new told (frame.NoField id)
+LastOfEval V contents old new told (Err (evals.NoProgram name)) = FramedLast V contents old new told (frame.NoProgram name)
 LastOfEval V contents old new told (Err (evals.Run why)) = LastTold {T = Bool} V contents old new told (Err why)
 
 -- What `eval` answers on a disk between what stands first and last, and what it has written and done then.
-pub record EvaluatesTo {D C O : Type 0} (o : Setting C) (g : GivenDisk D) (q : Calling C) (w : Writing O) (answer : EvaluationAnswer) : Type 0 where
+pub record EvaluatesTo {D C O : Type 0} (finds : Finds) (o : Setting C) (g : GivenDisk D) (q : Calling C) (w : Writing O) (answer : EvaluationAnswer) : Type 0 where
   -- the disk after the evaluation, as it was closed
   pub later : D
   pub closed : g.how.closed later
   pub same : SameDisk (view_given g) (g.how.view later)
   pub evaluated : IfOk answer (λ end. EvaluationDone o (outside_before g q w) (outside_after g later q w) end.stopped_at end.counts)
+  -- each program was found before anything was done
+  pub looked : LooksFirst finds o.plan (view_given g) (DoesNothing q w × Untouched (view_given g) (g.how.view later)) answer
   -- that the disk failed, at the opening or later, is reported only where it did
   pub unopened : IsErrOf answer (evals.Run (fault.Open opens.Disk)) → Rises (view_given g).faults (g.how.view later).faults
   pub failed : IsErrOf answer (evals.Run (fault.Host hosts.Disk)) → Rises (view_given g).faults (g.how.view later).faults
   -- lack of memory at the opening is reported only where no call of the disk failed
   pub memory : IsErrOf answer (evals.Run (fault.Open opens.OutOfMemory)) → (g.how.view later).faults ≡ (view_given g).faults
-  pub fault : IfErr answer (TellsEvalFault o (outside_before g q w) (outside_after g later q w) (DoesNothing q w × Untouched (view_given g) (g.how.view later)))
+  pub fault : IfErr answer (TellsEvalFault finds o (outside_before g q w) (outside_after g later q w) (DoesNothing q w × Untouched (view_given g) (g.how.view later)))
 
 -- What `eval` answers on a disk, and what it has written and done then.
-pub data EvalAnswer {D C O : Type 0} (o : Setting C) (g : GivenDisk D) (q : Calling C) (w : Writing O) (answer : EvaluationAnswer) : Type 0 where
+pub data EvalAnswer {D C O : Type 0} (finds : Finds) (o : Setting C) (g : GivenDisk D) (q : Calling C) (w : Writing O) (answer : EvaluationAnswer) : Type 0 where
   -- it greeted, and evaluated; where it came to its end that was reported last
   evaluated : (first last : O) → Framed o.voice w.contents frame.Hello w.old first
-      → EvaluatesTo o g q (writing w.contents first last) answer
+      → EvaluatesTo finds o g q (writing w.contents first last) answer
       → IfOk answer (λ end. Framed o.voice w.contents frame.End last w.new) → IfErr answer (λ why. w.new ≡ last)
-      → EvalAnswer o g q w answer
+      → EvalAnswer finds o g q w answer
   -- what stands first couldn't be written, and nothing was done but to close the disk
-  ungreeted : (why : RunFault) → answer ≡ Err (evals.Run why) → o.voice.takes_memory ≡ true → IsUntold o.voice why → q.new ≡ q.old → g.how.closed g.disk → EvalAnswer o g q w answer
+  ungreeted : (why : RunFault) → answer ≡ Err (evals.Run why) → o.voice.takes_memory ≡ true → IsUntold o.voice why → q.new ≡ q.old → g.how.closed g.disk → EvalAnswer finds o g q w answer
   -- what stands last couldn't be written
   unended : (why : RunFault) (first last : O) (end : EvalEnd) → answer ≡ Err (evals.Run why) → o.voice.takes_memory ≡ true → IsUntold o.voice why → Framed o.voice w.contents frame.Hello w.old first
-      → EvaluatesTo o g q (writing w.contents first last) (Ok end)
-      → EvalAnswer o g q w answer
+      → EvaluatesTo finds o g q (writing w.contents first last) (Ok end)
+      → EvalAnswer finds o g q w answer
 
 -- What `eval` comes to on a disk, and how it ends.
-pub record EvaluationEnded {D C O E : Type 0} (o : Setting C) (g : GivenDisk D) (q : Calling C) (s : Streams O E) (ending : Ending) : Type 0 where
+pub record EvaluationEnded {D C O E : Type 0} (finds : Finds) (o : Setting C) (g : GivenDisk D) (q : Calling C) (s : Streams O E) (ending : Ending) : Type 0 where
   pub answer : EvaluationAnswer
   pub mid : O
-  pub answered : EvalAnswer o g q (writing s.output.contents s.output.old mid) answer
+  pub answered : EvalAnswer finds o g q (writing s.output.contents s.output.old mid) answer
   pub last_told : LastOfEval o.voice s.output.contents mid s.output.new ending.told answer
   pub status : ending.status ≡ evaluation_status answer
   pub told : TellsEval s.errors ending.told answer

@@ -3,7 +3,7 @@ ghost use Rattle.std.specs.Prelude.{◌≡◌, Err, IfErr, IfOk, []};
 ghost use Rattle.evaluation.specs.Steps.{setting};
 ghost use Rattle.evaluation.specs.declared.fault.EvalFault.TheVariants as evals;
 ghost use Rattle.offline_programs.specs.Saying.{saying};
-ghost use Rattle.program_endings.specs.EvalProgram.{EvalAnswer, EvaluatesTo, EvaluationEnded, LastOfEval, TellsEval, are_none_over, counts_status, evaluation_status};
+ghost use Rattle.program_endings.specs.EvalProgram.{EvalAnswer, EvaluatesTo, EvaluationEnded, FramedLast, LastOfEval, TellsEval, are_none_over, counts_status, evaluation_status};
 ghost use Rattle.program_endings.specs.LiveProgram.{LiveUnopened};
 ghost use Rattle.program_endings.specs.Records.{calling, given_disk, streams, writing};
 ghost use Rattle.sheet_files.specs.Closing.{closable};
@@ -14,7 +14,7 @@ use crate::live_program::end_told;
 use crate::messages::{NotEvaluated, StoppedAt};
 use crate::telling::no_files;
 use arrivals::Sources;
-use evaluation::{EvalEnd, EvalFault, Evaluated, Plan, evaluate};
+use evaluation::{EvalEnd, EvalFault, Evaluated, Plan, Programs, evaluate};
 use offline_programs::Says;
 use sheet_files::{Close, FilesFault};
 use std::alloc::Global;
@@ -43,39 +43,41 @@ fn status_by(counts: Counts) -> u8
 }
 
 /// Evaluates the fields of the worksheet on a disk, and closes the disk at the end.
-fn evaluate_on<W: Write, D: Close, S: Sources, T: Tells>(
+fn evaluate_on<W: Write, D: Close, S: Sources, T: Tells, P: Programs>(
     alloc: Global,
     plan: &Plan,
+    programs: &P,
     tells: &T,
     output: &mut W,
     disk: D,
     sources: &mut S,
 ) -> Result<EvalEnd, EvalFault>
-    ensures { EvaluatesTo (setting T.voice S.after S.clock S.wakes plan.now []) (given_disk (closable D.view D.closed) disk)
+    ensures { EvaluatesTo (P.finds programs.now) (setting T.voice S.after S.clock S.wakes plan.now []) (given_disk (closable D.view D.closed) disk)
         (calling sources.old sources.new) (writing W.contents output.old output.new) result }
 {
-    let Evaluated { disk, answer } = evaluate(alloc, plan, tells, output, disk, sources);
+    let Evaluated { disk, answer } = evaluate(alloc, plan, programs, tells, output, disk, sources);
     disk.close();
     answer
 }
 
 /// Writes the voice's first message, evaluates, and writes its last.
-fn evaluate_framed<W: Write, D: Close, S: Sources, T: Tells>(
+fn evaluate_framed<W: Write, D: Close, S: Sources, T: Tells, P: Programs>(
     alloc: Global,
     plan: &Plan,
+    programs: &P,
     tells: &T,
     output: &mut W,
     disk: D,
     sources: &mut S,
 ) -> Result<EvalEnd, EvalFault>
-    ensures { EvalAnswer (setting T.voice S.after S.clock S.wakes plan.now []) (given_disk (closable D.view D.closed) disk)
+    ensures { EvalAnswer (P.finds programs.now) (setting T.voice S.after S.clock S.wakes plan.now []) (given_disk (closable D.view D.closed) disk)
         (calling sources.old sources.new) (writing W.contents output.old output.new) result }
 {
     if let Err(fault) = tells.frame(Frame::Hello, output) {
         disk.close();
         return Err(EvalFault::Run(fault));
     }
-    match evaluate_on(alloc, plan, tells, output, disk, sources) {
+    match evaluate_on(alloc, plan, programs, tells, output, disk, sources) {
         Ok(end) => match tells.frame(Frame::End, output) {
             Ok(()) => Ok(end),
             Err(fault) => Err(EvalFault::Run(fault)),
@@ -95,22 +97,21 @@ fn end_evaluated<E: Says>(end: EvalEnd, errors: &mut E) -> Ending
     }
 }
 
-/// Ends the program where no field has a number that was asked for, which goes to both streams where its
-/// voice has it.
+/// Ends the program where a field or a program isn't there, which goes to both streams where its voice has it: as
+/// what stands last on one, and as its line on the other.
 fn end_without<W: Write, E: Says, T: Tells>(
-    id: u32,
+    why: EvalFault,
+    last: Frame,
     tells: &T,
     output: &mut W,
     errors: &mut E,
 ) -> Ending
-    ensures last { LastOfEval T.voice W.contents output.old output.new result.told (Err (evals.NoField id)) }
+    ensures last { FramedLast T.voice W.contents output.old output.new result.told last }
     ensures status { result.status ≡ 1 }
-    ensures told { TellsEval (saying E.contents E.tried errors.old errors.new) result.told (Err (evals.NoField id)) }
+    ensures told { TellsEval (saying E.contents E.tried errors.old errors.new) result.told (Err why) }
 {
-    let said = tells.frame(Frame::NoField(id), output).is_ok();
-    let told = errors.say(&NotEvaluated {
-        why: EvalFault::NoField(id),
-    });
+    let said = tells.frame(last, output).is_ok();
+    let told = errors.say(&NotEvaluated { why });
     ended(1, told && said)
 }
 
@@ -126,7 +127,20 @@ fn end_faulty<W: Write, E: Says, T: Tells>(
     ensures told { TellsEval (saying E.contents E.tried errors.old errors.new) result.told (Err fault) }
 {
     match fault {
-        EvalFault::NoField(id) => end_without(id, tells, output, errors),
+        EvalFault::NoField(id) => end_without(
+            EvalFault::NoField(id),
+            Frame::NoField(id),
+            tells,
+            output,
+            errors,
+        ),
+        EvalFault::NoProgram(name) => end_without(
+            EvalFault::NoProgram(name),
+            Frame::NoProgram(name),
+            tells,
+            output,
+            errors,
+        ),
         EvalFault::Run(why) => end_told(Err(why), tells, output, errors),
     }
 }
@@ -149,28 +163,31 @@ fn end_evaluation<W: Write, E: Says, T: Tells>(
 }
 
 /// Evaluates the fields of the worksheet on a disk, and reports how that ended.
-fn end_on<W: Write, E: Says, D: Close, S: Sources, T: Tells>(
+fn end_on<W: Write, E: Says, D: Close, S: Sources, T: Tells, P: Programs>(
     alloc: Global,
     plan: &Plan,
+    programs: &P,
     tells: &T,
     output: &mut W,
     errors: &mut E,
     disk: D,
     sources: &mut S,
 ) -> Ending
-    ensures { EvaluationEnded (setting T.voice S.after S.clock S.wakes plan.now []) (given_disk (closable D.view D.closed) disk) (calling sources.old sources.new)
+    ensures { EvaluationEnded (P.finds programs.now) (setting T.voice S.after S.clock S.wakes plan.now []) (given_disk (closable D.view D.closed) disk) (calling sources.old sources.new)
         (streams (writing W.contents output.old output.new) (saying E.contents E.tried errors.old errors.new)) result }
 {
-    let answer = evaluate_framed(alloc, plan, tells, output, disk, sources);
+    let answer = evaluate_framed(alloc, plan, programs, tells, output, disk, sources);
     end_evaluation(answer, tells, output, errors)
 }
 
-/// The whole program `eval` on its files, or on why they weren't opened: what comes of each field goes to
+/// The whole program `eval` on its files, or on why they weren't opened. Each program that it needs is looked for
+/// first. What comes of each field goes to
 /// `output`, flushed at once, and the counts at the end. The line of a fault goes to `errors`, and so does
 /// that of the place where a strict evaluation stopped.
-pub fn run_evaluation<W: Write, E: Says, D: Close, S: Sources, T: Tells>(
+pub fn run_evaluation<W: Write, E: Says, D: Close, S: Sources, T: Tells, P: Programs>(
     alloc: Global,
     plan: &Plan,
+    programs: &P,
     tells: &T,
     output: &mut W,
     errors: &mut E,
@@ -180,11 +197,11 @@ pub fn run_evaluation<W: Write, E: Says, D: Close, S: Sources, T: Tells>(
     ensures unopened { IfErr files (LiveUnopened T.voice (calling sources.old sources.new)
         (streams (writing W.contents output.old output.new) (saying E.contents E.tried errors.old errors.new)) result) }
 
-    ensures files { IfOk files (λ disk. EvaluationEnded (setting T.voice S.after S.clock S.wakes plan.now []) (given_disk (closable D.view D.closed) disk) (calling sources.old sources.new)
+    ensures files { IfOk files (λ disk. EvaluationEnded (P.finds programs.now) (setting T.voice S.after S.clock S.wakes plan.now []) (given_disk (closable D.view D.closed) disk) (calling sources.old sources.new)
         (streams (writing W.contents output.old output.new) (saying E.contents E.tried errors.old errors.new)) result) }
 {
     match files {
-        Ok(disk) => end_on(alloc, plan, tells, output, errors, disk, sources),
+        Ok(disk) => end_on(alloc, plan, programs, tells, output, errors, disk, sources),
         Err(why) => end_told(Err(no_files(why)), tells, output, errors),
     }
 }

@@ -28,6 +28,10 @@ while IFS= read -r l; do
 done
 END
 
+# A file that may be executed, and that the system can't start.
+printf 'no program\n' >broken
+chmod +x broken
+
 made ''
 evaluates 'a worksheet without fields' 0 'answered 0 unanswered 0\n' ''
 made 'session a plain sh count.sh\nsession b plain sh count.sh\nnew 0 a x\nnew 1 b y\nnew 2 a z\nmove 3 0\n'
@@ -76,8 +80,35 @@ for id in x '' 3,1 03 1-3 4294967296; do
 done
 words 'fields and one to begin with' 2 "error: --from goes with no ID after PATH\n\nFor more information, try 'tmhost eval --help'.\n" eval --from 1 sheet 3
 
+# Programs that aren't there: nothing is evaluated, no answer is taken away, and not a byte is written.
+mkdir -p folder
+printf 'exit\n' >plain
+chmod -x plain
+for program in ./nothing nothing-of-this-name ./folder ./plain folder/sh ./count.sh/sh; do
+    made "session a plain sh count.sh\nsession b plain $program one two\nsession c plain ./nothing\nnew 0 a x\nnew 1 b y\nnew 2 a z\neval 1\neval 3\nwait\n"
+    bytes sheet >before
+    for options in '' '--jobs 1' '--jobs 64' --strict '--timeout 60' --unanswered '--from 1' '3 2'; do
+        evaluates "no program $program $options" 1 'fault 44 NoProgram b\n' '#1 a\n> x\nx 1\n#2 b\n> y\n?\n#3 a\n> z\nz 2\n' $options
+    done
+    compare "the bytes are the same, $program" "$(bytes sheet)" "$(cat before)"
+done
+evaluates 'a number that no field has is told first' 1 'fault 37 NoField 9\n' '#1 a\n> x\nx 1\n#2 b\n> y\n?\n#3 a\n> z\nz 2\n' 2 9
+compare 'as JSON, a program that is not there' "$(answer eval --json sheet 2 </dev/null)" \
+    "$(printf '{"format":1,"program":"tmhost","protocol":2,"type":"hello","version":"0.1.0"}\n{"name":"NoProgram","number":44,"session":"b","type":"fault"}\nfault 44 NoProgram b\nstatus 1')"
+evaluates 'where no field of it is evaluated its program is not wanted' 1 'asked\nbanner a\nanswered 1\nasked\nanswered 3\nanswered 2 unanswered 1\n' \
+    '#1 a\n> x\nx 1\n#2 b\n> y\n?\n#3 a\n> z\nz 2\n' 1 3
+compare 'nor is one where all show an answer' "$(answer eval --unanswered sheet 1 3 </dev/null)" "$(ending 'answered 2 unanswered 1\n' 1)"
+made 'session a plain sh count.sh\nnew 0 a x\neval 1\nwait\n'
+compare 'no folder of PATH has it' "$(env "PATH=/nowhere:$PWD/folder" "$tmhost" eval sheet 2>&1 </dev/null; echo "status $?")" "$(ending 'fault 44 NoProgram a\n' 1)"
+compare 'a later folder of PATH has it' "$(env "PATH=/nowhere:$PATH" "$tmhost" eval sheet 2>&1 </dev/null; echo "status $?")" "$(ending 'asked\nbanner a\nanswered 1\nanswered 1 unanswered 0\n' 0)"
+made 'session a plain mine\nnew 0 a x\n'
+printf '#!/bin/sh\nexec sh count.sh\n' >mine
+chmod +x mine
+compare 'an empty folder of PATH is the current one' "$(env "PATH=:$PATH" "$tmhost" eval sheet 2>&1 </dev/null; echo "status $?")" "$(ending 'asked\nbanner a\nanswered 1\nanswered 1 unanswered 0\n' 0)"
+compare 'without one it is not looked for there' "$(answer eval sheet </dev/null)" "$(ending 'fault 44 NoProgram a\n' 1)"
+
 # Fields that are lost.
-made 'session a plain sh count.sh\nsession b plain ./nothing\nnew 0 a x\nnew 1 a end\nnew 2 a z\nnew 3 b y\n'
+made 'session a plain sh count.sh\nsession b plain ./broken\nnew 0 a x\nnew 1 a end\nnew 2 a z\nnew 3 b y\n'
 evaluates 'an end goes on with another interpreter' 1 \
     'asked\nbanner a\nanswered 1\nasked\nended a Ended lost 1\nasked\nbanner a\nanswered 3\nasked\nended b StartRefused lost 1\nanswered 2 unanswered 2\n' \
     '#1 a\n> x\nx 1\n#2 a\n> end\n? Ended\n#3 a\n> z\nz 1\n#4 b\n> y\n? StartRefused\n' --jobs 1
@@ -237,7 +268,7 @@ evaluates 'one session alone' 1 'asked\nbanner a\nanswered 1\nasked\nanswered 2\
     '#1 a\n> x\nx 1\n#2 a\n> y\ny 2\n#3 b\n> w\n?\n' --jobs 4 1 2
 made 'session a plain sh count.sh\nsession b plain sh count.sh\nsession c plain sh count.sh\nnew 0 c x\nnew 1 b x\nnew 2 a x\nnew 3 a y\nnew 4 c y\n'
 compare 'a field is not passed over while the one before it waits' "$("$tmhost" eval --jobs 2 --timeout 60 sheet </dev/null | tail -n 2)" "$(printf 'answered 5 unanswered 0\nover 0 passed 0')"
-made 'session a plain sh count.sh\nsession b plain ./nothing\nsession c plain sh count.sh\nnew 0 a x\nnew 1 b y\nnew 2 c z\n'
+made 'session a plain sh count.sh\nsession b plain ./broken\nsession c plain sh count.sh\nnew 0 a x\nnew 1 b y\nnew 2 c z\n'
 compare 'one that is lost at once leaves its place' "$(sorted 4 --jobs 2)" \
     "$(printf 'status 1\nasked\nasked\nended b StartRefused lost 1\nasked\n--\nanswered 1\nanswered 2 unanswered 1\nanswered 3\nasked\nasked\nasked\nbanner a\nbanner c\nended b StartRefused lost 1')"
 made 'session a plain env --default-signal=INT sh turns.sh\nsession b plain env --default-signal=INT sh turns.sh\nnew 0 a loop\nnew 1 b loop\n'

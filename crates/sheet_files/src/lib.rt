@@ -12,6 +12,7 @@ mod names;
 mod opening;
 mod pairing;
 mod places;
+mod programs;
 mod sheet_file;
 mod system_file;
 

@@ -40,6 +40,8 @@ pub trait Names<F> {
 
     ghost syncs_folder: { Self → List ℕ → Result (Unit {0}) Error → Self → Type 0 };
 
+    ghost finds: { Self → List ℕ → Bool → Type 0 };
+
     /// Sees to it that no file takes the place of a closed standard stream.
     fn hold(&mut self) -> Result<(), HoldFault>
         ensures { holds self.old result self.new };
@@ -92,4 +94,9 @@ pub trait Names<F> {
     /// Brings the names of the folder of this path onto the disk.
     fn sync_folder(&mut self, path: &str) -> io::Result<()>
         ensures { syncs_folder self.old path.now result self.new };
+
+    /// Whether there is a program of this name to start, as a start looks for it. Where that can't be found out it
+    /// counts as there.
+    fn has_program(&self, name: &[u8]) -> bool
+        ensures { finds self.now name.now result };
 }

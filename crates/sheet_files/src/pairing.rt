@@ -3,14 +3,17 @@ ghost use Rattle.std.specs.Prelude.{◌≡◌, IfOk, string_bytes};
 ghost use Rattle.sheet_files.specs.Names.{Brings, LocksBy, second_name};
 
 use crate::holding::{Closed, Held, hold_closed};
+use crate::programs::is_there_to_start;
 use crate::{HoldFault, Identity, Lock, Names, SheetFile};
 use journal::FIRST_OF_SECOND;
 use std::alloc::Global;
+use std::env::Env;
 use std::fs::{OpenFile, OpenOptions, TryLockError};
 use std::io::ErrorKind;
 use std::os::unix::fs::FileExt;
+use std::alloc::Alloc;
 use std::rt::Files;
-use std::{fs, io};
+use std::{fs, io, str};
 
 /// What the path of the second file ends in, after that of the first one.
 const ENDING: &str = ".alt";
@@ -167,7 +170,7 @@ impl<R: Files + Drop> FileNames<R> {
     }
 }
 
-impl<F: SheetFile + Drop, R: Files<File = F> + Drop> Names<F> for FileNames<R> {
+impl<F: SheetFile + Drop, R: Files<File = F> + Env + Alloc + Drop> Names<F> for FileNames<R> {
     ghost holds = { λ _ _ _. Unit {0} };
 
     ghost leads = { λ _ _ _ _. Unit {0} };
@@ -193,6 +196,8 @@ impl<F: SheetFile + Drop, R: Files<File = F> + Drop> Names<F> for FileNames<R> {
     ghost syncs = { λ _ file result _. F.brought file result };
 
     ghost syncs_folder = { λ _ _ result _. Brings F.brought result };
+
+    ghost finds = { λ _ _ _. Unit {0} };
 
     fn hold(&mut self) -> Result<(), HoldFault> {
         self.held = Some(hold_closed(&self.rt, self.closed)?);
@@ -256,5 +261,12 @@ impl<F: SheetFile + Drop, R: Files<File = F> + Drop> Names<F> for FileNames<R> {
 
     fn sync_folder(&mut self, path: &str) -> io::Result<()> {
         bring_folder(&self.rt, path)
+    }
+
+    fn has_program(&self, name: &[u8]) -> bool {
+        match str::from_utf8(name) {
+            Ok(name) => is_there_to_start(&self.rt, name),
+            Err(_) => true,
+        }
     }
 }

@@ -1,5 +1,5 @@
 //! Where worksheets lie.
-ghost use Rattle.std.specs.Prelude.{◌≤◌, ℕ, List, Result, IfOk};
+ghost use Rattle.std.specs.Prelude.{◌≤◌, ℕ, Bool, List, Result, IfOk};
 ghost use Rattle.sheet_files.specs.Names.{DiskMade, DiskOpened, DiskRead};
 ghost use Rattle.sheet_files.specs.declared.files_fault.FilesFault.{FilesFault};
 ghost use Rattle.sheet_files.specs.declared.files_fault.HoldFault.{HoldFault};
@@ -9,8 +9,9 @@ use crate::{DiskFile, FileDisk, FilesFault, HoldFault, MakeFault, Names};
 use disk_model::Disk;
 use std::alloc::Global;
 
-/// Where worksheets lie, each at a path. What its calls do stands in four relations: the places
-/// before a call, what it asks for, its answer, and the places after it.
+/// Where worksheets lie, each at a path, and where programs do, each of a name. What its calls do stands in five
+/// relations: the places before a call, what it asks for, its answer, and the places after it, which a look leaves
+/// as they are.
 pub trait Places<D: Disk> {
     ghost holds: { Self → Result (Unit {0}) HoldFault → Self → Type 0 };
 
@@ -19,6 +20,8 @@ pub trait Places<D: Disk> {
     ghost opens: { Self → List ℕ → Result D FilesFault → Self → Type 0 };
 
     ghost reads: { Self → List ℕ → Result D FilesFault → Self → Type 0 };
+
+    ghost finds: { Self → List ℕ → Bool → Type 0 };
 
     /// Sees to it that no file takes the place of a standard stream. It comes before the others.
     fn hold(&mut self) -> Result<(), HoldFault>
@@ -36,6 +39,10 @@ pub trait Places<D: Disk> {
     /// Opens the files of a worksheet to read alone.
     fn open_to_read(&mut self, path: &str) -> Result<D, FilesFault>
         ensures { reads self.old path.now result self.new };
+
+    /// Whether there is a program of this name to start.
+    fn has_program(&self, name: &[u8]) -> bool
+        ensures { finds self.now name.now result };
 }
 
 /// Worksheets in files. What a call went through in the place of these files is what the place itself says of each of
@@ -62,6 +69,8 @@ impl<F: DiskFile + Drop, N: Names<F> + Drop> Places<FileDisk<F>> for FilePlaces<
 
     ghost reads = { λ old path result new. IfOk result (λ disk. DiskRead N.Names path disk.first disk.second old.names new.names) };
 
+    ghost finds = { λ places name is_there. N.finds places.names name is_there };
+
     fn hold(&mut self) -> Result<(), HoldFault> {
         self.names.hold()
     }
@@ -76,5 +85,9 @@ impl<F: DiskFile + Drop, N: Names<F> + Drop> Places<FileDisk<F>> for FilePlaces<
 
     fn open_to_read(&mut self, path: &str) -> Result<FileDisk<F>, FilesFault> {
         FileDisk::open_to_read(&mut self.names, self.alloc, path)
+    }
+
+    fn has_program(&self, name: &[u8]) -> bool {
+        self.names.has_program(name)
     }
 }

@@ -129,6 +129,7 @@ none_told (told.counted_in_time answered unanswered over passed) = refl
 none_told (told.checked id session c) = checked_none id session c
 none_told (told.compared same differ unanswered left_out) = refl
 none_told (told.no_field id) = refl
+none_told (told.no_program session) = ap (λ b. b || false) (bytes_none session)
 none_told told.end = refl
 
 -- a value that is printed has none

@@ -13,7 +13,7 @@ use Rattle.sheet_json.specs.Plain.{IsPlain, IsSoundTelling}
 use Rattle.sheet_json.specs.Reading.{bytes_in, tree_in, HasBytes}
 use Rattle.sheet_json.specs.Tellings.{CheckTold, EventTold, FieldShown, Reply, SessionShown, Telling}
 use Rattle.sheet_json.specs.Tellings as told
-use Rattle.sheet_json.specs.Told.{checked_in, compared_in, counts_in, exported_in, field_read, no_field_in, over_in, session_in, told_in, CheckHasBytes, EventHasBytes, StateHasBytes}
+use Rattle.sheet_json.specs.Told.{checked_in, compared_in, counts_in, exported_in, field_read, no_field_in, no_program_in, over_in, session_in, told_in, CheckHasBytes, EventHasBytes, StateHasBytes}
 
 -- Bytes read back, whatever they are.
 abbrev pub BytesReadBack : Type 0
@@ -44,11 +44,13 @@ CountsReadBack = ((a u : ℕ) → counts_in (telling_data (told.counted a u)) �
     × ((a u over passed : ℕ) → counts_in (telling_data (told.counted_in_time a u over passed)) ≡ Some (told.counted_in_time a u over passed))
     × ((id : ℕ) (outcome : List ℕ) → over_in (telling_data (told.over id outcome)) ≡ Some (told.over id outcome))
 
--- What a field that was evaluated again came to reads back, and so do the counts of a check, and the number that no field has.
+-- What a field that was evaluated again came to reads back, and so do the counts of a check, the number that no field has, and the session whose
+-- program isn't there.
 abbrev pub ChecksReadBack : Type 0
 ChecksReadBack = ((id : ℕ) (session : List ℕ) (c : CheckTold) → IsBytes session → CheckHasBytes c → checked_in (telling_data (told.checked id session c)) ≡ Some (told.checked id session c))
     × ((same differ unanswered left_out : ℕ) → compared_in (telling_data (told.compared same differ unanswered left_out)) ≡ Some (told.compared same differ unanswered left_out))
     × ((id : ℕ) → no_field_in (telling_data (told.no_field id)) ≡ Some (told.no_field id))
+    × ((session : List ℕ) → IsBytes session → no_program_in (telling_data (told.no_program session)) ≡ Some (told.no_program session))
 
 -- A worksheet in a format reads back, and that it has no text there.
 abbrev pub ExportsReadBack : Type 0

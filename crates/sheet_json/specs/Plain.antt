@@ -98,4 +98,5 @@ IsSoundTelling (told.counted_in_time answered unanswered over passed) = Is64 ans
 IsSoundTelling (told.checked id session c) = Is64 id × IsSoundCheck c
 IsSoundTelling (told.compared same differ unanswered left_out) = Is64 same × Is64 differ × Is64 unanswered × Is64 left_out
 IsSoundTelling (told.no_field id) = Is64 id
+IsSoundTelling (told.no_program session) = Unit {0}
 IsSoundTelling told.end = Unit {0}

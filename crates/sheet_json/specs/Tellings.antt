@@ -91,5 +91,7 @@ pub data Telling : Type 0 where
   compared : ℕ → ℕ → ℕ → ℕ → Telling
   -- the fault that no field has this number
   no_field : ℕ → Telling
+  -- the fault that the program of this session isn't there
+  no_program : List ℕ → Telling
   -- the input came to its end
   end : Telling

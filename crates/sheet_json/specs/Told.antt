@@ -167,6 +167,10 @@ compared_in d =
 abbrev pub no_field_in : Data → Option Telling
 no_field_in d = option_map (λ id. told.no_field id) (member_in count_in (codes "id") d)
 
+-- the session whose program isn't there
+abbrev pub no_program_in : Data → Option Telling
+no_program_in d = option_map (λ session. told.no_program session) (member_in bytes_in (codes "session") d)
+
 -- a worksheet in a format, or that it has no text there
 abbrev pub exported_in : Data → Option Telling
 exported_in d =

@@ -78,6 +78,17 @@ pub fn no_field_value(alloc: Global, id: u32) -> Result<Value, AllocError>
         .typed("fault")
 }
 
+/// The fault that the program of this session isn't there.
+pub fn no_program_value(alloc: Global, session: &[u8]) -> Result<Value, AllocError>
+    ensures { IfOk result (λ value. view value ≡ telling_data (told.no_program session.now)) }
+{
+    Members::new(alloc)
+        .text("name", "NoProgram")?
+        .count("number", 44)?
+        .bytes("session", session)?
+        .typed("fault")
+}
+
 /// A fault, and the offset of a damage.
 pub fn fault_value(
     alloc: Global,

@@ -43,7 +43,8 @@ pub fn counts_read_back()
     ensures { laws.CountsReadBack }
 {}
 
-/// What a check tells reads back: what a field came to, the counts, and the number that no field has.
+/// What a check tells reads back: what a field came to, the counts, the number that no field has, and the session whose
+/// program isn't there.
 #[tactic(auto, using(crate::proofs::ReadChecks::checks_read_back))]
 pub fn checks_read_back()
     ensures { laws.ChecksReadBack }

@@ -34,6 +34,7 @@ abbrev pub frame_json : Frame → List ℕ
 frame_json frame.Hello = telling_line told.hello
 frame_json frame.End = telling_line told.end
 frame_json (frame.NoField id) = telling_line (told.no_field id)
+frame_json (frame.NoProgram name) = telling_line (told.no_program name)
 
 -- what came of the wish to interrupt an interpreter
 abbrev pub interrupt_json : ℕ → Interrupted → List ℕ

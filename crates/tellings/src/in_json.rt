@@ -18,7 +18,7 @@ use session_engine::Host;
 use sheet_export::Format;
 use sheet_json::{
     asked_value, closed_value, default_value, done_value, end_value, ended_value, fault_value,
-    hello_value, made_value, no_field_value, nothing_value, refused_value, stopped_value,
+    hello_value, made_value, no_field_value, no_program_value, nothing_value, refused_value, stopped_value,
 };
 use std::alloc::Global;
 use std::io::Write;
@@ -238,6 +238,11 @@ fn write_frame<W: Write>(alloc: Global, frame: Frame, writer: &mut W) -> Result<
         Frame::Hello => write_made(alloc, hello_value(alloc), writer),
         Frame::End => write_made(alloc, end_value(alloc), writer),
         Frame::NoField(id) => write_made(alloc, no_field_value(alloc, id), writer),
+        Frame::NoProgram(name) => write_made(
+            alloc,
+            no_program_value(alloc, name.as_slice()),
+            writer,
+        ),
     }
 }
 

@@ -92,7 +92,9 @@ fn write_events<W: Write>(replies: &[Reply], writer: &mut W) -> Result<(), RunFa
 }
 
 /// Writes a line of a word, with the space after it, and a session's name.
-fn write_named<W: Write>(word: &[u8], name: Name, writer: &mut W) -> Result<(), RunFault>
+///
+/// `Output` where the writer fails: a part of the line may have gone out.
+pub fn write_named<W: Write>(word: &[u8], name: Name, writer: &mut W) -> Result<(), RunFault>
     ensures ok { OnOk result (Appends (W.contents writer.old) (W.contents writer.new)
         (word.now ++ name ++ 10 ∷ [])) }
     ensures err { IfErr result (λ fault. fault ≡ RunFault.Output) }

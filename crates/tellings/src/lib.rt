@@ -13,6 +13,6 @@ mod tells;
 mod writing;
 
 pub use in_json::InJson;
-pub use in_words::InWords;
+pub use in_words::{InWords, write_named};
 pub use note::{Counts, Frame, Note, Overs};
 pub use tells::Tells;

@@ -12,6 +12,8 @@ pub enum Frame {
     End,
     /// No field has this number, which was asked for: the fault 37.
     NoField(u32),
+    /// The program of this session isn't there: the fault 44.
+    NoProgram(Name),
 }
 
 /// What a limit of time came to in an evaluation.

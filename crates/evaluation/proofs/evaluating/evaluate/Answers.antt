@@ -1,4 +1,4 @@
-use Rattle.std.proofs.Common.{[], ap, length, refl, sym, ◌≡◌, ◌∙◌, subst}
+use Rattle.std.proofs.Common.{[], inl, inr, ap, length, refl, sym, ◌≡◌, ◌∙◌, subst}
 use Rattle.disk_model.specs.Disk.{DiskView, Rises, SameDisk}
 use Rattle.worksheet.specs.Contents.{Contents}
 use Rattle.session_engine.specs.World.{sheet_in, world_at_opening}
@@ -54,7 +54,7 @@ returns-in-Err-ids_in-clause-fault g c =
     let o = c.in-Ok.ensures.opens in
     let disk = g.D.Disk.view c.args.disk in
     let start = world_at_opening o.0 disk.room c.in-Ok.host.store.end in
-    in_vain (setting g.T.Tells.voice g.S.Children.after g.S.Sources.clock g.S.Sources.wakes c.args.plan.now []) disk (g.D.Disk.view c.close.result) c.in-Ok.host.store.disk c.args.sources.now c.args.sources.now (g.W.Write.contents c.args.writer.now) (g.W.Write.contents c.args.writer.now) start
+    in_vain (g.P.Programs.finds c.args.programs.now) (setting g.T.Tells.voice g.S.Children.after g.S.Sources.clock g.S.Sources.wakes c.args.plan.now []) disk (g.D.Disk.view c.close.result) c.in-Ok.host.store.disk c.args.sources.now c.args.sources.now (g.W.Write.contents c.args.writer.now) (g.W.Write.contents c.args.writer.now) start
     (((c.args.writer.now ≡ c.args.writer.now) × (c.args.sources.now ≡ c.args.sources.now)) × Untouched disk (g.D.Disk.view c.close.result)) c.in-Err-ids_in.why
     ((refl, refl), subst (Untouched disk) (sym c.close.ensures) c.in-Ok.ensures.looks)
     (opened_on disk c.in-Ok.host o.0 o.1 c.in-Ok.ensures.found c.in-Ok.ensures.ends c.in-Ok.ensures.looks) (c.in-Err-ids_in.ensures.fault start o.1)
@@ -63,19 +63,19 @@ pub returns-in-Err-ids_in-clause-unopened : goal.returns-in-Err-ids_in-clause-un
 returns-in-Err-ids_in-clause-unopened g c = λ e.
     let o = c.in-Ok.ensures.opens in
     let start = world_at_opening o.0 (g.D.Disk.view c.args.disk).room c.in-Ok.host.store.end in
-    not_opened c.args.plan.now.which (sheet_in start).fields c.in-Err-ids_in.why opens.Disk (c.in-Err-ids_in.ensures.fault start o.1) (err_same _ c.in-Err-ids_in.why (evals.Run (told.Open opens.Disk)) refl e)
+    not_opened (g.P.Programs.finds c.args.programs.now) c.args.plan.now (sheet_in start) c.in-Err-ids_in.why opens.Disk (c.in-Err-ids_in.ensures.fault start o.1) (err_same _ c.in-Err-ids_in.why (evals.Run (told.Open opens.Disk)) refl e)
 
 pub returns-in-Err-ids_in-clause-memory : goal.returns-in-Err-ids_in-clause-memory
 returns-in-Err-ids_in-clause-memory g c = λ e.
     let o = c.in-Ok.ensures.opens in
     let start = world_at_opening o.0 (g.D.Disk.view c.args.disk).room c.in-Ok.host.store.end in
-    not_opened c.args.plan.now.which (sheet_in start).fields c.in-Err-ids_in.why opens.OutOfMemory (c.in-Err-ids_in.ensures.fault start o.1) (err_same _ c.in-Err-ids_in.why (evals.Run (told.Open opens.OutOfMemory)) refl e)
+    not_opened (g.P.Programs.finds c.args.programs.now) c.args.plan.now (sheet_in start) c.in-Err-ids_in.why opens.OutOfMemory (c.in-Err-ids_in.ensures.fault start o.1) (err_same _ c.in-Err-ids_in.why (evals.Run (told.Open opens.OutOfMemory)) refl e)
 
 pub returns-in-Err-ids_in-clause-failed : goal.returns-in-Err-ids_in-clause-failed
 returns-in-Err-ids_in-clause-failed g c = λ e.
     let o = c.in-Ok.ensures.opens in
     let start = world_at_opening o.0 (g.D.Disk.view c.args.disk).room c.in-Ok.host.store.end in
-    not_host c.args.plan.now.which (sheet_in start).fields c.in-Err-ids_in.why hosts.Disk (c.in-Err-ids_in.ensures.fault start o.1) (err_same _ c.in-Err-ids_in.why (evals.Run (told.Host hosts.Disk)) refl e)
+    not_host (g.P.Programs.finds c.args.programs.now) c.args.plan.now (sheet_in start) c.in-Err-ids_in.why hosts.Disk (c.in-Err-ids_in.ensures.fault start o.1) (err_same _ c.in-Err-ids_in.why (evals.Run (told.Host hosts.Disk)) refl e)
 
 pub returns-clause-fault : goal.returns-clause-fault
 returns-clause-fault g c =
@@ -131,3 +131,30 @@ pub returns-clause-same : goal.returns-clause-same
 returns-clause-same g c =
     let disk = g.D.Disk.view c.args.disk in
     subst (SameDisk disk) (sym c.close-in-Err-done.ensures) (same-on disk c.in-Ok.host.store.disk c.evaluate_and_stop-done.new.host.store.disk c.in-Ok.ensures.same c.evaluate_and_stop-done.ensures.same)
+
+pub returns-in-Err-clause-looked : goal.returns-in-Err-clause-looked
+returns-in-Err-clause-looked g c = inl ((refl, refl), c.in-Err.ensures.looks)
+
+pub returns-in-Ok-note-clause-looked : goal.returns-in-Ok-note-clause-looked
+returns-in-Ok-note-clause-looked g c =
+    let o = c.in-Ok.ensures.opens in
+    let disk = g.D.Disk.view c.args.disk in
+    let start = world_at_opening o.0 disk.room c.in-Ok.host.store.end in
+    (start, c.in-Ok.host.store.disk, opened_on disk c.in-Ok.host o.0 o.1 c.in-Ok.ensures.found c.in-Ok.ensures.ends c.in-Ok.ensures.looks, c.in-Ok-ids_in.ensures.ready start o.1)
+
+pub returns-in-Ok-done-clause-looked : goal.returns-in-Ok-done-clause-looked
+returns-in-Ok-done-clause-looked g c =
+    let o = c.in-Ok.ensures.opens in
+    let disk = g.D.Disk.view c.args.disk in
+    let start = world_at_opening o.0 disk.room c.in-Ok.host.store.end in
+    inr (start, c.in-Ok.host.store.disk, opened_on disk c.in-Ok.host o.0 o.1 c.in-Ok.ensures.found c.in-Ok.ensures.ends c.in-Ok.ensures.looks, c.in-Ok-ids_in.ensures.ready start o.1)
+
+pub returns-in-Err-ids_in-clause-looked : goal.returns-in-Err-ids_in-clause-looked
+returns-in-Err-ids_in-clause-looked g c = inl ((refl, refl), subst (Untouched (g.D.Disk.view c.args.disk)) (sym c.close.ensures) c.in-Ok.ensures.looks)
+
+pub returns-clause-looked : goal.returns-clause-looked
+returns-clause-looked g c =
+    let o = c.in-Ok.ensures.opens in
+    let disk = g.D.Disk.view c.args.disk in
+    let start = world_at_opening o.0 disk.room c.in-Ok.host.store.end in
+    inr (start, c.in-Ok.host.store.disk, opened_on disk c.in-Ok.host o.0 o.1 c.in-Ok.ensures.found c.in-Ok.ensures.ends c.in-Ok.ensures.looks, c.in-Ok-ids_in.ensures.ready start o.1)

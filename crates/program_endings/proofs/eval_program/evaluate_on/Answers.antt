@@ -10,4 +10,5 @@ returns g c = record {
   failed = c.evaluate-disk.ensures.failed;
   memory = c.evaluate-disk.ensures.memory;
   fault = c.evaluate-disk.ensures.fault;
+  looked = c.evaluate-disk.ensures.looked;
 }

@@ -13,3 +13,9 @@ returns-in-End-clause-ok g c = subst (λ x. OnOk c.write_made-in-End.result (App
 
 pub returns-in-NoField-clause-ok : goal.returns-in-NoField-clause-ok
 returns-in-NoField-clause-ok g c = subst (λ x. OnOk c.write_made-in-NoField.result (Appends (g.W.Write.contents c.args.writer.now) (g.W.Write.contents c.write_made-in-NoField.new.writer) (frame_json x))) (sym c.in-NoField.is) (c.write_made-in-NoField.ensures.ok (told.no_field c.in-NoField.id) c.no_field_value.ensures)
+
+pub returns-in-NoProgram-clause-ok : goal.returns-in-NoProgram-clause-ok
+returns-in-NoProgram-clause-ok g c =
+    subst (λ x. OnOk c.write_made-in-NoProgram.result (Appends (g.W.Write.contents c.args.writer.now) (g.W.Write.contents c.write_made-in-NoProgram.new.writer) (frame_json x))) (sym c.in-NoProgram.is)
+    (subst (λ s. OnOk c.write_made-in-NoProgram.result (Appends (g.W.Write.contents c.args.writer.now) (g.W.Write.contents c.write_made-in-NoProgram.new.writer) (telling_line (told.no_program s)))) c.as_slice.ensures.bytes
+    (c.write_made-in-NoProgram.ensures.ok (told.no_program c.as_slice.result.now) c.no_program_value.ensures))
