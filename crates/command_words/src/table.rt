@@ -112,7 +112,8 @@ has the counts of the whole worksheet, as `answered 12 unanswered 1`.\n\n\
 With IDs only the fields with these numbers are evaluated, each once; with --from\n\
 the field with this number and those after it. Both at once are refused. Variables\n\
 of fields that aren't evaluated are missing. Where no field has one of the numbers\n\
-nothing is evaluated: that is the fault 37 NoField. With --unanswered only those of\n\
+nothing is evaluated: that is the fault 37 NoField. Nor is anything where the\n\
+program of a session isn't there: 44 NoProgram. With --unanswered only those of\n\
 all, of the IDs or from the ID on that show no answer are evaluated.\n\n\
 With --strict it stops after the first field that is lost or refused: the fields\n\
 after it keep what they show, and standard error has `stopped at line N`, where the\n\
@@ -249,7 +250,9 @@ const FAULTS_NOTES: &str =
 \x20                one line or group more than was printed may be: `show` says\n\
 \x20                where it stands\n\
 43 OutOfMemory   outside of the worksheet; all that was printed is kept: run the rest\n\
-\x20                again\n\n\
+\x20                again\n\
+44 NoProgram     the program of the session that is named isn't there; nothing was\n\
+\x20                evaluated: install it, or put its folder into PATH\n\n\
 docs/FAULTS.md has more of each.";
 
 /// A row.
