@@ -2,6 +2,7 @@ use Rattle.std.proofs.Common.{sym, subst}
 use Rattle.std.specs.Prelude.{OnOk}
 use Rattle.std.specs.Io.KnownBytes.{Appends}
 use Rattle.sheet_json.specs.Tellings as told
+use Rattle.sheet_json.specs.Sheets.{telling_line}
 use Rattle.tellings.specs.Json.{frame_json}
 use Rattle.tellings.proofs.in_json.write_frame.Goals as goal
 
