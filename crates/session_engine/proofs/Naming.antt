@@ -1,5 +1,5 @@
 -- Lists of what has a name, no two of which have the same.
-use Rattle.std.proofs.Common.{◌≡◌, ℕ, List, [], ◌∷◌, ◌++◌, ap, sym, ◌∙◌, subst, Bool, true, false, Option, Some, None}
+use Rattle.std.proofs.Common.{◌≡◌, ℕ, List, [], ◌∷◌, ◌++◌, refl, ap, sym, ◌∙◌, subst, Bool, true, false, Option, Some, None}
 use Rattle.std.specs.Prelude.{if◌then◌else◌}
 use Rattle.std.specs.Str.{bytes_eq}
 use Rattle.std.proofs.lemmas.Slice.Eq.{bytes_eq-Decides}
@@ -61,8 +61,9 @@ module _ {A : Type 0} (name_of : A → List ℕ) where
 
   pub differ_behind : (xs : List A) (x : A) → NamesDiffer name_of xs → first_named name_of (name_of x) xs ≡ None → NamesDiffer name_of (xs ++ x ∷ [])
   differ_behind [] x differ none = (refl, tt)
-  differ_behind (y ∷ xs) x differ none = go (bytes_eq (name_of y) (name_of x)) refl none
+  differ_behind (y ∷ xs) x differ none = go (bytes_eq (name_of y) (name_of x)) refl none (differ_behind xs x differ.1)
     where
-      go : (b : Bool) → bytes_eq (name_of y) (name_of x) ≡ b → (if b then Some y else first_named name_of (name_of x) xs) ≡ None → NamesDiffer name_of ((y ∷ xs) ++ x ∷ [])
-      go true e none = cc
-      go false e none = (none_behind (name_of y) xs x differ.0 (turned (name_of y) (name_of x) e), differ_behind xs x differ.1 none)
+      go : (b : Bool) → bytes_eq (name_of y) (name_of x) ≡ b → (if b then Some y else first_named name_of (name_of x) xs) ≡ None
+          → (first_named name_of (name_of x) xs ≡ None → NamesDiffer name_of (xs ++ x ∷ [])) → NamesDiffer name_of ((y ∷ xs) ++ x ∷ [])
+      go true e none rest = cc
+      go false e none rest = (none_behind (name_of y) xs x differ.0 (turned (name_of y) (name_of x) e), rest none)
