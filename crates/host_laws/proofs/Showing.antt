@@ -38,14 +38,13 @@ use Rattle.host_events.specs.declared.event.Event.{Event}
 use Rattle.host_events.specs.declared.event.Event.TheVariants as event
 use Rattle.host_events.specs.declared.outcome.Outcome.{Outcome}
 use Rattle.host_events.specs.Commands.{op_of}
-use Rattle.session_engine.specs.Host.{HasField}
 use Rattle.session_engine.specs.World.{World, Going, kept_at_end, sheet_in, waiting_in, life_of, session_of_field, input_of, with_number, with_op_if}
 use Rattle.session_engine.specs.inside.Words.{line_of_field, with_op, with_piece, full}
 use Rattle.session_engine.specs.inside.Parts.{with_life, without_life, with_item, goes_on}
 use Rattle.session_engine.specs.Does.{op_by}
 use Rattle.session_engine.specs.Refused.{command_refusals, refusals_but_room}
 use Rattle.host_laws.specs.inside.Given.{after, Commanded, Ended_by, Pieced, GivesByParts}
-use Rattle.session_engine.specs.inside.Commits.{AllowedIf, HasFieldIf, LosesField, answer_op, kept_for}
+use Rattle.session_engine.specs.inside.Commits.{AllowedIf, HasFieldIf, IsOfField, LosesField, answer_op, kept_for}
 use Rattle.session_engine.specs.Does.{Gives}
 use Rattle.host_laws.proofs.ByParts.{by_parts, op_after}
 use Rattle.session_engine.proofs.Fields.{allowed_answer, waiting_still}
@@ -135,7 +134,7 @@ module _ (os : List Op) (past : List LifeEvent) (before after : List Outer) (pie
   closing h = by_block (closed_in past before (received piece) after) refl h
 
 -- so it is allowed
-has_fields : (os : List Op) (items : List Item) → AllByRecursion (HasLine os) items → AllByRecursion (HasField (sheet_of os)) items
+has_fields : (os : List Op) (items : List Item) → AllByRecursion (HasLine os) items → AllByRecursion (IsOfField (sheet_of os)) items
 has_fields os [] all = tt
 has_fields os (item.Line id text ∷ items) all = (ap (λ (f : Option Field). is_some f) all.0.found, has_fields os items all.1)
 has_fields os (item.Complete id text cursor ∷ items) all = (tt, has_fields os items all.1)

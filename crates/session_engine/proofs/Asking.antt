@@ -20,6 +20,7 @@ use Rattle.session_engine.specs.declared.table.Running.{Running}
 use Rattle.session_engine.specs.inside.Tables.{Joined, Begun, with_life}
 use Rattle.session_engine.specs.Host.{Lives, HasField, HaveFields, EngineStandsFor}
 use Rattle.session_engine.proofs.Tables.{found, not_found, pushed, numbers_are}
+use Rattle.session_engine.proofs.Naming.{differ_behind}
 use Rattle.session_engine.proofs.Standing.{all_at, put}
 use Rattle.session_engine.specs.World.{World, Going, life_of, session_of_field, sheet_in, waiting_in, fits_in}
 use Rattle.session_engine.specs.inside.Words.{fits, line_of_field, with_op, starting_words, begun_with, joined_by, full, lives_are_spent, by_field}
@@ -97,7 +98,7 @@ all_behind P (y ∷ xs) x all one = (all.0, all_behind P xs x all.1 one)
 
 -- the worlds and outcomes of an item that joins a life, and of one that begins one
 pub joins : (store : StoreView) (rs new : List Running) (begun next : ℕ) (w : World) (name : List ℕ) (i : Item) (number : ℕ) (sent : Option (List ℕ)) (words : Option (List (List ℕ)))
-    → EngineStandsFor store rs begun w → HasField (sheet_in w) i → Joined name i rs new (record { number = number; sent = sent }) → words ≡ start_words w name (life_of w name)
+    → EngineStandsFor store rs begun w → HasField (sheet_in w) name i → Joined name i rs new (record { number = number; sent = sent }) → words ≡ start_words w name (life_of w name)
     → (told_asked name number words sent ≡ asks w name i (life_of w name)) × EngineStandsFor store new (begun_with_words begun words) (with_item w name i (life_of w name))
 joins store rs new begun next w name i number sent words h has j is =
     let f = found name rs w.lives j.before h.lives_are j.found in
@@ -105,7 +106,8 @@ joins store rs new begun next w name i number sent words h has j is =
     let no_words : words ≡ None = is ∙ ap (λ (o : Option Going). start_words w name o) f.is in
     let n : number ≡ f.life.number = j.told ∙ j.same ∙ f.runs.number in
     let had = all_at (HaveFields (sheet_in w)) (λ (l : Going). l.name) name f.life w.lives h.fields f.is in
-    let have = subst (λ (l : List Item). AllByRecursion (HasField (sheet_in w)) l) (sym a.waiting) (all_behind (HasField (sheet_in w)) (waiting_in f.life) i had has) in
+    let have = subst (λ (l : List Item). AllByRecursion (HasField (sheet_in w) f.life.name) l) (sym a.waiting)
+    (all_behind (HasField (sheet_in w) f.life.name) (waiting_in f.life) i had (subst (λ (n : List ℕ). HasField (sheet_in w) n i) (sym f.named) has)) in
     let told : told_asked name number words sent ≡ asks w name i (Some f.life) =
     ap (λ (ws : Option (List (List ℕ))). told_asked name number ws sent) no_words
     ∙ ap (λ (k : ℕ). told_asked name k None sent) n
@@ -118,7 +120,7 @@ joins store rs new begun next w name i number sent words h has j is =
     )
 
 pub begins : (store : StoreView) (rs new : List Running) (begun : ℕ) (w : World) (name : List ℕ) (i : Item) (number : ℕ) (sent : Option (List ℕ)) (words : Option (List (List ℕ)))
-    → EngineStandsFor store rs begun w → HasField (sheet_in w) i → lives_are_spent w.begun (life_of w name) ≡ false → Begun name (begun + 1) i rs new (record { number = number; sent = sent }) → words ≡ start_words w name (life_of w name)
+    → EngineStandsFor store rs begun w → HasField (sheet_in w) name i → lives_are_spent w.begun (life_of w name) ≡ false → Begun name (begun + 1) i rs new (record { number = number; sent = sent }) → words ≡ start_words w name (life_of w name)
     → (told_asked name number words sent ≡ asks w name i (life_of w name)) × EngineStandsFor store new (begun_with_words begun words) (with_item w name i (life_of w name))
 begins store rs new begun w name i number sent words h has left b is =
     let e : life_of w name ≡ None = not_found name rs w.lives h.lives_are b.none in
@@ -137,6 +139,7 @@ begins store rs new begun w name i number sent words h has left b is =
       bound = grind (arith, nat_tests, spare, h.bound);
       lives_are = subst (λ (l : List Running). Lives l (w.lives ++ life ∷ [])) (sym b.put) (pushed rs w.lives (record { name = name; life = b.life }) life h.lives_are (record { name = refl; number = b.is_number ∙ ap (λ (k : ℕ). k + 1) h.begun_is; stands = b.stands }));
       fields = all_behind (HaveFields (sheet_in w)) w.lives life h.fields (has, tt);
+      apart = differ_behind (λ (l : Going). l.name) w.lives life h.apart e;
     } in (
       ap (λ (x : Option (List (List ℕ))). told_asked name number x sent) ws ∙ ap (λ (k : ℕ). told_asked name k (Some (starting_words (session_named (sheet_in w).sessions name))) sent) n ∙ sym (ap (λ (o : Option Going). asks w name i o) e),
       subst (λ (o : Option Going). EngineStandsFor store new (begun_with_words begun words) (with_item w name i o)) (sym e)

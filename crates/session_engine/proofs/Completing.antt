@@ -102,7 +102,7 @@ module _ (w : World) (id cursor : ℕ) (f : Field) (e : field_in (sheet_in w).fi
         ∙ none;
     takes = refl;
     left = (none_applies (cursor_refusals w f.session f.input cursor) none).1.1.0;
-    has = subst (λ (j : Item). HasField (sheet_in w) j) (sym is) tt;
+    has = subst (λ (j : Item). HasField (sheet_in w) f.session j) (sym is) tt;
     does_is = ap (λ (t : List ℕ). asks_completions w id t cursor) input_is ∙ asks_is f.input i is;
   }
 

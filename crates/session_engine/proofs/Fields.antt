@@ -1,6 +1,6 @@
 -- Fields that are there after one op more.
-use Rattle.std.proofs.Common.{◌≡◌, ◌≤◌, ◌+◌, ℕ, zero, suc, List, [], ◌∷◌, ◌++◌, length, length-append, drop, refl, ap, sym, ◌∙◌, subst, arith, Bool, true, false, Option, Some, None}
-use Rattle.std.specs.Prelude.{if◌then◌else◌, is_some, nat_lt, slice_get, option_to_list, option_map, option_and_then}
+use Rattle.std.proofs.Common.{◌≡◌, ◌≤◌, ◌<◌, ◌+◌, ℕ, zero, suc, List, [], ◌∷◌, ◌++◌, length, length-append, drop, refl, ap, sym, ◌∙◌, subst, arith, Bool, true, false, Option, Some, None}
+use Rattle.std.specs.Prelude.{if◌then◌else◌, ◌==◌, is_some, nat_lt, slice_get, option_to_list, option_map, option_and_then}
 use Rattle.std.specs.List.{AllByRecursion}
 use Rattle.std.proofs.lemmas.Bool.Decides.{nat_tests}
 use Rattle.std.proofs.lemmas.List.{append-nil, drop-drop}
@@ -11,9 +11,11 @@ use Rattle.worksheet.specs.declared.field.Field.{Field}
 use Rattle.worksheet.specs.Contents.{Contents}
 use Rattle.worksheet.specs.Ops.{sheet_of, exists, next_of, is_about, last_of, makes_or_ends, is_making, field_of}
 use Rattle.worksheet.specs.inside.Words.{about}
-use Rattle.worksheet.specs.Checks.{Allowed, has_field, first_refusal}
-use Rattle.worksheet.proofs.OneMore.{about_from-push, last_of-push}
+use Rattle.worksheet.specs.Checks.{Allowed, field_in, has_field, first_refusal, numbers}
+use Rattle.worksheet.specs.Edits.{AllBelow}
+use Rattle.worksheet.proofs.OneMore.{about_from-push, changed, field_of-push, last_of-push}
 use Rattle.worksheet.proofs.Existence.{has_what_exists, allowed_goes_on}
+use Rattle.worksheet.proofs.NextLaws.{sound_of}
 use Rattle.meta_format.specs.Stream.{Outer}
 use Rattle.plugin_core.specs.Limits.{longest_prompt}
 use Rattle.plugin_core.specs.Laws.{ShortPrompts}
@@ -30,8 +32,8 @@ use Rattle.plugin_core.proofs.Pasts.{items_of-received}
 use Rattle.plugin_core.specs.declared.item.Item.{Item}
 use Rattle.plugin_core.specs.declared.item.Item.TheVariants as item
 use Rattle.session_engine.specs.World.{Going, waiting_in}
-use Rattle.session_engine.specs.Host.{HasField, HaveFields}
-use Rattle.session_engine.specs.inside.Commits.{AllowedIf, answer_op, Spares, SparesItem, SparesLife}
+use Rattle.session_engine.specs.Host.{HasField, HaveFields, owner_in}
+use Rattle.session_engine.specs.inside.Commits.{AllowedIf, IsOfField, answer_op, Spares, SparesItem, SparesLife}
 
 exists_more : (id next : ℕ) (os : List Op) (o : Op) → Spares id o → is_about id next o ≡ true → is_making (last_of makes_or_ends os) ≡ true → is_making (last_of makes_or_ends (os ++ o ∷ [])) ≡ true
 exists_more id next os (op.Session name tab words) s a h = rw (last_of-push makes_or_ends os (op.Session name tab words)) h
@@ -61,16 +63,59 @@ has_by os id allowed = ap (λ (o : Option Field). is_some o) (has_what_exists os
 pub has_still : (os : List Op) (o : Op) (id : ℕ) → Allowed os → first_refusal (sheet_of os) o ≡ None → Spares id o → has_field (sheet_of os) id ≡ true → has_field (sheet_of (os ++ o ∷ [])) id ≡ true
 has_still os o id allowed next s h = has_by (os ++ o ∷ []) id (allowed_goes_on os o allowed next) ∙ exists_still os o id s (sym (has_by os id allowed) ∙ h)
 
-items_still : (os : List Op) (o : Op) (items : List Item) → Allowed os → first_refusal (sheet_of os) o ≡ None → AllByRecursion (SparesItem o) items → AllByRecursion (HasField (sheet_of os)) items
-    → AllByRecursion (HasField (sheet_of (os ++ o ∷ []))) items
-items_still os o [] allowed next s all = tt
-items_still os o (item.Line id text ∷ items) allowed next s all = (has_still os o id allowed next s.0 all.0, items_still os o items allowed next s.1 all.1)
-items_still os o (item.Complete id text cursor ∷ items) allowed next s all = (tt, items_still os o items allowed next s.1 all.1)
+-- the session of a field, by the ops
+owner_by : (os : List Op) (id : ℕ) → Allowed os → owner_in (sheet_of os) id ≡ (if exists os id then Some (field_of os id).session else None)
+owner_by os id allowed = ap (λ (o : Option Field). option_map (λ f. f.session) o) (has_what_exists os allowed id) ∙ go (exists os id)
+  where
+    go : (b : Bool) → option_map (λ f. f.session) (if b then Some (field_of os id) else None) ≡ (if b then Some (field_of os id).session else None)
+    go true = refl
+    go false = refl
+
+has_owner : (b : Bool) (session name : List ℕ) → (if b then Some session else None) ≡ Some name → (b ≡ true) × (session ≡ name)
+has_owner true session name h = (refl, cc)
+has_owner false session name h = cc
+
+number_below : (bound id : ℕ) (fs : List Field) → AllBelow bound (numbers fs) → (name : List ℕ) → option_map (λ f. f.session) (field_in fs id) ≡ Some name → id < bound
+number_below bound id [] below name h = cc
+number_below bound id (f ∷ fs) below name h = go (f.id == id) refl h (number_below bound id fs below.1 name)
+  where
+    go : (b : Bool) → (f.id == id) ≡ b → option_map (λ f. f.session) (if b then Some f else field_in fs id) ≡ Some name → (option_map (λ f. f.session) (field_in fs id) ≡ Some name → id < bound) → id < bound
+    go true e h rest = let same : f.id ≡ id = grind (arith, nat_tests, e) in subst (λ (n : ℕ). n < bound) same below.0
+    go false e h rest = rest h
+
+session_still : (os : List Op) (o : Op) (id : ℕ) → id < next_of os → (field_of (os ++ o ∷ []) id).session ≡ (field_of os id).session
+session_still os o id h = ap (λ (f : Field). f.session) (field_of-push os o id) ∙ go o (is_about id (next_of os) o) refl
+  where
+    go : (p : Op) (b : Bool) → is_about id (next_of os) p ≡ b → (if b then changed p (field_of os id) else field_of os id).session ≡ (field_of os id).session
+    go p false e = refl
+    go (op.Session name tab words) true e = refl
+    go (op.New after session input) true e = absurd (let same : next_of os ≡ id = grind (arith, nat_tests, e) in omega (arith, h, same))
+    go (op.Set other input) true e = refl
+    go (op.Remove other) true e = refl
+    go (op.Move other after) true e = refl
+    go (op.Clear other) true e = refl
+    go (op.Answer other prompt output) true e = refl
+    go (op.Lost other why) true e = refl
+    go (op.Ids number) true e = refl
+
+owner_still : (os : List Op) (o : Op) (id : ℕ) (name : List ℕ) → Allowed os → first_refusal (sheet_of os) o ≡ None → Spares id o → owner_in (sheet_of os) id ≡ Some name → owner_in (sheet_of (os ++ o ∷ [])) id ≡ Some name
+owner_still os o id name allowed next s h =
+    let was = has_owner (exists os id) (field_of os id).session name (sym (owner_by os id allowed) ∙ h) in
+    let below = number_below (next_of os) id (sheet_of os).fields (sound_of os allowed).below name h in
+    owner_by (os ++ o ∷ []) id (allowed_goes_on os o allowed next)
+    ∙ ap (λ (b : Bool). if b then Some (field_of (os ++ o ∷ []) id).session else None) (exists_still os o id s was.0)
+    ∙ ap (λ (n : List ℕ). Some n) (session_still os o id below ∙ was.1)
+
+items_still : (os : List Op) (o : Op) (name : List ℕ) (items : List Item) → Allowed os → first_refusal (sheet_of os) o ≡ None → AllByRecursion (SparesItem o) items → AllByRecursion (HasField (sheet_of os) name) items
+    → AllByRecursion (HasField (sheet_of (os ++ o ∷ [])) name) items
+items_still os o name [] allowed next s all = tt
+items_still os o name (item.Line id text ∷ items) allowed next s all = (owner_still os o id name allowed next s.0 all.0, items_still os o name items allowed next s.1 all.1)
+items_still os o name (item.Complete id text cursor ∷ items) allowed next s all = (tt, items_still os o name items allowed next s.1 all.1)
 
 pub fields_still : (os : List Op) (o : Op) (ls : List Going) → Allowed os → first_refusal (sheet_of os) o ≡ None → AllByRecursion (SparesLife o) ls → AllByRecursion (HaveFields (sheet_of os)) ls
     → AllByRecursion (HaveFields (sheet_of (os ++ o ∷ []))) ls
 fields_still os o [] allowed next s all = tt
-fields_still os o (l ∷ ls) allowed next s all = (items_still os o (waiting_in l) allowed next s.0 all.0, fields_still os o ls allowed next s.1 all.1)
+fields_still os o (l ∷ ls) allowed next s all = (items_still os o l.name (waiting_in l) allowed next s.0 all.0, fields_still os o ls allowed next s.1 all.1)
 
 -- an answer takes no field away
 spared_items : (id : ℕ) (prompt : List ℕ) (out : Tree) (items : List Item) → AllByRecursion (SparesItem (op.Answer id prompt out)) items
@@ -120,11 +165,24 @@ first_dropped P n [] i h all = cc
 first_dropped P zero (x ∷ items) i h all = let e : x ≡ i = cc in subst P e all.0
 first_dropped P (suc n) (x ∷ items) i h all = first_dropped P n items i h all
 
+-- a line of a session's field is that of a field that there is
+has_of : (sheet : Contents) (id : ℕ) (name : List ℕ) → owner_in sheet id ≡ Some name → has_field sheet id ≡ true
+has_of sheet id name h = go (field_in sheet.fields id) h
+  where
+    go : (o : Option Field) → option_map (λ f. f.session) o ≡ Some name → is_some o ≡ true
+    go None h = cc
+    go (Some f) h = refl
+
+pub of_fields : (sheet : Contents) (name : List ℕ) (items : List Item) → AllByRecursion (HasField sheet name) items → AllByRecursion (IsOfField sheet) items
+of_fields sheet name [] all = tt
+of_fields sheet name (item.Line id text ∷ items) all = (has_of sheet id name all.0, of_fields sheet name items all.1)
+of_fields sheet name (item.Complete id text cursor ∷ items) all = (tt, of_fields sheet name items all.1)
+
 -- what answers the first waiting item is allowed
-pub allowed_answer : ShortPrompts → (sheet : Contents) (past : List Event) (before : List Outer) (b : Outer) → AllByRecursion (HasField sheet) (waiting_of past before) → AllowedIf sheet (answer_op (answered_with past before b))
+pub allowed_answer : ShortPrompts → (sheet : Contents) (past : List Event) (before : List Outer) (b : Outer) → AllByRecursion (IsOfField sheet) (waiting_of past before) → AllowedIf sheet (answer_op (answered_with past before b))
 allowed_answer short sheet past before b all = go (answers_of past before) (items_of past) (prompt_of past before) (short past before) all
   where
-    line : (o : Option Item) (prompt : List ℕ) → length prompt ≤ longest_prompt → ((i : Item) → o ≡ Some i → HasField sheet i) → AllowedIf sheet (answer_op (option_map (λ i. answer_to i prompt (output b.block)) o))
+    line : (o : Option Item) (prompt : List ℕ) → length prompt ≤ longest_prompt → ((i : Item) → o ≡ Some i → IsOfField sheet i) → AllowedIf sheet (answer_op (option_map (λ i. answer_to i prompt (output b.block)) o))
     line None prompt le has = tt
     line (Some (item.Line id text)) prompt le has =
         let f : has_field sheet id ≡ true = has (item.Line id text) refl in
@@ -132,9 +190,9 @@ allowed_answer short sheet past before b all = go (answers_of past before) (item
         rw (f, k) refl
     line (Some (item.Complete id text cursor)) prompt le has = tt
 
-    go : (answers : List Outer) (items : List Item) (prompt : List ℕ) → length prompt ≤ longest_prompt → AllByRecursion (HasField sheet) (unanswered answers items) → AllowedIf sheet (answer_op (answer_behind answers items prompt b.block))
+    go : (answers : List Outer) (items : List Item) (prompt : List ℕ) → length prompt ≤ longest_prompt → AllByRecursion (IsOfField sheet) (unanswered answers items) → AllowedIf sheet (answer_op (answer_behind answers items prompt b.block))
     go [] items prompt le all = tt
-    go (a ∷ answers) items prompt le all = line (slice_get items (length answers)) prompt le (λ i e. first_dropped (HasField sheet) (length answers) items i e all)
+    go (a ∷ answers) items prompt le all = line (slice_get items (length answers)) prompt le (λ i e. first_dropped (IsOfField sheet) (length answers) items i e all)
 
 -- so is what a step answers
 pub allowed_step : ShortPrompts → (sheet : Contents) (l : Going) (piece : List ℕ) (step : Step) (life : InterpreterView) → HaveFields sheet l → Takes l.past l.blocks piece step life → AllowedIf sheet (answer_op step.answered)
@@ -143,4 +201,4 @@ allowed_step short sheet l piece step life fields takes =
   where
     go : (o : Option Outer) → AllowedIf sheet (answer_op (option_and_then (answered_with l.past l.blocks) o))
     go None = tt
-    go (Some b) = allowed_answer short sheet l.past l.blocks b fields
+    go (Some b) = allowed_answer short sheet l.past l.blocks b (of_fields sheet l.name (waiting_in l) fields)

@@ -1,5 +1,7 @@
 pub mod Tables
+pub mod Naming
 pub mod Fields
+pub mod Waiting
 pub mod Standing
 pub mod PieceLaws
 pub mod Changing

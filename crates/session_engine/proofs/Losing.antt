@@ -22,8 +22,7 @@ use Rattle.plugin_core.specs.declared.step.Ended.{Ended}
 use Rattle.plugin_core.specs.Items.{first_line_of}
 use Rattle.session_engine.specs.World.{World, Going, fits_in, kept_at_end, waiting_in, with_op_if}
 use Rattle.session_engine.specs.Does.{op_by}
-use Rattle.session_engine.specs.Host.{HasField}
-use Rattle.session_engine.specs.inside.Commits.{AllowedIf, HasFieldIf, LosesField, NotCommitted, NotKept, NotLost, answer_op, kept_for, unkept_in_memory, unkept_on_disk, unlost_in_memory, unlost_on_disk}
+use Rattle.session_engine.specs.inside.Commits.{AllowedIf, HasFieldIf, IsOfField, LosesField, NotCommitted, NotKept, NotLost, answer_op, kept_for, unkept_in_memory, unkept_on_disk, unlost_in_memory, unlost_on_disk}
 
 -- what holds of no op, and of the loss of this line, holds of what is kept
 pub if_lost : (P : Option Op → Type 0) (room end : ℕ) (why : Reason) (line : Option ℕ) → P None → ((id : ℕ) → line ≡ Some id → P (Some (op.Lost id why))) → P (kept_for room end why line)
@@ -67,7 +66,7 @@ op_if_lives (Some o) u = refl
 
 -- A line that is lost is that of a field that there is.
 
-pub first_has : (sheet : Contents) (items : List Item) → AllByRecursion (HasField sheet) items → HasFieldIf sheet (first_line_of items)
+pub first_has : (sheet : Contents) (items : List Item) → AllByRecursion (IsOfField sheet) items → HasFieldIf sheet (first_line_of items)
 first_has sheet [] all = tt
 first_has sheet (item.Line id text ∷ items) all = all.0
 first_has sheet (item.Complete id text cursor ∷ items) all = tt

@@ -20,7 +20,7 @@ use Rattle.session_engine.specs.Host.{EngineStandsFor, HaveFields, Lives, OnDisk
 use Rattle.session_engine.specs.inside.Commits.{CauseOfLoss, CommittedIf, HasFieldIf, IsEitherIf, NotLost, kept_for, unlost_in_memory, unlost_on_disk}
 use Rattle.session_engine.specs.inside.Parts.{without_life}
 use Rattle.session_engine.specs.inside.Tables.{has_number, line_in}
-use Rattle.session_engine.proofs.Fields.{spared_lost}
+use Rattle.session_engine.proofs.Fields.{of_fields, spared_lost}
 use Rattle.session_engine.proofs.Losing.{first_has, if_lost, line_allowed}
 use Rattle.session_engine.proofs.Standing.{all_at, committed, gone, the_life, unchanged}
 use Rattle.session_engine.proofs.Tables.{Found, found}
@@ -39,7 +39,7 @@ line_has sheet w name fields = go (life_of w name) refl
   where
     go : (k : Option Going) → life_of w name ≡ k → HasFieldIf sheet (line_in k)
     go None e = tt
-    go (Some l) e = first_has sheet (waiting_in l) (all_at (HaveFields sheet) (λ (g : Going). g.name) name l w.lives fields e)
+    go (Some l) e = first_has sheet (waiting_in l) (of_fields sheet l.name (waiting_in l) (all_at (HaveFields sheet) (λ (g : Going). g.name) name l w.lives fields e))
 
 -- what is kept, by what the store says and by what the world says
 pub kept_is : (store : StoreView) (rs : List Running) (begun : ℕ) (w : World) (name : List ℕ) (why : Reason) (line : Option ℕ) → EngineStandsFor store rs begun w → line ≡ line_in (life_of w name)

@@ -38,7 +38,7 @@ use Rattle.session_engine.specs.inside.Parts.{goes_on}
 use Rattle.session_engine.specs.Host.{HasField, HaveFields, EngineStandsFor}
 use Rattle.session_engine.specs.inside.Commits.{AllowedIf, Committed, CommittedIf, IsEitherIf, LosesField, NotKept, SparesLife, unkept_in_memory, unkept_in_room, unkept_on_disk}
 use Rattle.session_engine.proofs.Tables.{Found, without_replaced}
-use Rattle.session_engine.proofs.Fields.{waiting_still, allowed_step, spared, spared_lost}
+use Rattle.session_engine.proofs.Fields.{waiting_still, of_fields, allowed_step, spared, spared_lost}
 use Rattle.session_engine.proofs.Losing.{first_has, if_pieced, pieced_allowed}
 use Rattle.session_engine.proofs.Standing.{all_at, put, gone, committed, fit_in, unchanged}
 
@@ -107,7 +107,7 @@ module _ (store : StoreView) (rs : List Running) (begun : ℕ) (w : World) (name
       go : (fault : Option Kind) → GoesOn life (f.life.past ++ received piece ∷ []) takes.after fault
           → EngineStandsFor store (settled (option_map (ended_by (f.life.past ++ received piece ∷ []) takes.after) fault)) begun (goes_on (with_piece f.life piece takes.after) (option_map (ended_by (f.life.past ++ received piece ∷ []) takes.after) fault) w)
       go None stands = put store rs begun w name r (running_with r life) (with_piece f.life piece takes.after) h f (record { name = f.runs.name; number = same ∙ f.runs.number; stands = stands })
-          (waiting_still (HasField (sheet_in w)) f.life.past f.life.blocks takes.after piece (closed_in f.life.past f.life.blocks (received piece) takes.after) takes.answers fields) f.named
+          (waiting_still (HasField (sheet_in w) f.life.name) f.life.past f.life.blocks takes.after piece (closed_in f.life.past f.life.blocks (received piece) takes.after) takes.answers fields) f.named
       go (Some kind) over =
           let e : bytes_eq r.name name ≡ true = (bytes_eq-Decides r.name name).1 (f.runs.name ∙ f.named) in
           subst (λ (l : List Running). EngineStandsFor store l begun (goes_on (with_piece f.life piece takes.after) (Some (ended_by (f.life.past ++ received piece ∷ []) takes.after kind)) w)) (sym (without_replaced name_of name (running_with r life) rs e))
@@ -119,8 +119,8 @@ module _ (store : StoreView) (rs : List Running) (begun : ℕ) (w : World) (name
     where
       go : (fault : Option Kind) → LosesField (sheet_in w) (option_map (ended_by (f.life.past ++ received piece ∷ []) takes.after) fault)
       go None = tt
-      go (Some kind) = first_has (sheet_in w) (waiting_of (f.life.past ++ received piece ∷ []) takes.after)
-          (waiting_still (HasField (sheet_in w)) f.life.past f.life.blocks takes.after piece (closed_in f.life.past f.life.blocks (received piece) takes.after) takes.answers fields)
+      go (Some kind) = first_has (sheet_in w) (waiting_of (f.life.past ++ received piece ∷ []) takes.after) (of_fields (sheet_in w) f.life.name (waiting_of (f.life.past ++ received piece ∷ []) takes.after)
+          (waiting_still (HasField (sheet_in w) f.life.name) f.life.past f.life.blocks takes.after piece (closed_in f.life.past f.life.blocks (received piece) takes.after) takes.answers fields))
 
   pub stands : ShortPrompts → (new : StoreView) → CommittedIf store w.ops given new → SameDisk store.disk new.disk → EngineStandsFor new (settled step.ended) begun lead
   stands short new done disk = go done (pieced_allowed (sheet_in w) w.room w.end step.answered step.ended (allowed_step short (sheet_in w) f.life piece step life fields takes) loses)

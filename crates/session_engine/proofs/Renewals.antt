@@ -84,6 +84,7 @@ module _ (store new : StoreView) (rs : List Running) (begun : ℕ) (w : World) (
     bound = h.bound;
     lives_are = h.lives_are;
     fields = h.fields;
+    apart = h.apart;
   }
 
   pub checkpoint_done : CheckpointAnswers store new (Ok tt) → Took w the_checkpoint (hosted store) (hosted new) (replies reply.Done)

@@ -12,6 +12,7 @@ use Rattle.worksheet.proofs.Existence.{allowed_goes_on}
 use Rattle.recovery.specs.Code.{code_of}
 use Rattle.recovery.specs.Sheets.{StoreView, SameStore, IsSheetImage}
 use Rattle.session_engine.specs.inside.Commits.{Committed, SparesLife}
+use Rattle.session_engine.proofs.Naming.{differ_put, differ_without}
 use Rattle.session_engine.proofs.Fields.{fields_still}
 use Rattle.session_engine.specs.declared.table.Running.{Running}
 use Rattle.session_engine.specs.Named.{first_named, without_named, replace_named}
@@ -81,6 +82,7 @@ put store rs begun w name r q m h f runs fields named = record {
   bound = h.bound;
   lives_are = subst (λ (n : List ℕ). Lives (replace_named name_of name q rs) (replace_named (λ (l : Going). l.name) n m w.lives)) (sym named) (f.put q m runs);
   fields = all_replaced (HaveFields (sheet_in w)) (λ (l : Going). l.name) m.name m w.lives h.fields fields;
+  apart = differ_put (λ (l : Going). l.name) m w.lives h.apart;
 }
 
 -- an op is on the disk and in the worksheet
@@ -97,6 +99,7 @@ committed store new rs begun w o h done same next spares = record {
   bound = h.bound;
   lives_are = h.lives_are;
   fields = fields_still w.ops o w.lives h.allowed next spares h.fields;
+  apart = h.apart;
 }
 
 -- a life is gone
@@ -113,6 +116,7 @@ gone store rs begun w name r h f = record {
   bound = h.bound;
   lives_are = f.rest;
   fields = all_without (HaveFields (sheet_in w)) (λ (l : Going). l.name) name w.lives h.fields;
+  apart = differ_without (λ (l : Going). l.name) name w.lives h.apart;
 }
 
 -- what is returned for an end, by the parts of a life
@@ -134,6 +138,7 @@ unchanged store new rs begun w h same = record {
   bound = h.bound;
   lives_are = h.lives_are;
   fields = h.fields;
+  apart = h.apart;
 }
 
 -- an op fits after the world's end where it fits after the store's

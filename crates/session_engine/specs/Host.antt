@@ -5,7 +5,7 @@ use Rattle.disk_model.specs.Disk.{DiskView, Image, InModel, Leaves, LeavesOnly}
 use Rattle.worksheet.specs.declared.op.Op.{Op}
 use Rattle.worksheet.specs.Contents.{Contents}
 use Rattle.worksheet.specs.Ops.{sheet_of}
-use Rattle.worksheet.specs.Checks.{Allowed, has_field}
+use Rattle.worksheet.specs.Checks.{Allowed, field_in}
 use Rattle.journal.specs.declared.journal.OpenFault.{OpenFault}
 use Rattle.journal.specs.Open.{IsPassing}
 use Rattle.journal.specs.Area.{end_of}
@@ -15,7 +15,7 @@ use Rattle.plugin_core.specs.declared.item.Item.{Item}
 use Rattle.plugin_core.specs.declared.item.Item.TheVariants as item
 use Rattle.plugin_core.specs.Kept.{LifeHasPast}
 use Rattle.session_engine.specs.Limits.{most_lives}
-use Rattle.session_engine.specs.Named.{first_named}
+use Rattle.session_engine.specs.Named.{NamesDiffer, first_named}
 use Rattle.session_engine.specs.declared.table.Running.{Running}
 use Rattle.host_events.specs.declared.event.Event.{Event}
 use Rattle.host_events.specs.declared.outcome.Outcome.{Outcome}
@@ -54,17 +54,21 @@ Lives (r ∷ rs) (l ∷ ls) = RunsAs r l × Lives rs ls
 Lives [] (l ∷ ls) = ⊥
 Lives (r ∷ rs) [] = ⊥
 
--- a line is that of a field that there is; the field of a request of completions may have been removed
-abbrev pub HasField : Contents → Item → Type 0
-HasField sheet (item.Line id text) = has_field sheet id ≡ true
-HasField sheet (item.Complete id text cursor) = Unit {0}
+-- the session of the field with this number, if there is one
+abbrev pub owner_in : Contents → ℕ → Option (List ℕ)
+owner_in sheet id = option_map (λ f. f.session) (field_in sheet.fields id)
 
--- each line that waits is that of a field that there is
+-- a line is that of a field of this session; the field of a request of completions may have been removed
+abbrev pub HasField : Contents → List ℕ → Item → Type 0
+HasField sheet name (item.Line id text) = owner_in sheet id ≡ Some name
+HasField sheet name (item.Complete id text cursor) = Unit {0}
+
+-- each line that waits is that of a field of the life's session
 abbrev pub HaveFields : Contents → Going → Type 0
-HaveFields sheet l = AllByRecursion (HasField sheet) (waiting_in l)
+HaveFields sheet l = AllByRecursion (HasField sheet l.name) (waiting_in l)
 
 -- The parts of a host stand for a world: its worksheet is the world's, each image of its disk is one of that, and it runs the
--- world's lives.
+-- world's lives, no two of one session.
 pub record EngineStandsFor (store : StoreView) (lives : List Running) (begun : ℕ) (w : World) : Type 0 where
   pub still_open : store.closed ≡ false
   pub contents : store.sheet.contents ≡ sheet_in w
@@ -76,6 +80,7 @@ pub record EngineStandsFor (store : StoreView) (lives : List Running) (begun : �
   pub bound : w.begun ≤ most_lives
   pub lives_are : Lives lives w.lives
   pub fields : AllByRecursion (HaveFields (sheet_in w)) w.lives
+  pub apart : NamesDiffer (λ l. l.name) w.lives
 
 -- the host isn't closed, and stands for the world
 pub record IsHost (h : HostView) (w : World) : Type 0 where

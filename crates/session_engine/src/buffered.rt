@@ -15,7 +15,7 @@ ghost use Rattle.session_engine.specs.Gathers.{FlushesTo, GathersUnlessCheckpoin
 
 use crate::engine::Engine;
 use crate::host::LifeView;
-use crate::table::{place_of, waits};
+use crate::table::place_of;
 use disk_model::Disk;
 use host_events::{Event, HostFault, Outcome};
 use journal::{Group, OpenCause, OpenFault};
@@ -174,7 +174,7 @@ impl<D: Disk> BufferedHost<D> {
     pub fn is_waiting(&self, id: u32) -> bool
         ensures { (w : World) → IsHost self.now w → result ≡ in_flight w id }
     {
-        waits(&self.engine.lives, id)
+        self.engine.is_in_flight(id)
     }
 
     /// The prompt that a line of this session would have if it were asked now.

@@ -9,7 +9,7 @@ ghost use Rattle.host_events.specs.declared.command.Command.{Command};
 
 use crate::commits::commit;
 use crate::engine::{Engine, refused};
-use crate::table::waits;
+use crate::table::waits_of;
 use disk_model::Disk;
 use host_events::{HostFault, Outcome, Reply};
 use worksheet::{Op, Refusal};
@@ -18,11 +18,21 @@ impl<D: Disk> Engine<D> {
     ghost use Rattle.host_events.specs.declared.event.Event.TheVariants as event;
     ghost use Rattle.host_events.specs.declared.outcome.HostFault.TheVariants as faults;
     ghost use Rattle.host_events.specs.Commands.{op_of, reply_to as reply_to_op};
-    ghost use Rattle.session_engine.specs.World.{World, sheet_in};
+    ghost use Rattle.session_engine.specs.World.{World, in_flight, sheet_in};
     ghost use Rattle.session_engine.specs.inside.Words.{fits};
     ghost use Rattle.session_engine.specs.Refused.{refusals_but_room};
     ghost use Rattle.session_engine.specs.inside.Engines.{StandsAt, Works, TookAt, FailedAt};
     ghost use Rattle.session_engine.specs.inside.Commits.{SparesLife, Changes};
+
+    /// Whether the line of this field waits.
+    pub(crate) fn is_in_flight(&self, id: u32) -> bool
+        ensures { (w : World) → StandsAt self.now w → result ≡ in_flight w id }
+    {
+        match self.store.sheet().field(id) {
+            Some(field) => waits_of(&self.lives, field.session, id),
+            None => false,
+        }
+    }
 
     /// Whether an op is allowed: by the worksheet, and while lines wait. A full journal isn't asked for.
     pub(crate) fn check(&self, op: &Op) -> Result<(), Refusal>
@@ -32,7 +42,7 @@ impl<D: Disk> Engine<D> {
         let checked = self.store.sheet().check(op);
         match op {
             Op::Set { id, .. } | Op::Remove { id } | Op::Clear { id } => {
-                if checked != Err(Refusal::NoField) && waits(&self.lives, *id) {
+                if checked != Err(Refusal::NoField) && self.is_in_flight(*id) {
                     Err(Refusal::InFlight)
                 } else {
                     checked

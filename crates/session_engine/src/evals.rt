@@ -9,7 +9,7 @@ ghost use Rattle.session_engine.specs.inside.Tables.{Asked, CanGoBack, GoesOnAt}
 ghost use Rattle.session_engine.specs.Host.{number_in};
 
 use crate::engine::{Engine, refused};
-use crate::table::{Running, place_of, settle, waits};
+use crate::table::{Running, place_of, settle, waits_of};
 use block_tree::{Octets, OutOfMemory, Sequence};
 use disk_model::Disk;
 use host_events::{Effect, HostFault, Outcome, Reply};
@@ -154,7 +154,7 @@ impl<D: Disk> Engine<D> {
         requires works { Works self.old }
         requires askable { IsAskable item }
         ensures ok { (w : World) → StandsAt self.old w
-            → lives_are_spent w.begun (life_of w name) ≡ false → HasField (sheet_in w) item
+            → lives_are_spent w.begun (life_of w name) ≡ false → HasField (sheet_in w) name item
             → IfOk result (λ o. (o ≡ asks w name item (life_of w name))
             × StandsAt self.new (with_item w name item (life_of w name))) }
         ensures err { OnErr result ((self.new.lives.items ≡ self.old.lives.items)
@@ -214,7 +214,7 @@ impl<D: Disk> Engine<D> {
             Some(field) => (field.session, line_of(self.alloc, field)),
             None => return Ok(refused(Refusal::NoField)),
         };
-        if waits(&self.lives, id) {
+        if waits_of(&self.lives, name, id) {
             return Ok(refused(Refusal::InFlight));
         }
         match self.prepare_clear(name, id) {
@@ -241,7 +241,7 @@ impl<D: Disk> Engine<D> {
         ensures gathers { GathersOn self.old.store self.new.store }
         ensures at_once { IsErrOf result HostFault.Disk → self.old.store.gathers ≡ false }
         ensures ok { (w : World) → StandsAt self.old w
-            → lives_are_spent w.begun (life_of w name) ≡ false → HasField (sheet_in w) line
+            → lives_are_spent w.begun (life_of w name) ≡ false → HasField (sheet_in w) name line
             → IfOk result (Evaluated w (record { session = name; id = id; line = line }) self.old self.new) }
         ensures contents { OnErr result (self.new.store.sheet.contents
             ≡ self.old.store.sheet.contents) }

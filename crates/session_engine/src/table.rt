@@ -6,8 +6,7 @@ ghost use Rattle.session_engine.specs.inside.Tables.{has_number, TakesOut, Feeds
 ghost use Rattle.session_engine.specs.Host.{Lives};
 ghost use Rattle.session_engine.specs.Named.{first_named};
 ghost use Rattle.session_engine.specs.World.{Going};
-ghost use Rattle.session_engine.specs.inside.Words.{waits_in};
-ghost use Rattle.session_engine.specs.inside.Tables.{line_in};
+ghost use Rattle.session_engine.specs.inside.Tables.{line_in, waits_at};
 
 use block_tree::OutOfMemory;
 use plugin_core::{Life, Step};
@@ -95,14 +94,13 @@ pub(crate) fn first_line(lives: &Vec<Running>, name: Name) -> Option<u32>
     }
 }
 
-/// Whether the line of this field waits in one of these lives.
-pub(crate) fn waits(lives: &Vec<Running>, id: u32) -> bool
-    ensures { (ls : List Going) → Lives lives.now.items ls → result ≡ waits_in ls id }
+/// Whether the line of this field waits in the life of this session.
+pub(crate) fn waits_of(lives: &Vec<Running>, name: Name, id: u32) -> bool
+    ensures { (ls : List Going) → Lives lives.now.items ls
+        → result ≡ waits_at id (first_named (λ l. l.name) name ls) }
 {
-    for i in 0..lives.len() {
-        if lives[i].life.waits_for(id) {
-            return true;
-        }
+    match place_of(lives, name) {
+        Some(place) => lives[place].life.waits_for(id),
+        None => false,
     }
-    false
 }

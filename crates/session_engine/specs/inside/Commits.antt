@@ -88,12 +88,17 @@ pub data NotKept (old new : StoreView) : Option Op → HostFault → Type 0 wher
 abbrev pub kept_for : ℕ → ℕ → Reason → Option ℕ → Option Op
 kept_for room end why line = option_and_then (λ id. if_fits room end (op.Lost id why)) line
 
--- the line is that of a field that there is
+-- a line is that of a field that there is
+abbrev pub IsOfField : Contents → Item → Type 0
+IsOfField sheet (item.Line id text) = has_field sheet id ≡ true
+IsOfField sheet (item.Complete id text cursor) = Unit {0}
+
+-- so is the first of some, if there is one
 abbrev pub HasFieldIf : Contents → Option ℕ → Type 0
 HasFieldIf sheet None = Unit {0}
 HasFieldIf sheet (Some id) = has_field sheet id ≡ true
 
--- so is the first one that an end leaves
+-- and the first one that an end leaves
 abbrev pub LosesField : Contents → Option Ended → Type 0
 LosesField sheet None = Unit {0}
 LosesField sheet (Some e) = HasFieldIf sheet (first_line_of e.lost)
@@ -185,7 +190,7 @@ pub record GivesRequest (w : World) (c : Command) (name : List ℕ) (i : Item) :
   pub none : first_of (command_refusals w c) ≡ None
   pub takes : command_takes_memory w c ≡ true
   pub left : lives_are_spent w.begun (life_of w name) ≡ false
-  pub has : HasField (sheet_in w) i
+  pub has : HasField (sheet_in w) name i
   pub does_is : does w c ≡ asks_item w i None name (life_of w name)
 
 -- why it asks none

@@ -1,5 +1,6 @@
 -- The lives that a host runs, before and after a call on one of them.
 use Rattle.std.specs.Prelude.{◌≡◌, ◌⊎◌, ℕ, ◌==◌, List, [], ◌∷◌, ◌++◌, Bool, false, Option, Some, None, Result, IfOk, ◌+◌}
+use Rattle.std.specs.List.{list_any}
 use Rattle.meta_format.specs.Stream.{Outer}
 use Rattle.plugin_core.specs.declared.step.Step.{Step}
 use Rattle.plugin_core.specs.declared.item.Item.{Item}
@@ -10,7 +11,7 @@ use Rattle.session_engine.specs.Named.{without_named, replace_named}
 use Rattle.session_engine.specs.declared.table.Running.{Running}
 use Rattle.session_engine.specs.Host.{name_of, life_in, number_in}
 use Rattle.session_engine.specs.World.{Going, waiting_in}
-use Rattle.plugin_core.specs.Items.{first_line_of}
+use Rattle.plugin_core.specs.Items.{first_line_of, is_line_of}
 
 abbrev pub has_number : ℕ → Option Running → Bool
 has_number number None = false
@@ -20,6 +21,11 @@ has_number number (Some r) = r.life.number == number
 abbrev pub line_in : Option Going → Option ℕ
 line_in None = None
 line_in (Some l) = first_line_of (waiting_in l)
+
+-- the line of this field waits in this life
+abbrev pub waits_at : ℕ → Option Going → Bool
+waits_at id None = false
+waits_at id (Some l) = list_any (λ i. is_line_of id i) (waiting_in l)
 
 -- the life of this session is taken out, if there is one
 abbrev pub TakesOut : List ℕ → List Running → List Running → Option Running → Type 0

@@ -25,5 +25,6 @@ invariant_of-result g c = λ closed.
         bound = bound;
         lives_are = subst (λ (l : List Running). Lives l []) (sym c.new.ensures.items) tt;
         fields = tt;
+        apart = tt;
       },
     )

@@ -1,5 +1,5 @@
 use Rattle.std.proofs.Common.{◌≡◌, inr, ⊎_elim, ℕ, List, ap, sym, ◌∙◌, refl, subst, false, Option, Some, None}
-use Rattle.std.specs.Prelude.{is_some}
+use Rattle.std.specs.Prelude.{option_map}
 use Rattle.std.proofs.lemmas.Result.{IfOk-weaker, IfOk-at_ok}
 use Rattle.disk_model.specs.Disk.{DiskView}
 use Rattle.worksheet.specs.declared.op.Op.TheVariants as op
@@ -21,6 +21,7 @@ use Rattle.session_engine.specs.Host.{EngineStandsFor, HasField, OnDisk}
 use Rattle.session_engine.specs.inside.Engines.{StandsAt, TookAt, view_of}
 use Rattle.session_engine.specs.inside.Commits.{Evaluated}
 use Rattle.session_engine.proofs.Standing.{unchanged}
+use Rattle.session_engine.proofs.Waiting.{in_flight_by}
 use Rattle.session_engine.proofs.Asking.{gives_no_field, gives_in_flight, session_is, not_spent, eval_refused, eval_done, eval_told, eval_leads, eval_on_disk, eval_fails}
 use Rattle.session_engine.proofs.engine.Engine.eval.Goals as goal
 
@@ -30,13 +31,13 @@ returns-in-Ok-line-clause-took g c = λ w h.
     let f = c.in-Some.field.now in
     let here : field_in (sheet_in w).fields id ≡ Some f =
     sym (c.in-Some.ensures ∙ ap (λ (l : SheetView). field_in l.contents.fields id) c.sheet.ensures.sheet ∙ ap (λ (x : Contents). field_in x.fields id) h.contents) in
-    let free : in_flight w id ≡ false = sym (c.waits.ensures w.lives h.lives_are) ∙ c.if-waits.false in
+    let free : in_flight w id ≡ false = in_flight_by c.args.self.now.store c.args.self.now.lives.items c.args.self.now.begun w id h f here ∙ sym (c.waits_of.ensures w.lives h.lives_are) ∙ c.if-waits_of.false in
     let s = session_is w id f here in
     let none = c.in-Ok.ensures.ok w h s in
     let same_id : f.id ≡ id = field_in-id (sheet_in w).fields id f here in
     let line : c.in-Ok-line.line ≡ item.Line id f.input = IfOk-at_ok (λ (l : Item). l ≡ item.Line f.id f.input) c.in-Ok-line.is c.line_of.ensures ∙ ap (λ (k : ℕ). item.Line k f.input) same_id in
     let left = subst (λ (n : List ℕ). lives_are_spent w.begun (life_of w n) ≡ false) s (not_spent w id none) in
-    let has : HasField (sheet_in w) c.in-Ok-line.line = subst (λ (l : Item). HasField (sheet_in w) l) (sym line) (ap (λ (o : Option Field). is_some o) here) in
+    let has : HasField (sheet_in w) f.session c.in-Ok-line.line = subst (λ (l : Item). HasField (sheet_in w) f.session l) (sym line) (ap (λ (o : Option Field). option_map (λ g. g.session) o) here) in
     let still = unchanged c.args.self.now.store c.prepare_clear.new.self.store c.args.self.now.lives.items c.args.self.now.begun w h c.prepare_clear.ensures.store in
     let stand = subst (λ (l : List Running). EngineStandsFor c.prepare_clear.new.self.store l c.prepare_clear.new.self.begun w) (sym (ap (λ (x : Rattle.std.specs.declared.vec.Vec.Vec Running _). x.items) c.prepare_clear.ensures.lives))
     (subst (λ (k : ℕ). EngineStandsFor c.prepare_clear.new.self.store c.args.self.now.lives.items k w) (sym c.prepare_clear.ensures.begun) still) in
@@ -66,7 +67,7 @@ returns-in-Ok-line-clause-failed g c = λ w h.
     let f = c.in-Some.field.now in
     let here : field_in (sheet_in w).fields id ≡ Some f =
     sym (c.in-Some.ensures ∙ ap (λ (l : SheetView). field_in l.contents.fields id) c.sheet.ensures.sheet ∙ ap (λ (x : Contents). field_in x.fields id) h.contents) in
-    let free : in_flight w id ≡ false = sym (c.waits.ensures w.lives h.lives_are) ∙ c.if-waits.false in
+    let free : in_flight w id ≡ false = in_flight_by c.args.self.now.store c.args.self.now.lives.items c.args.self.now.begun w id h f here ∙ sym (c.waits_of.ensures w.lives h.lives_are) ∙ c.if-waits_of.false in
     let none = c.in-Ok.ensures.ok w h (session_is w id f here) in
     let still = unchanged c.args.self.now.store c.prepare_clear.new.self.store c.args.self.now.lives.items c.args.self.now.begun w h c.prepare_clear.ensures.store in
     let lives = ap (λ (x : Rattle.std.specs.declared.vec.Vec.Vec Running _). x.items) c.prepare_clear.ensures.lives in
@@ -83,7 +84,7 @@ returns-in-Err-clause-took g c = λ w h.
     let f = c.in-Some.field.now in
     let here : field_in (sheet_in w).fields id ≡ Some f =
     sym (c.in-Some.ensures ∙ ap (λ (l : SheetView). field_in l.contents.fields id) c.sheet.ensures.sheet ∙ ap (λ (x : Contents). field_in x.fields id) h.contents) in
-    let free : in_flight w id ≡ false = sym (c.waits.ensures w.lives h.lives_are) ∙ c.if-waits.false in
+    let free : in_flight w id ≡ false = in_flight_by c.args.self.now.store c.args.self.now.lives.items c.args.self.now.begun w id h f here ∙ sym (c.waits_of.ensures w.lives h.lives_are) ∙ c.if-waits_of.false in
     let why = c.in-Err.ensures.err w h (session_is w id f here) in
     let still = unchanged c.args.self.now.store c.prepare_clear.new.self.store c.args.self.now.lives.items c.args.self.now.begun w h c.prepare_clear.ensures.store in
     let stand = subst (λ (l : List Running). EngineStandsFor c.prepare_clear.new.self.store l c.prepare_clear.new.self.begun w) (sym (ap (λ (x : Rattle.std.specs.declared.vec.Vec.Vec Running _). x.items) c.prepare_clear.ensures.lives))
@@ -109,16 +110,16 @@ returns-in-None-clause-took g c = λ w h.
       disk = refl;
     }
 
-pub returns-then-waits-clause-took : goal.returns-then-waits-clause-took
-returns-then-waits-clause-took g c = λ w h.
+pub returns-then-waits_of-clause-took : goal.returns-then-waits_of-clause-took
+returns-then-waits_of-clause-took g c = λ w h.
     let id = c.args.id in
     let f = c.in-Some.field.now in
     let here : field_in (sheet_in w).fields id ≡ Some f =
     sym (c.in-Some.ensures ∙ ap (λ (l : SheetView). field_in l.contents.fields id) c.sheet.ensures.sheet ∙ ap (λ (x : Contents). field_in x.fields id) h.contents) in
     record {
       did = tells w (reply.Refused refusal.InFlight);
-      may = gives_in_flight w id f here (sym (c.waits.ensures w.lives h.lives_are) ∙ c.if-waits.true);
-      told = c.refused-then-waits.ensures;
+      may = gives_in_flight w id f here (in_flight_by c.args.self.now.store c.args.self.now.lives.items c.args.self.now.begun w id h f here ∙ sym (c.waits_of.ensures w.lives h.lives_are) ∙ c.if-waits_of.true);
+      told = c.refused-then-waits_of.ensures;
       stands = record { works = refl; stands = h };
       disk = refl;
     }
@@ -129,7 +130,7 @@ returns-in-Err-line-clause-took g c = λ w h.
     let f = c.in-Some.field.now in
     let here : field_in (sheet_in w).fields id ≡ Some f =
     sym (c.in-Some.ensures ∙ ap (λ (l : SheetView). field_in l.contents.fields id) c.sheet.ensures.sheet ∙ ap (λ (x : Contents). field_in x.fields id) h.contents) in
-    let free : in_flight w id ≡ false = sym (c.waits.ensures w.lives h.lives_are) ∙ c.if-waits.false in
+    let free : in_flight w id ≡ false = in_flight_by c.args.self.now.store c.args.self.now.lives.items c.args.self.now.begun w id h f here ∙ sym (c.waits_of.ensures w.lives h.lives_are) ∙ c.if-waits_of.false in
     let none = c.in-Ok.ensures.ok w h (session_is w id f here) in
     let still = unchanged c.args.self.now.store c.prepare_clear.new.self.store c.args.self.now.lives.items c.args.self.now.begun w h c.prepare_clear.ensures.store in
     let stand = subst (λ (l : List Running). EngineStandsFor c.prepare_clear.new.self.store l c.prepare_clear.new.self.begun w) (sym (ap (λ (x : Rattle.std.specs.declared.vec.Vec.Vec Running _). x.items) c.prepare_clear.ensures.lives))
