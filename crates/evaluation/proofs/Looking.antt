@@ -2,7 +2,7 @@
 use Rattle.std.proofs.Common.{◌≡◌, ℕ, Bool, true, false, List, [], ◌∷◌, sym, subst}
 use Rattle.worksheet.specs.declared.field.Field.{Field}
 use Rattle.worksheet.specs.declared.field.Session.{Session}
-use Rattle.evaluation.specs.Programs.{Finds, HaveAll, IsFirstLacking, IsReady, is_needed, program_of}
+use Rattle.evaluation.specs.Programs.{Finds, HaveAll, IsFirstLacking, HasItsProgram, is_needed, program_of}
 use Rattle.evaluation.specs.Programs as needs
 
 -- each session before the rest of them is ready
@@ -14,7 +14,7 @@ module _ (finds : Finds) (fields : List Field) (ids : List ℕ) (all rest : List
   pub looked_begin : rest ≡ all → Looked finds fields ids all rest
   looked_begin e = subst (Looked finds fields ids all) (sym e) (record { lacking = λ name h. h; ready = λ h. h })
 
-  pub looked_next : (session : Session) (more : List Session) → rest ≡ session ∷ more → IsReady finds fields ids session → Looked finds fields ids all rest → Looked finds fields ids all more
+  pub looked_next : (session : Session) (more : List Session) → rest ≡ session ∷ more → HasItsProgram finds fields ids session → Looked finds fields ids all rest → Looked finds fields ids all more
   looked_next session more e is so = record {
     lacking = λ name h. so.lacking name (subst (λ ss. IsFirstLacking finds fields ids ss name) (sym e) (needs.behind session more name is h));
     ready = λ h. so.ready (subst (HaveAll finds fields ids) (sym e) (is, h));

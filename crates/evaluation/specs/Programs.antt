@@ -20,16 +20,16 @@ abbrev pub is_needed : List Field → List ℕ → List ℕ → Bool
 is_needed fields ids session = list_any (λ id. is_field_of session (field_in fields id)) ids
 
 -- the program of this session was found, if one of these fields is of it
-abbrev pub IsReady : Finds → List Field → List ℕ → Session → Type 0
-IsReady finds fields ids session = is_needed fields ids session.name ≡ true → finds (program_of session.words) true
+abbrev pub HasItsProgram : Finds → List Field → List ℕ → Session → Type 0
+HasItsProgram finds fields ids session = is_needed fields ids session.name ≡ true → finds (program_of session.words) true
 
 -- Each of these sessions is ready.
 abbrev pub HaveAll : Finds → List Field → List ℕ → List Session → Type 0
-HaveAll finds fields ids sessions = AllByRecursion (IsReady finds fields ids) sessions
+HaveAll finds fields ids sessions = AllByRecursion (HasItsProgram finds fields ids) sessions
 
 -- The first of these sessions that isn't ready has this name: one of these fields is of it, and its program wasn't found.
 pub data IsFirstLacking (finds : Finds) (fields : List Field) (ids : List ℕ) : List Session → List ℕ → Type 0 where
   here : (session : Session) (others : List Session) → is_needed fields ids session.name ≡ true → finds (program_of session.words) false
       → IsFirstLacking finds fields ids (session ∷ others) session.name
-  behind : (session : Session) (others : List Session) (name : List ℕ) → IsReady finds fields ids session → IsFirstLacking finds fields ids others name
+  behind : (session : Session) (others : List Session) (name : List ℕ) → HasItsProgram finds fields ids session → IsFirstLacking finds fields ids others name
       → IsFirstLacking finds fields ids (session ∷ others) name

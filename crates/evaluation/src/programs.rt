@@ -36,7 +36,7 @@ fn program_of(session: &Session) -> &[u8]
 
 /// Whether the program of this session is there, if one of these fields is of it.
 fn is_ready<P: Programs>(programs: &P, sheet: &Sheet, ids: &[u32], session: &Session) -> bool
-    ensures ready { result ≡ true → needs.IsReady (P.finds programs.now) sheet.now.contents.fields ids.now session.now }
+    ensures ready { result ≡ true → needs.HasItsProgram (P.finds programs.now) sheet.now.contents.fields ids.now session.now }
     ensures needed { result ≡ false → needs.is_needed sheet.now.contents.fields ids.now session.now.name ≡ true }
     ensures unfound { result ≡ false → P.finds programs.now (needs.program_of session.now.words) false }
 {

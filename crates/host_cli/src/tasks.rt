@@ -11,8 +11,8 @@ ghost use Rattle.offline_programs.specs.declared.fault.RunFault.TheVariants as f
 
 use crate::blocks::{blocks, blocks_in_json};
 use crate::checks::check_at;
-use crate::outlet::Outlet;
 use crate::finding::FoundIn;
+use crate::outlet::Outlet;
 use crate::outside::{Outside, System};
 use crate::plans::read_plan;
 use crate::refusing::{refuse_format, refuse_plan};

@@ -51,7 +51,7 @@ abbrev pub TellsEval : {E : Type 0} → Saying E → Bool → EvaluationAnswer �
 TellsEval errors told (Ok end) = TellsStop errors told (Ok end.stopped_at)
 TellsEval errors told (Err why) = IsSaid errors (eval_fault_text why) told
 
--- what stands last is written whole where all was told, and where the voice takes no memory it is nothing
+-- what stands last is written whole where both streams took what they had to, and it is nothing where the voice takes no memory
 abbrev pub FramedLast : {O : Type 0} → Voice → (O → Option (List ℕ)) → O → O → Bool → Frame → Type 0
 FramedLast V contents old new told last = (V.takes_memory ≡ false → new ≡ old) × (told ≡ true → Appends (contents old) (contents new) (V.frame last))
 

@@ -24,7 +24,7 @@ impl<D: Disk> Engine<D> {
     ghost use Rattle.session_engine.specs.inside.Engines.{StandsAt, Works, TookAt, FailedAt};
     ghost use Rattle.session_engine.specs.inside.Commits.{SparesLife, Changes};
 
-    /// Whether the line of this field waits.
+    /// Whether the line of this field waits, which it can in the life of its session alone.
     pub(crate) fn is_in_flight(&self, id: u32) -> bool
         ensures { (w : World) → StandsAt self.now w → result ≡ in_flight w id }
     {

@@ -6,12 +6,11 @@ use crate::holding::{Closed, Held, hold_closed};
 use crate::programs::is_there_to_start;
 use crate::{HoldFault, Identity, Lock, Names, SheetFile};
 use journal::FIRST_OF_SECOND;
-use std::alloc::Global;
+use std::alloc::{Alloc, Global};
 use std::env::Env;
 use std::fs::{OpenFile, OpenOptions, TryLockError};
 use std::io::ErrorKind;
 use std::os::unix::fs::FileExt;
-use std::alloc::Alloc;
 use std::rt::Files;
 use std::{fs, io, str};
 

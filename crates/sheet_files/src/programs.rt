@@ -1,10 +1,9 @@
 //! Whether a program is there, as a start looks for it.
-use std::alloc::AllocError;
+use std::alloc::{Alloc, AllocError};
 use std::env::{Env, VarError, var};
 use std::fs;
 use std::io::ErrorKind;
 use std::os::unix::fs::PermissionsExt;
-use std::alloc::Alloc;
 use std::rt::Files;
 
 /// The folders in which programs lie where there is no PATH.

@@ -18,7 +18,8 @@ use session_engine::Host;
 use sheet_export::Format;
 use sheet_json::{
     asked_value, closed_value, default_value, done_value, end_value, ended_value, fault_value,
-    hello_value, made_value, no_field_value, no_program_value, nothing_value, refused_value, stopped_value,
+    hello_value, made_value, no_field_value, no_program_value, nothing_value, refused_value,
+    stopped_value,
 };
 use std::alloc::Global;
 use std::io::Write;
