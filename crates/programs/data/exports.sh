@@ -75,11 +75,11 @@ compare 'a whole page' "$(answer export html 'far <away>/a&b.tm' </dev/null)" '<
 <meta charset="utf-8">
 <meta name="viewport" content="width=device-width, initial-scale=1">
 <meta name="color-scheme" content="light dark">
-<meta http-equiv="Content-Security-Policy" content="default-src '\''none'\''; style-src '\''unsafe-inline'\''">
+<meta http-equiv="Content-Security-Policy" content="default-src '\''none'\''; style-src '\''unsafe-inline'\''; img-src data:">
 <title>a&amp;b.tm</title>
 <style>
-:root{color-scheme:light dark;--ink:#1c2733;--dim:#66727f;--page:#f6f7f9;--card:#fff;--line:#dfe4ea;--mark:#0b62c4;--warn:#a15c00}
-@media (prefers-color-scheme:dark){:root{--ink:#dce3ea;--dim:#93a0ad;--page:#11161c;--card:#19212a;--line:#2c3844;--mark:#6db3ff;--warn:#e5b567}}
+:root{color-scheme:light dark;--ink:#1c2733;--dim:#66727f;--page:#f6f7f9;--card:#fff;--line:#dfe4ea;--mark:#0b62c4;--warn:#a15c00;--error:#b3261e}
+@media (prefers-color-scheme:dark){:root{--ink:#dce3ea;--dim:#93a0ad;--page:#11161c;--card:#19212a;--line:#2c3844;--mark:#6db3ff;--warn:#e5b567;--error:#ff8a80}}
 *{box-sizing:border-box}
 body{margin:0 auto;padding:2rem 1rem 4rem;max-width:52rem;background:var(--page);color:var(--ink);font:16px/1.5 system-ui,sans-serif}
 h1{margin:0 0 1.5rem;font-size:1.6rem;font-weight:650;overflow-wrap:anywhere}
@@ -91,8 +91,10 @@ pre{margin:0;padding:.6rem .9rem;font:.9rem/1.5 ui-monospace,Consolas,monospace;
 .in bdi{color:var(--dim);user-select:none}
 .in code{font:inherit;font-weight:600}
 .out{border-top:1px dashed var(--line);overflow-x:auto}
+.out img{display:block;max-width:100%;height:auto;margin:.4rem 0;background:#fff}
+.error{color:var(--error);border-left:.2rem solid var(--error);padding-left:.5rem}
 .none{margin:0;padding:.6rem .9rem;border-top:1px dashed var(--line);color:var(--warn);font-size:.85rem;font-style:italic}
-@media print{:root{--ink:#000;--dim:#444;--page:#fff;--card:#fff;--line:#999;--mark:#000;--warn:#000}body{max-width:none;padding:0}section{break-inside:avoid}}
+@media print{:root{--ink:#000;--dim:#444;--page:#fff;--card:#fff;--line:#999;--mark:#000;--warn:#000;--error:#000}body{max-width:none;padding:0}section{break-inside:avoid}}
 </style>
 </head>
 <body>
@@ -139,6 +141,50 @@ shown 'byte 0' 'verbatim:a\000b' 'a\\x00b'
 shown 'control bytes' 'verbatim:\001\010\013\014\016\037\177' '\\x01\\x08\\x0b\\x0c\\x0e\\x1f\\x7f'
 shown 'a carriage return' 'verbatim:a\r\nb' 'a\\x0d\nb'
 shown 'an escape of a terminal' 'verbatim:\033\033[31mred' '\\x1b[31mred'
+
+# Pictures: what stands in an address is base64 alone.
+png=iVBORw0KGgoAAAANSUhEUgAAAAEAAAABCAYAAAAfFcSJAAAADUlEQVR42mNk+M9QDwADhgGAWjR9awAAAABJRU5ErkJggg==
+drawn() {
+    printf '%s' "<img alt=\"A picture ($1)\" src=\"data:image/$2;base64,$3\">"
+}
+undrawn() {
+    shown "$1" "$2" "{${2%%:*}: not drawn}"
+}
+shown 'a PNG' "image/png;base64:$png" "$(drawn PNG png $png)"
+shown 'a PNG between texts' "verbatim:one\n\002image/png;base64:$png\005two" "one\n$(drawn PNG png $png)two"
+shown 'a PNG in a formula' "latex:x\002image/png;base64:$png\005" "<span class=\"tex\">x$(drawn PNG png $png)</span>"
+shown 'a JPEG' 'image/jpeg;base64:/9j/4AAQ' "$(drawn JPEG jpeg /9j/4AAQ)"
+shown 'an SVG of six bytes' 'image/svg+xml:<svg/>' "$(drawn SVG svg+xml PHN2Zy8+)"
+shown 'an SVG of eleven bytes' 'image/svg+xml:<svg></svg>' "$(drawn SVG svg+xml PHN2Zz48L3N2Zz4=)"
+shown 'an SVG with scripts' 'image/svg+xml:<svg onload='\''alert(1)'\''><script>alert(1)</script></svg>' "$(drawn SVG svg+xml PHN2ZyBvbmxvYWQ9J2FsZXJ0KDEpJz48c2NyaXB0PmFsZXJ0KDEpPC9zY3JpcHQ+PC9zdmc+)"
+shown 'an SVG with an entity' 'image/svg+xml:<?xml version="1.0"?><!DOCTYPE svg [<!ENTITY a "b">]><svg>&a;</svg>' "$(drawn SVG svg+xml PD94bWwgdmVyc2lvbj0iMS4wIj8+PCFET0NUWVBFIHN2ZyBbPCFFTlRJVFkgYSAiYiI+XT48c3ZnPiZhOzwvc3ZnPg==)"
+undrawn 'an SVG that is none' 'image/svg+xml:<script>alert(1)</script>'
+undrawn 'an SVG behind a space' 'image/svg+xml: <svg/>'
+undrawn 'a GIF' 'image/gif;base64:R0lGODlh'
+undrawn 'a GIF as a PNG' 'image/png;base64:R0lGODlh'
+undrawn 'a PNG as a JPEG' "image/jpeg;base64:$png"
+undrawn 'an SVG as a PNG' 'image/png;base64:<svg/>'
+shown 'no bytes of a PNG' 'image/png;base64:' '{image/png;base64:}'
+undrawn 'a quote in a PNG' 'image/png;base64:iVBORw0KGgoAAAANSUhEU"><i>'
+undrawn 'an element in a PNG' 'image/png;base64:iVBORw0KGgoAAAANSUhEUAAA<b>AAAAA'
+undrawn 'a line feed in a PNG' 'image/png;base64:iVBORw0KGgoAAAANSUhEUAAA\nAAAA'
+undrawn 'a stray byte in a PNG' 'image/png;base64:iVBORw0KGgoAAAANSUhEUAAA\377AAA'
+undrawn 'a PNG that is cut' 'image/png;base64:iVBORw0KGgoAAAANSUhEUgA'
+undrawn 'pads within a PNG' 'image/png;base64:iVBORw0KGgoAAAANSUhEUgA=AAAA'
+undrawn 'a pad in front of a symbol' 'image/png;base64:iVBORw0KGgoAAAANSUhEUg=A'
+undrawn 'three pads' 'image/png;base64:iVBORw0KGgoAAAANSUhEUgAAA==='
+shown 'a picture with a block in it' 'image/png;base64:\002verbatim:x\005' '{image/png;base64:x}'
+shown 'a channel of a picture' "image/png;base64#$png" "{image/png;base64#$png}"
+
+# Errors: a block of the channel `error`, or of `output` in one of `output`.
+shown 'an error' 'output#\002output#division by zero\005' '<span class="error">division by zero</span>'
+shown 'a text and an error' 'output#one\n\002output#<b>\005two' 'one\n<span class="error">&lt;b&gt;</span>two'
+shown 'a channel error' 'error#</span>' '<span class="error">&lt;/span&gt;</span>'
+shown 'a channel error in a text' 'verbatim:one\n\002error#two\005' 'one\n<span class="error">two</span>'
+shown 'a format error' 'error:x' '{error:x}'
+shown 'an output in a text' 'verbatim:\002output#x\005' 'x'
+shown 'a formula in an error' 'output#\002output#in \002latex:x\005\005' '<span class="error">in <span class="tex">x</span></span>'
+shown 'the word error' 'verbatim:<span class="error">' '&lt;span class=&quot;error&quot;&gt;'
 
 # UTF-8, and what is none.
 shown 'two bytes' 'verbatim:gr\303\274n' 'gr\303\274n'
@@ -424,7 +470,7 @@ compare 'a page by live' "$(sed '/^<style>$/,/^<\/style>$/d' text)" '<!doctype h
 <meta charset="utf-8">
 <meta name="viewport" content="width=device-width, initial-scale=1">
 <meta name="color-scheme" content="light dark">
-<meta http-equiv="Content-Security-Policy" content="default-src '\''none'\''; style-src '\''unsafe-inline'\''">
+<meta http-equiv="Content-Security-Policy" content="default-src '\''none'\''; style-src '\''unsafe-inline'\''; img-src data:">
 <title>worksheet</title>
 </head>
 <body>
