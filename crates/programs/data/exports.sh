@@ -346,11 +346,37 @@ cell() {
 # What stands after the cells of a notebook, and its status.
 cells_end='],"metadata":{},"nbformat":4,"nbformat_minor":5}status 0'
 
-# A case of a notebook of one field: NAME INPUT BLOCK, the source and the texts of the output in JSON.
-noted() {
+# A case of a notebook of one field: NAME INPUT BLOCK, the source and the outputs in JSON.
+noted_as() {
     answered "$2" '> ' "$3"
-    result='{"data":{'"$5"'},"execution_count":null,"metadata":{},"output_type":"execute_result"}'
-    compare "$1" "$(answer export notebook area </dev/null)" '{"cells":['"$(cell 1 "$4" "$result")$cells_end"
+    compare "$1" "$(answer export notebook area </dev/null)" '{"cells":['"$(cell 1 "$4" "$5")$cells_end"
+}
+
+# What was answered, what was shown, what was printed and what is an error, in JSON.
+result_json() {
+    printf '%s' '{"data":{'"$1"'},"execution_count":null,"metadata":{},"output_type":"execute_result"}'
+}
+formula_json() {
+    result_json '"text/latex":"'"$1"'","text/plain":"'"$1"'"'
+}
+picture_json() {
+    printf '%s' '{"data":{"'"$2"'":"'"$3"'","text/plain":"A picture ('"$1"')"},"metadata":{},"output_type":"display_data"}'
+}
+stream_json() {
+    printf '%s' '{"name":"stdout","output_type":"stream","text":"'"$1"'"}'
+}
+error_json() {
+    printf '%s' '{"ename":"Error","evalue":"'"$1"'","output_type":"error","traceback":["'"$1"'"]}'
+}
+
+# A case of one whose output is an answer: NAME INPUT BLOCK, the source and the texts of the output in JSON.
+noted() {
+    noted_as "$1" "$2" "$3" "$4" "$(result_json "$5")"
+}
+
+# A case of these outputs: NAME BLOCK OUTPUTS.
+outputs() {
+    noted_as "$1" x "$2" x "$3"
 }
 
 noted 'a notebook' '1<2' 'verbatim:true & so' '1<2' '"text/plain":"true & so"'
@@ -363,24 +389,37 @@ noted 'control bytes in a notebook' x 'verbatim:a\000\r\033\033\177b' x '"text/p
 noted 'stray bytes in a notebook' x 'verbatim:\377a\342\202b\355\240\200' x '"text/plain":"\\xffa\\xe2\\x82b\\xed\\xa0\\x80"'
 noted 'a character that is cut off in a notebook' x 'verbatim:x\360\237\230' x '"text/plain":"x\\xf0\\x9f\\x98"'
 noted 'characters in a notebook' "$(printf 'gr\303\274n')" 'verbatim:\342\202\254\360\237\230\200' "$(printf 'gr\303\274n')" "$(printf '"text/plain":"\342\202\254\360\237\230\200"')"
-noted 'a formula in a notebook' x 'latex:$x^2$' x '"text/latex":"$x^2$","text/plain":"{latex:$x^2$}"'
-noted 'a formula on its own in a notebook' x 'latex:$$\\frac{1}{2}$$' x '"text/latex":"$$\\frac{1}{2}$$","text/plain":"{latex:$$\\frac{1}{2}$$}"'
-noted 'a stray byte in a formula' x 'latex:$x\377y$' x '"text/latex":"$x\\xffy$","text/plain":"{latex:$x\\xffy$}"'
-noted 'a matrix in a notebook' x 'latex:$\\begin{pmatrix}1&2\\end{pmatrix}$' x '"text/latex":"$\\begin{pmatrix}1&2\\end{pmatrix}$","text/plain":"{latex:$\\begin{pmatrix}1&2\\end{pmatrix}$}"'
-noted 'less than in a notebook' x 'latex:$x < y$' x '"text/latex":"$x < y$","text/plain":"{latex:$x < y$}"'
+outputs 'a formula in a notebook' 'latex:$x^2$' "$(formula_json '$x^2$')"
+outputs 'a formula on its own in a notebook' 'latex:$$\\frac{1}{2}$$' "$(formula_json '$$\\frac{1}{2}$$')"
+outputs 'a stray byte in a formula' 'latex:$x\377y$' "$(formula_json '$x\\xffy$')"
+outputs 'a matrix in a notebook' 'latex:$\\begin{pmatrix}1&2\\end{pmatrix}$' "$(formula_json '$\\begin{pmatrix}1&2\\end{pmatrix}$')"
+outputs 'less than in a notebook' 'latex:$x < y$' "$(formula_json '$x < y$')"
 noted 'an element in a formula in a notebook' x 'latex:$x<b$' x '"text/plain":"{latex:$x<b$}"'
 noted 'a formula that is none behind a text in a notebook' x 'verbatim:is \002latex:$x<b$\005' x '"text/plain":"is {latex:$x<b$}"'
-noted 'a formula in front of a text in a notebook' x 'verbatim:\002latex:$x$\005 it is' x '"text/plain":"{latex:$x$} it is"'
+# Outputs of their own, where one of them is more than text.
+outputs 'a text and a formula in a notebook' 'verbatim:one\n\ttwo\n\002latex:$x^2$\005' "$(stream_json 'one\n\ttwo\n'),$(formula_json '$x^2$')"
+outputs 'a text on the line of a formula in a notebook' 'verbatim:is \002latex:$x$\005' "$(stream_json 'is '),$(formula_json '$x$')"
+outputs 'stray and control bytes in front of a formula in a notebook' 'verbatim:\377\001\n\002latex:$x\377y$\005' "$(stream_json '\\xff\\x01\n'),$(formula_json '$x\\xffy$')"
+outputs 'a formula in front of a text in a notebook' 'verbatim:\002latex:$x$\005 it is' "$(formula_json '$x$'),$(stream_json ' it is')"
+outputs 'two formulas in a notebook' 'output#\002latex:$x$\005\002latex:$y$\005' "$(formula_json '$x$'),$(formula_json '$y$')"
+outputs 'a formula behind one that is none in a notebook' 'output#\002latex:$x<b$\005\002latex:$y$\005' "$(stream_json '{latex:$x<b$}'),$(formula_json '$y$')"
+outputs 'a PNG in a notebook' "image/png;base64:$png" "$(picture_json PNG image/png $png)"
+outputs 'a JPEG in a notebook' 'image/jpeg;base64:/9j/4AAQ' "$(picture_json JPEG image/jpeg /9j/4AAQ)"
+outputs 'an SVG in a notebook' 'image/svg+xml:<svg a="b">\n</svg>' "$(picture_json SVG image/svg+xml '<svg a=\"b\">\n</svg>')"
+outputs 'a PNG between texts in a notebook' "output#one\n\002image/png;base64:$png\005two" "$(stream_json 'one\n'),$(picture_json PNG image/png $png),$(stream_json two)"
+outputs 'a PNG beside HTML in a notebook' "output#\002html:<b>\005\002image/png;base64:$png\005" "$(stream_json '{html:<b>}'),$(picture_json PNG image/png $png)"
+outputs 'a GIF in a notebook' 'image/gif;base64:R0lGODlh' "$(stream_json '{image/gif;base64: not drawn}')"
+outputs 'a PNG that is cut in a notebook' 'verbatim:\002image/png;base64:iVBORw0KGgoAAAANSUhEUgA\005' "$(stream_json '{image/png;base64: not drawn}')"
+outputs 'a line feed in a format in a notebook' 'image/a\n:x' "$(stream_json '{image/a\\x0a: not drawn}')"
+outputs 'an error in a notebook' 'output#\002output#division by "zero"\005' "$(error_json 'division by \"zero\"')"
+outputs 'a text and an error in a notebook' 'output#one\n\002output#two\005three' "$(stream_json 'one\n'),$(error_json two),$(stream_json three)"
+outputs 'a channel error in a notebook' 'error#x' "$(error_json x)"
+outputs 'a channel error in a text in a notebook' 'verbatim:one\n\002error#two\005' "$(stream_json 'one\n'),$(error_json two)"
+outputs 'blocks in an error in a notebook' 'output#\002output#in \002html:<b>\005 and \002latex:$x$\005\005' "$(error_json 'in {html:<b>} and {latex:$x$}')"
+noted 'an output in a text in a notebook' x 'verbatim:\002output#x\005' x '"text/plain":"x"'
+noted 'a PNG in a tag in a notebook' x "html:\002image/png;base64:$png\005" x '"text/plain":"{html:{image/png;base64:'"$png"'}}"'
+noted 'a PNG in a text in a text in a notebook' x "verbatim:\002verbatim:\002image/png;base64:$png\005\005" x '"text/plain":"{image/png;base64:'"$png"'}"'
 
-# A case of a text and the formula behind it: NAME BLOCK, the text in JSON and the formula.
-streamed() {
-    answered x '> ' "$2"
-    result='{"name":"stdout","output_type":"stream","text":"'"$3"'"},{"data":{"text/latex":"'"$4"'","text/plain":"{latex:'"$4"'}"},"execution_count":null,"metadata":{},"output_type":"execute_result"}'
-    compare "$1" "$(answer export notebook area </dev/null)" '{"cells":['"$(cell 1 x "$result")$cells_end"
-}
-streamed 'a text and a formula in a notebook' 'verbatim:one\n\ttwo\n\002latex:$x^2$\005' 'one\n\ttwo\n' '$x^2$'
-streamed 'a text on the line of a formula in a notebook' 'verbatim:is \002latex:$x$\005' 'is ' '$x$'
-streamed 'stray and control bytes in front of a formula in a notebook' 'verbatim:\377\001\n\002latex:$x\377y$\005' '\\xff\\x01\n' '$x\\xffy$'
 noted 'an input of lines in a notebook' 'a\342\200\250\011b\342\200\250' 'verbatim:A\342\200\250B' 'a\n\tb\n' "$(printf '"text/plain":"A\342\200\250B"')"
 noted 'a block of HTML in a notebook' x 'html:<b>bold</b>' x '"text/plain":"{html:<b>bold</b>}"'
 noted 'a tag that is markup in a notebook' x '<b>:x' x '"text/plain":"{<b>:x}"'

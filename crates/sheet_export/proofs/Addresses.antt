@@ -1,7 +1,7 @@
 -- What stands in the address of a picture is base64 alone.
 use Rattle.std.proofs.Common.{◌≡◌, ℕ, ◌+◌, ◌-◌, ◌*◌, ◌/◌, ◌%◌, Bool, true, false, cond, List, [], ◌∷◌, ◌++◌, Option, Some, None, refl, ap, sym, ◌∙◌, subst, arith, codes}
-use Rattle.std.specs.Prelude.{◌==◌, ◌&&◌, ◌||◌, is_some, nat_le, nat_lt, unwrap_or}
-use Rattle.std.specs.List.{list_all}
+use Rattle.std.specs.Prelude.{◌==◌, ◌&&◌, ◌||◌, if◌then◌else◌, is_some, nat_eq, nat_le, nat_lt, unwrap_or}
+use Rattle.std.specs.List.{list_all, starts_with}
 use Rattle.std.specs.Str.{bytes_eq}
 use Rattle.std.proofs.lemmas.Bool.{true≢false}
 use Rattle.std.proofs.lemmas.Bool.Decides.{nat_tests}
@@ -12,21 +12,36 @@ use Rattle.sheet_notebook.specs.declared.pictures.PictureKind.TheVariants as kin
 use Rattle.sheet_export.specs.Laws.{PicturesAreBase64}
 use Rattle.sheet_export.specs.Pictures.{image_data, in_base64, symbol_of}
 
-or_true : (a : Bool) → (a || true) ≡ true
-or_true true = refl
-or_true false = refl
+both : (a b : Bool) → a ≡ true → b ≡ true → (a && b) ≡ true
+both true b p q = q
+both false b p q = absurd (true≢false (sym p))
 
 within : (first last byte : ℕ) → nat_le first byte ≡ true → nat_le byte last ≡ true → is_within first last byte ≡ true
-within first last byte p q = rw (p, q) refl
+within first last byte p q = both (nat_le first byte) (nat_le byte last) p q
+
+first_of : (a b c d e f : Bool) → a ≡ true → (a || b || c || d || e || f) ≡ true
+first_of true b c d e f p = refl
+first_of false b c d e f p = absurd (true≢false (sym p))
+
+second_of : (a b c d e f : Bool) → b ≡ true → (a || b || c || d || e || f) ≡ true
+second_of true b c d e f p = refl
+second_of false true c d e f p = refl
+second_of false false c d e f p = absurd (true≢false (sym p))
+
+third_of : (a b c d e f : Bool) → c ≡ true → (a || b || c || d || e || f) ≡ true
+third_of true b c d e f p = refl
+third_of false true c d e f p = refl
+third_of false false true d e f p = refl
+third_of false false false d e f p = absurd (true≢false (sym p))
 
 upper : (byte : ℕ) → is_within 65 90 byte ≡ true → is_base64_byte byte ≡ true
-upper byte p = rw p refl
+upper byte p = first_of (is_within 65 90 byte) (is_within 97 122 byte) (is_within 48 57 byte) (byte == 43) (byte == 47) (byte == 61) p
 
 lower : (byte : ℕ) → is_within 97 122 byte ≡ true → is_base64_byte byte ≡ true
-lower byte p = (rw p refl) ∙ ap (λ t. t || byte == 61) (or_true (is_within 65 90 byte))
+lower byte p = second_of (is_within 65 90 byte) (is_within 97 122 byte) (is_within 48 57 byte) (byte == 43) (byte == 47) (byte == 61) p
 
 digit : (byte : ℕ) → is_within 48 57 byte ≡ true → is_base64_byte byte ≡ true
-digit byte p = (rw p refl) ∙ ap (λ t. (is_within 65 90 byte || t) || byte == 61) (or_true (is_within 97 122 byte)) ∙ ap (λ t. t || byte == 61) (or_true (is_within 65 90 byte))
+digit byte p = third_of (is_within 65 90 byte) (is_within 97 122 byte) (is_within 48 57 byte) (byte == 43) (byte == 47) (byte == 61) p
 
 pub symbol_passes : (n : ℕ) → is_base64_byte (symbol_of n) ≡ true
 symbol_passes n = go (nat_lt n 26) refl (nat_lt n 52) refl (nat_lt n 62) refl (n == 62)
@@ -39,9 +54,6 @@ symbol_passes n = go (nat_lt n 26) refl (nat_lt n 52) refl (nat_lt n 62) refl (n
     go false e false f false g true = refl
     go false e false f false g false = refl
 
-both : (a b : Bool) → a ≡ true → b ≡ true → (a && b) ≡ true
-both a b p q = rw (p, q) refl
-
 -- a symbol in front of such bytes
 more : (n : ℕ) (rest : List ℕ) → list_all is_base64_byte rest ≡ true → list_all is_base64_byte (symbol_of n ∷ rest) ≡ true
 more n rest e = both (is_base64_byte (symbol_of n)) (list_all is_base64_byte rest) (symbol_passes n) e
@@ -49,9 +61,14 @@ more n rest e = both (is_base64_byte (symbol_of n)) (list_all is_base64_byte res
 encoded_passes : (given : List ℕ) → list_all is_base64_byte (in_base64 given) ≡ true
 unfolding in_base64
 encoded_passes [] = refl
-encoded_passes (a ∷ []) = more (a / 4) _ (more (a % 4 * 16) _ refl)
-encoded_passes (a ∷ b ∷ []) = more (a / 4) _ (more (a % 4 * 16 + b / 16) _ (more (b % 16 * 4) _ refl))
-encoded_passes (a ∷ b ∷ c ∷ rest) = more (a / 4) _ (more (a % 4 * 16 + b / 16) _ (more (b % 16 * 4 + c / 64) _ (more (c % 64) (in_base64 rest) (encoded_passes rest))))
+encoded_passes (a ∷ []) = more (a / 4) (symbol_of (a % 4 * 16) ∷ 61 ∷ 61 ∷ []) (more (a % 4 * 16) (61 ∷ 61 ∷ []) refl)
+encoded_passes (a ∷ b ∷ []) =
+    more (a / 4) (symbol_of (a % 4 * 16 + b / 16) ∷ symbol_of (b % 16 * 4) ∷ 61 ∷ []) (more (a % 4 * 16 + b / 16) (symbol_of (b % 16 * 4) ∷ 61 ∷ []) (more (b % 16 * 4) (61 ∷ []) refl))
+encoded_passes (a ∷ b ∷ c ∷ rest) =
+    let third = symbol_of (b % 16 * 4 + c / 64) in
+    let fourth = symbol_of (c % 64) in
+    more (a / 4) (symbol_of (a % 4 * 16 + b / 16) ∷ third ∷ fourth ∷ in_base64 rest) (more (a % 4 * 16 + b / 16) (third ∷ fourth ∷ in_base64 rest)
+    (more (b % 16 * 4 + c / 64) (fourth ∷ in_base64 rest) (more (c % 64) (in_base64 rest) (encoded_passes rest))))
 
 second : (a b : Bool) → (a && b) ≡ true → b ≡ true
 second true b e = e
@@ -69,7 +86,7 @@ a_kind chosen given holds drawn e = subst (λ k. list_all is_base64_byte (image_
 
 fits_magic : Base64IsItsAlone → (magic given : List ℕ) → is_base64_of magic given ≡ true → list_all is_base64_byte given ≡ true
 unfolding is_base64_of
-fits_magic alone magic given e = alone given (second _ (is_base64 given) e)
+fits_magic alone magic given e = alone given (second (starts_with nat_eq given magic) (is_base64 given) e)
 
 png_fits : Base64IsItsAlone → (given : List ℕ) (t : Bool) → is_base64_of png_magic given ≡ t → Fits (cond t (Some kind.Png) None) given
 png_fits alone given true e = a_kind kind.Png given (fits_magic alone png_magic given e)
@@ -84,7 +101,7 @@ svg_fits given true = a_kind kind.Svg given (encoded_passes given)
 svg_fits given false = no_kind given
 
 choose : (given : List ℕ) (p q r : Bool) (png jpeg svg : Option PictureKind) → Fits png given → Fits jpeg given → Fits svg given
-    → Fits (cond p png (cond q jpeg (cond r svg None))) given
+    → Fits (if p then png else if q then jpeg else if r then svg else None) given
 choose given true q r png jpeg svg a b c = a
 choose given false true r png jpeg svg a b c = b
 choose given false false true png jpeg svg a b c = c

@@ -27,10 +27,10 @@ groups_alone place padded (byte ∷ rest) e = go (λ now. groups_alone (next_pla
         (rw (is, sym_is) refl) ∙ holds true (second (nat_le 2 place) (are_groups (next_place place) true rest) left)
     go holds false is true sym_is =
         let left : (not padded && is_symbol_byte byte && are_groups (next_place place) padded rest) ≡ true = sym (rw is refl) ∙ e in
-        (rw (is, sym_is) refl) ∙ holds padded (second (is_symbol_byte byte) (are_groups (next_place place) padded rest) (second (not padded) (is_symbol_byte byte && are_groups (next_place place) padded rest) left))
+        (rw (is, sym_is) refl) ∙ holds padded (second (not padded && is_symbol_byte byte) (are_groups (next_place place) padded rest) left)
     go holds false is false sym_is =
         let left : (not padded && is_symbol_byte byte && are_groups (next_place place) padded rest) ≡ true = sym (rw is refl) ∙ e in
-        absurd (true≢false (sym (first (is_symbol_byte byte) (are_groups (next_place place) padded rest) (second (not padded) (is_symbol_byte byte && are_groups (next_place place) padded rest) left)) ∙ sym_is))
+        absurd (true≢false (sym (second (not padded) (is_symbol_byte byte) (first (not padded && is_symbol_byte byte) (are_groups (next_place place) padded rest) left)) ∙ sym_is))
 
 pub base64_alone : Base64IsItsAlone
 unfolding is_base64

@@ -7,18 +7,18 @@ use Rattle.block_tree.specs.declared.tree.Item.{Item}
 use Rattle.serde_json.specs.View.{items_of, items_view, view}
 use Rattle.serde_json.specs.Data.{Data}
 use Rattle.serde_json.specs.declared.value.Value.{Value}
-use Rattle.sheet_notebook.specs.Notebook.{has_special, is_special, parts_of, piece_output}
+use Rattle.sheet_notebook.specs.Notebook.{has_own_output, is_own_output, piece_outputs, piece_output}
 
-put_parts : (in_output : Bool) (p : Piece) (rest : Items) → parts_of in_output (put p rest) ≡ piece_output in_output p ∷ parts_of in_output rest
+put_parts : (in_output : Bool) (p : Piece) (rest : Items) → piece_outputs in_output (put p rest) ≡ piece_output in_output p ∷ piece_outputs in_output rest
 put_parts in_output (text_piece t) rest = refl
 put_parts in_output (block_piece b) rest = refl
 
-pub put_special : (in_output : Bool) (p : Piece) (rest : Items) → has_special in_output (put p rest) ≡ (is_special in_output p || has_special in_output rest)
-put_special in_output (text_piece t) rest = refl
-put_special in_output (block_piece b) rest = refl
+pub put_own : (in_output : Bool) (p : Piece) (rest : Items) → has_own_output in_output (put p rest) ≡ (is_own_output in_output p || has_own_output in_output rest)
+put_own in_output (text_piece t) rest = refl
+put_own in_output (block_piece b) rest = refl
 
 abbrev pub outputs_from : Bool → List Item → List Data
-outputs_from in_output xs = parts_of in_output (items_from (map piece_of xs))
+outputs_from in_output xs = piece_outputs in_output (items_from (map piece_of xs))
 
 -- these values are the outputs of a front of the items, and these items are to come
 abbrev pub Made : Bool → List Value → List Item → List Item → Type 0
@@ -43,4 +43,4 @@ pub parts_made : (in_output : Bool) (values : List Value) (ahead all : List Item
 parts_made in_output values [] all e w = ap items_of (sym (append-nil (map view values)) ∙ w)
 parts_made in_output values (item ∷ others) all e w = absurd (omega (arith, e))
 
-pub ruleset part_steps = (put_special, part_made, parts_made, tree_out, piece_text, piece_block)
+pub ruleset part_steps = (put_own, part_made, parts_made, tree_out, piece_text, piece_block)

@@ -10,7 +10,7 @@ use Rattle.worksheet.specs.Contents.{Contents}
 use Rattle.worksheet.specs.declared.field.Answer.{Answer}
 use Rattle.worksheet.specs.declared.field.Field.{Field}
 use Rattle.sheet_notebook.specs.Formulas.{formula_of}
-use Rattle.sheet_notebook.specs.Notebook.{cell_of, error_data, has_parts, media_of, media_output, notebook, outputs_in, outputs_of, parts_of, picture_output, plain_bundle, result_of, special_output, stream_data, whole_output}
+use Rattle.sheet_notebook.specs.Notebook.{cell_of, error_data, has_parts, media_of, media_output, notebook, outputs_in, outputs_of, piece_outputs, picture_output, plain_bundle, result_of, own_output, stream_data, whole_output}
 use Rattle.sheet_notebook.specs.Pictures.{is_error_tag, is_output_tag, drawn_as, picture_of}
 use Rattle.sheet_notebook.specs.Strings.{block_string, items_string}
 use Rattle.sheet_notebook.specs.declared.pictures.PictureKind.{PictureKind}
@@ -41,47 +41,47 @@ media_depth (Some given) formula name other e = picture_depth (drawn_as name giv
 media_depth None (Some formula) name other e = omega arith
 media_depth None None name other e = e
 
-special_float : (in_output : Bool) (b : Tree) (other : Data) → has_float other ≡ false → has_float (unwrap_or (special_output in_output b) other) ≡ false
-special_float in_output b other e = go (is_error_tag in_output b.channel b.name)
+own_float : (in_output : Bool) (b : Tree) (other : Data) → has_float other ≡ false → has_float (unwrap_or (own_output in_output b) other) ≡ false
+own_float in_output b other e = go (is_error_tag in_output b.channel b.name)
   where
     go : (t : Bool) → has_float (unwrap_or (cond t (Some (error_data (items_string b.items))) (media_of b)) other) ≡ false
     go true = refl
     go false = media_float (picture_of b) (formula_of b) b.name other e
 
-special_depth : (in_output : Bool) (b : Tree) (other : Data) → depth other ≤ 2 → depth (unwrap_or (special_output in_output b) other) ≤ 2
-special_depth in_output b other e = go (is_error_tag in_output b.channel b.name)
+own_depth : (in_output : Bool) (b : Tree) (other : Data) → depth other ≤ 2 → depth (unwrap_or (own_output in_output b) other) ≤ 2
+own_depth in_output b other e = go (is_error_tag in_output b.channel b.name)
   where
     go : (t : Bool) → depth (unwrap_or (cond t (Some (error_data (items_string b.items))) (media_of b)) other) ≤ 2
     go true = omega arith
     go false = media_depth (picture_of b) (formula_of b) b.name other e
 
-parts_float : (in_output : Bool) (xs : Items) → items_have_float (items_of (parts_of in_output xs)) ≡ false
+parts_float : (in_output : Bool) (xs : Items) → items_have_float (items_of (piece_outputs in_output xs)) ≡ false
 parts_float in_output end = refl
 parts_float in_output (text t rest) = parts_float in_output rest
 parts_float in_output (block channel name inside rest) =
     let b : Tree = record { channel = channel; name = name; items = inside } in
-    ap₂ (λ a b. a || b) (special_float in_output b (stream_data (block_string b)) refl) (parts_float in_output rest)
+    ap₂ (λ a b. a || b) (own_float in_output b (stream_data (block_string b)) refl) (parts_float in_output rest)
 
-parts_depth : (in_output : Bool) (xs : Items) → items_depth (items_of (parts_of in_output xs)) ≤ 2
+parts_depth : (in_output : Bool) (xs : Items) → items_depth (items_of (piece_outputs in_output xs)) ≤ 2
 parts_depth in_output end = omega arith
 parts_depth in_output (text t rest) = max_within 1 _ 2 (omega arith) (parts_depth in_output rest)
 parts_depth in_output (block channel name inside rest) =
     let b : Tree = record { channel = channel; name = name; items = inside } in
-    max_within _ _ 2 (special_depth in_output b (stream_data (block_string b)) (omega arith)) (parts_depth in_output rest)
+    max_within _ _ 2 (own_depth in_output b (stream_data (block_string b)) (omega arith)) (parts_depth in_output rest)
 
 answer_float : (b : Tree) → has_float (outputs_in b) ≡ false
 answer_float b = go (has_parts b)
   where
-    go : (t : Bool) → has_float (cond t (array (items_of (parts_of (is_output_tag b.channel b.name) b.items))) (array (item (whole_output b) no_items))) ≡ false
+    go : (t : Bool) → has_float (cond t (array (items_of (piece_outputs (is_output_tag b.channel b.name) b.items))) (array (item (whole_output b) no_items))) ≡ false
     go true = parts_float (is_output_tag b.channel b.name) b.items
-    go false = ap (λ t. t || false) (special_float false b (result_of (plain_bundle b)) refl)
+    go false = ap (λ t. t || false) (own_float false b (result_of (plain_bundle b)) refl)
 
 answer_depth : (b : Tree) → depth (outputs_in b) ≤ 3
 answer_depth b = go (has_parts b)
   where
-    go : (t : Bool) → depth (cond t (array (items_of (parts_of (is_output_tag b.channel b.name) b.items))) (array (item (whole_output b) no_items))) ≤ 3
+    go : (t : Bool) → depth (cond t (array (items_of (piece_outputs (is_output_tag b.channel b.name) b.items))) (array (item (whole_output b) no_items))) ≤ 3
     go true = omega (arith, parts_depth (is_output_tag b.channel b.name) b.items)
-    go false = omega (arith, special_depth false b (result_of (plain_bundle b)) (omega arith))
+    go false = omega (arith, own_depth false b (result_of (plain_bundle b)) (omega arith))
 
 outputs_float : (answer : Option Answer) → has_float (outputs_of answer) ≡ false
 outputs_float None = refl

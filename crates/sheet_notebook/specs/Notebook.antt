@@ -69,32 +69,36 @@ abbrev pub media_of : Tree → Option Data
 media_of b = media_output (picture_of b) (formula_of b) b.name
 
 -- an error, a picture or a formula, in a block of the channel `output` or not; none where a block is text
-abbrev pub special_output : Bool → Tree → Option Data
-special_output in_output b = cond (is_error_tag in_output b.channel b.name) (Some (error_data (items_string b.items))) (media_of b)
+abbrev pub own_output : Bool → Tree → Option Data
+own_output in_output b = cond (is_error_tag in_output b.channel b.name) (Some (error_data (items_string b.items))) (media_of b)
 
 -- such a one, or the block as text
 abbrev pub part_output : Bool → Tree → Data
-part_output in_output b = unwrap_or (special_output in_output b) (stream_data (block_string b))
+part_output in_output b = unwrap_or (own_output in_output b) (stream_data (block_string b))
 
 abbrev pub whole_output : Tree → Data
-whole_output b = unwrap_or (special_output false b) (result_of (plain_bundle b))
+whole_output b = unwrap_or (own_output false b) (result_of (plain_bundle b))
+
+-- whether a block is a picture or a formula
+abbrev pub is_media : Tree → Bool
+is_media b = is_some (picture_of b) || is_some (formula_of b)
 
 -- whether an item is an error, a picture or a formula
-abbrev pub is_special : Bool → Piece → Bool
-is_special in_output (text_piece t) = false
-is_special in_output (block_piece b) = is_error_tag in_output b.channel b.name || is_some (picture_of b) || is_some (formula_of b)
+abbrev pub is_own_output : Bool → Piece → Bool
+is_own_output in_output (text_piece t) = false
+is_own_output in_output (block_piece b) = is_error_tag in_output b.channel b.name || is_media b
 
 -- whether one of these is
-abbrev pub has_special : Bool → Items → Bool
-has_special in_output end = false
-has_special in_output (text t rest) = has_special in_output rest
-has_special in_output (block channel name inside rest) = is_special in_output (block_piece (record { channel = channel; name = name; items = inside })) || has_special in_output rest
+abbrev pub has_own_output : Bool → Items → Bool
+has_own_output in_output end = false
+has_own_output in_output (text t rest) = has_own_output in_output rest
+has_own_output in_output (block channel name inside rest) = is_own_output in_output (block_piece (record { channel = channel; name = name; items = inside })) || has_own_output in_output rest
 
 -- items, each as an output of its own
-abbrev pub parts_of : Bool → Items → List Data
-parts_of in_output end = []
-parts_of in_output (text t rest) = stream_data (string_of true t) ∷ parts_of in_output rest
-parts_of in_output (block channel name inside rest) = part_output in_output (record { channel = channel; name = name; items = inside }) ∷ parts_of in_output rest
+abbrev pub piece_outputs : Bool → Items → List Data
+piece_outputs in_output end = []
+piece_outputs in_output (text t rest) = stream_data (string_of true t) ∷ piece_outputs in_output rest
+piece_outputs in_output (block channel name inside rest) = part_output in_output (record { channel = channel; name = name; items = inside }) ∷ piece_outputs in_output rest
 
 -- what an item is as an output
 abbrev pub piece_output : Bool → Piece → Data
@@ -103,11 +107,11 @@ piece_output in_output (block_piece b) = part_output in_output b
 
 -- whether the items of a block are outputs of their own: they stand in it without a tag in braces, and one of them is more than text
 abbrev pub has_parts : Tree → Bool
-has_parts b = is_bare b.channel b.name && has_special (is_output_tag b.channel b.name) b.items
+has_parts b = is_bare b.channel b.name && has_own_output (is_output_tag b.channel b.name) b.items
 
 -- what an interpreter printed, showed and answered, in its order, or the output as one
 abbrev pub outputs_in : Tree → Data
-outputs_in b = cond (has_parts b) (array (items_of (parts_of (is_output_tag b.channel b.name) b.items))) (array (item (whole_output b) no_items))
+outputs_in b = cond (has_parts b) (array (items_of (piece_outputs (is_output_tag b.channel b.name) b.items))) (array (item (whole_output b) no_items))
 
 -- the outputs of a cell: none of a field without an answer
 abbrev pub outputs_of : Option Answer → Data

@@ -92,7 +92,10 @@ fn undrawn_of(alloc: Global, name: &[u8]) -> Result<Value, AllocError>
         (λ value. view value ≡ notebook.stream_data (notebook.undrawn_text name.now)) }
 {
     let format = string_of(alloc, name, false)?;
-    let text = format!(in alloc; "{{{}: not drawn}}", format)?;
+    let mut text = String::new(alloc);
+    text.push_str("{")?;
+    text.push_str(format.as_str())?;
+    text.push_str(": not drawn}")?;
     stream_of(alloc, text)
 }
 
@@ -120,6 +123,7 @@ fn formula_output(alloc: Global, formula: &[u8]) -> Result<Value, AllocError>
 }
 
 /// A picture or a formula, if a node is one.
+#[tactic(auto, using(crate::proofs::Pieces::item_rules))]
 fn media_of(alloc: Global, node: &Node) -> Result<Option<Value>, AllocError>
     ensures { IfOk result (λ found. option_map view found ≡ notebook.media_of (tree_of node.now)) }
 {
@@ -135,9 +139,10 @@ fn media_of(alloc: Global, node: &Node) -> Result<Option<Value>, AllocError>
 }
 
 /// An error, a picture or a formula, if a node is one.
-fn special_of(alloc: Global, node: &Node, in_output: bool) -> Result<Option<Value>, AllocError>
+#[tactic(auto, using(crate::proofs::Pieces::item_rules))]
+fn own_output(alloc: Global, node: &Node, in_output: bool) -> Result<Option<Value>, AllocError>
     ensures { IfOk result
-        (λ found. option_map view found ≡ notebook.special_output in_output (tree_of node.now)) }
+        (λ found. option_map view found ≡ notebook.own_output in_output (tree_of node.now)) }
 {
     if is_error_tag(&node.tag, in_output) {
         let value = error_of(alloc, node)?;
@@ -151,7 +156,7 @@ fn part_of(alloc: Global, node: &Node, in_output: bool) -> Result<Value, AllocEr
     ensures { IfOk result
         (λ value. view value ≡ notebook.part_output in_output (tree_of node.now)) }
 {
-    match special_of(alloc, node, in_output)? {
+    match own_output(alloc, node, in_output)? {
         Some(value) => Ok(value),
         None => {
             let text = node_string(alloc, node)?;
@@ -164,7 +169,7 @@ fn part_of(alloc: Global, node: &Node, in_output: bool) -> Result<Value, AllocEr
 fn whole_output(alloc: Global, node: &Node) -> Result<Value, AllocError>
     ensures { IfOk result (λ value. view value ≡ notebook.whole_output (tree_of node.now)) }
 {
-    match special_of(alloc, node, false)? {
+    match own_output(alloc, node, false)? {
         Some(value) => Ok(value),
         None => {
             let bundle = plain_bundle(alloc, node)?;
@@ -174,6 +179,7 @@ fn whole_output(alloc: Global, node: &Node) -> Result<Value, AllocError>
 }
 
 /// An item as an output.
+#[tactic(auto, using(crate::proofs::Pieces::item_rules))]
 fn item_output(alloc: Global, item: &Item, in_output: bool) -> Result<Value, AllocError>
     ensures { IfOk result
         (λ value. view value ≡ notebook.piece_output in_output (piece_of item.now)) }
@@ -187,28 +193,32 @@ fn item_output(alloc: Global, item: &Item, in_output: bool) -> Result<Value, All
     }
 }
 
+/// Whether a node is a picture or a formula.
+fn is_media(node: &Node) -> bool
+    ensures { result ≡ notebook.is_media (tree_of node.now) }
+{
+    picture_text(node).is_some() || formula_of_node(node).is_some()
+}
+
 /// Whether an item is an error, a picture or a formula.
-fn is_special(item: &Item, in_output: bool) -> bool
-    ensures { result ≡ notebook.is_special in_output (piece_of item.now) }
+#[tactic(auto, using(crate::proofs::Pieces::item_rules))]
+fn is_own_output(item: &Item, in_output: bool) -> bool
+    ensures { result ≡ notebook.is_own_output in_output (piece_of item.now) }
 {
     match item {
         Item::Text(_) => false,
-        Item::Block(inner) => {
-            is_error_tag(&inner.tag, in_output)
-                || picture_text(inner).is_some()
-                || formula_of_node(inner).is_some()
-        }
+        Item::Block(inner) => is_error_tag(&inner.tag, in_output) || is_media(inner),
     }
 }
 
 /// Whether one of these items is.
 #[tactic(auto, using(crate::proofs::Parts::part_steps))]
-fn has_special(items: &[Item], in_output: bool) -> bool
-    ensures { result ≡ notebook.has_special in_output (items_from (map piece_of items.now)) }
+fn has_own_output(items: &[Item], in_output: bool) -> bool
+    ensures { result ≡ notebook.has_own_output in_output (items_from (map piece_of items.now)) }
 {
     let mut rest = items;
     while let Some((item, others)) = rest.split_first() {
-        if is_special(item, in_output) {
+        if is_own_output(item, in_output) {
             return true;
         }
         rest = others;
@@ -218,9 +228,9 @@ fn has_special(items: &[Item], in_output: bool) -> bool
 
 /// Items, each as an output of its own.
 #[tactic(auto, using(crate::proofs::Parts::part_steps))]
-fn parts_of(alloc: Global, items: &[Item], in_output: bool) -> Result<Value, AllocError>
+fn piece_outputs(alloc: Global, items: &[Item], in_output: bool) -> Result<Value, AllocError>
     ensures { IfOk result (λ value. view value
-        ≡ array (items_of (notebook.parts_of in_output (items_from (map piece_of items.now))))) }
+        ≡ array (items_of (notebook.piece_outputs in_output (items_from (map piece_of items.now))))) }
 {
     let mut parts = Vec::new(alloc);
     let mut rest = items;
@@ -233,18 +243,20 @@ fn parts_of(alloc: Global, items: &[Item], in_output: bool) -> Result<Value, All
 }
 
 /// Whether the items of a node are outputs of their own.
+#[tactic(auto, using(crate::proofs::Pieces::item_rules))]
 fn has_parts(node: &Node) -> bool
     ensures { result ≡ notebook.has_parts (tree_of node.now) }
 {
-    is_bare_tag(&node.tag) && has_special(node.items.as_slice(), is_output_tag(&node.tag))
+    is_bare_tag(&node.tag) && has_own_output(node.items.as_slice(), is_output_tag(&node.tag))
 }
 
 /// What an interpreter printed, showed and answered, in its order, or the output as one.
+#[tactic(auto, using(crate::proofs::Pieces::item_rules))]
 pub(crate) fn outputs_in(alloc: Global, node: &Node) -> Result<Value, AllocError>
     ensures { IfOk result (λ value. view value ≡ notebook.outputs_in (tree_of node.now)) }
 {
     if has_parts(node) {
-        return parts_of(alloc, node.items.as_slice(), is_output_tag(&node.tag));
+        return piece_outputs(alloc, node.items.as_slice(), is_output_tag(&node.tag));
     }
     let whole = whole_output(alloc, node)?;
     json!(in alloc; [whole])
