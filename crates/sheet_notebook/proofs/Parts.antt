@@ -1,5 +1,5 @@
 -- Outputs of a cell, one after another.
-use Rattle.std.proofs.Common.{◌≡◌, ℕ, Bool, true, false, List, [], ◌∷◌, ◌++◌, map, length, refl, ap, sym, ◌∙◌, append_assoc, append-nil, arith}
+use Rattle.std.proofs.Common.{◌≡◌, Bool, List, [], ◌∷◌, ◌++◌, map, length, refl, ap, sym, ◌∙◌, append_assoc, append-nil, arith}
 use Rattle.std.specs.Prelude.{◌||◌}
 use Rattle.block_tree.specs.Tree.{Items, Piece, block_piece, items_from, put, text_piece}
 use Rattle.block_tree.specs.View.{piece_of, tree_out, piece_text, piece_block}
