@@ -1,12 +1,12 @@
 -- What stands in the address of a picture is base64 alone.
-use Rattle.std.proofs.Common.{◌≡◌, ℕ, ◌+◌, ◌-◌, ◌*◌, ◌/◌, ◌%◌, Bool, true, false, cond, List, [], ◌∷◌, ◌++◌, Option, Some, None, refl, ap, sym, ◌∙◌, subst, arith, codes}
+use Rattle.std.proofs.Common.{◌≡◌, ℕ, ◌+◌, ◌-◌, ◌*◌, ◌/◌, ◌%◌, Bool, true, false, cond, List, [], ◌∷◌, Option, Some, None, refl, ap, sym, subst, arith, codes}
 use Rattle.std.specs.Prelude.{◌==◌, ◌&&◌, ◌||◌, if◌then◌else◌, is_some, nat_eq, nat_le, nat_lt, unwrap_or}
 use Rattle.std.specs.List.{list_all, starts_with}
 use Rattle.std.specs.Str.{bytes_eq}
 use Rattle.std.proofs.lemmas.Bool.{true≢false}
 use Rattle.std.proofs.lemmas.Bool.Decides.{nat_tests}
 use Rattle.sheet_notebook.specs.Laws.{Base64IsItsAlone}
-use Rattle.sheet_notebook.specs.Pictures.{is_base64, is_base64_byte, is_base64_of, is_svg, is_within, jpeg_magic, drawn_as, png_magic}
+use Rattle.sheet_notebook.specs.Pictures.{is_base64, is_base64_byte, is_base64_of, is_svg, is_within, jpeg_magic, png_magic}
 use Rattle.sheet_notebook.specs.declared.pictures.PictureKind.{PictureKind}
 use Rattle.sheet_notebook.specs.declared.pictures.PictureKind.TheVariants as kind
 use Rattle.sheet_export.specs.Laws.{PicturesAreBase64}

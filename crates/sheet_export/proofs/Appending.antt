@@ -8,7 +8,7 @@ use Rattle.block_tree.specs.Tree.{Items, Piece, text_piece, block_piece, items_f
 use Rattle.block_tree.specs.View.{piece_of, tree_of, piece_text, piece_block, tree_out}
 use Rattle.block_tree.specs.declared.tree.Item.{Item}
 use Rattle.block_tree.specs.declared.tree.Node.{Node, out-Node}
-use Rattle.sheet_notebook.specs.Pictures.{is_output_tag, picture_named, picture_of}
+use Rattle.sheet_notebook.specs.Pictures.{is_output_tag, picture_of}
 use Rattle.sheet_export.specs.Pictures.{picture_html}
 use Rattle.sheet_export.specs.Html.{block_start, block_end, framed_html, is_unmarked, items_html, block_html, marked_html, piece_html, shown_html}
 

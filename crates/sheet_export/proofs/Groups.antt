@@ -1,8 +1,8 @@
 -- Base64, three bytes by three.
-use Rattle.std.proofs.Common.{◌≡◌, ℕ, List, [], ◌∷◌, ◌++◌, length, arith, refl, sym, ◌∙◌, append-nil, Option}
+use Rattle.std.proofs.Common.{◌≡◌, ℕ, List, [], ◌∷◌, length, arith, refl, Option}
 use Rattle.std.specs.Io.KnownBytes.{Appends}
 use Rattle.sheet_export.specs.Pictures.{in_base64, symbols_of, symbols_of_one, symbols_of_two}
-use Rattle.sheet_export.proofs.Written.{Written, part_written, all_written}
+use Rattle.sheet_export.proofs.Written.{Written, nothing_written, part_written, all_written}
 
 -- three bytes are written
 pub group_written : (x y z : ℕ) (bytes behind further others : List ℕ) (a b c : Option (List ℕ)) (all : List ℕ) → bytes ≡ x ∷ behind → behind ≡ y ∷ further → further ≡ z ∷ others
@@ -30,4 +30,4 @@ unfolding in_base64
 none_written [] a b all e w = all_written a b [] all refl w
 none_written (x ∷ bytes) a b all e w = absurd (omega (arith, e))
 
-pub ruleset group_steps = (group_written, two_written, one_written, none_written)
+pub ruleset group_steps = (nothing_written, group_written, two_written, one_written, none_written)

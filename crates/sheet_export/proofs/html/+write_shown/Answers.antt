@@ -1,4 +1,4 @@
-use Rattle.std.proofs.Common.{true, take, flat_map, ap, sym, ◌∙◌, subst}
+use Rattle.std.proofs.Common.{true, take, ap, sym, ◌∙◌, subst}
 use Rattle.std.proofs.lemmas.Bool.{true≢false}
 use Rattle.std.specs.Io.KnownBytes.{Appends}
 use Rattle.block_tree.specs.View.{piece_text, piece_block, piece_of, tree_of}
