@@ -1,7 +1,8 @@
 -- The spans of formulas and of errors nest, and pictures leave what is open.
 use Rattle.std.proofs.Common.{◌≡◌, ℕ, ◌+◌, ◌-◌, Bool, true, false, cond, List, [], ◌∷◌, ◌++◌, refl, ap, sym, ◌∙◌, append_assoc, append-nil, arith, Option, Some, None, codes, eqb-true}
-use Rattle.std.specs.Prelude.{◌==◌, ◌&&◌, nat_lt}
-use Rattle.std.specs.List.{list_all}
+use Rattle.std.specs.Prelude.{◌==◌, ◌&&◌, ◌||◌, drop, length, nat_eq, nat_lt, not}
+use Rattle.std.specs.List.{list_all, starts_with}
+use Rattle.std.proofs.Math.Seq.{drop-append_seam}
 use Rattle.std.proofs.lemmas.Bool.{true≢false}
 use Rattle.std.proofs.lemmas.Bool.Decides.{nat_tests}
 use Rattle.block_tree.specs.Tree.{Items, end, text, block}
@@ -12,7 +13,7 @@ use Rattle.sheet_notebook.specs.declared.pictures.PictureKind.TheVariants as kin
 use Rattle.sheet_export.specs.References.{html_text}
 use Rattle.sheet_export.specs.Html.{block_html, framed_html, is_tex, is_unmarked, items_html, marked_html, shown_html}
 use Rattle.sheet_export.specs.Pictures.{drawn_html, image_data, image_html, image_start, picture_html, undrawn_html}
-use Rattle.sheet_export.specs.Laws.{ends_image, nests, PicturesAreBase64, SpansNest}
+use Rattle.sheet_export.specs.Laws.{begins_span, ends_image, is_image, is_image_with, nests, PicturesAreBase64, SpansNest}
 use Rattle.sheet_export.specs.Parts as part
 use Rattle.sheet_export.proofs.NoMarks.{passes, unmarked_text}
 
@@ -80,11 +81,86 @@ data_ends : (data_bytes rest : List ℕ) → list_all is_base64_byte data_bytes 
 data_ends [] rest e = refl
 data_ends (x ∷ xs) rest e = (rw (head (is_base64_byte x) (list_all is_base64_byte xs) e) refl) ∙ data_ends xs rest (tail (is_base64_byte x) (list_all is_base64_byte xs) e)
 
+-- any byte but '<'
+abbrev is_other : ℕ → Bool
+is_other byte = not (byte == 60)
+
+other_byte : (byte : ℕ) → is_other byte ≡ true → (byte == 60) ≡ false
+other_byte byte e = go (byte == 60) e
+  where
+    go : (t : Bool) → not t ≡ true → t ≡ false
+    go true is = absurd (true≢false (sym is))
+    go false is = refl
+
+-- such bytes leave what is open
+skips_others : (xs : List ℕ) (depth : ℕ) (rest : List ℕ) → list_all is_other xs ≡ true → nests depth (xs ++ rest) ≡ nests depth rest
+skips_others [] depth rest e = refl
+skips_others (x ∷ xs) depth rest e =
+    (rw (other_byte x (head (is_other x) (list_all is_other xs) e)) refl) ∙ skips_others xs depth rest (tail (is_other x) (list_all is_other xs) e)
+
+-- what ends a span, or nothing
+abbrev closing : ℕ → List ℕ → Bool
+closing depth after = nat_lt 0 depth && starts_with nat_eq after (codes "/span>") && nests (depth - 1) after
+
+opens_span : (depth : ℕ) (after : List ℕ) → begins_span after ≡ true → nests depth (60 ∷ after) ≡ nests (depth + 1) after
+opens_span depth after e = ap (λ t. cond t (nests (depth + 1) after) (cond (is_image after) (nests depth after) (closing depth after))) e
+
+opens_image : (depth : ℕ) (after : List ℕ) → begins_span after ≡ false → is_image after ≡ true → nests depth (60 ∷ after) ≡ nests depth after
+opens_image depth after e f =
+    ap (λ t. cond t (nests (depth + 1) after) (cond (is_image after) (nests depth after) (closing depth after))) e ∙ ap (λ t. cond t (nests depth after) (closing depth after)) f
+
 -- the start of a picture's element, before base64 that ends
+abbrev png_front : List ℕ
+png_front = codes "img alt=\"A picture (PNG)\" src=\"data:image/png;base64,"
+
+abbrev jpeg_front : List ℕ
+jpeg_front = codes "img alt=\"A picture (JPEG)\" src=\"data:image/jpeg;base64,"
+
+abbrev svg_front : List ℕ
+svg_front = codes "img alt=\"A picture (SVG)\" src=\"data:image/svg+xml;base64,"
+
+both : (a b : Bool) → a ≡ true → b ≡ true → (a && b) ≡ true
+both true b p q = q
+both false b p q = absurd (true≢false (sym p))
+
+either : (a b c : Bool) → a ≡ true → (a || b || c) ≡ true
+either true b c p = refl
+either false b c p = absurd (true≢false (sym p))
+
+second_of : (a b c : Bool) → b ≡ true → (a || b || c) ≡ true
+second_of true b c p = refl
+second_of false true c p = refl
+second_of false false c p = absurd (true≢false (sym p))
+
+third_of : (a b c : Bool) → c ≡ true → (a || b || c) ≡ true
+third_of true b c p = refl
+third_of false true c p = refl
+third_of false false c p = p
+
+has_front : (front rest : List ℕ) → starts_with nat_eq (front ++ rest) front ≡ true → ends_image rest ≡ true → is_image_with front (front ++ rest) ≡ true
+has_front front rest s e =
+    both (starts_with nat_eq (front ++ rest) front) (ends_image (drop (length front) (front ++ rest))) s (ap ends_image (drop-append_seam front rest) ∙ e)
+
+starts_with_front : (front : List ℕ) (depth : ℕ) (rest : List ℕ) → begins_span (front ++ rest) ≡ false → is_image (front ++ rest) ≡ true → list_all is_other front ≡ true
+    → nests depth (60 ∷ (front ++ rest)) ≡ nests depth rest
+starts_with_front front depth rest e f others = opens_image depth (front ++ rest) e f ∙ skips_others front depth rest others
+
+png_starts : (depth : ℕ) (rest : List ℕ) → ends_image rest ≡ true → nests depth (60 ∷ (png_front ++ rest)) ≡ nests depth rest
+png_starts depth rest e = starts_with_front png_front depth rest refl
+    (either (is_image_with png_front (png_front ++ rest)) (is_image_with jpeg_front (png_front ++ rest)) (is_image_with svg_front (png_front ++ rest)) (has_front png_front rest refl e)) refl
+
+jpeg_starts : (depth : ℕ) (rest : List ℕ) → ends_image rest ≡ true → nests depth (60 ∷ (jpeg_front ++ rest)) ≡ nests depth rest
+jpeg_starts depth rest e = starts_with_front jpeg_front depth rest refl
+    (second_of (is_image_with png_front (jpeg_front ++ rest)) (is_image_with jpeg_front (jpeg_front ++ rest)) (is_image_with svg_front (jpeg_front ++ rest)) (has_front jpeg_front rest refl e)) refl
+
+svg_starts : (depth : ℕ) (rest : List ℕ) → ends_image rest ≡ true → nests depth (60 ∷ (svg_front ++ rest)) ≡ nests depth rest
+svg_starts depth rest e = starts_with_front svg_front depth rest refl
+    (third_of (is_image_with png_front (svg_front ++ rest)) (is_image_with jpeg_front (svg_front ++ rest)) (is_image_with svg_front (svg_front ++ rest)) (has_front svg_front rest refl e)) refl
+
 starts_image : (drawn : PictureKind) (depth : ℕ) (rest : List ℕ) → ends_image rest ≡ true → nests depth (image_start drawn ++ rest) ≡ nests depth rest
-starts_image kind.Png depth rest e = rw e refl
-starts_image kind.Jpeg depth rest e = rw e refl
-starts_image kind.Svg depth rest e = rw e refl
+starts_image kind.Png depth rest e = png_starts depth rest e
+starts_image kind.Jpeg depth rest e = jpeg_starts depth rest e
+starts_image kind.Svg depth rest e = svg_starts depth rest e
 
 skips_image : PicturesAreBase64 → (name given : List ℕ) (drawn : PictureKind) → drawn_as name given ≡ Some drawn → (depth : ℕ) (rest : List ℕ) → nests depth (image_html drawn given ++ rest) ≡ nests depth rest
 skips_image alone name given drawn is depth rest =
@@ -102,8 +178,14 @@ skips_picture alone name given depth rest = go (drawn_as name given) refl
     go (Some drawn) is = skips_image alone name given drawn is depth rest
     go None is = skips_undrawn name depth rest
 
+abbrev error_front : List ℕ
+error_front = codes "span class=\"error\">"
+
+error_opens : (depth : ℕ) (rest : List ℕ) → nests depth (60 ∷ (error_front ++ rest)) ≡ nests (depth + 1) rest
+error_opens depth rest = opens_span depth (error_front ++ rest) refl ∙ skips_others error_front (depth + 1) rest refl
+
 begins_error : (depth : ℕ) (rest : List ℕ) → nests depth (part.error_start ++ rest) ≡ nests (depth + 1) rest
-begins_error depth rest = refl
+begins_error depth rest = error_opens depth rest
 
 -- what stands between the ends of a span
 in_span : (start inside : List ℕ) → ((depth : ℕ) (rest : List ℕ) → nests depth (start ++ rest) ≡ nests (depth + 1) rest)

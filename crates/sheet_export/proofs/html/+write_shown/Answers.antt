@@ -13,7 +13,7 @@ loop-item-preserved g t c =
     elim c.match-item.branch [
       | in-Text+in_ok-write_text-in-Text w ↦
           subst (λ o. Appends _ (g.W.Write.contents o) _) (sym w.out-is)
-          (next_item _ _ _ _ _ _ _ _ c.loop-item-test.true c.item-item.is (ap (λ x. piece_html (own_tag c.args.node.now) (piece_of x)) w.in-Text.is ∙ ap (piece_html (own_tag c.args.node.now)) (piece_text w.in-Text.text) ∙ ap (html_text true) (sym w.as_slice.ensures)) c.loop-item.invariant
+          (next_item _ _ _ _ _ _ _ _ c.loop-item-test.true c.item-item.is (ap (λ x. piece_html (own_tag c.args.node.now) (piece_of x)) w.in-Text.is ∙ ap (piece_html (own_tag c.args.node.now)) (piece_text w.in-Text.text) ∙ ap (html_text true) (sym w.as_slice-in-Text.ensures)) c.loop-item.invariant
           w.in_ok-write_text-in-Text.ensures)
       | in-Block+in_ok-write_shown-in-Block w ↦
           subst (λ o. Appends _ (g.W.Write.contents o) _) (sym w.out-is)

@@ -1,4 +1,4 @@
-use Rattle.std.proofs.Common.{◌++◌}
+use Rattle.std.proofs.Common.{◌++◌, false}
 use Rattle.std.proofs.KnownBytes.{Appends-trans}
 use Rattle.sheet_export.specs.Html.{block_html}
 use Rattle.sheet_export.specs.Parts as part
