@@ -1,12 +1,14 @@
 "use strict";
 // The formulas and the fields of prose of a page that `tmhost export html` wrote, and the same page with them set.
 //
-// In an output of such a page each `<` begins `<span class="tex">` or its `</span>`, whatever an interpreter wrote, and no other text has one.
+// In an output of such a page each `<` begins `<span class="tex">`, `<span class="error">`, the `</span>` of one, or a picture, whatever an interpreter
+// wrote, and no other text has one.
 // So the end of a span and of a field needs no guess. All of this works on bytes: what is neither is copied as it is.
 
 const OUTPUT_START = Buffer.from('<pre class="out"');
 const OUTPUT_END = Buffer.from("</pre>");
 const SPAN_START = Buffer.from('<span class="tex">');
+const ERROR_START = Buffer.from('<span class="error">');
 const SPAN_END = Buffer.from("</span>");
 const HEAD_END = Buffer.from("</head>");
 const MARK = 60; // <
@@ -96,6 +98,8 @@ function spansWithin(output) {
       if (standsAt(output, at, SPAN_END)) {
         if (start >= 0) spans.push({ start, end: at, depth });
         depth -= 1;
+      } else if (standsAt(output, at, ERROR_START)) {
+        depth += 1;
       }
       start = -1;
     }
@@ -110,7 +114,7 @@ function spansWithin(output) {
 function isFirst(output, at) {
   for (let steps = 0; steps < MOST_STEPS; steps += 1) {
     if (at === 0 || output[at - 1] === LINE_FEED) return true;
-    const tag = [SPAN_START, SPAN_END].find((word) => standsAt(output, at - word.length, word));
+    const tag = [SPAN_START, ERROR_START, SPAN_END].find((word) => standsAt(output, at - word.length, word));
     if (tag) at -= tag.length;
     else if (BLANKS.includes(output[at - 1])) at -= 1;
     else return false;
@@ -125,7 +129,7 @@ function isFirst(output, at) {
 function isLast(output, at) {
   for (let steps = 0; steps < MOST_STEPS; steps += 1) {
     if (at >= output.length || output[at] === LINE_FEED) return true;
-    const tag = [SPAN_START, SPAN_END].find((word) => standsAt(output, at, word));
+    const tag = [SPAN_START, ERROR_START, SPAN_END].find((word) => standsAt(output, at, word));
     if (tag) at += tag.length;
     else if (BLANKS.includes(output[at])) at += 1;
     else return false;

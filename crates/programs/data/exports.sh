@@ -75,11 +75,11 @@ compare 'a whole page' "$(answer export html 'far <away>/a&b.tm' </dev/null)" '<
 <meta charset="utf-8">
 <meta name="viewport" content="width=device-width, initial-scale=1">
 <meta name="color-scheme" content="light dark">
-<meta http-equiv="Content-Security-Policy" content="default-src '\''none'\''; style-src '\''unsafe-inline'\''">
+<meta http-equiv="Content-Security-Policy" content="default-src '\''none'\''; style-src '\''unsafe-inline'\''; img-src data:">
 <title>a&amp;b.tm</title>
 <style>
-:root{color-scheme:light dark;--ink:#1c2733;--dim:#66727f;--page:#f6f7f9;--card:#fff;--line:#dfe4ea;--mark:#0b62c4;--warn:#a15c00}
-@media (prefers-color-scheme:dark){:root{--ink:#dce3ea;--dim:#93a0ad;--page:#11161c;--card:#19212a;--line:#2c3844;--mark:#6db3ff;--warn:#e5b567}}
+:root{color-scheme:light dark;--ink:#1c2733;--dim:#66727f;--page:#f6f7f9;--card:#fff;--line:#dfe4ea;--mark:#0b62c4;--warn:#a15c00;--error:#b3261e}
+@media (prefers-color-scheme:dark){:root{--ink:#dce3ea;--dim:#93a0ad;--page:#11161c;--card:#19212a;--line:#2c3844;--mark:#6db3ff;--warn:#e5b567;--error:#ff8a80}}
 *{box-sizing:border-box}
 body{margin:0 auto;padding:2rem 1rem 4rem;max-width:52rem;background:var(--page);color:var(--ink);font:16px/1.5 system-ui,sans-serif}
 h1{margin:0 0 1.5rem;font-size:1.6rem;font-weight:650;overflow-wrap:anywhere}
@@ -91,8 +91,10 @@ pre{margin:0;padding:.6rem .9rem;font:.9rem/1.5 ui-monospace,Consolas,monospace;
 .in bdi{color:var(--dim);user-select:none}
 .in code{font:inherit;font-weight:600}
 .out{border-top:1px dashed var(--line);overflow-x:auto}
+.out img{display:block;max-width:100%;height:auto;margin:.4rem 0;background:#fff}
+.error{color:var(--error);border-left:.2rem solid var(--error);padding-left:.5rem}
 .none{margin:0;padding:.6rem .9rem;border-top:1px dashed var(--line);color:var(--warn);font-size:.85rem;font-style:italic}
-@media print{:root{--ink:#000;--dim:#444;--page:#fff;--card:#fff;--line:#999;--mark:#000;--warn:#000}body{max-width:none;padding:0}section{break-inside:avoid}}
+@media print{:root{--ink:#000;--dim:#444;--page:#fff;--card:#fff;--line:#999;--mark:#000;--warn:#000;--error:#000}body{max-width:none;padding:0}section{break-inside:avoid}}
 </style>
 </head>
 <body>
@@ -139,6 +141,50 @@ shown 'byte 0' 'verbatim:a\000b' 'a\\x00b'
 shown 'control bytes' 'verbatim:\001\010\013\014\016\037\177' '\\x01\\x08\\x0b\\x0c\\x0e\\x1f\\x7f'
 shown 'a carriage return' 'verbatim:a\r\nb' 'a\\x0d\nb'
 shown 'an escape of a terminal' 'verbatim:\033\033[31mred' '\\x1b[31mred'
+
+# Pictures: what stands in an address is base64 alone.
+png=iVBORw0KGgoAAAANSUhEUgAAAAEAAAABCAYAAAAfFcSJAAAADUlEQVR42mNk+M9QDwADhgGAWjR9awAAAABJRU5ErkJggg==
+drawn() {
+    printf '%s' "<img alt=\"A picture ($1)\" src=\"data:image/$2;base64,$3\">"
+}
+undrawn() {
+    shown "$1" "$2" "{${2%%:*}: not drawn}"
+}
+shown 'a PNG' "image/png;base64:$png" "$(drawn PNG png $png)"
+shown 'a PNG between texts' "verbatim:one\n\002image/png;base64:$png\005two" "one\n$(drawn PNG png $png)two"
+shown 'a PNG in a formula' "latex:x\002image/png;base64:$png\005" "<span class=\"tex\">x$(drawn PNG png $png)</span>"
+shown 'a JPEG' 'image/jpeg;base64:/9j/4AAQ' "$(drawn JPEG jpeg /9j/4AAQ)"
+shown 'an SVG of six bytes' 'image/svg+xml:<svg/>' "$(drawn SVG svg+xml PHN2Zy8+)"
+shown 'an SVG of eleven bytes' 'image/svg+xml:<svg></svg>' "$(drawn SVG svg+xml PHN2Zz48L3N2Zz4=)"
+shown 'an SVG with scripts' 'image/svg+xml:<svg onload='\''alert(1)'\''><script>alert(1)</script></svg>' "$(drawn SVG svg+xml PHN2ZyBvbmxvYWQ9J2FsZXJ0KDEpJz48c2NyaXB0PmFsZXJ0KDEpPC9zY3JpcHQ+PC9zdmc+)"
+shown 'an SVG with an entity' 'image/svg+xml:<?xml version="1.0"?><!DOCTYPE svg [<!ENTITY a "b">]><svg>&a;</svg>' "$(drawn SVG svg+xml PD94bWwgdmVyc2lvbj0iMS4wIj8+PCFET0NUWVBFIHN2ZyBbPCFFTlRJVFkgYSAiYiI+XT48c3ZnPiZhOzwvc3ZnPg==)"
+undrawn 'an SVG that is none' 'image/svg+xml:<script>alert(1)</script>'
+undrawn 'an SVG behind a space' 'image/svg+xml: <svg/>'
+undrawn 'a GIF' 'image/gif;base64:R0lGODlh'
+undrawn 'a GIF as a PNG' 'image/png;base64:R0lGODlh'
+undrawn 'a PNG as a JPEG' "image/jpeg;base64:$png"
+undrawn 'an SVG as a PNG' 'image/png;base64:<svg/>'
+shown 'no bytes of a PNG' 'image/png;base64:' '{image/png;base64:}'
+undrawn 'a quote in a PNG' 'image/png;base64:iVBORw0KGgoAAAANSUhEU"><i>'
+undrawn 'an element in a PNG' 'image/png;base64:iVBORw0KGgoAAAANSUhEUAAA<b>AAAAA'
+undrawn 'a line feed in a PNG' 'image/png;base64:iVBORw0KGgoAAAANSUhEUAAA\nAAAA'
+undrawn 'a stray byte in a PNG' 'image/png;base64:iVBORw0KGgoAAAANSUhEUAAA\377AAA'
+undrawn 'a PNG that is cut' 'image/png;base64:iVBORw0KGgoAAAANSUhEUgA'
+undrawn 'pads within a PNG' 'image/png;base64:iVBORw0KGgoAAAANSUhEUgA=AAAA'
+undrawn 'a pad in front of a symbol' 'image/png;base64:iVBORw0KGgoAAAANSUhEUg=A'
+undrawn 'three pads' 'image/png;base64:iVBORw0KGgoAAAANSUhEUgAAA==='
+shown 'a picture with a block in it' 'image/png;base64:\002verbatim:x\005' '{image/png;base64:x}'
+shown 'a channel of a picture' "image/png;base64#$png" "{image/png;base64#$png}"
+
+# Errors: a block of the channel `error`, or of `output` in one of `output`.
+shown 'an error' 'output#\002output#division by zero\005' '<span class="error">division by zero</span>'
+shown 'a text and an error' 'output#one\n\002output#<b>\005two' 'one\n<span class="error">&lt;b&gt;</span>two'
+shown 'a channel error' 'error#</span>' '<span class="error">&lt;/span&gt;</span>'
+shown 'a channel error in a text' 'verbatim:one\n\002error#two\005' 'one\n<span class="error">two</span>'
+shown 'a format error' 'error:x' '{error:x}'
+shown 'an output in a text' 'verbatim:\002output#x\005' 'x'
+shown 'a formula in an error' 'output#\002output#in \002latex:x\005\005' '<span class="error">in <span class="tex">x</span></span>'
+shown 'the word error' 'verbatim:<span class="error">' '&lt;span class=&quot;error&quot;&gt;'
 
 # UTF-8, and what is none.
 shown 'two bytes' 'verbatim:gr\303\274n' 'gr\303\274n'
@@ -300,11 +346,37 @@ cell() {
 # What stands after the cells of a notebook, and its status.
 cells_end='],"metadata":{},"nbformat":4,"nbformat_minor":5}status 0'
 
-# A case of a notebook of one field: NAME INPUT BLOCK, the source and the texts of the output in JSON.
-noted() {
+# A case of a notebook of one field: NAME INPUT BLOCK, the source and the outputs in JSON.
+noted_as() {
     answered "$2" '> ' "$3"
-    result='{"data":{'"$5"'},"execution_count":null,"metadata":{},"output_type":"execute_result"}'
-    compare "$1" "$(answer export notebook area </dev/null)" '{"cells":['"$(cell 1 "$4" "$result")$cells_end"
+    compare "$1" "$(answer export notebook area </dev/null)" '{"cells":['"$(cell 1 "$4" "$5")$cells_end"
+}
+
+# What was answered, what was shown, what was printed and what is an error, in JSON.
+result_json() {
+    printf '%s' '{"data":{'"$1"'},"execution_count":null,"metadata":{},"output_type":"execute_result"}'
+}
+formula_json() {
+    result_json '"text/latex":"'"$1"'","text/plain":"'"$1"'"'
+}
+picture_json() {
+    printf '%s' '{"data":{"'"$2"'":"'"$3"'","text/plain":"A picture ('"$1"')"},"metadata":{},"output_type":"display_data"}'
+}
+stream_json() {
+    printf '%s' '{"name":"stdout","output_type":"stream","text":"'"$1"'"}'
+}
+error_json() {
+    printf '%s' '{"ename":"Error","evalue":"'"$1"'","output_type":"error","traceback":["'"$1"'"]}'
+}
+
+# A case of one whose output is an answer: NAME INPUT BLOCK, the source and the texts of the output in JSON.
+noted() {
+    noted_as "$1" "$2" "$3" "$4" "$(result_json "$5")"
+}
+
+# A case of these outputs: NAME BLOCK OUTPUTS.
+outputs() {
+    noted_as "$1" x "$2" x "$3"
 }
 
 noted 'a notebook' '1<2' 'verbatim:true & so' '1<2' '"text/plain":"true & so"'
@@ -317,24 +389,37 @@ noted 'control bytes in a notebook' x 'verbatim:a\000\r\033\033\177b' x '"text/p
 noted 'stray bytes in a notebook' x 'verbatim:\377a\342\202b\355\240\200' x '"text/plain":"\\xffa\\xe2\\x82b\\xed\\xa0\\x80"'
 noted 'a character that is cut off in a notebook' x 'verbatim:x\360\237\230' x '"text/plain":"x\\xf0\\x9f\\x98"'
 noted 'characters in a notebook' "$(printf 'gr\303\274n')" 'verbatim:\342\202\254\360\237\230\200' "$(printf 'gr\303\274n')" "$(printf '"text/plain":"\342\202\254\360\237\230\200"')"
-noted 'a formula in a notebook' x 'latex:$x^2$' x '"text/latex":"$x^2$","text/plain":"{latex:$x^2$}"'
-noted 'a formula on its own in a notebook' x 'latex:$$\\frac{1}{2}$$' x '"text/latex":"$$\\frac{1}{2}$$","text/plain":"{latex:$$\\frac{1}{2}$$}"'
-noted 'a stray byte in a formula' x 'latex:$x\377y$' x '"text/latex":"$x\\xffy$","text/plain":"{latex:$x\\xffy$}"'
-noted 'a matrix in a notebook' x 'latex:$\\begin{pmatrix}1&2\\end{pmatrix}$' x '"text/latex":"$\\begin{pmatrix}1&2\\end{pmatrix}$","text/plain":"{latex:$\\begin{pmatrix}1&2\\end{pmatrix}$}"'
-noted 'less than in a notebook' x 'latex:$x < y$' x '"text/latex":"$x < y$","text/plain":"{latex:$x < y$}"'
+outputs 'a formula in a notebook' 'latex:$x^2$' "$(formula_json '$x^2$')"
+outputs 'a formula on its own in a notebook' 'latex:$$\\frac{1}{2}$$' "$(formula_json '$$\\frac{1}{2}$$')"
+outputs 'a stray byte in a formula' 'latex:$x\377y$' "$(formula_json '$x\\xffy$')"
+outputs 'a matrix in a notebook' 'latex:$\\begin{pmatrix}1&2\\end{pmatrix}$' "$(formula_json '$\\begin{pmatrix}1&2\\end{pmatrix}$')"
+outputs 'less than in a notebook' 'latex:$x < y$' "$(formula_json '$x < y$')"
 noted 'an element in a formula in a notebook' x 'latex:$x<b$' x '"text/plain":"{latex:$x<b$}"'
 noted 'a formula that is none behind a text in a notebook' x 'verbatim:is \002latex:$x<b$\005' x '"text/plain":"is {latex:$x<b$}"'
-noted 'a formula in front of a text in a notebook' x 'verbatim:\002latex:$x$\005 it is' x '"text/plain":"{latex:$x$} it is"'
+# Outputs of their own, where one of them is more than text.
+outputs 'a text and a formula in a notebook' 'verbatim:one\n\ttwo\n\002latex:$x^2$\005' "$(stream_json 'one\n\ttwo\n'),$(formula_json '$x^2$')"
+outputs 'a text on the line of a formula in a notebook' 'verbatim:is \002latex:$x$\005' "$(stream_json 'is '),$(formula_json '$x$')"
+outputs 'stray and control bytes in front of a formula in a notebook' 'verbatim:\377\001\n\002latex:$x\377y$\005' "$(stream_json '\\xff\\x01\n'),$(formula_json '$x\\xffy$')"
+outputs 'a formula in front of a text in a notebook' 'verbatim:\002latex:$x$\005 it is' "$(formula_json '$x$'),$(stream_json ' it is')"
+outputs 'two formulas in a notebook' 'output#\002latex:$x$\005\002latex:$y$\005' "$(formula_json '$x$'),$(formula_json '$y$')"
+outputs 'a formula behind one that is none in a notebook' 'output#\002latex:$x<b$\005\002latex:$y$\005' "$(stream_json '{latex:$x<b$}'),$(formula_json '$y$')"
+outputs 'a PNG in a notebook' "image/png;base64:$png" "$(picture_json PNG image/png $png)"
+outputs 'a JPEG in a notebook' 'image/jpeg;base64:/9j/4AAQ' "$(picture_json JPEG image/jpeg /9j/4AAQ)"
+outputs 'an SVG in a notebook' 'image/svg+xml:<svg a="b">\n</svg>' "$(picture_json SVG image/svg+xml '<svg a=\"b\">\n</svg>')"
+outputs 'a PNG between texts in a notebook' "output#one\n\002image/png;base64:$png\005two" "$(stream_json 'one\n'),$(picture_json PNG image/png $png),$(stream_json two)"
+outputs 'a PNG beside HTML in a notebook' "output#\002html:<b>\005\002image/png;base64:$png\005" "$(stream_json '{html:<b>}'),$(picture_json PNG image/png $png)"
+outputs 'a GIF in a notebook' 'image/gif;base64:R0lGODlh' "$(stream_json '{image/gif;base64: not drawn}')"
+outputs 'a PNG that is cut in a notebook' 'verbatim:\002image/png;base64:iVBORw0KGgoAAAANSUhEUgA\005' "$(stream_json '{image/png;base64: not drawn}')"
+outputs 'a stray byte in a format in a notebook' 'image/"\377":x' "$(stream_json '{image/\"\\xff\": not drawn}')"
+outputs 'an error in a notebook' 'output#\002output#division by "zero"\005' "$(error_json 'division by \"zero\"')"
+outputs 'a text and an error in a notebook' 'output#one\n\002output#two\005three' "$(stream_json 'one\n'),$(error_json two),$(stream_json three)"
+outputs 'a channel error in a notebook' 'error#x' "$(error_json x)"
+outputs 'a channel error in a text in a notebook' 'verbatim:one\n\002error#two\005' "$(stream_json 'one\n'),$(error_json two)"
+outputs 'blocks in an error in a notebook' 'output#\002output#in \002html:<b>\005 and \002latex:$x$\005\005' "$(error_json 'in {html:<b>} and {latex:$x$}')"
+noted 'an output in a text in a notebook' x 'verbatim:\002output#x\005' x '"text/plain":"x"'
+noted 'a PNG in a tag in a notebook' x "html:\002image/png;base64:$png\005" x '"text/plain":"{html:{image/png;base64:'"$png"'}}"'
+noted 'a PNG in a text in a text in a notebook' x "verbatim:\002verbatim:\002image/png;base64:$png\005\005" x '"text/plain":"{image/png;base64:'"$png"'}"'
 
-# A case of a text and the formula behind it: NAME BLOCK, the text in JSON and the formula.
-streamed() {
-    answered x '> ' "$2"
-    result='{"name":"stdout","output_type":"stream","text":"'"$3"'"},{"data":{"text/latex":"'"$4"'","text/plain":"{latex:'"$4"'}"},"execution_count":null,"metadata":{},"output_type":"execute_result"}'
-    compare "$1" "$(answer export notebook area </dev/null)" '{"cells":['"$(cell 1 x "$result")$cells_end"
-}
-streamed 'a text and a formula in a notebook' 'verbatim:one\n\ttwo\n\002latex:$x^2$\005' 'one\n\ttwo\n' '$x^2$'
-streamed 'a text on the line of a formula in a notebook' 'verbatim:is \002latex:$x$\005' 'is ' '$x$'
-streamed 'stray and control bytes in front of a formula in a notebook' 'verbatim:\377\001\n\002latex:$x\377y$\005' '\\xff\\x01\n' '$x\\xffy$'
 noted 'an input of lines in a notebook' 'a\342\200\250\011b\342\200\250' 'verbatim:A\342\200\250B' 'a\n\tb\n' "$(printf '"text/plain":"A\342\200\250B"')"
 noted 'a block of HTML in a notebook' x 'html:<b>bold</b>' x '"text/plain":"{html:<b>bold</b>}"'
 noted 'a tag that is markup in a notebook' x '<b>:x' x '"text/plain":"{<b>:x}"'
@@ -424,7 +509,7 @@ compare 'a page by live' "$(sed '/^<style>$/,/^<\/style>$/d' text)" '<!doctype h
 <meta charset="utf-8">
 <meta name="viewport" content="width=device-width, initial-scale=1">
 <meta name="color-scheme" content="light dark">
-<meta http-equiv="Content-Security-Policy" content="default-src '\''none'\''; style-src '\''unsafe-inline'\''">
+<meta http-equiv="Content-Security-Policy" content="default-src '\''none'\''; style-src '\''unsafe-inline'\''; img-src data:">
 <title>worksheet</title>
 </head>
 <body>
@@ -445,7 +530,7 @@ for task in live run; do
 {"format":1,"program":"tmhost","protocol":2,"type":"hello","version":"0.1.0"}
 {"format":"script","line":1,"text":"session a plain sh w\nnew 0 a x\n","type":"exported"}
 {"format":"markdown","line":2,"text":"```a\nx\n```\n\n```\nA\n```\n","type":"exported"}
-{"format":"html","line":3,"text":"<!doctype html>\n<html lang=\"en\">\n<head>\n<meta charset=\"utf-8\">\n<meta name=\"viewport\" content=\"width=device-width, initial-scale=1\">\n<meta name=\"color-scheme\" content=\"light dark\">\n<meta http-equiv=\"Content-Security-Policy\" content=\"default-src 'none'; style-src 'unsafe-inline'\">\n<title>worksheet</title>\n<style>\n</head>\n<body>\n<h1 dir=\"ltr\">worksheet</h1>\n<main>\n<section id=\"field-1\">\n<header><a href=\"#field-1\">#1</a> <bdi>a</bdi></header>\n<pre class=\"in\" dir=\"ltr\"><bdi>&gt; </bdi><code dir=\"ltr\">x</code></pre>\n<pre class=\"out\" dir=\"ltr\">\nA</pre>\n</section>\n</main>\n</body>\n</html>\n","type":"exported"}
+{"format":"html","line":3,"text":"<!doctype html>\n<html lang=\"en\">\n<head>\n<meta charset=\"utf-8\">\n<meta name=\"viewport\" content=\"width=device-width, initial-scale=1\">\n<meta name=\"color-scheme\" content=\"light dark\">\n<meta http-equiv=\"Content-Security-Policy\" content=\"default-src 'none'; style-src 'unsafe-inline'; img-src data:\">\n<title>worksheet</title>\n<style>\n</head>\n<body>\n<h1 dir=\"ltr\">worksheet</h1>\n<main>\n<section id=\"field-1\">\n<header><a href=\"#field-1\">#1</a> <bdi>a</bdi></header>\n<pre class=\"in\" dir=\"ltr\"><bdi>&gt; </bdi><code dir=\"ltr\">x</code></pre>\n<pre class=\"out\" dir=\"ltr\">\nA</pre>\n</section>\n</main>\n</body>\n</html>\n","type":"exported"}
 {"format":"notebook","line":4,"text":"{\"cells\":[{\"cell_type\":\"code\",\"execution_count\":null,\"id\":\"field-1\",\"metadata\":{\"tmhost\":{\"session\":\"a\"}},\"outputs\":[{\"data\":{\"text/plain\":\"A\"},\"execution_count\":null,\"metadata\":{},\"output_type\":\"execute_result\"}],\"source\":\"x\"}],\"metadata\":{},\"nbformat\":4,\"nbformat_minor\":5}","type":"exported"}
 {"format":"json","line":5,"text":"{\"format\":1,\"program\":\"tmhost\",\"protocol\":2,\"type\":\"hello\",\"version\":\"0.1.0\"}\n{\"field\":{\"id\":1,\"input\":\"x\",\"output\":{\"items\":[\"A\"],\"kind\":\"format\",\"tag\":\"verbatim\"},\"prompt\":\"> \",\"session\":\"a\",\"shown\":\"A\",\"state\":\"answered\"},\"type\":\"field\"}\n{\"fields\":[1],\"next\":2,\"sessions\":[{\"life\":null,\"name\":\"a\",\"tab\":false,\"waiting\":0,\"words\":[\"sh\",\"w\"]}],\"type\":\"sheet\"}\n{\"type\":\"end\"}\n","type":"exported"}
 {"line":6,"type":"bad"}
@@ -458,7 +543,7 @@ answered x '> ' 'verbatim:\351'
 json_exports live 'an export that is not UTF-8' 'export markdown\nexport html\n' <<'END_OF_JSON'
 {"format":1,"program":"tmhost","protocol":2,"type":"hello","version":"0.1.0"}
 {"format":"markdown","line":1,"text":{"base64":"YGBgYQp4CmBgYAoKYGBgCukKYGBgCg=="},"type":"exported"}
-{"format":"html","line":2,"text":"<!doctype html>\n<html lang=\"en\">\n<head>\n<meta charset=\"utf-8\">\n<meta name=\"viewport\" content=\"width=device-width, initial-scale=1\">\n<meta name=\"color-scheme\" content=\"light dark\">\n<meta http-equiv=\"Content-Security-Policy\" content=\"default-src 'none'; style-src 'unsafe-inline'\">\n<title>worksheet</title>\n<style>\n</head>\n<body>\n<h1 dir=\"ltr\">worksheet</h1>\n<main>\n<section id=\"field-1\">\n<header><a href=\"#field-1\">#1</a> <bdi>a</bdi></header>\n<pre class=\"in\" dir=\"ltr\"><bdi>&gt; </bdi><code dir=\"ltr\">x</code></pre>\n<pre class=\"out\" dir=\"ltr\">\n\\xe9</pre>\n</section>\n</main>\n</body>\n</html>\n","type":"exported"}
+{"format":"html","line":2,"text":"<!doctype html>\n<html lang=\"en\">\n<head>\n<meta charset=\"utf-8\">\n<meta name=\"viewport\" content=\"width=device-width, initial-scale=1\">\n<meta name=\"color-scheme\" content=\"light dark\">\n<meta http-equiv=\"Content-Security-Policy\" content=\"default-src 'none'; style-src 'unsafe-inline'; img-src data:\">\n<title>worksheet</title>\n<style>\n</head>\n<body>\n<h1 dir=\"ltr\">worksheet</h1>\n<main>\n<section id=\"field-1\">\n<header><a href=\"#field-1\">#1</a> <bdi>a</bdi></header>\n<pre class=\"in\" dir=\"ltr\"><bdi>&gt; </bdi><code dir=\"ltr\">x</code></pre>\n<pre class=\"out\" dir=\"ltr\">\n\\xe9</pre>\n</section>\n</main>\n</body>\n</html>\n","type":"exported"}
 {"type":"end"}
 END_OF_JSON
 

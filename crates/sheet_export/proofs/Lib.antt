@@ -1,9 +1,11 @@
 pub mod Written
 pub mod Texts
+pub mod Groups
 pub mod Appending
 pub mod Fields
 pub mod Lines
 pub mod NoMarks
+pub mod Addresses
 pub mod Spans
 pub mod ReadLines
 pub mod Scans

@@ -12,6 +12,8 @@ use Rattle.sheet_text.specs.Blocks.{sign, is_bare}
 use Rattle.sheet_text.specs.InputLines.{lines_of_input, text_of_lines}
 use Rattle.sheet_text.specs.Replies.{reason_name}
 use Rattle.sheet_text.specs.Texts.{prompt_shown}
+use Rattle.sheet_notebook.specs.Pictures.{is_error_tag, is_output_tag, picture_named, picture_of}
+use Rattle.sheet_export.specs.Pictures.{picture_html}
 use Rattle.sheet_export.specs.References.{html_text}
 use Rattle.sheet_export.specs.Parts as part
 
@@ -20,32 +22,43 @@ abbrev pub is_tex : Bool → List ℕ → Bool
 is_tex channel name = not channel && bytes_eq name (codes "latex")
 
 -- what stands in front of what a block holds: the beginning of a span, or '{' and the tag
-abbrev pub block_start : Bool → List ℕ → List ℕ
-block_start channel name = cond (is_tex channel name) part.tex_start (123 ∷ (html_text false name ++ sign channel ∷ []))
+abbrev pub block_start : Bool → Bool → List ℕ → List ℕ
+block_start in_output channel name = cond (is_error_tag in_output channel name) part.error_start (cond (is_tex channel name) part.tex_start (123 ∷ (html_text false name ++ sign channel ∷ [])))
 
 -- and after it: the end of the span, or '}'
-abbrev pub block_end : Bool → List ℕ → List ℕ
-block_end channel name = cond (is_tex channel name) part.tex_end (125 ∷ [])
+abbrev pub block_end : Bool → Bool → List ℕ → List ℕ
+block_end in_output channel name = cond (is_error_tag in_output channel name) part.error_end (cond (is_tex channel name) part.tex_end (125 ∷ []))
 
-abbrev pub framed_html : Bool → List ℕ → List ℕ → List ℕ
-framed_html channel name inside = block_start channel name ++ (inside ++ block_end channel name)
+abbrev pub framed_html : Bool → Bool → List ℕ → List ℕ → List ℕ
+framed_html in_output channel name inside = block_start in_output channel name ++ (inside ++ block_end in_output channel name)
 
-abbrev pub shown_html : Bool → List ℕ → List ℕ → List ℕ
-shown_html channel name inside = cond (is_bare channel name) inside (framed_html channel name inside)
+-- a block whose tag isn't shown, and that is no error
+abbrev pub is_unmarked : Bool → Bool → List ℕ → Bool
+is_unmarked in_output channel name = is_bare channel name && not (is_error_tag in_output channel name)
 
--- items as a worksheet shows them
-abbrev pub items_html : Items → List ℕ
-items_html end = []
-items_html (text t rest) = html_text true t ++ items_html rest
-items_html (block channel name inside rest) = shown_html channel name (items_html inside) ++ items_html rest
+-- a block that holds this
+abbrev pub marked_html : Bool → Bool → List ℕ → List ℕ → List ℕ
+marked_html in_output channel name inside = cond (is_unmarked in_output channel name) inside (framed_html in_output channel name inside)
 
--- a block as a worksheet shows it
-abbrev pub block_html : Tree → List ℕ
-block_html b = shown_html b.channel b.name (items_html b.items)
+-- a picture with this text, or a block that holds this
+abbrev pub shown_html : Option (List ℕ) → Bool → Bool → List ℕ → List ℕ → List ℕ
+shown_html (Some given) in_output channel name inside = picture_html name given
+shown_html None in_output channel name inside = marked_html in_output channel name inside
 
-abbrev pub piece_html : Piece → List ℕ
-piece_html (text_piece t) = html_text true t
-piece_html (block_piece b) = block_html b
+-- items as a worksheet shows them, with errors and pictures; they stand in a block of the channel `output` or not
+abbrev pub items_html : Bool → Items → List ℕ
+items_html in_output end = []
+items_html in_output (text t rest) = html_text true t ++ items_html in_output rest
+items_html in_output (block channel name inside rest) =
+    shown_html (picture_named channel name inside) in_output channel name (items_html (is_output_tag channel name) inside) ++ items_html in_output rest
+
+-- a block as a worksheet shows it, in a block of the channel `output` or not
+abbrev pub block_html : Bool → Tree → List ℕ
+block_html in_output b = shown_html (picture_of b) in_output b.channel b.name (items_html (is_output_tag b.channel b.name) b.items)
+
+abbrev pub piece_html : Bool → Piece → List ℕ
+piece_html in_output (text_piece t) = html_text true t
+piece_html in_output (block_piece b) = block_html in_output b
 
 -- the anchor of a field, its number as a link to it, and its session
 abbrev pub field_head : Field → List ℕ
@@ -61,7 +74,7 @@ input_html field = part.input_start ++ html_text false (prompt_shown field.answe
 
 -- the output
 abbrev pub answer_html : Answer → List ℕ
-answer_html answer = part.output_start ++ block_html answer.output ++ part.output_end
+answer_html answer = part.output_start ++ block_html false answer.output ++ part.output_end
 
 -- why a field lost its line
 abbrev pub reason_html : Reason → List ℕ

@@ -1,5 +1,5 @@
 -- Laws of the definitions.
-use Rattle.std.specs.Prelude.{ℕ, ◌+◌, ◌-◌, Bool, List, [], ◌∷◌, ◌++◌, ◌≡◌, ◌≤◌, ◌==◌, ◌||◌, ◌&&◌, not, nat_eq, nat_lt, true, Some, codes, cond}
+use Rattle.std.specs.Prelude.{ℕ, ◌+◌, ◌-◌, Bool, false, List, [], ◌∷◌, ◌++◌, ◌≡◌, ◌≤◌, ◌==◌, ◌||◌, ◌&&◌, not, nat_eq, nat_lt, true, Some, codes, cond, drop, length}
 use Rattle.std.specs.List.{list_all, list_any, starts_with}
 use Rattle.block_tree.specs.Tree.{Tree}
 use Rattle.host_events.specs.declared.command.Command.TheVariants as command
@@ -9,8 +9,11 @@ use Rattle.worksheet.specs.Laws.{IsSession}
 use Rattle.worksheet.specs.Names.{is_name}
 use Rattle.worksheet.specs.declared.field.Field.{Field}
 use Rattle.worksheet.specs.declared.field.Session.{Session}
+use Rattle.sheet_notebook.specs.Pictures.{is_base64_byte, drawn_as}
+use Rattle.sheet_notebook.specs.declared.pictures.PictureKind.{PictureKind}
 use Rattle.sheet_export.specs.Fences.{fence_length, fence_of}
 use Rattle.sheet_export.specs.Html.{block_html}
+use Rattle.sheet_export.specs.Pictures.{image_data}
 use Rattle.sheet_export.specs.References.{html_text}
 use Rattle.sheet_export.specs.Script.{field_line, has_no_space, session_line}
 
@@ -37,17 +40,41 @@ TextsHaveNoMarks = (keeps_lines : Bool) (bytes : List ℕ)
     → (list_all (λ byte. not (is_mark byte)) (html_text keeps_lines bytes) ≡ true)
     × (has_references_alone (html_text keeps_lines bytes) ≡ true)
 
--- Whether the spans of a text nest, of which so many are open: each '<' begins one, or the end of one that is open, and at the end
--- of the text none is.
+-- whether base64 alone stands here, up to the end of an attribute and of its element
+abbrev pub ends_image : List ℕ → Bool
+ends_image [] = false
+ends_image (byte ∷ rest) = cond (is_base64_byte byte) (ends_image rest) (starts_with nat_eq (byte ∷ rest) (codes "\">"))
+
+-- whether an element with this front stands here, up to that end
+abbrev pub is_image_with : List ℕ → List ℕ → Bool
+is_image_with front rest = starts_with nat_eq rest front && ends_image (drop (length front) rest)
+
+-- whether one of a picture does, after its '<'
+abbrev pub is_image : List ℕ → Bool
+is_image rest = is_image_with (codes "img alt=\"A picture (PNG)\" src=\"data:image/png;base64,") rest
+    || is_image_with (codes "img alt=\"A picture (JPEG)\" src=\"data:image/jpeg;base64,") rest
+    || is_image_with (codes "img alt=\"A picture (SVG)\" src=\"data:image/svg+xml;base64,") rest
+
+-- whether the span of a formula or of an error begins here, after its '<'
+abbrev pub begins_span : List ℕ → Bool
+begins_span rest = starts_with nat_eq rest (codes "span class=\"tex\">") || starts_with nat_eq rest (codes "span class=\"error\">")
+
+-- Whether the spans of a text nest, of which so many are open: each '<' begins one, or the end of one that is open, or a picture in whose
+-- address base64 alone stands; and at the end of the text no span is open.
 abbrev pub nests : ℕ → List ℕ → Bool
 nests depth [] = depth == 0
 nests depth (byte ∷ rest) = cond (byte == 60)
-    (cond (starts_with nat_eq rest (codes "span class=\"tex\">")) (nests (depth + 1) rest) (nat_lt 0 depth && starts_with nat_eq rest (codes "/span>") && nests (depth - 1) rest))
+    (cond (begins_span rest) (nests (depth + 1) rest)
+    (cond (is_image rest) (nests depth rest) (nat_lt 0 depth && starts_with nat_eq rest (codes "/span>") && nests (depth - 1) rest)))
     (nests depth rest)
 
--- Spans of formulas are the one markup in an output, and they nest: none is begun or ended by a text.
+-- Spans of formulas and of errors, and pictures, are the one markup in an output, and the spans nest: none is begun or ended by a text.
 abbrev pub SpansNest : Type 0
-SpansNest = (output : Tree) → nests 0 (block_html output) ≡ true
+SpansNest = (output : Tree) → nests 0 (block_html false output) ≡ true
+
+-- What stands in the address of a picture is base64 alone.
+abbrev pub PicturesAreBase64 : Type 0
+PicturesAreBase64 = (name given : List ℕ) (drawn : PictureKind) → drawn_as name given ≡ Some drawn → list_all is_base64_byte (image_data drawn given) ≡ true
 
 -- The line of a session whose words have no space is read as the command that makes it.
 abbrev pub SessionLinesAreRead : Type 0

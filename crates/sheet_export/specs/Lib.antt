@@ -1,5 +1,6 @@
 pub mod References
 pub mod Parts
+pub mod Pictures
 pub mod Html
 pub mod Script
 pub mod Replay

@@ -19,7 +19,7 @@ pub(crate) const META: &[u8] = b"<!doctype html>\n\
     <meta charset=\"utf-8\">\n\
     <meta name=\"viewport\" content=\"width=device-width, initial-scale=1\">\n\
     <meta name=\"color-scheme\" content=\"light dark\">\n\
-    <meta http-equiv=\"Content-Security-Policy\" content=\"default-src 'none'; style-src 'unsafe-inline'\">\n\
+    <meta http-equiv=\"Content-Security-Policy\" content=\"default-src 'none'; style-src 'unsafe-inline'; img-src data:\">\n\
     <title>";
 
 /// What comes after the title.
@@ -78,6 +78,25 @@ pub(crate) const TEX_START: &[u8] = b"<span class=\"tex\">";
 
 /// What comes after a formula.
 pub(crate) const TEX_END: &[u8] = b"</span>";
+
+/// What comes before an error.
+pub(crate) const ERROR_START: &[u8] = b"<span class=\"error\">";
+
+/// What comes after an error.
+pub(crate) const ERROR_END: &[u8] = b"</span>";
+
+/// What comes before the base64 of a PNG.
+pub(crate) const PNG_START: &[u8] = b"<img alt=\"A picture (PNG)\" src=\"data:image/png;base64,";
+
+/// What comes before that of a JPEG.
+pub(crate) const JPEG_START: &[u8] = b"<img alt=\"A picture (JPEG)\" src=\"data:image/jpeg;base64,";
+
+/// What comes before that of an SVG.
+pub(crate) const SVG_START: &[u8] =
+    b"<img alt=\"A picture (SVG)\" src=\"data:image/svg+xml;base64,";
+
+/// What comes after the base64 of a picture.
+pub(crate) const IMAGE_END: &[u8] = b"\">";
 
 /// What comes after a field.
 pub(crate) const FIELD_END: &[u8] = b"</section>\n";

@@ -11,9 +11,11 @@ ghost use Rattle.sheet_export.specs.Html as html;
 
 use crate::fixed;
 use crate::fixed::write_bytes;
+use crate::pictures::write_picture;
 use crate::references::write_text;
 use crate::style::STYLE;
 use block_tree::{Block, Item, Node, Reason, Tag};
+use sheet_notebook::{is_error_tag, is_output_tag, picture_text};
 use sheet_text::{WriteFault, next_line, reason_name};
 use std::io::Write;
 use worksheet::{Answer, Field, Sheet};
@@ -42,12 +44,14 @@ fn is_tex_tag(tag: &Tag) -> bool
 }
 
 /// Writes what stands in front of what a block holds: the beginning of a span, or a brace and the tag.
-fn open_block<W: Write>(tag: &Tag, out: &mut W) -> Result<(), WriteFault>
+fn open_block<W: Write>(tag: &Tag, in_output: bool, out: &mut W) -> Result<(), WriteFault>
     ensures { OnOk result
         (Appends (W.contents out.old) (W.contents out.new)
-        (html.block_start tag.now.channel tag.now.name)) }
+        (html.block_start in_output tag.now.channel tag.now.name)) }
 {
-    if is_tex_tag(tag) {
+    if is_error_tag(tag, in_output) {
+        write_bytes(fixed::ERROR_START, out)
+    } else if is_tex_tag(tag) {
         write_bytes(fixed::TEX_START, out)
     } else {
         open_tag(tag, out)
@@ -55,12 +59,14 @@ fn open_block<W: Write>(tag: &Tag, out: &mut W) -> Result<(), WriteFault>
 }
 
 /// Writes what comes after it: the end of the span, or a brace.
-fn close_block<W: Write>(tag: &Tag, out: &mut W) -> Result<(), WriteFault>
+fn close_block<W: Write>(tag: &Tag, in_output: bool, out: &mut W) -> Result<(), WriteFault>
     ensures { OnOk result
         (Appends (W.contents out.old) (W.contents out.new)
-        (html.block_end tag.now.channel tag.now.name)) }
+        (html.block_end in_output tag.now.channel tag.now.name)) }
 {
-    if is_tex_tag(tag) {
+    if is_error_tag(tag, in_output) {
+        write_bytes(fixed::ERROR_END, out)
+    } else if is_tex_tag(tag) {
         write_bytes(fixed::TEX_END, out)
     } else {
         write_bytes(b"}", out)
@@ -78,23 +84,36 @@ pub(crate) fn is_bare_tag(tag: &Tag) -> bool
     }
 }
 
-#[tactic(auto, using(crate::proofs::Appending::block_steps))]
-fn write_shown<W: Write>(node: &Node, out: &mut W) -> Result<(), WriteFault>
-    ensures { OnOk result
-        (Appends (W.contents out.old) (W.contents out.new) (html.block_html (tree_of node.now))) }
+/// Whether a block of this tag is shown without one, and is no error.
+fn is_unmarked_tag(tag: &Tag, in_output: bool) -> bool
+    ensures { result ≡ html.is_unmarked in_output tag.now.channel tag.now.name }
 {
-    let bare = is_bare_tag(&node.tag);
-    if !bare {
-        open_block(&node.tag, out)?;
+    is_bare_tag(tag) && !is_error_tag(tag, in_output)
+}
+
+/// Writes a block, which stands in one of the channel of answers or not.
+#[tactic(auto, using(crate::proofs::Appending::block_steps))]
+fn write_shown<W: Write>(node: &Node, in_output: bool, out: &mut W) -> Result<(), WriteFault>
+    ensures { OnOk result
+        (Appends (W.contents out.old) (W.contents out.new)
+        (html.block_html in_output (tree_of node.now))) }
+{
+    if let Some(text) = picture_text(node) {
+        return write_picture(node.tag.name.as_slice(), text, out);
+    }
+    let is_output = is_output_tag(&node.tag);
+    let unmarked = is_unmarked_tag(&node.tag, in_output);
+    if !unmarked {
+        open_block(&node.tag, in_output, out)?;
     }
     for item in &node.items {
         match item {
             Item::Text(text) => write_text(text.as_slice(), true, out)?,
-            Item::Block(inner) => write_shown(inner, out)?,
+            Item::Block(inner) => write_shown(inner, is_output, out)?,
         }
     }
-    if !bare {
-        close_block(&node.tag, out)?;
+    if !unmarked {
+        close_block(&node.tag, in_output, out)?;
     }
     Ok(())
 }
@@ -140,9 +159,10 @@ fn write_given<W: Write>(field: &Field, out: &mut W) -> Result<(), WriteFault>
 /// Writes a block as a worksheet shows it.
 fn write_block<W: Write>(block: &Block, out: &mut W) -> Result<(), WriteFault>
     ensures { OnOk result
-        (Appends (W.contents out.old) (W.contents out.new) (html.block_html block.now)) }
+        (Appends (W.contents out.old) (W.contents out.new)
+        (html.block_html false block.now)) }
 {
-    write_shown(block.node(), out)
+    write_shown(block.node(), false, out)
 }
 
 /// Writes the anchor of a field, its number and its session.

@@ -1,17 +1,27 @@
 //! Laws of the definitions that the contracts cite. Each function does nothing: its contract is the
 //! law.
 ghost use Rattle.sheet_export.specs.Replay.{ScriptsMakeThemAnew, ScriptsRun, ScriptsRunAlike, ScriptsSayTheirOps};
-ghost use Rattle.sheet_export.specs.Laws.{FieldLinesAreRead, NoTextClosesItsFence, SessionLinesAreRead, SpansNest, TextsHaveNoMarks};
+ghost use Rattle.sheet_export.specs.Laws.{FieldLinesAreRead, NoTextClosesItsFence, PicturesAreBase64, SessionLinesAreRead, SpansNest, TextsHaveNoMarks};
 
 /// No text of a page has `<`, `>`, `"` or an apostrophe, and each `&` in it begins a reference.
 pub fn texts_have_no_marks()
     ensures { TextsHaveNoMarks }
 {}
 
-/// The one markup in an output are the spans of its formulas, and they nest: no text begins or ends one.
+/// The one markup in an output are the spans of its formulas and errors, which nest, and its pictures, in whose
+/// addresses base64 alone stands: no text begins or ends one.
 pub fn spans_nest()
     ensures { SpansNest }
-{}
+{
+    pictures_are_base64();
+}
+
+/// What stands in the address of a picture is base64 alone.
+pub fn pictures_are_base64()
+    ensures { PicturesAreBase64 }
+{
+    sheet_notebook::laws::base64_is_its_alone();
+}
 
 /// Each line of a script that makes a session is read as the command that makes it.
 pub fn session_lines_are_read()

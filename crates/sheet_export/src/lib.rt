@@ -8,6 +8,7 @@ mod formats;
 mod html;
 pub mod laws;
 mod markdown;
+mod pictures;
 mod references;
 mod script;
 mod style;

@@ -49,3 +49,8 @@ pub bare_done : (n : Node) (xs : List Item) (i : ℕ) (bare : Bool) (a c : List 
 bare_done n xs i bare a c is whole h e q =
     subst (Adds a c) (sym (block_string_out n ∙ ap (λ s. cond s (flat_map (λ x. piece_string (piece_of x)) (out-Node n).items.items) (framed_string (out-Node n).tag.channel (out-Node n).tag.name (flat_map (λ x. piece_string (piece_of x)) (out-Node n).items.items))) (sym is ∙ whole)))
     (subst (Adds a c) (all_items (λ x. piece_string (piece_of x)) xs _ i h e) q)
+
+pub inside_done : (n : Node) (xs : List Item) (i : ℕ) (a c : List ℕ) → length xs ≤ i → xs ≡ (out-Node n).items.items
+    → Adds a c (flat_map (λ x. piece_string (piece_of x)) (take i xs)) → Adds a c (items_string (tree_of n).items)
+inside_done n xs i a c h e q =
+    subst (Adds a c) (sym (ap (λ t. items_string t.items) (tree_out n) ∙ items_flat (out-Node n).items.items)) (subst (Adds a c) (all_items (λ x. piece_string (piece_of x)) xs _ i h e) q)

@@ -1,46 +1,99 @@
 -- A notebook nests six deep, and has no float.
-use Rattle.std.proofs.Common.{◌≡◌, ◌≤◌, ℕ, suc, max, false, ◌||◌, List, [], ◌∷◌, map, refl, ap, ap₂, arith, Option, Some, None}
-use Rattle.block_tree.specs.Tree.{Tree}
-use Rattle.serde_json.specs.Data.{depth, items_depth}
+use Rattle.std.proofs.Common.{◌≡◌, ◌≤◌, ℕ, max, Bool, true, false, cond, ◌||◌, List, [], ◌∷◌, map, refl, ap, ap₂, arith, Option, Some, None}
+use Rattle.std.specs.Prelude.{unwrap_or}
+use Rattle.block_tree.specs.Tree.{Items, Tree, block, end, text}
+use Rattle.serde_json.specs.Data.{Data, array, depth, item, items_depth, no_items}
 use Rattle.serde_json.specs.Read.{max_depth}
 use Rattle.serde_json.specs.View.{items_of}
 use Rattle.serde_json.specs.Written.{has_float, items_have_float}
 use Rattle.worksheet.specs.Contents.{Contents}
 use Rattle.worksheet.specs.declared.field.Answer.{Answer}
 use Rattle.worksheet.specs.declared.field.Field.{Field}
-use Rattle.sheet_notebook.specs.Formulas.{formula_behind, formula_of}
-use Rattle.sheet_notebook.specs.Notebook.{bundle, cell_of, notebook, outputs_of, outputs_with}
+use Rattle.sheet_notebook.specs.Formulas.{formula_of}
+use Rattle.sheet_notebook.specs.Notebook.{cell_of, error_data, has_parts, media_of, media_output, notebook, outputs_in, outputs_of, piece_outputs, picture_output, plain_bundle, result_of, own_output, stream_data, whole_output}
+use Rattle.sheet_notebook.specs.Pictures.{is_error_tag, is_output_tag, drawn_as, picture_of}
+use Rattle.sheet_notebook.specs.Strings.{block_string, items_string}
+use Rattle.sheet_notebook.specs.declared.pictures.PictureKind.{PictureKind}
+use Rattle.sheet_notebook.specs.declared.pictures.PictureKind.TheVariants as kind
 
-bundle_float : (formula : Option (List ℕ)) (output : Tree) → has_float (bundle formula output) ≡ false
-bundle_float None output = refl
-bundle_float (Some formula) output = refl
+max_within : (a b n : ℕ) → a ≤ n → b ≤ n → max a b ≤ n
+max_within a b n p q = omega (arith, p, q)
 
-bundle_depth : (formula : Option (List ℕ)) (output : Tree) → depth (bundle formula output) ≡ 1
-bundle_depth None output = refl
-bundle_depth (Some formula) output = refl
+picture_float : (found : Option PictureKind) (name given : List ℕ) → has_float (picture_output found name given) ≡ false
+picture_float None name given = refl
+picture_float (Some kind.Png) name given = refl
+picture_float (Some kind.Jpeg) name given = refl
+picture_float (Some kind.Svg) name given = refl
 
-found_float : (found : Option (List ℕ × List ℕ)) (output : Tree) → has_float (outputs_with found output) ≡ false
-found_float None output = ap (λ b. (b || false) || false) (bundle_float (formula_of output) output)
-found_float (Some found) output = refl
+picture_depth : (found : Option PictureKind) (name given : List ℕ) → depth (picture_output found name given) ≤ 2
+picture_depth None name given = omega arith
+picture_depth (Some kind.Png) name given = omega arith
+picture_depth (Some kind.Jpeg) name given = omega arith
+picture_depth (Some kind.Svg) name given = omega arith
 
-found_depth : (found : Option (List ℕ × List ℕ)) (output : Tree) → depth (outputs_with found output) ≡ 3
-found_depth None output = ap (λ d. suc (max (suc (max d 1)) 0)) (bundle_depth (formula_of output) output)
-found_depth (Some found) output = refl
+media_float : (given formula : Option (List ℕ)) (name : List ℕ) (other : Data) → has_float other ≡ false → has_float (unwrap_or (media_output given formula name) other) ≡ false
+media_float (Some given) formula name other e = picture_float (drawn_as name given) name given
+media_float None (Some formula) name other e = refl
+media_float None None name other e = e
+
+media_depth : (given formula : Option (List ℕ)) (name : List ℕ) (other : Data) → depth other ≤ 2 → depth (unwrap_or (media_output given formula name) other) ≤ 2
+media_depth (Some given) formula name other e = picture_depth (drawn_as name given) name given
+media_depth None (Some formula) name other e = omega arith
+media_depth None None name other e = e
+
+own_float : (in_output : Bool) (b : Tree) (other : Data) → has_float other ≡ false → has_float (unwrap_or (own_output in_output b) other) ≡ false
+own_float in_output b other e = go (is_error_tag in_output b.channel b.name)
+  where
+    go : (t : Bool) → has_float (unwrap_or (cond t (Some (error_data (items_string b.items))) (media_of b)) other) ≡ false
+    go true = refl
+    go false = media_float (picture_of b) (formula_of b) b.name other e
+
+own_depth : (in_output : Bool) (b : Tree) (other : Data) → depth other ≤ 2 → depth (unwrap_or (own_output in_output b) other) ≤ 2
+own_depth in_output b other e = go (is_error_tag in_output b.channel b.name)
+  where
+    go : (t : Bool) → depth (unwrap_or (cond t (Some (error_data (items_string b.items))) (media_of b)) other) ≤ 2
+    go true = omega arith
+    go false = media_depth (picture_of b) (formula_of b) b.name other e
+
+parts_float : (in_output : Bool) (xs : Items) → items_have_float (items_of (piece_outputs in_output xs)) ≡ false
+parts_float in_output end = refl
+parts_float in_output (text t rest) = parts_float in_output rest
+parts_float in_output (block channel name inside rest) =
+    let b : Tree = record { channel = channel; name = name; items = inside } in
+    ap₂ (λ a b. a || b) (own_float in_output b (stream_data (block_string b)) refl) (parts_float in_output rest)
+
+parts_depth : (in_output : Bool) (xs : Items) → items_depth (items_of (piece_outputs in_output xs)) ≤ 2
+parts_depth in_output end = omega arith
+parts_depth in_output (text t rest) = max_within 1 _ 2 (omega arith) (parts_depth in_output rest)
+parts_depth in_output (block channel name inside rest) =
+    let b : Tree = record { channel = channel; name = name; items = inside } in
+    max_within _ _ 2 (own_depth in_output b (stream_data (block_string b)) (omega arith)) (parts_depth in_output rest)
+
+answer_float : (b : Tree) → has_float (outputs_in b) ≡ false
+answer_float b = go (has_parts b)
+  where
+    go : (t : Bool) → has_float (cond t (array (items_of (piece_outputs (is_output_tag b.channel b.name) b.items))) (array (item (whole_output b) no_items))) ≡ false
+    go true = parts_float (is_output_tag b.channel b.name) b.items
+    go false = ap (λ t. t || false) (own_float false b (result_of (plain_bundle b)) refl)
+
+answer_depth : (b : Tree) → depth (outputs_in b) ≤ 3
+answer_depth b = go (has_parts b)
+  where
+    go : (t : Bool) → depth (cond t (array (items_of (piece_outputs (is_output_tag b.channel b.name) b.items))) (array (item (whole_output b) no_items))) ≤ 3
+    go true = omega (arith, parts_depth (is_output_tag b.channel b.name) b.items)
+    go false = omega (arith, own_depth false b (result_of (plain_bundle b)) (omega arith))
 
 outputs_float : (answer : Option Answer) → has_float (outputs_of answer) ≡ false
 outputs_float None = refl
-outputs_float (Some answer) = found_float (formula_behind answer.output) answer.output
+outputs_float (Some answer) = answer_float answer.output
 
 outputs_depth : (answer : Option Answer) → depth (outputs_of answer) ≤ 3
 outputs_depth None = omega arith
-outputs_depth (Some answer) = omega (arith, found_depth (formula_behind answer.output) answer.output)
+outputs_depth (Some answer) = answer_depth answer.output
 
 cell_float : (field : Field) → has_float (cell_of field) ≡ false
 unfolding cell_of
 cell_float field = ap (λ b. b || false) (outputs_float field.answer)
-
-max_within : (a b n : ℕ) → a ≤ n → b ≤ n → max a b ≤ n
-max_within a b n p q = omega (arith, p, q)
 
 cell_depth : (field : Field) → depth (cell_of field) ≤ 4
 unfolding cell_of

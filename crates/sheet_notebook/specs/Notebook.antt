@@ -1,7 +1,7 @@
 -- A worksheet as a notebook (nbformat 4.5), the members of each object in the order of their names.
-use Rattle.std.specs.Prelude.{ℕ, List, ◌++◌, Option, Some, None, codes, map, true}
+use Rattle.std.specs.Prelude.{ℕ, Bool, false, List, [], ◌∷◌, ◌++◌, ◌&&◌, ◌||◌, Option, Some, None, codes, cond, is_some, map, true, unwrap_or}
 use Rattle.std.specs.Fmt.{decimal}
-use Rattle.block_tree.specs.Tree.{Tree}
+use Rattle.block_tree.specs.Tree.{Items, Piece, Tree, block, block_piece, end, text, text_piece}
 use Rattle.serde_json.specs.Data.{Data, null, number, string, array, object, unsigned, item, no_items, member, no_members}
 use Rattle.serde_json.specs.View.{items_of}
 use Rattle.serde_json.specs.Written.{compact_text}
@@ -9,38 +9,114 @@ use Rattle.worksheet.specs.Contents.{Contents}
 use Rattle.worksheet.specs.declared.field.Answer.{Answer}
 use Rattle.worksheet.specs.declared.field.Field.{Field}
 use Rattle.sheet_text.specs.InputLines.{unfolded}
-use Rattle.sheet_notebook.specs.Formulas.{formula_behind, formula_of}
-use Rattle.sheet_notebook.specs.Strings.{block_string, string_of}
+use Rattle.sheet_text.specs.Blocks.{is_bare}
+use Rattle.sheet_notebook.specs.Formulas.{formula_of}
+use Rattle.sheet_notebook.specs.Pictures.{is_error_tag, is_output_tag, drawn_as, picture_of}
+use Rattle.sheet_notebook.specs.Strings.{block_string, items_string, string_of}
+use Rattle.sheet_notebook.specs.declared.pictures.PictureKind.{PictureKind}
+use Rattle.sheet_notebook.specs.declared.pictures.PictureKind.TheVariants as kind
 
--- a formula where the output is one, and beside it the output as text
-abbrev pub bundle : Option (List ℕ) → Tree → Data
-bundle None output = object (member (codes "text/plain") (string (block_string output)) no_members)
-bundle (Some formula) output = object (member (codes "text/latex") (string (string_of true formula)) (member (codes "text/plain") (string (block_string output)) no_members))
+-- an output as text
+abbrev pub plain_bundle : Tree → Data
+plain_bundle output = object (member (codes "text/plain") (string (block_string output)) no_members)
 
--- a formula, and beside it what `print` shows of it
+-- a formula, and beside it its TeX as text
 abbrev pub formula_bundle : List ℕ → Data
-formula_bundle formula = object (member (codes "text/latex") (string (string_of true formula))
-    (member (codes "text/plain") (string (codes "{latex:" ++ (string_of true formula ++ codes "}"))) no_members))
+formula_bundle formula = object (member (codes "text/latex") (string (string_of true formula)) (member (codes "text/plain") (string (string_of true formula)) no_members))
+
+-- a picture, and beside it what it is
+abbrev pub picture_bundle : PictureKind → List ℕ → Data
+picture_bundle kind.Png given = object (member (codes "image/png") (string (string_of true given)) (member (codes "text/plain") (string (codes "A picture (PNG)")) no_members))
+picture_bundle kind.Jpeg given = object (member (codes "image/jpeg") (string (string_of true given)) (member (codes "text/plain") (string (codes "A picture (JPEG)")) no_members))
+picture_bundle kind.Svg given = object (member (codes "image/svg+xml") (string (string_of true given)) (member (codes "text/plain") (string (codes "A picture (SVG)")) no_members))
 
 -- what an interpreter answered
 abbrev pub result_of : Data → Data
 result_of given = object (member (codes "data") given (member (codes "execution_count") null
     (member (codes "metadata") (object no_members) (member (codes "output_type") (string (codes "execute_result")) no_members))))
 
+-- what it showed
+abbrev pub display_of : Data → Data
+display_of given = object (member (codes "data") given (member (codes "metadata") (object no_members) (member (codes "output_type") (string (codes "display_data")) no_members)))
+
 -- what it printed
 abbrev pub stream_data : List ℕ → Data
 stream_data printed = object (member (codes "name") (string (codes "stdout")) (member (codes "output_type") (string (codes "stream"))
-    (member (codes "text") (string (string_of true printed)) no_members)))
+    (member (codes "text") (string printed) no_members)))
 
--- a text that was printed and the formula after it, each as an output of its own, or the output as one
-abbrev pub outputs_with : Option (List ℕ × List ℕ) → Tree → Data
-outputs_with None output = array (item (result_of (bundle (formula_of output) output)) no_items)
-outputs_with (Some found) output = array (item (stream_data found.0) (item (result_of (formula_bundle found.1)) no_items))
+-- what it reports as an error
+abbrev pub error_data : List ℕ → Data
+error_data told = object (member (codes "ename") (string (codes "Error")) (member (codes "evalue") (string told) (member (codes "output_type") (string (codes "error"))
+    (member (codes "traceback") (array (item (string told) no_items)) no_members))))
+
+-- a picture that isn't drawn, by its format
+abbrev pub undrawn_text : List ℕ → List ℕ
+undrawn_text name = codes "{" ++ (string_of false name ++ codes ": not drawn}")
+
+-- a picture of this kind, if it is one
+abbrev pub picture_output : Option PictureKind → List ℕ → List ℕ → Data
+picture_output (Some drawn) name given = display_of (picture_bundle drawn given)
+picture_output None name given = stream_data (undrawn_text name)
+
+-- a picture or a formula, of what a block is found to be
+abbrev pub media_output : Option (List ℕ) → Option (List ℕ) → List ℕ → Option Data
+media_output (Some given) formula name = Some (picture_output (drawn_as name given) name given)
+media_output None (Some formula) name = Some (result_of (formula_bundle formula))
+media_output None None name = None
+
+-- a picture or a formula, if a block is one
+abbrev pub media_of : Tree → Option Data
+media_of b = media_output (picture_of b) (formula_of b) b.name
+
+-- an error, a picture or a formula, in a block of the channel `output` or not; none where a block is text
+abbrev pub own_output : Bool → Tree → Option Data
+own_output in_output b = cond (is_error_tag in_output b.channel b.name) (Some (error_data (items_string b.items))) (media_of b)
+
+-- such a one, or the block as text
+abbrev pub part_output : Bool → Tree → Data
+part_output in_output b = unwrap_or (own_output in_output b) (stream_data (block_string b))
+
+abbrev pub whole_output : Tree → Data
+whole_output b = unwrap_or (own_output false b) (result_of (plain_bundle b))
+
+-- whether a block is a picture or a formula
+abbrev pub is_media : Tree → Bool
+is_media b = is_some (picture_of b) || is_some (formula_of b)
+
+-- whether an item is an error, a picture or a formula
+abbrev pub is_own_output : Bool → Piece → Bool
+is_own_output in_output (text_piece t) = false
+is_own_output in_output (block_piece b) = is_error_tag in_output b.channel b.name || is_media b
+
+-- whether one of these is
+abbrev pub has_own_output : Bool → Items → Bool
+has_own_output in_output end = false
+has_own_output in_output (text t rest) = has_own_output in_output rest
+has_own_output in_output (block channel name inside rest) = is_own_output in_output (block_piece (record { channel = channel; name = name; items = inside })) || has_own_output in_output rest
+
+-- items, each as an output of its own
+abbrev pub piece_outputs : Bool → Items → List Data
+piece_outputs in_output end = []
+piece_outputs in_output (text t rest) = stream_data (string_of true t) ∷ piece_outputs in_output rest
+piece_outputs in_output (block channel name inside rest) = part_output in_output (record { channel = channel; name = name; items = inside }) ∷ piece_outputs in_output rest
+
+-- what an item is as an output
+abbrev pub piece_output : Bool → Piece → Data
+piece_output in_output (text_piece t) = stream_data (string_of true t)
+piece_output in_output (block_piece b) = part_output in_output b
+
+-- whether the items of a block are outputs of their own: they stand in it without a tag in braces, and one of them is more than text
+abbrev pub has_parts : Tree → Bool
+has_parts b = is_bare b.channel b.name && has_own_output (is_output_tag b.channel b.name) b.items
+
+-- what an interpreter printed, showed and answered, in its order, or the output as one
+abbrev pub outputs_in : Tree → Data
+outputs_in b = cond (has_parts b) (array (items_of (piece_outputs (is_output_tag b.channel b.name) b.items))) (array (item (whole_output b) no_items))
 
 -- the outputs of a cell: none of a field without an answer
 abbrev pub outputs_of : Option Answer → Data
 outputs_of None = array no_items
-outputs_of (Some answer) = outputs_with (formula_behind answer.output) answer.output
+outputs_of (Some answer) = outputs_in answer.output
 
 -- the session of a field, under the name of this program
 abbrev pub cell_metadata : Field → Data

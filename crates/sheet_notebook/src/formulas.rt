@@ -228,7 +228,7 @@ fn formula_in(items: &[Item]) -> Option<&[u8]>
 
 /// The formula that a node is, if it is one.
 #[tactic(auto, using(crate::proofs::Pieces::item_rules))]
-fn formula_of_node(node: &Node) -> Option<&[u8]>
+pub(crate) fn formula_of_node(node: &Node) -> Option<&[u8]>
     ensures { option_copied result ≡ formula.formula_of (tree_of node.now) }
 {
     if !node.tag.channel && node.tag.name.as_slice() == b"latex".as_slice() {
@@ -282,7 +282,7 @@ fn text_and_formula(items: &[Item]) -> Option<(&[u8], &[u8])>
 }
 
 /// Whether the tag isn't shown.
-fn is_bare_tag(tag: &Tag) -> bool
+pub(crate) fn is_bare_tag(tag: &Tag) -> bool
     ensures { result ≡ is_bare tag.now.channel tag.now.name }
 {
     if tag.channel {

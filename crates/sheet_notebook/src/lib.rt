@@ -4,7 +4,10 @@
 mod formulas;
 pub mod laws;
 mod notebook;
+mod outputs;
+mod pictures;
 mod strings;
 
 pub use formulas::{formula_behind, formula_of};
 pub use notebook::notebook_bytes;
+pub use pictures::{PictureKind, is_error_tag, is_output_tag, picture_kind, picture_text};

@@ -1,17 +1,14 @@
 //! A worksheet as a notebook.
-ghost use Rattle.std.specs.Prelude.{◌≡◌, ◌++◌, IfOk, Some, None, IsUtf8, codes, string_bytes, true};
+ghost use Rattle.std.specs.Prelude.{◌≡◌, ◌++◌, IfOk, Some, IsUtf8, codes, string_bytes, true};
 ghost use Rattle.std.specs.Fmt.{decimal};
-ghost use Rattle.block_tree.specs.Tree.{Tree};
 ghost use Rattle.serde_json.specs.Read.{read};
 ghost use Rattle.serde_json.specs.View.{view};
-ghost use Rattle.sheet_notebook.specs.Formulas.{formula_behind as behind, formula_of as formula_in};
 ghost use Rattle.sheet_notebook.specs.Notebook as notebook;
 ghost use Rattle.sheet_notebook.specs.Strings as shown;
 ghost use Rattle.sheet_text.specs.InputLines as lines;
 
-use crate::formulas::{formula_behind, formula_of};
-use crate::strings::{block_string, string_of};
-use block_tree::Block;
+use crate::outputs::outputs_in;
+use crate::strings::string_of;
 use serde_json::{Map, Value, json, put};
 use sheet_text::unfolded;
 use std::alloc::{AllocError, Global};
@@ -24,90 +21,13 @@ fn id_of(alloc: Global, number: u32) -> Result<String, AllocError>
     format!(in alloc; "field-{}", number)
 }
 
-/// A formula where an output is one, and beside it the output as text.
-fn bundle_of(alloc: Global, output: &Block) -> Result<Value, AllocError>
-    ensures { IfOk result (λ value. view value ≡ notebook.bundle (formula_in output.now) output.now) }
-{
-    let plain = block_string(alloc, output)?;
-    match formula_of(output) {
-        None => json!(in alloc; {"text/plain": plain}),
-        Some(formula) => {
-            let latex = string_of(alloc, formula, true)?;
-            json!(in alloc; {"text/latex": latex, "text/plain": plain})
-        }
-    }
-}
-
-/// A formula, and beside it what `print` shows of it.
-fn formula_bundle(alloc: Global, formula: &[u8]) -> Result<Value, AllocError>
-    ensures { IfOk result (λ value. view value ≡ notebook.formula_bundle formula.now) }
-{
-    let tex = string_of(alloc, formula, true)?;
-    let mut plain = String::new(alloc);
-    plain.push_str("{latex:")?;
-    plain.push_str(tex.as_str())?;
-    plain.push_str("}")?;
-    json!(in alloc; {"text/latex": tex, "text/plain": plain})
-}
-
-/// What an interpreter answered.
-fn result_of(alloc: Global, given: Value) -> Result<Value, AllocError>
-    ensures { IfOk result (λ value. view value ≡ notebook.result_of (view given)) }
-{
-    json!(in alloc; {
-        "data": given,
-        "execution_count": null,
-        "metadata": {},
-        "output_type": "execute_result"
-    })
-}
-
-/// What it printed.
-fn stream_of(alloc: Global, printed: &[u8]) -> Result<Value, AllocError>
-    ensures { IfOk result (λ value. view value ≡ notebook.stream_data printed.now) }
-{
-    let text = string_of(alloc, printed, true)?;
-    json!(in alloc; {"name": "stdout", "output_type": "stream", "text": text})
-}
-
-/// An output as one.
-fn whole_output(alloc: Global, output: &Block) -> Result<Value, AllocError>
-    ensures { IfOk result (λ value. view value ≡ notebook.outputs_with None output.now) }
-{
-    let bundle = bundle_of(alloc, output)?;
-    let given = result_of(alloc, bundle)?;
-    json!(in alloc; [given])
-}
-
-/// A text that was printed, and the formula after it.
-fn text_and_formula(alloc: Global, printed: &[u8], formula: &[u8]) -> Result<Value, AllocError>
-    ensures { (output : Tree) → IfOk result
-        (λ value. view value ≡ notebook.outputs_with (Some (printed.now, formula.now)) output) }
-{
-    let stream = stream_of(alloc, printed)?;
-    let bundle = formula_bundle(alloc, formula)?;
-    let given = result_of(alloc, bundle)?;
-    json!(in alloc; [stream, given])
-}
-
-/// What an interpreter printed and answered.
-fn outputs_with(alloc: Global, output: &Block) -> Result<Value, AllocError>
-    ensures { IfOk result
-        (λ value. view value ≡ notebook.outputs_with (behind output.now) output.now) }
-{
-    match formula_behind(output) {
-        None => whole_output(alloc, output),
-        Some((printed, formula)) => text_and_formula(alloc, printed, formula),
-    }
-}
-
 /// The outputs of a cell: none of a field without an answer.
 fn outputs_of(alloc: Global, answer: &Option<Answer>) -> Result<Value, AllocError>
     ensures { IfOk result (λ value. view value ≡ notebook.outputs_of answer.now) }
 {
     match answer {
         None => json!(in alloc; []),
-        Some(answer) => outputs_with(alloc, &answer.output),
+        Some(answer) => outputs_in(alloc, answer.output.node()),
     }
 }
 

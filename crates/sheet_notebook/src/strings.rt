@@ -1,12 +1,13 @@
 //! Texts of a notebook, which are characters.
 ghost use Rattle.std.specs.Prelude.{◌≡◌, ◌++◌, ◌∷◌, [], IfOk, OnOk, false, string_bytes};
 ghost use Rattle.block_tree.specs.View.{tree_of};
-ghost use Rattle.sheet_text.specs.Blocks.{is_bare, sign};
+ghost use Rattle.sheet_text.specs.Blocks.{sign};
 ghost use Rattle.sheet_text.specs.Escape as escape;
 ghost use Rattle.sheet_notebook.specs.Strings as shown;
 ghost use Rattle.sheet_notebook.specs.inside.Adds.{Adds};
 
-use block_tree::{Block, Item, Node, Tag};
+use crate::formulas::is_bare_tag;
+use block_tree::{Item, Node, Tag};
 use bstr::decode_utf8;
 use sheet_text::hex_digit;
 use std::alloc::{AllocError, Global};
@@ -125,17 +126,6 @@ fn close_tag(text: &mut String) -> Result<(), AllocError>
     text.push('}')
 }
 
-/// Whether the tag isn't shown.
-fn is_bare_tag(tag: &Tag) -> bool
-    ensures { result ≡ is_bare tag.now.channel tag.now.name }
-{
-    if tag.channel {
-        tag.name.as_slice() == b"output".as_slice()
-    } else {
-        tag.name.as_slice() == b"verbatim".as_slice()
-    }
-}
-
 /// Adds a block as a worksheet shows it.
 #[tactic(auto, using(crate::proofs::Blocks::block_steps))]
 fn push_node(node: &Node, text: &mut String) -> Result<(), AllocError>
@@ -159,10 +149,35 @@ fn push_node(node: &Node, text: &mut String) -> Result<(), AllocError>
 }
 
 /// A block as a worksheet shows it.
-pub(crate) fn block_string(alloc: Global, block: &Block) -> Result<String, AllocError>
-    ensures { IfOk result (λ text. string_bytes text ≡ shown.block_string block.now) }
+pub(crate) fn node_string(alloc: Global, node: &Node) -> Result<String, AllocError>
+    ensures { IfOk result (λ text. string_bytes text ≡ shown.block_string (tree_of node.now)) }
 {
     let mut text = String::new(alloc);
-    push_node(block.node(), &mut text)?;
+    push_node(node, &mut text)?;
+    Ok(text)
+}
+
+/// Adds what a block holds.
+#[tactic(auto, using(crate::proofs::Blocks::block_steps))]
+fn push_inside(node: &Node, text: &mut String) -> Result<(), AllocError>
+    ensures { OnOk result (Adds (string_bytes text.old) (string_bytes text.new)
+        (shown.items_string (tree_of node.now).items)) }
+{
+    for item in &node.items {
+        match item {
+            Item::Text(bytes) => push_text(bytes.as_slice(), true, text)?,
+            Item::Block(inner) => push_node(inner, text)?,
+        }
+    }
+    Ok(())
+}
+
+/// What a block holds, as a worksheet shows it.
+pub(crate) fn inside_string(alloc: Global, node: &Node) -> Result<String, AllocError>
+    ensures { IfOk result
+        (λ text. string_bytes text ≡ shown.items_string (tree_of node.now).items) }
+{
+    let mut text = String::new(alloc);
+    push_inside(node, &mut text)?;
     Ok(text)
 }

@@ -1,4 +1,4 @@
-use Rattle.std.proofs.Common.{◌++◌}
+use Rattle.std.proofs.Common.{◌++◌, false}
 use Rattle.std.proofs.KnownBytes.{Appends-trans}
 use Rattle.sheet_export.specs.Html.{block_html}
 use Rattle.sheet_export.specs.Parts as part
@@ -7,4 +7,4 @@ use Rattle.sheet_export.proofs.html.write_answer.Goals as goal
 pub returns : goal.returns
 returns g c =
     let answer = c.args.answer.now in
-    Appends-trans _ _ _ (part.output_start ++ block_html answer.output) (part.output_end) (Appends-trans _ _ _ (part.output_start) (block_html answer.output) (c.in_ok-write_bytes.ensures) c.in_ok-write_block.ensures) c.in_ok-write_bytes-2.ensures
+    Appends-trans _ _ _ (part.output_start ++ block_html false answer.output) (part.output_end) (Appends-trans _ _ _ (part.output_start) (block_html false answer.output) (c.in_ok-write_bytes.ensures) c.in_ok-write_block.ensures) c.in_ok-write_bytes-2.ensures
