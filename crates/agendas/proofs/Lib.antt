@@ -1,2 +1,4 @@
 pub mod Faults
+pub mod InOrder
+pub mod OwnFaults
 pub mod Taken

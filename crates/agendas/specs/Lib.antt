@@ -5,3 +5,5 @@ pub mod LinesAt
 pub mod Taking
 pub mod Says
 pub mod Heeds
+pub mod LinesRules
+pub mod InputOrder

@@ -1,10 +1,11 @@
 -- Where an agenda of lines lines_stand.
-use Rattle.std.specs.Prelude.{ℕ, ◌+◌, List, Option, None}
+use Rattle.std.specs.Prelude.{ℕ, ◌+◌, List, [], Option, Some, None}
 use Rattle.child_calls.specs.declared.seat.Seat.{Seat}
 use Rattle.arrivals.specs.Lines.{InputLine}
-use Rattle.arrivals.specs.Held.{Held, to_come}
+use Rattle.arrivals.specs.Held.{Held, nothing_held, to_come}
 use Rattle.arrivals.specs.declared.sources.Woken.{Woken}
 use Rattle.live.specs.declared.holding.Hold.{Hold}
+use Rattle.live.specs.declared.holding.Hold.TheVariants as hold
 use Rattle.live.specs.declared.manner.Manner.{Manner}
 use Rattle.agendas.specs.declared.by_lines.ByLines.{ByLines}
 use Rattle.agendas.specs.declared.doing.Chosen.{Chosen}
@@ -41,6 +42,31 @@ lines_stand remaining a = record {
   due = a.due;
   late = a.late.items;
 }
+
+-- before the first line of this input is taken, in this manner
+abbrev pub first_lines : Manner → Option (List ℕ) → LinesAt
+first_lines manner stream = record {
+  buffer = nothing_held;
+  remaining = stream;
+  manner = manner;
+  number = 0;
+  held = hold.Free;
+  doing = doing.Nothing;
+  due = None;
+  late = [];
+}
+
+-- the number of the line after which a strict input stopped, by the wait and by how many lines were taken
+abbrev pub stop_at : Hold → ℕ → Option ℕ
+stop_at hold.Free number = None
+stop_at hold.Wait number = None
+stop_at (hold.Until end) number = None
+stop_at (hold.Limited end) number = None
+stop_at (hold.Warned end) number = None
+stop_at hold.Stopped number = Some number
+
+abbrev pub stopped_at : LinesAt → Option ℕ
+stopped_at a = stop_at a.held a.number
 
 -- the lines still to come, where the input is known
 abbrev pub coming : LinesAt → Option (List InputLine)

@@ -46,4 +46,4 @@ pub data TakesInput (a : LinesAt) (w : World) (now : ℕ) (r : Result Turn RunFa
   -- No line is there, and more is read.
   reads_on : (k : Held) → Readiness a.buffer false → ((more : List ℕ) → left_with k more ≡ left_with a.buffer more) → ReadsOn (given_to a k) r b → TakesInput a w now r b
   -- the end of the input
-  ended : (k : Held) → Readiness a.buffer true → ((more : List ℕ) → left_with a.buffer more ≡ []) → r ≡ Ok turn.End → b ≡ given_to a k → TakesInput a w now r b
+  ended : (k : Held) → Readiness a.buffer true → ((more : List ℕ) → (left_with a.buffer more ≡ []) × (left_with k more ≡ [])) → r ≡ Ok turn.End → b ≡ given_to a k → TakesInput a w now r b

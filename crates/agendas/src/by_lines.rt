@@ -45,7 +45,7 @@ pub struct ByLines<R> {
 }
 
 impl<R: Read> ByLines<R> {
-    ghost use Rattle.agendas.specs.LinesAt.{doing_now, heeded, holding, lines_stand, with_late};
+    ghost use Rattle.agendas.specs.LinesAt.{doing_now, heeded, holding, lines_stand, stopped_at, with_late};
     ghost use Rattle.agendas.specs.Matters.{others};
     ghost use Rattle.agendas.specs.Says.{LinesSay, SaysLimit, SaysMatter};
     ghost use Rattle.agendas.specs.declared.doing.Doing.TheVariants as does;
@@ -75,13 +75,11 @@ impl<R: Read> ByLines<R> {
 
     /// The number of the line after which a strict input stopped.
     pub fn stopped_at(&self) -> Option<u64>
-        ensures stopped { IfSome result (λ number. (self.now.held ≡ Hold.Stopped) × (number ≡ self.now.number)) }
-        ensures going { result ≡ None → self.now.held ≡ Hold.Stopped → ⊥ }
+        ensures { result ≡ stopped_at (lines_stand R.remaining self.now) }
     {
-        if is_stopped(self.held) {
-            Some(self.number)
-        } else {
-            None
+        match self.held {
+            Hold::Stopped => Some(self.number),
+            Hold::Free | Hold::Wait | Hold::Until(_) | Hold::Limited(_) | Hold::Warned(_) => None,
         }
     }
 

@@ -6,6 +6,7 @@ pub mod by_lines;
 pub mod doing;
 mod gathering;
 mod heeding;
+pub mod laws;
 mod matter;
 mod taking;
 mod waits;

@@ -6,3 +6,5 @@ pub mod Fronts
 pub mod Doing
 pub mod Heard
 pub mod Overs
+pub mod Seen
+pub mod TrueFaults

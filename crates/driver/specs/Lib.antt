@@ -5,4 +5,6 @@ pub mod Hearing
 pub mod Steps
 pub mod Runs
 pub mod Over
+pub mod Noted
+pub mod TrueFaults
 pub mod Laws

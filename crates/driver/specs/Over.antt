@@ -1,10 +1,11 @@
 -- A program over a disk: it is opened, the agenda is driven to its end or to a fault, each life that goes on is stopped, and all is given back.
 use Rattle.std.specs.Prelude.{◌≡◌, ℕ, List, [], ◌∷◌, Result, Err}
-use Rattle.disk_model.specs.Disk.{DiskView, InModel, Looks, SameDisk, bytes_on}
+use Rattle.disk_model.specs.Disk.{DiskView, InModel, Looks, Rises, SameDisk, bytes_on}
 use Rattle.worksheet.specs.declared.op.Op.{Op}
 use Rattle.worksheet.specs.Ops.{sheet_of}
 use Rattle.worksheet.specs.Checks.{Allowed}
 use Rattle.journal.specs.declared.opening.OpenCause.{OpenCause}
+use Rattle.journal.specs.declared.opening.OpenCause.TheVariants as opens
 use Rattle.recovery.specs.Sheets.{IsSheetImage, TellsOfSheet}
 use Rattle.session_engine.specs.World.{World, sheet_in, world_at_opening}
 use Rattle.session_engine.specs.Host.{EndsAt, HostView}
@@ -70,6 +71,9 @@ pub record WasNotOpened {A C K : Type 0} (first last : ProgramParts A C K) (why 
   pub agenda : last.agenda ≡ first.agenda
   pub tells : InModel first.disk (TellsOfSheet (bytes_on first.disk) why)
   pub looks : InModel first.disk (Looks first.disk.history last.disk.history)
+  -- that the disk failed is reported only where it did, and else no call of it failed
+  pub failed : why ≡ opens.Disk → Rises first.disk.faults last.disk.faults
+  pub steady : (why ≡ opens.Disk → ⊥) → last.disk.faults ≡ first.disk.faults
 
 -- one of the two
 pub data Over {A C K : Type 0} (R : Rules A C K) (first last : ProgramParts A C K) : Result (Unit {0}) RunFault → Type 0 where

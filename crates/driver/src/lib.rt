@@ -7,6 +7,7 @@ pub mod driver;
 mod faults;
 mod hearing;
 pub mod laws;
+pub mod noting;
 pub mod over;
 pub mod report;
 pub mod sink;
@@ -16,6 +17,7 @@ pub mod voiced;
 
 pub use agenda::Agenda;
 pub use driver::Driver;
+pub use noting::Noting;
 pub use over::{Over, run_over};
 pub use report::{Came, Show};
 pub use sink::Sink;

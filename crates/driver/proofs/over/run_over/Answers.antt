@@ -15,4 +15,4 @@ returns-clause-over g c =
     (stops_by (rules g.A.Agenda.rules (source_rules g.S.Children.after g.S.Sources.wakes g.S.Sources.clock) g.K.Sink.rules) c.drive-answer.new.self.host did.1.world c.drive-answer.new.self.sources c.stop_all.new.children c.stop_all.ensures.working c.stop_all.ensures.stopped c.stop_all.ensures.numbered c.drive-answer.result did.1.stands)
 
 pub returns-in-Err-clause-over : goal.returns-in-Err-clause-over
-returns-in-Err-clause-over g c = not_opened c.in-Err.field-0.cause (record { sources = refl; sink = refl; agenda = refl; tells = c.in-Err.ensures.fault; looks = c.in-Err.ensures.looks })
+returns-in-Err-clause-over g c = not_opened c.in-Err.field-0.cause (record { sources = refl; sink = refl; agenda = refl; tells = c.in-Err.ensures.fault; looks = c.in-Err.ensures.looks; failed = c.in-Err.ensures.faulty; steady = c.in-Err.ensures.steady })

@@ -33,4 +33,4 @@ pub returns-in-End : goal.returns-in-End
 returns-in-End g c = λ w h.
     let before = lines_stand g.R.Read.remaining c.args.self.now in
     let k = c.next.new.self.held in
-    ended k c.in-End.ensures.ready (λ more. (c.in-End.ensures.gives.1 more).0) refl (ap (λ r. read_to before k (g.R.Read.remaining r)) c.in-End.ensures.reader)
+    ended k c.in-End.ensures.ready c.in-End.ensures.gives.1 refl (ap (λ r. read_to before k (g.R.Read.remaining r)) c.in-End.ensures.reader)
