@@ -1,5 +1,6 @@
 -- A fault of a run is true of its disk, where those of its agenda are.
-use Rattle.std.proofs.Common.{true≢false, ◌≡◌, inl, inr, ℕ, ◌≤◌, ◌+◌, List, [], ◌∷◌, ◌++◌, arith, refl, sym, ap, subst, ◌∙◌, Err, Ok}
+use Rattle.std.proofs.Common.{◌≡◌, inl, inr, ℕ, ◌≤◌, ◌+◌, List, [], ◌∷◌, ◌++◌, arith, refl, sym, ap, subst, ◌∙◌, Err, Ok}
+use Rattle.std.proofs.lemmas.Bool.{true≢false}
 use Rattle.std.specs.Prelude.{◌⊎◌, Bool, true, false, IfErr, Option, None, Some, Result, min}
 use Rattle.std.proofs.Math.Nat.{le-min, min-le_left, min-le_right}
 use Rattle.disk_model.specs.Disk.{DiskView, Rises, SameDisk, greatest_count}

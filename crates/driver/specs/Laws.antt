@@ -1,5 +1,5 @@
 -- Laws of all runs.
-use Rattle.std.specs.Prelude.{◌≡◌, true, List, ◌∷◌, ◌++◌}
+use Rattle.std.specs.Prelude.{◌≡◌, ℕ, true, List, ◌∷◌, ◌++◌, IfErr, Result, Err}
 use Rattle.std.specs.List.{flat_map}
 use Rattle.disk_model.specs.Disk.{DiskView}
 use Rattle.host_events.specs.declared.event.Event.{Event}
@@ -12,10 +12,14 @@ use Rattle.child_edge.specs.Moments.{LeavesFronts, LeavesFrontsUpTo, events_of, 
 use Rattle.host_events.specs.declared.outcome.HostFault.{HostFault}
 use Rattle.session_engine.specs.Crash.{Moments}
 use Rattle.session_engine.specs.Host.{HostView}
+use Rattle.session_engine.specs.World.{World}
+use Rattle.offline_programs.specs.declared.fault.RunFault.{RunFault}
 use Rattle.driver.specs.Reports.{Report, printed_text}
 use Rattle.driver.specs.Items.{Item, RunStep, beats_of, printed}
 use Rattle.driver.specs.Place.{RunPlace, Rules, Tries}
 use Rattle.driver.specs.Steps.{Run}
+use Rattle.driver.specs.Over.{Over, ProgramParts}
+use Rattle.driver.specs.TrueFaults.{IsTrueFault, IsTrueOf}
 
 -- the entries of the trace of a run
 abbrev pub trace : List RunStep → List Beat
@@ -63,3 +67,12 @@ RunsLeaveFronts {A = A} {C = C} {K = K} R = (p q : RunPlace A C K) (todo left : 
 abbrev pub RunsLead : {A C K : Type 0} → Rules A C K → Type 0
 RunsLead {A = A} {C = C} {K = K} R = (p q : RunPlace A C K) (todo left : List Item) (steps : List RunStep)
     → Run R p todo steps left q → Runs p.world (events_of (trace steps)) (outcomes_of (trace steps)) q.world
+
+-- Why an agenda can't say what is next is true of every disk: it is none of the disk's.
+abbrev pub OwnFaults : {A C K : Type 0} → Rules A C K → Type 0
+OwnFaults {A = A} R = (a : A) (w : World) (n : ℕ) (why : RunFault) (b : A) → R.agenda.says a w n (Err why) b → (d : DiskView) → IsTrueFault why d d
+
+-- A fault of a program over a disk is true of the disk, where those of its agenda are.
+abbrev pub FaultsAreTrue : {A C K : Type 0} → Rules A C K → Type 0
+FaultsAreTrue {A = A} {C = C} {K = K} R = OwnFaults R → (first last : ProgramParts A C K) (answer : Result (Unit {0}) RunFault)
+    → Over R first last answer → IfErr answer (λ why. IsTrueOf why first.disk last.disk)

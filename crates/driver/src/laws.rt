@@ -1,6 +1,6 @@
 //! Laws of every run. The functions do nothing: their contracts are the laws.
 ghost use Rattle.driver.specs.Place.{rules, source_rules};
-ghost use Rattle.driver.specs.Laws.{RepliesFollowSyncs, RunsAreCutAnywhere, RunsLead, RunsLeaveFronts};
+ghost use Rattle.driver.specs.Laws.{FaultsAreTrue, RepliesFollowSyncs, RunsAreCutAnywhere, RunsLead, RunsLeaveFronts};
 
 use crate::agenda::Agenda;
 use crate::sink::Sink;
@@ -24,4 +24,9 @@ pub fn runs_lead<S: Sources, K: Sink, A: Agenda>()
 /// At every moment each image of the disk is one of the worksheet after some of the first events.
 pub fn runs_leave_fronts<S: Sources, K: Sink, A: Agenda>()
     ensures { RunsLeaveFronts (rules A.rules (source_rules S.after S.wakes S.clock) K.rules) }
+{}
+
+/// A fault of a program over a disk is true of the disk, where those of its agenda are: that the disk failed is a fault only where it did.
+pub fn faults_are_true<S: Sources, K: Sink, A: Agenda>()
+    ensures { FaultsAreTrue (rules A.rules (source_rules S.after S.wakes S.clock) K.rules) }
 {}

@@ -15,6 +15,7 @@ pub struct Noting<K> {
 }
 
 impl<K: Sink> Sink for Noting<K> {
+    ghost use Rattle.std.specs.Prelude.{◌≡◌};
     ghost use Rattle.driver.specs.Place.{sink_rules};
 
     ghost rules = { sink_rules K.rules.voice (λ k. K.rules.written k.sink)

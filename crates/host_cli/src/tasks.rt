@@ -189,21 +189,47 @@ pub fn do_task<Y: System>(alloc: Global, task: Task<'_>, mut outside: Outside<Y>
         (streams_seen Y.Input.Read Y.Output.Write Y.Output.brought Y.Output.tried Y.Errors.Write Y.Errors.tried)) outside result.outside result.ending (task_view task.entry) }
     ensures leaves { LeavesAlone outside result.outside (task_view task.entry) }
 {
-    let ending = match task {
-        Task::Blocks => blocks(alloc, &mut outside),
-        Task::BlocksJson => blocks_in_json(alloc, &mut outside),
-        Task::Create(path) => create_at(&mut outside, path),
-        Task::Run(path, words) => return run_at(alloc, outside, path, words),
-        Task::Live(path) => return live_at(alloc, outside, path),
-        Task::LiveJson(path) => return live_json_at(alloc, outside, path),
-        Task::Eval(path, words) => eval_at(alloc, &mut outside, path, words),
-        Task::Show(path) => show_at(alloc, &mut outside, path),
-        Task::ShowJson(path) => export_as(alloc, &mut outside, Format::Json, path),
-        Task::Check(path, words) => check_at(alloc, &mut outside, path, words),
-        Task::Rescue(path, new) => rescue_at(alloc, &mut outside, path, new),
-        Task::Export(format, path) => export_at(alloc, &mut outside, format, path),
-    };
-    Performed { ending, outside }
+    match task {
+        Task::Blocks => Performed {
+            ending: blocks(alloc, &mut outside),
+            outside,
+        },
+        Task::BlocksJson => Performed {
+            ending: blocks_in_json(alloc, &mut outside),
+            outside,
+        },
+        Task::Create(path) => Performed {
+            ending: create_at(&mut outside, path),
+            outside,
+        },
+        Task::Run(path, words) => run_at(alloc, outside, path, words),
+        Task::Live(path) => live_at(alloc, outside, path),
+        Task::LiveJson(path) => live_json_at(alloc, outside, path),
+        Task::Eval(path, words) => Performed {
+            ending: eval_at(alloc, &mut outside, path, words),
+            outside,
+        },
+        Task::Show(path) => Performed {
+            ending: show_at(alloc, &mut outside, path),
+            outside,
+        },
+        Task::ShowJson(path) => Performed {
+            ending: export_as(alloc, &mut outside, Format::Json, path),
+            outside,
+        },
+        Task::Check(path, words) => Performed {
+            ending: check_at(alloc, &mut outside, path, words),
+            outside,
+        },
+        Task::Rescue(path, new) => Performed {
+            ending: rescue_at(alloc, &mut outside, path, new),
+            outside,
+        },
+        Task::Export(format, path) => Performed {
+            ending: export_at(alloc, &mut outside, format, path),
+            outside,
+        },
+    }
 }
 
 /// The end of a program whose output can't be flushed: the fault `Output`, but where its status is 1 already.
