@@ -211,7 +211,7 @@ open_true (fault.Open why) a b t = absurd t
 open_true fault.InUse a b t = tt
 open_true fault.SecondFile a b t = tt
 
-is_disk : OpenCause → Bool
+abbrev is_disk : OpenCause → Bool
 is_disk (opens.Damaged gate) = false
 is_disk opens.NotASheet = false
 is_disk opens.Disk = true

@@ -1,5 +1,4 @@
 use Rattle.driver.specs.Place.{rules, source_rules}
-use Rattle.driver.proofs.Seen.{over_seen}
 use Rattle.driver.proofs.TrueFaults.{over_true}
 use Rattle.driver.proofs.laws.faults_are_true.Goals as goal
 

@@ -3,4 +3,4 @@ use Rattle.driver.proofs.noting.NotingSink.lives.Goals as goal
 pub returns-clause-tries : goal.returns-clause-tries
 returns-clause-tries g c = λ w h.
     let t = c.lives-done.ensures.tries w h in
-    record { tried = (t.tried, c.is_ok.ensures); appends = t.appends }
+    record { tried = (t.tried, c.is_ok-self.ensures.value); appends = t.appends }
