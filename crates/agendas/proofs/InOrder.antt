@@ -120,8 +120,8 @@ module _ {C K : Type 0} (sources : SourceRules C) (sink : SinkRules K) where
   fails_in_order p q i beats why (step.too_many from events many) = same_lines p.agenda p.agenda refl refl refl
   fails_in_order p q i beats why (step.untaken from events) = same_lines p.agenda p.agenda refl refl refl
   fails_in_order p q i beats why (step.lost from events h l) = same_lines p.agenda p.agenda refl refl refl
-  fails_in_order p q i beats why (step.broken from events bs e x w c d h t stopped) = same_lines p.agenda p.agenda refl refl refl
-  fails_in_order p q i beats why (step.unwritten line x h stopped) = same_lines p.agenda p.agenda refl refl refl
+  fails_in_order p q i beats why (step.broken from events bs e x w c d h t failed) = same_lines p.agenda p.agenda refl refl refl
+  fails_in_order p q i beats why (step.unwritten line x h failed) = same_lines p.agenda p.agenda refl refl refl
   fails_in_order p q i beats why (step.unnumbered line many) = same_lines p.agenda p.agenda refl refl refl
   fails_in_order p q i beats why step.unstalled = same_lines p.agenda p.agenda refl refl refl
   fails_in_order p q i beats why (step.unprinted s w k is t) = same_lines p.agenda p.agenda refl refl refl
@@ -137,7 +137,7 @@ module _ {C K : Type 0} (sources : SourceRules C) (sink : SinkRules K) where
   step_in_order p q todo next s (step.prints t k rest went) = same_lines p.agenda p.agenda refl refl refl
   step_in_order p q todo next s (step.heeds c now n a rest clock (held, done, same)) = moved p.agenda _ a same (same_lines p.agenda _ refl refl refl)
   step_in_order p q todo next s (step.breaks i beats why there rest fails) = fails_in_order p there i beats why fails
-  step_in_order p q todo next s (step.prints_fault why whole k went) = same_lines p.agenda p.agenda refl refl refl
+  step_in_order p q todo next s (step.prints_fault why out k went) = same_lines p.agenda p.agenda refl refl refl
 
   pub run_in_order : (p q : RunPlace LinesAt C K) (todo left : List Item) (steps : List RunStep) → Run (rules lines_rules sources sink) p todo steps left q → TookInOrder p.agenda q.agenda
   run_in_order p q todo left [] ran = subst (λ (x : RunPlace LinesAt C K). TookInOrder p.agenda x.agenda) (sym ran.1) (same_lines p.agenda p.agenda refl refl refl)
