@@ -52,26 +52,26 @@ before_lines {I = I} remaining a m lines input manner number held what due late 
 
 -- A driver of lines that prints with a voice on a stream.
 
-module _ {I C T W : Type 0} (remaining : I → Option (List ℕ)) (V : Voice) (contents : W → Option (List ℕ)) (s : SourceRules C) (m : Manner) where
-  abbrev given_agenda : AgendaRules (ByLines I)
-  given_agenda = agenda_rules (λ a w now answer b. LinesSay (lines_stand remaining a) w now answer (lines_stand remaining b))
-      (λ a woken b. LinesWoken (lines_stand remaining a) woken (lines_stand remaining b))
-      (λ a w now came note b. LinesHeed (lines_stand remaining a) w now came note (lines_stand remaining b))
+abbrev given_agenda : {I : Type 0} → (I → Option (List ℕ)) → AgendaRules (ByLines I)
+given_agenda remaining = agenda_rules (λ a w now answer b. LinesSay (lines_stand remaining a) w now answer (lines_stand remaining b))
+    (λ a woken b. LinesWoken (lines_stand remaining a) woken (lines_stand remaining b))
+    (λ a w now came note b. LinesHeed (lines_stand remaining a) w now came note (lines_stand remaining b))
 
+abbrev lines_driven : {C : Type 0} → Voice → SourceRules C → Rules LinesAt C PrintedSoFar
+lines_driven V s = rules lines_rules s (noting_rules V)
+
+abbrev setting : {C : Type 0} → Voice → SourceRules C → Manner → LiveSetting C
+setting V s m = record { manner = m; voice = V; sources = s }
+
+module _ {I C T W : Type 0} (remaining : I → Option (List ℕ)) (V : Voice) (contents : W → Option (List ℕ)) (s : SourceRules C) (m : Manner) where
   abbrev given_sink : SinkRules (Noting (Voiced T W))
   given_sink = sink_rules V (λ k. contents k.sink.writer) (λ k disk text whole l. Unit {0} × (l.whole ≡ whole))
 
   abbrev given_rules : Rules (ByLines I) C (Noting (Voiced T W))
-  given_rules = rules given_agenda s given_sink
-
-  abbrev lines_driven : Rules LinesAt C PrintedSoFar
-  lines_driven = rules lines_rules s (noting_rules V)
-
-  abbrev setting : LiveSetting C
-  setting = record { manner = m; voice = V; sources = s }
+  given_rules = rules (given_agenda remaining) s given_sink
 
   over_lines : (first last : ProgramParts (ByLines I) C (Noting (Voiced T W))) (run : Result (Unit {0}) RunFault) → Over given_rules first last run
-      → Over lines_driven (program_parts first.disk first.sources (printed_so_far (contents first.sink.sink.writer) first.sink.whole) (lines_stand remaining first.agenda))
+      → Over (lines_driven V s) (program_parts first.disk first.sources (printed_so_far (contents first.sink.sink.writer) first.sink.whole) (lines_stand remaining first.agenda))
       (program_parts last.disk last.sources (printed_so_far (contents last.sink.sink.writer) last.sink.whole) (lines_stand remaining last.agenda)) run
   over_lines first last run o =
       over_seen given_rules lines_rules (λ (k : PrintedSoFar). k.text) (λ (k : PrintedSoFar) (disk : DiskView) (text : List ℕ) (whole : Bool) (l : PrintedSoFar). l.whole ≡ whole) (lines_stand remaining) (λ (k : Noting (Voiced T W)). printed_so_far (contents k.sink.writer) k.whole)
@@ -87,7 +87,7 @@ module _ {I C T W : Type 0} (remaining : I → Option (List ℕ)) (V : Voice) (c
   pub lives : {D : Type 0} (k : Closable D) (disk later : D) (c d : C) (start sink : Noting (Voiced T W)) (begun done : ByLines I) (stream : Option (List ℕ)) (run : Result (Unit {0}) RunFault) (answer : StrictAnswer)
       → start.whole ≡ true → lines_stand remaining begun ≡ first_lines m stream → Over given_rules (program_parts (k.view disk) c start begun) (program_parts (k.view later) d sink done) run
       → k.closed later → SameDisk (k.view disk) (k.view later) → answer ≡ answer_after run (lines_stand remaining done)
-      → LivesOn setting stream (given_disk k disk) (calling c d) (writing contents start.sink.writer sink.sink.writer) sink.whole answer
+      → LivesOn (setting V s m) stream (given_disk k disk) (calling c d) (writing contents start.sink.writer sink.sink.writer) sink.whole answer
   lives k disk later c d start sink begun done stream run answer fresh at over closed same is = record {
     later = later;
     closed = closed;
@@ -95,14 +95,14 @@ module _ {I C T W : Type 0} (remaining : I → Option (List ℕ)) (V : Voice) (c
     lines = lines_stand remaining done;
     run = run;
     over = over_all;
-    true_of = over_true lines_driven own_faults (seen_first (k.view disk) c start (first_lines m stream) true) (seen_last (k.view later) d sink done) run over_all;
+    true_of = over_true (lines_driven V s) own_faults (seen_first (k.view disk) c start (first_lines m stream) true) (seen_last (k.view later) d sink done) run over_all;
     is = is;
   }
     where
-      over_all : Over lines_driven (seen_first (k.view disk) c start (first_lines m stream) true) (seen_last (k.view later) d sink done) run
+      over_all : Over (lines_driven V s) (seen_first (k.view disk) c start (first_lines m stream) true) (seen_last (k.view later) d sink done) run
       over_all =
-          subst (λ (whole : Bool). Over lines_driven (seen_first (k.view disk) c start (first_lines m stream) whole) (seen_last (k.view later) d sink done) run) fresh
-          (subst (λ (a : LinesAt). Over lines_driven (seen_first (k.view disk) c start a start.whole) (seen_last (k.view later) d sink done) run) at
+          subst (λ (whole : Bool). Over (lines_driven V s) (seen_first (k.view disk) c start (first_lines m stream) whole) (seen_last (k.view later) d sink done) run) fresh
+          (subst (λ (a : LinesAt). Over (lines_driven V s) (seen_first (k.view disk) c start a start.whole) (seen_last (k.view later) d sink done) run) at
           (over_lines (program_parts (k.view disk) c start begun) (program_parts (k.view later) d sink done) run over))
 
 -- What stands last.
