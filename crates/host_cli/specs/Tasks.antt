@@ -22,7 +22,7 @@ use Rattle.host_cli.specs.declared.outside.Outside.{Outside}
 use Rattle.host_cli.specs.Outside.{OutsideView}
 use Rattle.host_cli.specs.declared.plans.JobsFault.{JobsFault}
 use Rattle.host_cli.specs.declared.plans.PlanFault.{PlanFault}
-use Rattle.live.specs.Records.{as_it_comes, edge_by, line_by_line}
+use Rattle.live.specs.Records.{as_it_comes, line_by_line}
 use Rattle.live.specs.declared.manner.Manner.{Manner}
 use Rattle.host_cli.specs.declared.plans.SeveralFault.{SeveralFault}
 use Rattle.offline_programs.specs.Saying.{Saying, saying}
@@ -39,7 +39,7 @@ use Rattle.program_endings.specs.ExportProgram.{ExportEnds}
 use Rattle.program_endings.specs.Faults.{no_place}
 use Rattle.program_endings.specs.Programs.{CreateEnds, EndsUnopened, ShowEnds, TellsMake}
 use Rattle.program_endings.specs.Records.{Calling, Streams, calling, given_disk, streams, writing}
-use Rattle.program_endings.specs.LiveProgram.{LastTold, LiveEnded, LiveUnopened}
+use Rattle.program_endings.specs.LiveProgram.{LastTold, LiveEnded, LiveUnopened, live_setting}
 use Rattle.tellings.specs.Json.{in_json}
 use Rattle.tellings.specs.Voice.{Voice}
 use Rattle.tellings.specs.Words.{in_words}
@@ -245,7 +245,7 @@ module _ {Y D P S I W E Q : Type 0} (o : OutsideView D P S I W E) where
   -- `run` of a script on a disk, in words, strict or not
   abbrev pub RunsOn : Bool → Outside Y D P S I W E Q → Outside Y D P S I W E Q → Ending → D → Type 0
   RunsOn strict old new ending disk =
-      ScriptEnds (edge_by (line_by_line None strict) in_words o.sources.after o.sources.clock o.sources.wakes) (o.streams.stream old.input) (given_disk o.disks disk) (calling_of old new) (streams_of old new) ending
+      ScriptEnds (live_setting (line_by_line None strict) in_words o.sources.after o.sources.clock o.sources.wakes) (o.streams.stream old.input) (given_disk o.disks disk) (calling_of old new) (streams_of old new) ending
 
   -- `run` in words over what the places open at a path, strict or not
   abbrev pub RunsScript : Bool → Outside Y D P S I W E Q → Outside Y D P S I W E Q → Ending → Text → Type 0
@@ -278,7 +278,7 @@ module _ {Y D P S I W E Q : Type 0} (o : OutsideView D P S I W E) where
   LivesAs manner V old new ending path =
       HeldFirst old new (λ why. (new.sources ≡ old.sources) × EndsWith old new ending (Err why)) (λ held. (files : Result D FilesFault) × o.places.opens held path files new.places
       × IfErr files (λ why. (new.input ≡ old.input) × LiveUnopened V (calling_of old new) (streams_of old new) ending why)
-      × IfOk files (λ disk. LiveEnded (edge_by manner V o.sources.after o.sources.clock o.sources.wakes) (o.streams.stream old.input) (given_disk o.disks disk) (calling_of old new) (streams_of old new) ending))
+      × IfOk files (λ disk. LiveEnded (live_setting manner V o.sources.after o.sources.clock o.sources.wakes) (o.streams.stream old.input) (given_disk o.disks disk) (calling_of old new) (streams_of old new) ending))
 
   -- `live` in a voice
   abbrev pub DoesLive : Voice → Outside Y D P S I W E Q → Outside Y D P S I W E Q → Ending → Text → Type 0

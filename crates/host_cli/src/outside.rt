@@ -2,6 +2,7 @@
 use crate::Outlet;
 use arrivals::Sources;
 use offline_programs::Says;
+use program_endings::Ending;
 use sheet_check::Progress;
 use sheet_files::{Close, Places};
 use std::io::Read;
@@ -33,4 +34,11 @@ pub struct Outside<Y: System> {
     pub output: Y::Output,
     pub errors: Y::Errors,
     pub progress: Y::Progress,
+}
+
+/// How the program ended, and what is outside of it then.
+#[derive(Drop)]
+pub struct Performed<Y: System> {
+    pub ending: Ending,
+    pub outside: Outside<Y>,
 }

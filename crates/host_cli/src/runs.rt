@@ -2,52 +2,77 @@
 ghost use Rattle.std.specs.Prelude.{◌≡◌};
 ghost use Rattle.command_words.specs.Asked.{run_view};
 ghost use Rattle.host_cli.specs.Outside.{disks_seen, outer, sources_seen, streams_seen};
-ghost use Rattle.host_cli.specs.Tasks.{DoesLive, DoesRun, LivesAs};
+ghost use Rattle.host_cli.specs.Tasks.{DoesLive, DoesRun, LivesAs, RunsScript};
 ghost use Rattle.tellings.specs.Json.{in_json};
 ghost use Rattle.tellings.specs.Words.{in_words};
 
-use crate::outside::{Outside, System};
+use crate::outside::{Outside, Performed, System};
 use crate::plans::read_limit;
 use crate::refusing::refuse_run_limit;
 use command_words::RunWords;
 use live::Manner;
-use program_endings::{Ending, end_unheld, run_live, run_script};
+use program_endings::{LiveEnding, end_unheld, run_live, run_script};
 use sheet_files::Places;
 use std::alloc::Global;
 use tellings::{InJson, InWords, Tells};
 
 /// The lines of the input over the worksheet at a path, taken in this manner and printed in this voice.
-fn live_told<Y: System, T: Tells>(
+fn live_told<Y: System, T: Tells + Copy>(
     alloc: Global,
-    outside: &mut Outside<Y>,
+    mut outside: Outside<Y>,
     manner: Manner,
-    tells: &T,
+    tells: T,
     path: &str,
-) -> Ending
+) -> Performed<Y>
     ensures does { LivesAs (outer Y.Places.Places (disks_seen Y.Disk.Disk Y.Disk.closed) (sources_seen Y.Sources.after Y.Sources.clock Y.Sources.wakes)
-        (streams_seen Y.Input.Read Y.Output.Write Y.Output.brought Y.Output.tried Y.Errors.Write Y.Errors.tried)) manner T.voice outside.old outside.new result path.now }
-    ensures leaves { outside.new.progress ≡ outside.old.progress }
+        (streams_seen Y.Input.Read Y.Output.Write Y.Output.brought Y.Output.tried Y.Errors.Write Y.Errors.tried)) manner T.voice outside result.outside result.ending path.now }
+    ensures leaves { result.outside.progress ≡ outside.progress }
 {
-    match outside.places.hold() {
-        Ok(()) => run_live(
-            alloc,
-            manner,
-            &mut outside.input,
-            tells,
-            &mut outside.output,
-            &mut outside.errors,
-            outside.places.open(path),
-            &mut outside.sources,
-        ),
-        Err(why) => end_unheld(why, &mut outside.errors),
+    if let Err(why) = outside.places.hold() {
+        let ending = end_unheld(why, &mut outside.errors);
+        return Performed { ending, outside };
+    }
+    let files = outside.places.open(path);
+    let Outside {
+        places,
+        sources,
+        mut input,
+        output,
+        mut errors,
+        progress,
+    } = outside;
+    let LiveEnding {
+        ending,
+        sources,
+        output,
+    } = run_live(
+        alloc,
+        manner,
+        &mut input,
+        tells,
+        output,
+        &mut errors,
+        files,
+        sources,
+    );
+    Performed {
+        ending,
+        outside: Outside {
+            places,
+            sources,
+            input,
+            output,
+            errors,
+            progress,
+        },
     }
 }
 
 /// `live` in words.
-pub(crate) fn live_at<Y: System>(alloc: Global, outside: &mut Outside<Y>, path: &str) -> Ending
+pub(crate) fn live_at<Y: System>(alloc: Global, outside: Outside<Y>, path: &str) -> Performed<Y>
     ensures does { DoesLive (outer Y.Places.Places (disks_seen Y.Disk.Disk Y.Disk.closed) (sources_seen Y.Sources.after Y.Sources.clock Y.Sources.wakes)
-        (streams_seen Y.Input.Read Y.Output.Write Y.Output.brought Y.Output.tried Y.Errors.Write Y.Errors.tried)) in_words outside.old outside.new result path.now }
-    ensures leaves { outside.new.progress ≡ outside.old.progress }
+        (streams_seen Y.Input.Read Y.Output.Write Y.Output.brought Y.Output.tried Y.Errors.Write Y.Errors.tried)) in_words outside result.outside result.ending path.now }
+    ensures leaves { result.outside.progress ≡ outside.progress }
 {
     live_told(
         alloc,
@@ -57,16 +82,20 @@ pub(crate) fn live_at<Y: System>(alloc: Global, outside: &mut Outside<Y>, path: 
             limit: None,
             strict: false,
         },
-        &InWords,
+        InWords,
         path,
     )
 }
 
 /// `live` in lines of JSON.
-pub(crate) fn live_json_at<Y: System>(alloc: Global, outside: &mut Outside<Y>, path: &str) -> Ending
+pub(crate) fn live_json_at<Y: System>(
+    alloc: Global,
+    outside: Outside<Y>,
+    path: &str,
+) -> Performed<Y>
     ensures does { DoesLive (outer Y.Places.Places (disks_seen Y.Disk.Disk Y.Disk.closed) (sources_seen Y.Sources.after Y.Sources.clock Y.Sources.wakes)
-        (streams_seen Y.Input.Read Y.Output.Write Y.Output.brought Y.Output.tried Y.Errors.Write Y.Errors.tried)) in_json outside.old outside.new result path.now }
-    ensures leaves { outside.new.progress ≡ outside.old.progress }
+        (streams_seen Y.Input.Read Y.Output.Write Y.Output.brought Y.Output.tried Y.Errors.Write Y.Errors.tried)) in_json outside result.outside result.ending path.now }
+    ensures leaves { result.outside.progress ≡ outside.progress }
 {
     live_told(
         alloc,
@@ -76,24 +105,75 @@ pub(crate) fn live_json_at<Y: System>(alloc: Global, outside: &mut Outside<Y>, p
             limit: None,
             strict: false,
         },
-        &InJson { alloc },
+        InJson { alloc },
         path,
     )
+}
+
+/// `run` of the script on the input, in words and without a limit of time.
+fn run_told<Y: System>(
+    alloc: Global,
+    mut outside: Outside<Y>,
+    strict: bool,
+    path: &str,
+) -> Performed<Y>
+    ensures does { RunsScript (outer Y.Places.Places (disks_seen Y.Disk.Disk Y.Disk.closed) (sources_seen Y.Sources.after Y.Sources.clock Y.Sources.wakes)
+        (streams_seen Y.Input.Read Y.Output.Write Y.Output.brought Y.Output.tried Y.Errors.Write Y.Errors.tried)) strict outside result.outside result.ending path.now }
+    ensures leaves { result.outside.progress ≡ outside.progress }
+{
+    if let Err(why) = outside.places.hold() {
+        let ending = end_unheld(why, &mut outside.errors);
+        return Performed { ending, outside };
+    }
+    let files = outside.places.open(path);
+    let Outside {
+        places,
+        sources,
+        mut input,
+        output,
+        mut errors,
+        progress,
+    } = outside;
+    let LiveEnding {
+        ending,
+        sources,
+        output,
+    } = run_script(
+        alloc,
+        strict,
+        &mut input,
+        output,
+        &mut errors,
+        files,
+        sources,
+    );
+    Performed {
+        ending,
+        outside: Outside {
+            places,
+            sources,
+            input,
+            output,
+            errors,
+            progress,
+        },
+    }
 }
 
 /// `run` as its words ask for it.
 pub(crate) fn run_at<Y: System>(
     alloc: Global,
-    outside: &mut Outside<Y>,
+    mut outside: Outside<Y>,
     path: &str,
     words: RunWords<'_>,
-) -> Ending
+) -> Performed<Y>
     ensures does { DoesRun (outer Y.Places.Places (disks_seen Y.Disk.Disk Y.Disk.closed) (sources_seen Y.Sources.after Y.Sources.clock Y.Sources.wakes)
-        (streams_seen Y.Input.Read Y.Output.Write Y.Output.brought Y.Output.tried Y.Errors.Write Y.Errors.tried)) outside.old outside.new result path.now (run_view words.entry) }
-    ensures leaves { outside.new.progress ≡ outside.old.progress }
+        (streams_seen Y.Input.Read Y.Output.Write Y.Output.brought Y.Output.tried Y.Errors.Write Y.Errors.tried)) outside result.outside result.ending path.now (run_view words.entry) }
+    ensures leaves { result.outside.progress ≡ outside.progress }
 {
     let Some(limit) = read_limit(words.timeout) else {
-        return refuse_run_limit(&mut outside.errors);
+        let ending = refuse_run_limit(&mut outside.errors);
+        return Performed { ending, outside };
     };
     let manner = Manner {
         lines_first: true,
@@ -101,21 +181,10 @@ pub(crate) fn run_at<Y: System>(
         strict: words.strict,
     };
     if words.json {
-        return live_told(alloc, outside, manner, &InJson { alloc }, path);
+        return live_told(alloc, outside, manner, InJson { alloc }, path);
     }
     if limit.is_some() {
-        return live_told(alloc, outside, manner, &InWords, path);
+        return live_told(alloc, outside, manner, InWords, path);
     }
-    match outside.places.hold() {
-        Ok(()) => run_script(
-            alloc,
-            words.strict,
-            &mut outside.input,
-            &mut outside.output,
-            &mut outside.errors,
-            outside.places.open(path),
-            &mut outside.sources,
-        ),
-        Err(why) => end_unheld(why, &mut outside.errors),
-    }
+    run_told(alloc, outside, words.strict, path)
 }

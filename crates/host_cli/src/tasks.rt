@@ -4,7 +4,7 @@ ghost use Rattle.std.specs.Prelude.{◌≡◌, ◌≢◌, [], Err, map, string_b
 ghost use Rattle.command_words.specs.Asked.{eval_view, task_view};
 ghost use Rattle.command_words.specs.Asked as asked;
 ghost use Rattle.host_cli.specs.Outside.{disks_seen, outer, sources_seen, streams_seen};
-ghost use Rattle.host_cli.specs.Tasks.{BringsOut, DoesCreate, DoesEval, DoesExport, DoesRescue, DoesShow, DoesTask, EvaluatesAs, ExportsAs, LeavesAlone, Performs, voice_by};
+ghost use Rattle.host_cli.specs.Tasks.{BringsOut, DoesCreate, DoesEval, DoesExport, DoesRescue, DoesShow, DoesTask, EndsBy, EvaluatesAs, ExportsAs, LeavesAlone, Performs, voice_by};
 ghost use Rattle.program_endings.specs.Ending.{TellsFault};
 ghost use Rattle.offline_programs.specs.Saying.{saying};
 ghost use Rattle.offline_programs.specs.declared.fault.RunFault.TheVariants as fault;
@@ -13,7 +13,7 @@ use crate::blocks::{blocks, blocks_in_json};
 use crate::checks::check_at;
 use crate::finding::FoundIn;
 use crate::outlet::Outlet;
-use crate::outside::{Outside, System};
+use crate::outside::{Outside, Performed, System};
 use crate::plans::read_plan;
 use crate::refusing::{refuse_format, refuse_plan};
 use crate::runs::{live_at, live_json_at, run_at};
@@ -189,24 +189,51 @@ fn export_at<Y: System>(alloc: Global, outside: &mut Outside<Y>, name: &str, pat
 /// `run`, `live`, `eval`, `show`, `check`, `rescue` and `export` work on the worksheet at the path, once the
 /// places of closed streams are held. What they give goes to the output, and the line of a fault to the
 /// errors. `check` alone has `progress` show something.
-pub fn do_task<Y: System>(alloc: Global, task: Task<'_>, outside: &mut Outside<Y>) -> Ending
+pub fn do_task<Y: System>(alloc: Global, task: Task<'_>, mut outside: Outside<Y>) -> Performed<Y>
     ensures does { DoesTask (outer Y.Places.Places (disks_seen Y.Disk.Disk Y.Disk.closed) (sources_seen Y.Sources.after Y.Sources.clock Y.Sources.wakes)
-        (streams_seen Y.Input.Read Y.Output.Write Y.Output.brought Y.Output.tried Y.Errors.Write Y.Errors.tried)) outside.old outside.new result (task_view task.entry) }
-    ensures leaves { LeavesAlone outside.old outside.new (task_view task.entry) }
+        (streams_seen Y.Input.Read Y.Output.Write Y.Output.brought Y.Output.tried Y.Errors.Write Y.Errors.tried)) outside result.outside result.ending (task_view task.entry) }
+    ensures leaves { LeavesAlone outside result.outside (task_view task.entry) }
 {
     match task {
-        Task::Blocks => blocks(alloc, outside),
-        Task::BlocksJson => blocks_in_json(alloc, outside),
-        Task::Create(path) => create_at(outside, path),
+        Task::Blocks => Performed {
+            ending: blocks(alloc, &mut outside),
+            outside,
+        },
+        Task::BlocksJson => Performed {
+            ending: blocks_in_json(alloc, &mut outside),
+            outside,
+        },
+        Task::Create(path) => Performed {
+            ending: create_at(&mut outside, path),
+            outside,
+        },
         Task::Run(path, words) => run_at(alloc, outside, path, words),
         Task::Live(path) => live_at(alloc, outside, path),
         Task::LiveJson(path) => live_json_at(alloc, outside, path),
-        Task::Eval(path, words) => eval_at(alloc, outside, path, words),
-        Task::Show(path) => show_at(alloc, outside, path),
-        Task::ShowJson(path) => export_as(alloc, outside, Format::Json, path),
-        Task::Check(path, words) => check_at(alloc, outside, path, words),
-        Task::Rescue(path, new) => rescue_at(alloc, outside, path, new),
-        Task::Export(format, path) => export_at(alloc, outside, format, path),
+        Task::Eval(path, words) => Performed {
+            ending: eval_at(alloc, &mut outside, path, words),
+            outside,
+        },
+        Task::Show(path) => Performed {
+            ending: show_at(alloc, &mut outside, path),
+            outside,
+        },
+        Task::ShowJson(path) => Performed {
+            ending: export_as(alloc, &mut outside, Format::Json, path),
+            outside,
+        },
+        Task::Check(path, words) => Performed {
+            ending: check_at(alloc, &mut outside, path, words),
+            outside,
+        },
+        Task::Rescue(path, new) => Performed {
+            ending: rescue_at(alloc, &mut outside, path, new),
+            outside,
+        },
+        Task::Export(format, path) => Performed {
+            ending: export_at(alloc, &mut outside, format, path),
+            outside,
+        },
     }
 }
 
@@ -234,22 +261,46 @@ fn bring_out<Y: System>(outside: &mut Outside<Y>, alone: Ending) -> Ending
     }
 }
 
+/// Does the task that the words ask for, or tells why there is none.
+fn perform_unsent<Y: System>(
+    alloc: Global,
+    words: Result<Vec<String>, io::ErrorKind>,
+    mut outside: Outside<Y>,
+) -> Performed<Y>
+    ensures { EndsBy (outer Y.Places.Places (disks_seen Y.Disk.Disk Y.Disk.closed) (sources_seen Y.Sources.after Y.Sources.clock Y.Sources.wakes)
+        (streams_seen Y.Input.Read Y.Output.Write Y.Output.brought Y.Output.tried Y.Errors.Write Y.Errors.tried)) (λ all. map string_bytes all.items) words outside result.outside result.ending }
+{
+    match words {
+        Ok(words) => match read_words(alloc, words.as_slice()) {
+            Ok(task) => do_task(alloc, task, outside),
+            Err(error) => {
+                let ending = refuse_words(&error, &mut outside.output, &mut outside.errors);
+                Performed { ending, outside }
+            }
+        },
+        Err(kind) => {
+            let ending = refuse_unread_words(kind, &mut outside.errors);
+            Performed { ending, outside }
+        }
+    }
+}
+
 /// The whole program: does the task that its words ask for, or tells why there is none, and brings its
 /// output out. The words may be missing for this kind of error.
 pub fn perform<Y: System>(
     alloc: Global,
     words: Result<Vec<String>, io::ErrorKind>,
-    outside: &mut Outside<Y>,
-) -> Ending
+    outside: Outside<Y>,
+) -> Performed<Y>
     ensures { Performs (outer Y.Places.Places (disks_seen Y.Disk.Disk Y.Disk.closed) (sources_seen Y.Sources.after Y.Sources.clock Y.Sources.wakes)
-        (streams_seen Y.Input.Read Y.Output.Write Y.Output.brought Y.Output.tried Y.Errors.Write Y.Errors.tried)) (λ all. map string_bytes all.items) words outside.old outside.new result }
+        (streams_seen Y.Input.Read Y.Output.Write Y.Output.brought Y.Output.tried Y.Errors.Write Y.Errors.tried)) (λ all. map string_bytes all.items) words outside result.outside result.ending }
 {
-    let ending = match words {
-        Ok(words) => match read_words(alloc, words.as_slice()) {
-            Ok(task) => do_task(alloc, task, outside),
-            Err(error) => refuse_words(&error, &mut outside.output, &mut outside.errors),
-        },
-        Err(kind) => refuse_unread_words(kind, &mut outside.errors),
-    };
-    bring_out(outside, ending)
+    let Performed {
+        ending,
+        mut outside,
+    } = perform_unsent(alloc, words, outside);
+    Performed {
+        ending: bring_out(&mut outside, ending),
+        outside,
+    }
 }

@@ -1,5 +1,6 @@
 pub mod Answering
 pub mod Forms
 pub mod Lines
+pub mod Living
 pub mod Streams
 pub mod Totals

@@ -1,12 +1,16 @@
--- How the programs `live` and `run --json` end: what becomes of the disk, what is written on which stream, and the exit status.
-use Rattle.std.specs.Prelude.{◌≡◌, ℕ, Bool, true, false, List, Option, Result, Ok, Err, IfOk, IfErr, IsErrOf}
+-- How the programs `live`, `run --json` and `run --timeout` end: what becomes of the disk, what is written on which stream, and the exit status.
+use Rattle.std.specs.Prelude.{◌≡◌, ◌⊎◌, ℕ, Bool, true, false, List, Option, Result, Ok, Err, IfErr}
 use Rattle.std.specs.Io.KnownBytes.{Appends}
-use Rattle.disk_model.specs.Disk.{Rises, SameDisk}
-use Rattle.journal.specs.declared.opening.OpenCause.TheVariants as opens
-use Rattle.host_events.specs.declared.outcome.HostFault.TheVariants as hosts
-use Rattle.live.specs.Records.{Edge}
-use Rattle.live.specs.Live.{LiveCame, TellsLive}
-use Rattle.offline_programs.specs.Faults.{Untouched}
+use Rattle.disk_model.specs.Disk.{SameDisk}
+use Rattle.child_edge.specs.Faithful.{Relation}
+use Rattle.live.specs.Records.{Clock, Watch}
+use Rattle.live.specs.declared.manner.Manner.{Manner}
+use Rattle.driver.specs.Place.{Rules, SourceRules, rules, source_rules}
+use Rattle.driver.specs.Noted.{PrintedSoFar, noting_rules, printed_so_far}
+use Rattle.driver.specs.Over.{Over, program_parts}
+use Rattle.driver.specs.TrueFaults.{IsTrueOf}
+use Rattle.agendas.specs.LinesAt.{LinesAt, first_lines, stopped_at}
+use Rattle.agendas.specs.LinesRules.{lines_rules}
 use Rattle.offline_programs.specs.declared.fault.RunFault.{RunFault}
 use Rattle.offline_programs.specs.declared.fault.RunFault.TheVariants as fault
 use Rattle.sheet_files.specs.declared.files_fault.FilesFault.{FilesFault}
@@ -15,60 +19,113 @@ use Rattle.tellings.specs.declared.note.Frame.{Frame}
 use Rattle.tellings.specs.declared.note.Frame.TheVariants as frame
 use Rattle.program_endings.specs.Ending.{EndsAs}
 use Rattle.program_endings.specs.Faults.{no_files}
-use Rattle.program_endings.specs.Records.{Calling, DoesNothing, GivenDisk, Streams, Writing, outside_after, outside_before, view_given, writing}
+use Rattle.program_endings.specs.Records.{Calling, GivenDisk, Streams, Writing, text_after, text_before, view_given, writing}
 use Rattle.program_endings.specs.StrictProgram.{StrictAnswer, TellsStop, strict_status}
 use Rattle.program_endings.specs.declared.ending.Ending.{Ending}
 
--- What `live` answers on a disk between what stands first and last, and what it has written and done then. Its lines are those of the
--- stream of its reader, where that is known.
-pub record LivesOn {D C O : Type 0} (o : Edge C) (stream : Option (List ℕ)) (g : GivenDisk D) (q : Calling C) (w : Writing O) (answer : StrictAnswer) : Type 0 where
-  -- the disk after all that came, as it was closed
+-- How lines are taken, the voice of what is printed, and what the sources may do.
+pub record LiveSetting (C : Type 0) : Type 1 where
+  pub manner : Manner
+  pub voice : Voice
+  pub sources : SourceRules C
+
+abbrev pub live_setting : {C : Type 0} → Manner → Voice → Relation C → Clock C → Watch C → LiveSetting C
+live_setting manner voice after clock wakes = record { manner = manner; voice = voice; sources = source_rules after wakes clock }
+
+-- a driver of lines: of its sink is known what was printed, and whether all of the last text went out
+abbrev pub live_rules : {C : Type 0} → LiveSetting C → Rules LinesAt C PrintedSoFar
+live_rules o = rules lines_rules o.sources (noting_rules o.voice)
+
+-- what the program answers after a run: where a strict input stopped, or the fault
+abbrev pub answer_after : Result (Unit {0}) RunFault → LinesAt → StrictAnswer
+answer_after (Ok done) lines = Ok (stopped_at lines)
+answer_after (Err why) lines = Err why
+
+-- What `live` does on a disk, which is closed then, between what stands first and last: the driver ran over it, with the lines of the stream of its
+-- reader, where that is known, from before the first of them on. A fault is true of the disk: that it failed is reported only where it did.
+pub record LivesOn {D C O : Type 0} (o : LiveSetting C) (stream : Option (List ℕ)) (g : GivenDisk D) (q : Calling C) (w : Writing O) (whole : Bool) (answer : StrictAnswer) : Type 0 where
   pub later : D
   pub closed : g.how.closed later
   pub same : SameDisk (view_given g) (g.how.view later)
-  pub lived : IfOk answer (LiveCame o stream (outside_before g q w) (outside_after g later q w))
-  -- that the disk failed, at the opening or later, is reported only where it did
-  pub unopened : IsErrOf answer (fault.Open opens.Disk) → Rises (view_given g).faults (g.how.view later).faults
-  pub failed : IsErrOf answer (fault.Host hosts.Disk) → Rises (view_given g).faults (g.how.view later).faults
-  -- lack of memory at the opening is reported only where no call of the disk failed
-  pub memory : IsErrOf answer (fault.Open opens.OutOfMemory) → (g.how.view later).faults ≡ (view_given g).faults
-  pub fault : IfErr answer (TellsLive o stream (outside_before g q w) (outside_after g later q w) (DoesNothing q w × Untouched (view_given g) (g.how.view later)))
+  -- where the lines stand at the end, and how the run was answered
+  pub lines : LinesAt
+  pub run : Result (Unit {0}) RunFault
+  pub over : Over (live_rules o) (program_parts (view_given g) q.old (printed_so_far (text_before w) true) (first_lines o.manner stream))
+      (program_parts (g.how.view later) q.new (printed_so_far (text_after w) whole) lines) run
+  pub true_of : IfErr run (λ why. IsTrueOf why (view_given g) (g.how.view later))
+  pub is : answer ≡ answer_after run lines
+
+-- a run prints its own fault last, but where its output failed; that the disk isn't opened is none of a run
+abbrev pub is_printed : RunFault → Bool
+is_printed fault.Input = true
+is_printed fault.InputTooLong = true
+is_printed fault.Output = false
+is_printed fault.OutOfMemory = true
+is_printed (fault.Host why) = true
+is_printed (fault.Open why) = false
+is_printed fault.InUse = true
+is_printed fault.SecondFile = true
 
 -- this frame was written, where the voice has one
 abbrev pub Framed : {O : Type 0} → Voice → (O → Option (List ℕ)) → Frame → O → O → Type 0
 Framed V contents f old new = Appends (contents old) (contents new) (V.frame f) × (V.takes_memory ≡ false → new ≡ old)
 
--- What `live` answers on a disk, and what it has written and done then.
-pub data LiveAnswer {D C O : Type 0} (o : Edge C) (stream : Option (List ℕ)) (g : GivenDisk D) (q : Calling C) (w : Writing O) (answer : StrictAnswer) : Type 0 where
-  -- it greeted, and lived; where it had no fault, the end was printed last
-  lived : (first last : O) → Framed o.voice w.contents frame.Hello w.old first
-      → LivesOn o stream g q (writing w.contents first last) answer
-      → IfOk answer (λ stopped. Framed o.voice w.contents frame.End last w.new) → IfErr answer (λ why. w.new ≡ last)
-      → LiveAnswer o stream g q w answer
-  -- what stands first couldn't be printed, and nothing was done but to close the disk
-  ungreeted : (why : RunFault) → answer ≡ Err why → o.voice.takes_memory ≡ true → IsUntold o.voice why → q.new ≡ q.old → g.how.closed g.disk
-      → LiveAnswer o stream g q w answer
-  -- what stands last couldn't be printed
-  unended : (why : RunFault) (first last : O) (stopped : Option ℕ) → answer ≡ Err why → o.voice.takes_memory ≡ true → IsUntold o.voice why
-      → Framed o.voice w.contents frame.Hello w.old first → LivesOn o stream g q (writing w.contents first last) (Ok stopped)
-      → LiveAnswer o stream g q w answer
-
 -- A fault is printed last of all, where the voice has a text for it and the output takes it.
+abbrev pub FaultTold : {O : Type 0} → Voice → (O → Option (List ℕ)) → O → O → Bool → RunFault → Type 0
+FaultTold V contents old new told why = (V.takes_memory ≡ false → new ≡ old) × (told ≡ true → Appends (contents old) (contents new) (V.fault why))
+
 abbrev pub LastTold : {O T : Type 0} → Voice → (O → Option (List ℕ)) → O → O → Bool → Result T RunFault → Type 0
 LastTold V contents old new told (Ok done) = new ≡ old
-LastTold V contents old new told (Err why) = (V.takes_memory ≡ false → new ≡ old) × (told ≡ true → Appends (contents old) (contents new) (V.fault why))
+LastTold V contents old new told (Err why) = FaultTold V contents old new told why
+
+-- A frame couldn't be printed, and that is the fault, which is printed last.
+abbrev pub Unframed : {O : Type 0} → Voice → Writing O → Bool → StrictAnswer → Type 0
+Unframed {O = O} V w told answer =
+    (why : RunFault) × (mid : O) × (answer ≡ Err why) × (V.takes_memory ≡ true) × IsUntold V why × FaultTold V w.contents mid w.new told why
+
+-- after the end of its lines the voice's last message is printed
+abbrev pub EndsFramed : {O : Type 0} → Voice → Writing O → Bool → Option ℕ → StrictAnswer → Type 0
+EndsFramed V w told stopped answer = (Framed V w.contents frame.End w.old w.new × (answer ≡ Ok stopped)) ⊎ Unframed V w told answer
+
+-- a fault was printed last by the run, or it is printed now
+abbrev pub FaultedBy : {O : Type 0} → Bool → Voice → Writing O → Bool → Bool → RunFault → Type 0
+FaultedBy true V w whole told why = (w.new ≡ w.old) × (told ≡ whole)
+FaultedBy false V w whole told why = FaultTold V w.contents w.old w.new told why
+
+abbrev pub EndsFaulted : {O : Type 0} → Voice → Writing O → Bool → Bool → RunFault → Type 0
+EndsFaulted V w whole told why = FaultedBy (is_printed why) V w whole told why
+
+-- What stands last after a run that was answered so, of whose last text this is known, and what the program answers then.
+abbrev pub LivedEnds : {O : Type 0} → Voice → Writing O → StrictAnswer → Bool → Bool → StrictAnswer → Type 0
+LivedEnds V w (Ok stopped) whole told answer = EndsFramed V w told stopped answer
+LivedEnds V w (Err why) whole told answer = (answer ≡ Err why) × EndsFaulted V w whole told why
+
+-- What `live` answers on a disk, what it has written and done then, and whether its last text went out, once it has greeted.
+pub data LiveBegun {D C O : Type 0} (o : LiveSetting C) (stream : Option (List ℕ)) (g : GivenDisk D) (q : Calling C) (w : Writing O) (told : Bool) (answer : StrictAnswer) : Type 0 where
+  -- it lived, and printed what stands last
+  lived : (last : O) (lived_so : StrictAnswer) (whole : Bool) → LivesOn o stream g q (writing w.contents w.old last) whole lived_so
+      → LivedEnds o.voice (writing w.contents last w.new) lived_so whole told answer → LiveBegun o stream g q w told answer
+  -- there was no memory for the lines of its input, and nothing was done but to close the disk
+  not_begun : FaultTold o.voice w.contents w.old w.new told fault.OutOfMemory → answer ≡ Err fault.OutOfMemory → q.new ≡ q.old → g.how.closed g.disk
+      → LiveBegun o stream g q w told answer
+
+-- The same from its greeting on.
+pub data LiveAnswer {D C O : Type 0} (o : LiveSetting C) (stream : Option (List ℕ)) (g : GivenDisk D) (q : Calling C) (w : Writing O) (told : Bool) (answer : StrictAnswer) : Type 0 where
+  greeted : (first : O) → Framed o.voice w.contents frame.Hello w.old first → LiveBegun o stream g q (writing w.contents first w.new) told answer → LiveAnswer o stream g q w told answer
+  -- it couldn't greet, and nothing was done but to close the disk
+  ungreeted : Unframed o.voice w told answer → q.new ≡ q.old → g.how.closed g.disk → LiveAnswer o stream g q w told answer
 
 -- How `live` and `eval` end where their files weren't opened: no child is called, and why is printed last and is a line on the stream of errors.
 abbrev pub LiveUnopened : {C O E : Type 0} → Voice → Calling C → Streams O E → Ending → FilesFault → Type 0
 LiveUnopened V q s ending why = (q.new ≡ q.old) × LastTold {T = Bool} V s.output.contents s.output.old s.output.new ending.told (Err (no_files why))
     × EndsAs s.errors ending (Err (no_files why))
 
--- How `live` ends on a disk: what it answers, of which a fault is printed last, and the status. Where a strict input stopped is a line on the
--- stream of errors, as of `run --strict`.
-pub record LiveEnded {D C O E : Type 0} (o : Edge C) (stream : Option (List ℕ)) (g : GivenDisk D) (q : Calling C) (s : Streams O E) (ending : Ending) : Type 0 where
+-- How `live` ends on a disk: what it answers, whether its last text went out, and the status. Where a strict input stopped is a line on the
+-- stream of errors, as of `run --strict`, and so is a fault.
+pub record LiveEnded {D C O E : Type 0} (o : LiveSetting C) (stream : Option (List ℕ)) (g : GivenDisk D) (q : Calling C) (s : Streams O E) (ending : Ending) : Type 0 where
   pub answer : StrictAnswer
-  pub mid : O
-  pub answered : LiveAnswer o stream g q (writing s.output.contents s.output.old mid) answer
-  pub last_told : LastTold o.voice s.output.contents mid s.output.new ending.told answer
+  pub said : Bool
+  pub answered : LiveAnswer o stream g q s.output said answer
+  pub last_said : ending.told ≡ true → said ≡ true
   pub status : ending.status ≡ strict_status answer
   pub told : TellsStop s.errors ending.told answer

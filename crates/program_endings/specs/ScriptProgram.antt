@@ -6,7 +6,6 @@ use Rattle.disk_model.specs.Disk.{Rises, SameDisk}
 use Rattle.journal.specs.declared.opening.OpenCause.TheVariants as opens
 use Rattle.host_events.specs.declared.outcome.HostFault.TheVariants as hosts
 use Rattle.live.specs.LiveLines.{live_line_of}
-use Rattle.live.specs.Records.{Edge}
 use Rattle.live.specs.declared.live_line.LiveLine.{LiveLine}
 use Rattle.live.specs.declared.live_line.LiveLine.TheVariants as live
 use Rattle.offline_programs.specs.Faults.{Untouched}
@@ -17,7 +16,7 @@ use Rattle.offline_programs.specs.declared.fault.RunFault.TheVariants as fault
 use Rattle.sheet_programs.specs.Records.{Manner, manner}
 use Rattle.sheet_programs.specs.Strict.{RunDone, TellsRun}
 use Rattle.program_endings.specs.Ending.{EndsAs}
-use Rattle.program_endings.specs.LiveProgram.{LiveEnded}
+use Rattle.program_endings.specs.LiveProgram.{LiveEnded, LiveSetting}
 use Rattle.program_endings.specs.Records.{Calling, DoesNothing, GivenDisk, Streams, outside_after, outside_before, view_given}
 use Rattle.program_endings.specs.StrictProgram.{StrictAnswer, TellsStop, strict_status}
 use Rattle.program_endings.specs.declared.ending.Ending.{Ending}
@@ -59,11 +58,11 @@ pub record RunsWhole {D C W E : Type 0} (m : Manner C) (script : List ℕ) (g : 
   pub told : TellsStop s.errors ending.told answer
 
 -- A script that was read is taken line by line, as `live` does it, where one of its lines has such a form, and else as ever.
-abbrev pub RunsRead : {D C W E : Type 0} → Edge C → List ℕ → GivenDisk D → Calling C → Streams W E → Ending → Type 0
-RunsRead o script g q s ending = MatchBool (has_form script) (LiveEnded o (Some script) g q s ending) (RunsWhole (manner o.after o.strict) script g q s ending)
+abbrev pub RunsRead : {D C W E : Type 0} → LiveSetting C → List ℕ → GivenDisk D → Calling C → Streams W E → Ending → Type 0
+RunsRead o script g q s ending = MatchBool (has_form script) (LiveEnded o (Some script) g q s ending) (RunsWhole (manner o.sources.after o.manner.strict) script g q s ending)
 
 -- How `run` ends on a disk, where its reader gives this stream.
-pub data ScriptEnds {D C W E : Type 0} (o : Edge C) (stream : Option (List ℕ)) (g : GivenDisk D) (q : Calling C) (s : Streams W E) (ending : Ending) : Type 0 where
+pub data ScriptEnds {D C W E : Type 0} (o : LiveSetting C) (stream : Option (List ℕ)) (g : GivenDisk D) (q : Calling C) (s : Streams W E) (ending : Ending) : Type 0 where
   -- the script is the whole stream
   whole : (script : List ℕ) → IfSome stream (λ bytes. script ≡ bytes) → length script ≤ longest_standard_input → RunsRead o script g q s ending
       → ScriptEnds o stream g q s ending

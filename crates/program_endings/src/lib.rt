@@ -27,7 +27,7 @@ pub use check_program::{CheckEnding, run_check};
 pub use ending::{Ending, end_program, run_blocks};
 pub use eval_program::run_evaluation;
 pub use export_program::run_export;
-pub use live_program::run_live;
+pub use live_program::{LiveEnding, run_live};
 pub use programs::{run_create, run_show};
 pub use rescue_program::{read_rescued, run_rescue};
 pub use script_program::run_script;

@@ -1,9 +1,11 @@
 //! The programs `live`, `run --json` and `run --timeout` over a worksheet's files, from its files on.
-ghost use Rattle.std.specs.Prelude.{◌≡◌, ◌&&◌, IfErr, IfOk};
-ghost use Rattle.live.specs.Records.{edge_by};
+ghost use Rattle.std.specs.Prelude.{◌≡◌, ◌&&◌, Err, IfErr, IfOk, Ok, ℕ, true};
+ghost use Rattle.agendas.specs.LinesAt.{LinesAt, stopped_at};
+ghost use Rattle.arrivals.specs.Held.{nothing_held};
 ghost use Rattle.offline_programs.specs.Saying.{saying};
 ghost use Rattle.program_endings.specs.Ending.{TellsFault, status_of};
-ghost use Rattle.program_endings.specs.LiveProgram.{LastTold, LiveAnswer, LiveEnded, LiveUnopened, LivesOn};
+ghost use Rattle.program_endings.specs.LiveProgram as meant;
+ghost use Rattle.program_endings.specs.LiveProgram.{EndsFaulted, EndsFramed, FaultTold, LastTold, LiveAnswer, LiveBegun, LiveEnded, LiveUnopened, LivedEnds, LivesOn, live_setting};
 ghost use Rattle.program_endings.specs.Records.{calling, given_disk, streams, writing};
 ghost use Rattle.program_endings.specs.StrictProgram.{TellsStop, strict_status};
 ghost use Rattle.sheet_files.specs.Closing.{closable};
@@ -11,55 +13,257 @@ ghost use Rattle.sheet_files.specs.Closing.{closable};
 use crate::strict_program::end_strict;
 use crate::telling::no_files;
 use crate::{Ending, end_program};
-use arrivals::Sources;
-use live::{LiveEnd, Manner, live_by};
+use agendas::ByLines;
+use arrivals::{InputLines, Sources};
+use driver::{Noting, Over, Voiced, run_over};
+use live::Manner;
 use offline_programs::{RunFault, Says};
 use sheet_files::{Close, FilesFault};
 use std::alloc::Global;
 use std::io::{Read, Write};
 use tellings::{Frame, Tells};
 
-/// Holds the worksheet on a disk open for lines that are taken in this manner, and closes the disk at the end.
-fn live_on<R: Read, W: Write, D: Close, S: Sources, T: Tells>(
-    alloc: Global,
-    manner: Manner,
-    input: &mut R,
-    tells: &T,
-    output: &mut W,
-    disk: D,
-    sources: &mut S,
-) -> Result<Option<u64>, RunFault>
-    ensures { LivesOn (edge_by manner T.voice S.after S.clock S.wakes) (R.remaining input.old) (given_disk (closable D.view D.closed) disk)
-        (calling sources.old sources.new) (writing W.contents output.old output.new) result }
-{
-    let LiveEnd { disk, answer } = live_by(alloc, manner, input, tells, output, disk, sources);
-    disk.close();
-    answer
+/// What a program answered, whether its last text went out, and what it was given back.
+struct Answered<S, W> {
+    answer: Result<Option<u64>, RunFault>,
+    told: bool,
+    sources: S,
+    output: W,
 }
 
-/// Writes the voice's first message, goes on live, and writes its last.
-fn live_framed<R: Read, W: Write, D: Close, S: Sources, T: Tells>(
+/// How a program ended, and what it was given back.
+#[derive(Drop)]
+pub struct LiveEnding<S, W> {
+    pub ending: Ending,
+    pub sources: S,
+    pub output: W,
+}
+
+/// What a run over a disk answered, whether its last text went out, and what it was given back.
+struct Lived<S, W> {
+    answer: Result<Option<u64>, RunFault>,
+    whole: bool,
+    sources: S,
+    output: W,
+}
+
+/// A fault is printed last.
+fn with_fault<S, W: Write, T: Tells + Copy>(
+    why: RunFault,
+    tells: T,
+    mut output: W,
+    sources: S,
+) -> Answered<S, W>
+    ensures answer { result.answer ≡ Err why }
+    ensures last { FaultTold T.voice W.contents output result.output result.told why }
+    ensures sources { result.sources ≡ sources }
+{
+    let told = tells.fault(why, &mut output);
+    Answered {
+        answer: Err(why),
+        told,
+        sources,
+        output,
+    }
+}
+
+/// Whether a run prints a fault itself.
+fn is_printed(why: RunFault) -> bool
+    ensures { result ≡ meant.is_printed why }
+{
+    match why {
+        RunFault::Output | RunFault::Open(_) => false,
+        RunFault::Input
+        | RunFault::InputTooLong
+        | RunFault::OutOfMemory
+        | RunFault::Host(_)
+        | RunFault::InUse
+        | RunFault::SecondFile => true,
+    }
+}
+
+/// What a program answers after a run of lines that stopped there, if they did.
+fn answer_after(run: Result<(), RunFault>, stopped: Option<u64>) -> Result<Option<u64>, RunFault>
+    ensures { (lines : LinesAt) → stopped ≡ stopped_at lines → result ≡ meant.answer_after run lines }
+{
+    match run {
+        Ok(()) => Ok(stopped),
+        Err(why) => Err(why),
+    }
+}
+
+/// Runs over a disk with these lines, and closes the disk at the end.
+fn live_on<R: Read, W: Write, D: Close, S: Sources, T: Tells + Copy>(
+    alloc: Global,
+    manner: Manner,
+    lines: InputLines<R>,
+    tells: T,
+    output: W,
+    disk: D,
+    sources: S,
+) -> Lived<S, W>
+where
+    R: Drop,
+    requires { lines.held ≡ nothing_held }
+    ensures { LivesOn (live_setting manner T.voice S.after S.clock S.wakes) (R.remaining lines.reader) (given_disk (closable D.view D.closed) disk)
+        (calling sources result.sources) (writing W.contents output result.output) result.whole result.answer }
+{
+    let sink = Noting {
+        sink: Voiced {
+            tells,
+            writer: output,
+        },
+        whole: true,
+    };
+    let agenda = ByLines::new(alloc, manner, lines);
+    let Over {
+        disk,
+        sources,
+        sink,
+        agenda,
+        answer,
+    } = run_over(alloc, disk, sources, sink, agenda);
+    disk.close();
+    let stopped = agenda.stopped_at();
+    let Noting {
+        sink: Voiced { tells: _, writer },
+        whole,
+    } = sink;
+    Lived {
+        answer: answer_after(answer, stopped),
+        whole,
+        sources,
+        output: writer,
+    }
+}
+
+/// Prints the voice's last message, after which a strict input may have stopped.
+fn with_end<S, W: Write, T: Tells + Copy>(
+    stopped: Option<u64>,
+    tells: T,
+    mut output: W,
+    sources: S,
+) -> Answered<S, W>
+    ensures ended { EndsFramed T.voice (writing W.contents output result.output) result.told stopped result.answer }
+    ensures sources { result.sources ≡ sources }
+{
+    match tells.frame(Frame::End, &mut output) {
+        Ok(()) => Answered {
+            answer: Ok(stopped),
+            told: true,
+            sources,
+            output,
+        },
+        Err(why) => with_fault(why, tells, output, sources),
+    }
+}
+
+/// Prints a fault last, where the run didn't, of whose last text this is known.
+fn with_run_fault<S, W: Write, T: Tells + Copy>(
+    why: RunFault,
+    whole: bool,
+    tells: T,
+    output: W,
+    sources: S,
+) -> Answered<S, W>
+    ensures answer { result.answer ≡ Err why }
+    ensures ended { EndsFaulted T.voice (writing W.contents output result.output) whole result.told why }
+    ensures sources { result.sources ≡ sources }
+{
+    if is_printed(why) {
+        return Answered {
+            answer: Err(why),
+            told: whole,
+            sources,
+            output,
+        };
+    }
+    with_fault(why, tells, output, sources)
+}
+
+/// Prints what stands last after a run that was answered so, of whose last text this is known.
+fn end_lived<S, W: Write, T: Tells + Copy>(
+    answer: Result<Option<u64>, RunFault>,
+    whole: bool,
+    tells: T,
+    output: W,
+    sources: S,
+) -> Answered<S, W>
+    ensures ended { LivedEnds T.voice (writing W.contents output result.output) answer whole result.told result.answer }
+    ensures sources { result.sources ≡ sources }
+{
+    match answer {
+        Ok(stopped) => with_end(stopped, tells, output, sources),
+        Err(why) => with_run_fault(why, whole, tells, output, sources),
+    }
+}
+
+/// Runs over a disk with these lines, and prints what stands last.
+fn live_lines<R: Read, W: Write, D: Close, S: Sources, T: Tells + Copy>(
+    alloc: Global,
+    manner: Manner,
+    lines: InputLines<R>,
+    tells: T,
+    output: W,
+    disk: D,
+    sources: S,
+) -> Answered<S, W>
+where
+    R: Drop,
+    requires { lines.held ≡ nothing_held }
+    ensures { LiveBegun (live_setting manner T.voice S.after S.clock S.wakes) (R.remaining lines.reader) (given_disk (closable D.view D.closed) disk)
+        (calling sources result.sources) (writing W.contents output result.output) result.told result.answer }
+{
+    let Lived {
+        answer,
+        whole,
+        sources,
+        output,
+    } = live_on(alloc, manner, lines, tells, output, disk, sources);
+    end_lived(answer, whole, tells, output, sources)
+}
+
+/// Runs over a disk with the lines of an input, and prints what stands last.
+fn live_read<R: Read, W: Write, D: Close, S: Sources, T: Tells + Copy>(
     alloc: Global,
     manner: Manner,
     input: &mut R,
-    tells: &T,
-    output: &mut W,
+    tells: T,
+    output: W,
     disk: D,
-    sources: &mut S,
-) -> Result<Option<u64>, RunFault>
-    ensures { LiveAnswer (edge_by manner T.voice S.after S.clock S.wakes) (R.remaining input.old) (given_disk (closable D.view D.closed) disk)
-        (calling sources.old sources.new) (writing W.contents output.old output.new) result }
+    sources: S,
+) -> Answered<S, W>
+    ensures { LiveBegun (live_setting manner T.voice S.after S.clock S.wakes) (R.remaining input.old) (given_disk (closable D.view D.closed) disk)
+        (calling sources result.sources) (writing W.contents output result.output) result.told result.answer }
 {
-    if let Err(fault) = tells.frame(Frame::Hello, output) {
-        disk.close();
-        return Err(fault);
+    match InputLines::new(alloc, input) {
+        Ok(lines) => live_lines(alloc, manner, lines, tells, output, disk, sources),
+        Err(_) => {
+            disk.close();
+            with_fault(RunFault::OutOfMemory, tells, output, sources)
+        }
     }
-    match live_on(alloc, manner, input, tells, output, disk, sources) {
-        Ok(stopped) => match tells.frame(Frame::End, output) {
-            Ok(()) => Ok(stopped),
-            Err(fault) => Err(fault),
-        },
-        Err(fault) => Err(fault),
+}
+
+/// Writes the voice's first message, goes on live, and prints what stands last.
+fn live_framed<R: Read, W: Write, D: Close, S: Sources, T: Tells + Copy>(
+    alloc: Global,
+    manner: Manner,
+    input: &mut R,
+    tells: T,
+    mut output: W,
+    disk: D,
+    sources: S,
+) -> Answered<S, W>
+    ensures { LiveAnswer (live_setting manner T.voice S.after S.clock S.wakes) (R.remaining input.old) (given_disk (closable D.view D.closed) disk)
+        (calling sources result.sources) (writing W.contents output result.output) result.told result.answer }
+{
+    match tells.frame(Frame::Hello, &mut output) {
+        Ok(()) => live_read(alloc, manner, input, tells, output, disk, sources),
+        Err(why) => {
+            disk.close();
+            with_fault(why, tells, output, sources)
+        }
     }
 }
 
@@ -103,62 +307,70 @@ pub(crate) fn end_told<W: Write, E: Says, T: Tells>(
     with_last(end_program(answer, errors), said)
 }
 
-/// The same where it may have stopped after a line, whose number is printed on standard error.
-fn end_stopped<W: Write, E: Says, T: Tells>(
-    answer: Result<Option<u64>, RunFault>,
-    tells: &T,
-    output: &mut W,
-    errors: &mut E,
-) -> Ending
-    ensures last { LastTold T.voice W.contents output.old output.new result.told answer }
+/// Ends the program by what it answered, where its last text went out or didn't: a fault, or the number of the line after which it
+/// stopped, is printed on standard error.
+fn end_stopped<E: Says>(answer: Result<Option<u64>, RunFault>, said: bool, errors: &mut E) -> Ending
+    ensures last { result.told ≡ true → said ≡ true }
     ensures status { result.status ≡ strict_status answer }
     ensures told { TellsStop (saying E.contents E.tried errors.old errors.new) result.told answer }
 {
-    let said = tell_last(answer, tells, output);
     with_last(end_strict(answer, errors), said)
 }
 
 /// Holds the worksheet on a disk open, and tells the fault, or where it stopped.
-pub(crate) fn end_live<R: Read, W: Write, E: Says, D: Close, S: Sources, T: Tells>(
+pub(crate) fn end_live<R: Read, W: Write, E: Says, D: Close, S: Sources, T: Tells + Copy>(
     alloc: Global,
     manner: Manner,
     input: &mut R,
-    tells: &T,
-    output: &mut W,
+    tells: T,
+    output: W,
     errors: &mut E,
     disk: D,
-    sources: &mut S,
-) -> Ending
-    ensures { LiveEnded (edge_by manner T.voice S.after S.clock S.wakes) (R.remaining input.old) (given_disk (closable D.view D.closed) disk) (calling sources.old sources.new)
-        (streams (writing W.contents output.old output.new) (saying E.contents E.tried errors.old errors.new)) result }
+    sources: S,
+) -> LiveEnding<S, W>
+    ensures { LiveEnded (live_setting manner T.voice S.after S.clock S.wakes) (R.remaining input.old) (given_disk (closable D.view D.closed) disk) (calling sources result.sources)
+        (streams (writing W.contents output result.output) (saying E.contents E.tried errors.old errors.new)) result.ending }
 {
-    let answer = live_framed(alloc, manner, input, tells, output, disk, sources);
-    end_stopped(answer, tells, output, errors)
+    let Answered {
+        answer,
+        told,
+        sources,
+        output,
+    } = live_framed(alloc, manner, input, tells, output, disk, sources);
+    LiveEnding {
+        ending: end_stopped(answer, told, errors),
+        sources,
+        output,
+    }
 }
 
 /// The whole program `live`, or `run` line by line where lines come first, on its files, or on why they weren't
 /// opened: its lines come from `input`, which is read only where there are files, and what comes of them and
 /// of interpreters goes to `output`, flushed at once. The line of a fault goes to `errors`, and so does that of
-/// the line after which a strict input stopped.
-pub fn run_live<R: Read, W: Write, E: Says, D: Close, S: Sources, T: Tells>(
+/// the line after which a strict input stopped. Sources and output are given back.
+pub fn run_live<R: Read, W: Write, E: Says, D: Close, S: Sources, T: Tells + Copy>(
     alloc: Global,
     manner: Manner,
     input: &mut R,
-    tells: &T,
-    output: &mut W,
+    tells: T,
+    mut output: W,
     errors: &mut E,
     files: Result<D, FilesFault>,
-    sources: &mut S,
-) -> Ending
+    sources: S,
+) -> LiveEnding<S, W>
     // It is printed before a line is read.
-    ensures unopened { IfErr files (λ why. (input.new ≡ input.old) × LiveUnopened T.voice (calling sources.old sources.new)
-        (streams (writing W.contents output.old output.new) (saying E.contents E.tried errors.old errors.new)) result why) }
+    ensures unopened { IfErr files (λ why. (input.new ≡ input.old) × LiveUnopened T.voice (calling sources result.sources)
+        (streams (writing W.contents output result.output) (saying E.contents E.tried errors.old errors.new)) result.ending why) }
 
-    ensures files { IfOk files (λ disk. LiveEnded (edge_by manner T.voice S.after S.clock S.wakes) (R.remaining input.old) (given_disk (closable D.view D.closed) disk)
-        (calling sources.old sources.new) (streams (writing W.contents output.old output.new) (saying E.contents E.tried errors.old errors.new)) result) }
+    ensures files { IfOk files (λ disk. LiveEnded (live_setting manner T.voice S.after S.clock S.wakes) (R.remaining input.old) (given_disk (closable D.view D.closed) disk)
+        (calling sources result.sources) (streams (writing W.contents output result.output) (saying E.contents E.tried errors.old errors.new)) result.ending) }
 {
     match files {
         Ok(disk) => end_live(alloc, manner, input, tells, output, errors, disk, sources),
-        Err(why) => end_told(Err(no_files(why)), tells, output, errors),
+        Err(why) => LiveEnding {
+            ending: end_told(Err(no_files(why)), &tells, &mut output, errors),
+            sources,
+            output,
+        },
     }
 }

@@ -1,6 +1,7 @@
 //! The program `run` over a worksheet's files, in words and without a limit of time, from its files on.
 ghost use Rattle.std.specs.Prelude.{◌≡◌, ◌≤◌, IfErr, IfOk, None};
-ghost use Rattle.live.specs.Records.{edge_by, line_by_line};
+ghost use Rattle.live.specs.Records.{line_by_line};
+ghost use Rattle.program_endings.specs.LiveProgram.{live_setting};
 ghost use Rattle.offline_programs.specs.Saying.{saying};
 ghost use Rattle.program_endings.specs.Programs.{EndsUnopened};
 ghost use Rattle.program_endings.specs.Records.{calling, given_disk, streams, writing};
@@ -9,7 +10,7 @@ ghost use Rattle.program_endings.specs.ScriptProgram.{ScriptEnds};
 ghost use Rattle.sheet_files.specs.Closing.{closable};
 ghost use Rattle.tellings.specs.Words.{in_words};
 
-use crate::live_program::end_live;
+use crate::live_program::{LiveEnding, end_live};
 use crate::strict_program::end_strict;
 use crate::telling::no_files;
 use crate::{Ending, end_program};
@@ -60,27 +61,37 @@ pub fn run_script<R: Read, W: Write, E: Says, D: Close, S: Sources>(
     alloc: Global,
     strict: bool,
     input: &mut R,
-    output: &mut W,
+    mut output: W,
     errors: &mut E,
     files: Result<D, FilesFault>,
-    sources: &mut S,
-) -> Ending
+    mut sources: S,
+) -> LiveEnding<S, W>
     // Why there are no files is printed; the input isn't read.
-    ensures unopened { IfErr files (λ why. (input.new ≡ input.old) × EndsUnopened (calling sources.old sources.new)
-        (streams (writing W.contents output.old output.new) (saying E.contents E.tried errors.old errors.new)) result why) }
+    ensures unopened { IfErr files (λ why. (input.new ≡ input.old) × EndsUnopened (calling sources result.sources)
+        (streams (writing W.contents output result.output) (saying E.contents E.tried errors.old errors.new)) result.ending why) }
 
-    ensures files { IfOk files (λ disk. ScriptEnds (edge_by (line_by_line None strict) in_words S.after S.clock S.wakes) (R.remaining input.old) (given_disk (closable D.view D.closed) disk) (calling sources.old sources.new)
-        (streams (writing W.contents output.old output.new) (saying E.contents E.tried errors.old errors.new)) result) }
+    ensures files { IfOk files (λ disk. ScriptEnds (live_setting (line_by_line None strict) in_words S.after S.clock S.wakes) (R.remaining input.old) (given_disk (closable D.view D.closed) disk) (calling sources result.sources)
+        (streams (writing W.contents output result.output) (saying E.contents E.tried errors.old errors.new)) result.ending) }
 {
     let disk = match files {
         Ok(disk) => disk,
-        Err(why) => return end_program(Err(no_files(why)), errors),
+        Err(why) => {
+            return LiveEnding {
+                ending: end_program(Err(no_files(why)), errors),
+                sources,
+                output,
+            };
+        }
     };
     let whole = match read_input(alloc, input) {
         Ok(whole) => whole,
         Err(fault) => {
             disk.close();
-            return end_program(Err(fault), errors);
+            return LiveEnding {
+                ending: end_program(Err(fault), errors),
+                sources,
+                output,
+            };
         }
     };
     let script = whole.as_slice();
@@ -92,10 +103,14 @@ pub fn run_script<R: Read, W: Write, E: Says, D: Close, S: Sources>(
         };
         let mut lines = script;
         return end_live(
-            alloc, manner, &mut lines, &InWords, output, errors, disk, sources,
+            alloc, manner, &mut lines, InWords, output, errors, disk, sources,
         );
     }
-    let Ran { disk, answer } = run_read(alloc, script, strict, output, disk, sources);
+    let Ran { disk, answer } = run_read(alloc, script, strict, &mut output, disk, &mut sources);
     disk.close();
-    end_strict(answer, errors)
+    LiveEnding {
+        ending: end_strict(answer, errors),
+        sources,
+        output,
+    }
 }

@@ -62,7 +62,7 @@ fn main(rt: HostRuntime) -> ExitCode {
     }
     terminal::say_what_is_awaited(&rt);
     let ending = match startup::outside(&rt) {
-        Ok(mut outside) => perform(rt.alloc(), words, &mut outside),
+        Ok(outside) => perform(rt.alloc(), words, outside).ending,
         Err(_) => end_program(Err(RunFault::OutOfMemory), &mut rt.stderr()),
     };
     terminal::explain(&rt, ending.status);

@@ -1,18 +1,9 @@
-use Rattle.std.proofs.Common.{refl}
-use Rattle.program_endings.specs.LiveProgram as ends
+use Rattle.program_endings.specs.LiveProgram.{greeted, ungreeted}
 use Rattle.program_endings.proofs.live_program.live_framed.Goals as goal
 
+pub returns-in-Ok : goal.returns-in-Ok
+returns-in-Ok g c = greeted c.frame.new.writer (c.in-Ok.ensures.ok, c.in-Ok.ensures.still) c.live_read.ensures
+
 pub returns-in-Err : goal.returns-in-Err
-returns-in-Err g c = ends.ungreeted c.in-Err.fault refl c.in-Err.ensures.err.0 c.in-Err.ensures.err.1 refl c.close.ensures
-
-pub returns-in-Ok-frame : goal.returns-in-Ok-frame
-returns-in-Ok-frame g c =
-    ends.lived c.frame.new.writer c.live_on.new.output (c.in_default.ensures.ok, c.in_default.ensures.still) c.in-Ok.ensures (c.in-Ok-frame.ensures.ok, c.in-Ok-frame.ensures.still) tt
-
-pub returns-in-Err-frame : goal.returns-in-Err-frame
-returns-in-Err-frame g c =
-    ends.unended c.in-Err-frame.fault c.frame.new.writer c.live_on.new.output c.in-Ok.stopped refl c.in-Err-frame.ensures.err.0 c.in-Err-frame.ensures.err.1 (c.in_default.ensures.ok, c.in_default.ensures.still) c.in-Ok.ensures
-
-pub returns-in-Err-live_on : goal.returns-in-Err-live_on
-returns-in-Err-live_on g c =
-    ends.lived c.frame.new.writer c.live_on.new.output (c.in_default.ensures.ok, c.in_default.ensures.still) c.in-Err-live_on.ensures tt refl
+returns-in-Err g c =
+    ungreeted (c.in-Err.why, c.frame.new.writer, c.with_fault.ensures.answer, c.in-Err.ensures.err.0, c.in-Err.ensures.err.1, c.with_fault.ensures.last) c.with_fault.ensures.sources c.close.ensures

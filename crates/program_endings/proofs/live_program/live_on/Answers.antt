@@ -1,13 +1,14 @@
+use Rattle.std.proofs.Common.{refl}
+use Rattle.driver.specs.Place.{source_rules}
+use Rattle.sheet_files.specs.Closing.{closable}
+use Rattle.program_endings.proofs.Living.{before_lines, lives}
 use Rattle.program_endings.proofs.live_program.live_on.Goals as goal
 
 pub returns : goal.returns
-returns g c = record {
-  later = c.live_by-disk.result.disk;
-  closed = c.close.ensures;
-  same = c.live_by-disk.ensures.same;
-  lived = c.live_by-disk.ensures.lived;
-  unopened = c.live_by-disk.ensures.unopened;
-  failed = c.live_by-disk.ensures.failed;
-  memory = c.live_by-disk.ensures.memory;
-  fault = c.live_by-disk.ensures.fault;
-}
+returns g c =
+    let made = c.new-agenda.ensures in
+    lives g.R.Read.remaining g.T.Tells.voice g.W.Write.contents (source_rules g.S.Children.after g.S.Sources.wakes g.S.Sources.clock) c.args.manner
+    (closable g.D.Disk.view g.D.Close.closed) c.args.disk c.run_over-disk.result.disk c.args.sources c.run_over-disk.result.sources _ c.run_over-disk.result.sink c.new-agenda.result
+    c.run_over-disk.result.agenda (g.R.Read.remaining c.args.lines.reader) c.run_over-disk.result.answer c.answer_after.result refl
+    (before_lines g.R.Read.remaining c.new-agenda.result c.args.manner c.args.lines made.input made.manner made.number made.held made.doing made.due made.late c.requires)
+    c.run_over-disk.ensures.over c.close.ensures c.run_over-disk.ensures.same (c.answer_after.ensures _ c.stopped_at-stopped.ensures)

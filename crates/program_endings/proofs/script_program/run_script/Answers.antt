@@ -2,9 +2,8 @@ use Rattle.std.proofs.Common.{◌≡◌, ◌≤◌, ◌∙◌, ℕ, Bool, true, 
 use Rattle.std.specs.Prelude.{IfSome}
 use Rattle.offline_programs.specs.Input.{longest_standard_input}
 use Rattle.std.specs.Bool.{MatchBool}
-use Rattle.live.specs.Records.{Edge}
 use Rattle.sheet_programs.specs.Records.{manner}
-use Rattle.program_endings.specs.LiveProgram.{LiveEnded}
+use Rattle.program_endings.specs.LiveProgram.{LiveEnded, LiveSetting}
 use Rattle.program_endings.specs.Records.{Calling, GivenDisk, Streams}
 use Rattle.program_endings.specs.ScriptProgram.{RunsRead, RunsWhole, ScriptEnds, has_form}
 use Rattle.program_endings.specs.ScriptProgram as ends
@@ -15,19 +14,19 @@ use Rattle.program_endings.proofs.script_program.run_script.Goals as goal
 of-files : {A E : Type 0} (P : A → Type 0) (files : Result A E) (disk : A) → files ≡ Ok disk → P disk → IfOk files P
 of-files P files disk is p = subst (λ opened. IfOk opened P) (sym is) p
 
-module _ {D C W E : Type 0} (o : Edge C) (script : List ℕ) (g : GivenDisk D) (q : Calling C) (s : Streams W E) (ending : Ending) where
+module _ {D C W E : Type 0} (o : LiveSetting C) (script : List ℕ) (g : GivenDisk D) (q : Calling C) (s : Streams W E) (ending : Ending) where
   -- the script is what was read
   read : (stream : Option (List ℕ)) (bytes : List ℕ) → bytes ≡ script → IfSome stream (λ all. bytes ≡ all) → length bytes ≤ longest_standard_input → RunsRead o script g q s ending
       → ScriptEnds o stream g q s ending
   read stream bytes is all short ran = ends.whole script (subst (λ it. IfSome stream (λ all. it ≡ all)) is all) (subst (λ (it : List ℕ). length it ≤ longest_standard_input) is short) ran
 
   abbrev Either : Bool → Type 0
-  Either has = MatchBool has (LiveEnded o (Some script) g q s ending) (RunsWhole (manner o.after o.strict) script g q s ending)
+  Either has = MatchBool has (LiveEnded o (Some script) g q s ending) (RunsWhole (manner o.sources.after o.manner.strict) script g q s ending)
 
   by_lines : has_form script ≡ true → LiveEnded o (Some script) g q s ending → RunsRead o script g q s ending
   by_lines is p = subst Either (sym is) p
 
-  as_ever : has_form script ≡ false → RunsWhole (manner o.after o.strict) script g q s ending → RunsRead o script g q s ending
+  as_ever : has_form script ≡ false → RunsWhole (manner o.sources.after o.manner.strict) script g q s ending → RunsRead o script g q s ending
   as_ever is p = subst Either (sym is) p
 
 pub returns-then-has_form-clause-files : goal.returns-then-has_form-clause-files

@@ -1,0 +1,122 @@
+-- What the driver's run over a disk is as the programs' contracts have it.
+use Rattle.std.proofs.Common.{◌≡◌, ◌∙◌, ℕ, Bool, true, false, List, [], ap, refl, sym, subst, Ok, Err}
+use Rattle.std.specs.Prelude.{Option, None, Result}
+use Rattle.std.specs.declared.alloc.Global.{Global}
+use Rattle.disk_model.specs.Disk.{DiskView, SameDisk}
+use Rattle.child_calls.specs.declared.seat.Seat.{Seat}
+use Rattle.arrivals.specs.Held.{Held, nothing_held}
+use Rattle.arrivals.specs.declared.lines.InputLines.{InputLines}
+use Rattle.arrivals.specs.declared.sources.Woken.{Woken}
+use Rattle.live.specs.declared.holding.Hold.{Hold}
+use Rattle.live.specs.declared.holding.Hold.TheVariants as hold
+use Rattle.live.specs.declared.manner.Manner.{Manner}
+use Rattle.driver.specs.declared.noting.Noting.{Noting}
+use Rattle.driver.specs.declared.voiced.Voiced.{Voiced}
+use Rattle.driver.specs.Place.{AgendaRules, Rules, SinkRules, SourceRules, agenda_rules, rules, sink_rules}
+use Rattle.driver.specs.Noted.{PrintedSoFar, noting_rules, printed_so_far}
+use Rattle.driver.specs.Over.{Over, ProgramParts, program_parts}
+use Rattle.driver.proofs.Seen.{over_seen}
+use Rattle.driver.proofs.TrueFaults.{over_true}
+use Rattle.agendas.specs.declared.by_lines.ByLines.{ByLines}
+use Rattle.agendas.specs.declared.doing.Doing.{Doing}
+use Rattle.agendas.specs.declared.doing.Doing.TheVariants as doing
+use Rattle.agendas.specs.Heeds.{LinesHeed}
+use Rattle.agendas.specs.LinesAt.{LinesAt, first_lines, lines_stand}
+use Rattle.agendas.specs.LinesRules.{lines_rules}
+use Rattle.agendas.specs.Says.{LinesSay, LinesWoken}
+use Rattle.agendas.proofs.OwnFaults.{own_faults}
+use Rattle.offline_programs.specs.declared.fault.RunFault.{RunFault}
+use Rattle.sheet_files.specs.Closing.{Closable}
+use Rattle.tellings.specs.Voice.{Voice}
+use Rattle.program_endings.specs.LiveProgram.{FaultTold, FaultedBy, LiveBegun, LiveSetting, LivedEnds, LivesOn, answer_after, is_printed, lived}
+use Rattle.program_endings.specs.Records.{GivenDisk, Writing, calling, given_disk, writing}
+use Rattle.program_endings.specs.StrictProgram.{StrictAnswer}
+
+-- An agenda of lines before the first of them.
+
+abbrev made : Held → Option (List ℕ) → Manner → ℕ → Hold → Doing → Option Woken → List Seat → LinesAt
+made buffer remaining manner number held what due late =
+    record { buffer = buffer; remaining = remaining; manner = manner; number = number; held = held; doing = what; due = due; late = late }
+
+pub before_lines : {I : Type 0} (remaining : I → Option (List ℕ)) (a : ByLines I) (m : Manner) (lines : InputLines I) → a.lines ≡ lines → a.manner ≡ m → a.number ≡ 0 → a.held ≡ hold.Free
+    → a.doing ≡ doing.Nothing → a.due ≡ None → a.late.items ≡ [] → lines.held ≡ nothing_held → lines_stand remaining a ≡ first_lines m (remaining lines.reader)
+before_lines {I = I} remaining a m lines input manner number held what due late none =
+    ap (λ (x : InputLines I). made x.held (remaining x.reader) a.manner a.number a.held a.doing a.due a.late.items) input
+    ∙ ap (λ (x : Held). made x (remaining lines.reader) a.manner a.number a.held a.doing a.due a.late.items) none
+    ∙ ap (λ (x : Manner). made nothing_held (remaining lines.reader) x a.number a.held a.doing a.due a.late.items) manner
+    ∙ ap (λ (x : ℕ). made nothing_held (remaining lines.reader) m x a.held a.doing a.due a.late.items) number
+    ∙ ap (λ (x : Hold). made nothing_held (remaining lines.reader) m 0 x a.doing a.due a.late.items) held
+    ∙ ap (λ (x : Doing). made nothing_held (remaining lines.reader) m 0 hold.Free x a.due a.late.items) what
+    ∙ ap (λ (x : Option Woken). made nothing_held (remaining lines.reader) m 0 hold.Free doing.Nothing x a.late.items) due
+    ∙ ap (λ (x : List Seat). made nothing_held (remaining lines.reader) m 0 hold.Free doing.Nothing None x) late
+
+-- A driver of lines that prints with a voice on a stream.
+
+abbrev given_agenda : {I : Type 0} → (I → Option (List ℕ)) → AgendaRules (ByLines I)
+given_agenda remaining = agenda_rules (λ a w now answer b. LinesSay (lines_stand remaining a) w now answer (lines_stand remaining b))
+    (λ a woken b. LinesWoken (lines_stand remaining a) woken (lines_stand remaining b))
+    (λ a w now came note b. LinesHeed (lines_stand remaining a) w now came note (lines_stand remaining b))
+
+abbrev lines_driven : {C : Type 0} → Voice → SourceRules C → Rules LinesAt C PrintedSoFar
+lines_driven V s = rules lines_rules s (noting_rules V)
+
+abbrev setting : {C : Type 0} → Voice → SourceRules C → Manner → LiveSetting C
+setting V s m = record { manner = m; voice = V; sources = s }
+
+module _ {I C T W : Type 0} (remaining : I → Option (List ℕ)) (V : Voice) (contents : W → Option (List ℕ)) (s : SourceRules C) (m : Manner) where
+  abbrev given_sink : SinkRules (Noting (Voiced T W))
+  given_sink = sink_rules V (λ k. contents k.sink.writer) (λ k disk text whole l. Unit {0} × (l.whole ≡ whole))
+
+  abbrev given_rules : Rules (ByLines I) C (Noting (Voiced T W))
+  given_rules = rules (given_agenda remaining) s given_sink
+
+  over_lines : (first last : ProgramParts (ByLines I) C (Noting (Voiced T W))) (run : Result (Unit {0}) RunFault) → Over given_rules first last run
+      → Over (lines_driven V s) (program_parts first.disk first.sources (printed_so_far (contents first.sink.sink.writer) first.sink.whole) (lines_stand remaining first.agenda))
+      (program_parts last.disk last.sources (printed_so_far (contents last.sink.sink.writer) last.sink.whole) (lines_stand remaining last.agenda)) run
+  over_lines first last run o =
+      over_seen given_rules lines_rules (λ (k : PrintedSoFar). k.text) (λ (k : PrintedSoFar) (disk : DiskView) (text : List ℕ) (whole : Bool) (l : PrintedSoFar). l.whole ≡ whole) (lines_stand remaining) (λ (k : Noting (Voiced T W)). printed_so_far (contents k.sink.writer) k.whole)
+      (λ a w n r b said. said) (λ a w b told. told) (λ a w n c note b heeds. heeds) (λ k d text whole l t. record { tried = t.tried.1; appends = t.appends }) first last run o
+
+  -- what is seen of a program's parts, where it begins and where it ended
+  abbrev seen_first : DiskView → C → Noting (Voiced T W) → LinesAt → Bool → ProgramParts LinesAt C PrintedSoFar
+  seen_first disk c start lines whole = program_parts disk c (printed_so_far (contents start.sink.writer) whole) lines
+
+  abbrev seen_last : DiskView → C → Noting (Voiced T W) → ByLines I → ProgramParts LinesAt C PrintedSoFar
+  seen_last disk d sink done = program_parts disk d (printed_so_far (contents sink.sink.writer) sink.whole) (lines_stand remaining done)
+
+  pub lives : {D : Type 0} (k : Closable D) (disk later : D) (c d : C) (start sink : Noting (Voiced T W)) (begun done : ByLines I) (stream : Option (List ℕ)) (run : Result (Unit {0}) RunFault) (answer : StrictAnswer)
+      → start.whole ≡ true → lines_stand remaining begun ≡ first_lines m stream → Over given_rules (program_parts (k.view disk) c start begun) (program_parts (k.view later) d sink done) run
+      → k.closed later → SameDisk (k.view disk) (k.view later) → answer ≡ answer_after run (lines_stand remaining done)
+      → LivesOn (setting V s m) stream (given_disk k disk) (calling c d) (writing contents start.sink.writer sink.sink.writer) sink.whole answer
+  lives k disk later c d start sink begun done stream run answer fresh at over closed same is = record {
+    later = later;
+    closed = closed;
+    same = same;
+    lines = lines_stand remaining done;
+    run = run;
+    over = over_all;
+    true_of = over_true (lines_driven V s) own_faults (seen_first (k.view disk) c start (first_lines m stream) true) (seen_last (k.view later) d sink done) run over_all;
+    is = is;
+  }
+    where
+      over_all : Over (lines_driven V s) (seen_first (k.view disk) c start (first_lines m stream) true) (seen_last (k.view later) d sink done) run
+      over_all =
+          subst (λ (whole : Bool). Over (lines_driven V s) (seen_first (k.view disk) c start (first_lines m stream) whole) (seen_last (k.view later) d sink done) run) fresh
+          (subst (λ (a : LinesAt). Over (lines_driven V s) (seen_first (k.view disk) c start a start.whole) (seen_last (k.view later) d sink done) run) at
+          (over_lines (program_parts (k.view disk) c start begun) (program_parts (k.view later) d sink done) run over))
+
+-- What stands last.
+
+module _ {D C O : Type 0} (o : LiveSetting C) (stream : Option (List ℕ)) (g : GivenDisk D) (contents : O → Option (List ℕ)) where
+  pub lived_so : (c d e : C) (first last new : O) (run_answer : StrictAnswer) (whole told : Bool) (answer : StrictAnswer) → e ≡ d → LivesOn o stream g (calling c d) (writing contents first last) whole run_answer
+      → LivedEnds o.voice (writing contents last new) run_answer whole told answer → LiveBegun o stream g (calling c e) (writing contents first new) told answer
+  lived_so c d e first last new run_answer whole told answer is on ends =
+      lived last run_answer whole (subst (λ (x : C). LivesOn o stream g (calling c x) (writing contents first last) whole run_answer) (sym is) on) ends
+
+  pub begun_of : (given : Option (List ℕ)) (c d : C) (first new : O) (told : Bool) (answer : StrictAnswer) → given ≡ stream → LiveBegun o given g (calling c d) (writing contents first new) told answer
+      → LiveBegun o stream g (calling c d) (writing contents first new) told answer
+  begun_of given c d first new told answer is begun = subst (λ (x : Option (List ℕ)). LiveBegun o x g (calling c d) (writing contents first new) told answer) is begun
+
+-- a fault that the run printed, or that is printed now
+pub faulted_by : {O : Type 0} (V : Voice) (w : Writing O) (whole told : Bool) (why : RunFault) (asked by : Bool) → asked ≡ is_printed why → asked ≡ by → FaultedBy by V w whole told why → FaultedBy (is_printed why) V w whole told why
+faulted_by V w whole told why asked by is so f = subst (λ (b : Bool). FaultedBy b V w whole told why) (sym so ∙ is) f
