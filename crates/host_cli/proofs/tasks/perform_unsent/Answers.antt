@@ -14,8 +14,8 @@ returns-in-Ok-read_words g c = by_words _ _ _ _ _ _ _ _ refl refl c.in-Ok.words 
   (c.do_task.ensures.does, c.do_task.ensures.leaves),
 )
 
-pub returns-in-Err-read_words : goal.returns-in-Err-read_words
-returns-in-Err-read_words g c = by_words _ _ _ _ _ _ _ _ refl refl c.in-Ok.words c.in-Ok.is (
+pub returns-in-Ok : goal.returns-in-Ok
+returns-in-Ok g c = by_words _ _ _ _ _ _ _ _ refl refl c.in-Ok.words c.in-Ok.is (
   Err c.in-Err-read_words.error,
   subst (λ x. FailsBy {T = Task} (fault_of tmhost (map string_bytes x)) (Err c.in-Err-read_words.error)) c.as_slice.ensures.value c.in-Err-read_words.ensures.kinds,
   tt,
@@ -29,8 +29,8 @@ returns-in-Err-read_words g c = by_words _ _ _ _ _ _ _ _ refl refl c.in-Ok.words
   ),
 )
 
-pub returns-in-Err : goal.returns-in-Err
-returns-in-Err g c = without_words _ _ _ _ _ _ _ _ refl refl c.in-Err.kind c.in-Err.is
+pub returns : goal.returns
+returns g c = without_words _ _ _ _ _ _ _ _ refl refl c.in-Err.kind c.in-Err.is
     (λ k. let p = c.refuse_unread_words-ending.ensures.memory k in (p.0, p.1))
     c.refuse_unread_words-ending.ensures.refused
     ((refl, refl, refl, refl), refl)
