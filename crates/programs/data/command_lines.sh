@@ -103,7 +103,7 @@ compare 'a version over a full output' "$? $(cat errors)" '1 fault 42 Output'
 # What `help faults` has of each fault that a program tells: its number and its name.
 "$tmhost" help faults >text 2>errors
 compare 'the help of faults' "$? $(wc -c <errors) $(head -n 1 text)|$(grep '^Usage' text)" "0 0 What each fault means|Usage: ${tmhost##*/} faults"
-compare 'the faults' "$(grep -o '^[0-9][0-9] [A-Za-z]*' text | tr '\n' ' ')" '21 Disk 22 OutOfMemory 23 JournalFull 30 Damaged 31 NotASheet 32 Disk 33 OutOfMemory 34 NotEmpty 35 InUse 36 NoScript 37 NoField 38 SecondFile 40 Input 41 InputTooLong 42 Output 43 OutOfMemory '
+compare 'the faults' "$(grep -o '^[0-9][0-9] [A-Za-z]*' text | tr '\n' ' ')" '21 Disk 22 OutOfMemory 23 JournalFull 30 Damaged 31 NotASheet 32 Disk 33 OutOfMemory 34 NotEmpty 35 InUse 36 NoScript 37 NoField 38 SecondFile 40 Input 41 InputTooLong 42 Output 43 OutOfMemory 44 NoProgram '
 "$tmhost" faults --help >same 2>errors
 compare 'the same by a flag' "$? $(wc -c <errors) $(bytes same)" "0 0 $(bytes text)"
 "$tmhost" faults >same 2>errors
