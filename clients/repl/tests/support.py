@@ -18,25 +18,13 @@ from typing import Dict, List, Optional, Tuple, Union
 HERE = os.path.dirname(os.path.realpath(__file__))
 ROOT = os.path.dirname(os.path.dirname(os.path.dirname(HERE)))
 COMMAND = os.path.join(os.path.dirname(HERE), "tmhost-repl")
-PROGRAM = os.environ.get("TMHOST") or shutil.which("tmhost") or os.path.join(ROOT, "crates/tmhost/out/tmhost")
 INTERPRETER = [sys.executable, os.path.join(HERE, "interpreter.py")]
 SECONDS = 120.0  # in which everything comes, beside other work too
 LINE_END = "\u2028"
 
-
-def missing() -> str:
-    """Why there is no program to test with; nothing where there is one."""
-    try:
-        tried = subprocess.run([PROGRAM, "live", "--json", os.devnull + "/none"], stdin=subprocess.DEVNULL, capture_output=True)
-    except OSError as error:
-        return f"{PROGRAM} can't be started ({error.strerror}); TMHOST names another one"
-    return f"{PROGRAM} knows no live --json" if tried.returncode == 2 else ""
-
-
-WHY = missing()
-
-sys.path.insert(0, os.path.join(ROOT, "clients/python"))
-from tmhost import Died, Field, Worksheet  # noqa: E402
+sys.path[:0] = [os.path.join(ROOT, "clients/python"), os.path.join(ROOT, "clients")]
+from tested import PROGRAM, WHY, fields_of  # noqa: E402
+from tmhost import Field, Worksheet  # noqa: E402
 
 
 def environment(**more: str) -> Dict[str, str]:
@@ -207,15 +195,7 @@ class Case(unittest.TestCase):
 
     def fields(self) -> List[Field]:
         """What the worksheet has. A program that was killed may hold it for a moment still."""
-        for _ in range(1000):
-            try:
-                with Worksheet(self.sheet, program=PROGRAM) as worksheet:
-                    return worksheet.fields
-            except Died as died:
-                if died.number != 35:
-                    raise
-                time.sleep(0.05)
-        raise AssertionError("the worksheet stays in use")
+        return fields_of(self.sheet)
 
     def pairs(self) -> List[Tuple[str, Optional[str]]]:
         """Inputs and answers, in order."""

@@ -12,23 +12,11 @@ from typing import Any, Dict, List, NamedTuple
 HERE = os.path.dirname(os.path.realpath(__file__))
 ROOT = os.path.dirname(os.path.dirname(os.path.dirname(HERE)))
 COMMAND = os.path.join(os.path.dirname(HERE), "tmhost-suite")
-PROGRAM = os.environ.get("TMHOST") or shutil.which("tmhost") or os.path.join(ROOT, "crates/tmhost/out/tmhost")
 # It answers a line by a value that depends on all lines that it has got; `say TEXT`, `die`, `stuck`, `sleep N` and the like are its words.
 INTERPRETER = os.path.join(ROOT, "clients/weave/tests/interpreter.py")
 
-sys.path[:0] = [os.path.dirname(HERE), *(os.path.join(ROOT, "clients", name) for name in ("python", "fences", "weave"))]
-
-
-def missing() -> str:
-    """Why there is no program to test with; nothing where there is one."""
-    try:
-        subprocess.run([PROGRAM, "--version"], stdin=subprocess.DEVNULL, capture_output=True)
-    except OSError as error:
-        return f"{PROGRAM} can't be started ({error.strerror}); TMHOST names another one"
-    return ""
-
-
-WHY = missing()
+sys.path[:0] = [os.path.dirname(HERE), *(os.path.join(ROOT, "clients", name) for name in ("", "python", "fences", "weave"))]
+from tested import PROGRAM, WHY  # noqa: E402
 
 
 class Outcome(NamedTuple):

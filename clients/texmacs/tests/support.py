@@ -19,25 +19,13 @@ from typing import Dict, List, NamedTuple, Optional, Tuple
 HERE = os.path.dirname(os.path.realpath(__file__))
 ROOT = os.path.dirname(os.path.dirname(os.path.dirname(HERE)))
 COMMAND = os.path.join(os.path.dirname(HERE), "tmhost-texmacs")
-PROGRAM = os.environ.get("TMHOST") or shutil.which("tmhost") or os.path.join(ROOT, "crates/tmhost/out/tmhost")
 INTERPRETER = [sys.executable, os.path.join(ROOT, "clients/repl/tests/interpreter.py")]
 SECONDS = 120.0  # in which everything comes, beside other work too
-sys.path[:0] = [*(os.path.join(ROOT, "clients", name) for name in ("python", "notebook", "fences")), os.path.dirname(HERE)]
+sys.path[:0] = [*(os.path.join(ROOT, "clients", name) for name in ("", "python", "notebook", "fences")), os.path.dirname(HERE)]
 
-from tmhost import Died, Field, Worksheet as Worksheet  # noqa: E402
+from tested import PROGRAM as PROGRAM, WHY as WHY, fields_of  # noqa: E402
+from tmhost import Field, Worksheet as Worksheet  # noqa: E402
 from tmhost_texmacs import scheme  # noqa: E402
-
-
-def missing() -> str:
-    """Why there is no program to test with; nothing where there is one."""
-    try:
-        tried = subprocess.run([PROGRAM, "live", "--json", os.devnull + "/none"], stdin=subprocess.DEVNULL, capture_output=True)
-    except OSError as error:
-        return f"{PROGRAM} can't be started ({error.strerror}); TMHOST names another one"
-    return f"{PROGRAM} knows no live --json" if tried.returncode == 2 else ""
-
-
-WHY = missing()
 
 
 class Told(NamedTuple):
@@ -191,15 +179,7 @@ class Case(unittest.TestCase):
 
     def fields(self) -> List[Field]:
         """What the worksheet has, when nobody holds it any more."""
-        for _ in range(1000):
-            try:
-                with Worksheet(self.sheet, program=PROGRAM) as worksheet:
-                    return worksheet.fields
-            except Died as died:
-                if died.number != 35:
-                    raise
-                time.sleep(0.05)
-        raise AssertionError("the worksheet stays in use")
+        return fields_of(self.sheet)
 
     def kept(self) -> Dict[str, Tuple[str, Optional[str]]]:
         """Of each field its input and its answer, when all sessions have ended."""

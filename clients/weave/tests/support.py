@@ -13,23 +13,11 @@ from typing import Any, Dict, List, NamedTuple, Sequence, Tuple
 HERE = os.path.dirname(os.path.realpath(__file__))
 ROOT = os.path.dirname(os.path.dirname(os.path.dirname(HERE)))
 COMMAND = os.path.join(os.path.dirname(HERE), "tmhost-weave")
-PROGRAM = os.environ.get("TMHOST") or shutil.which("tmhost") or os.path.join(ROOT, "crates/tmhost/out/tmhost")
 INTERPRETER = os.path.join(HERE, "interpreter.py")
 FENCED = re.compile(r"^```tmhost-answer\n(.*?)\n```$", re.MULTILINE | re.DOTALL)
 
-sys.path[:0] = [os.path.dirname(HERE), *(os.path.join(ROOT, "clients", name) for name in ("python", "fences", "notebook"))]
-
-
-def missing() -> str:
-    """Why there is no program to test with; nothing where there is one."""
-    try:
-        tried = subprocess.run([PROGRAM, "live", "--json", os.devnull + "/none"], stdin=subprocess.DEVNULL, capture_output=True)
-    except OSError as error:
-        return f"{PROGRAM} can't be started ({error.strerror}); TMHOST names another one"
-    return f"{PROGRAM} knows no live --json" if tried.returncode == 2 else ""
-
-
-WHY = missing()
+sys.path[:0] = [os.path.dirname(HERE), *(os.path.join(ROOT, "clients", name) for name in ("", "python", "fences", "notebook"))]
+from tested import PROGRAM as PROGRAM, WHY  # noqa: E402
 
 
 class Outcome(NamedTuple):
