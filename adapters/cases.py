@@ -282,9 +282,9 @@ def ten_lines(name: str, call: str = "k(10)", said: str = "", told: str = "-5") 
     return [(TEN_LINES[name].replace("\n", "\u2028"), said), (call, told)]
 
 
-# From the first line to the second one of a pair nothing, or more than its own, is shown of a line. What `ploth` has started may write later.
+# From the first line to the second one of a pair nothing, or more than its own, is shown of a line.
 REDIRECTIONS: Dict[str, str] = {
-    "set -x": "set +x", "exec >/dev/null": "exec >&199", 'sink("/dev/null")': "sink()", 'set print "/dev/null"': "set print", "ploth(x=0,1,x^2)": "while(1,)",
+    "set -x": "set +x", "exec >/dev/null": "exec >&199", 'sink("/dev/null")': "sink()", 'set print "/dev/null"': "set print",
     ".headers on": ".headers off", ".output /dev/null": ".output", ".echo on": ".echo off", ".mode box": ".mode list", ".changes on": ".changes off",
 }
 

@@ -52,7 +52,7 @@ LINES: List[Line] = [
     ("print(Strchr([65,2,66]))", "A\\x02B"),
     ('print1("none")', "none"),
     ("plot(x=0,1,x^2)", "..'''''''_\""),
-    ("ploth(x=0,1,x^2)", "..\\begin{pmatrix}"),
+    ("ploth(x=0,1,x^2)", "..%22 =\n{image/svg+xml:<svg "),
     ("while(1,)", "..user interrupt", True),
     ("x", value(23, "5")),
     ("g(n)={\u2028 my(s=0);\u2028 for(i=1,n,s+=i);\u2028 s\u2028}", "%24 = (n)->my(s=0);for(i=1,n,s+=i);s"),

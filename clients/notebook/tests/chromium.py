@@ -178,8 +178,8 @@ class Tab:
                 raise Failed(f"{expression} is {found!r}" + ("" if callable(wanted) else f", and not {wanted!r}"))
             time.sleep(0.03)
 
-    def key(self, key: str, *modifiers: str) -> None:
-        """Presses a key as a user does."""
+    def key(self, key: str, *modifiers: str, at: Optional[float] = None) -> None:
+        """Presses a key as a user does, now or at a time."""
         bits = sum(MODIFIERS[one] for one in modifiers)
         code = CODES.get(key, ord(key.upper()) if len(key) == 1 else 0)
         event: Told = {"key": key, "modifiers": bits, "windowsVirtualKeyCode": code, "code": key if len(key) > 1 else ""}
@@ -188,8 +188,16 @@ class Tab:
             event["text"] = text
         if bits == MODIFIERS["Control"] and key in COMMANDS:
             event["commands"] = [COMMANDS[key]]
+        if at is not None:
+            event["timestamp"] = at
         self.ask("Input.dispatchKeyEvent", {**event, "type": "keyDown"})
         self.ask("Input.dispatchKeyEvent", {**event, "type": "keyUp"})
+
+    def twice(self, key: str) -> None:
+        """Presses a key twice within a tenth of a second, however late a busy machine hears of it."""
+        now = time.time()
+        for at in (now - 0.1, now):
+            self.key(key, at=at)
 
     def type(self, text: str) -> None:
         """Puts text at the cursor, as a user who types it."""

@@ -192,8 +192,7 @@ class Cells(SharedCase):
         self.agree(tab, "say a", "say b", "say c", "say d", "say e")
         for count in (2, 1):
             self.choose(tab, tab.value(ORDER)[2], count)
-            tab.key("d")
-            tab.key("d")
+            tab.twice("d")
             tab.until(f"[{ORDER}.length, {IS_BUSY}]", [3 if count == 2 else 2, False])
         self.agree(tab, "say a", "say b")
 

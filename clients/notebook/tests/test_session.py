@@ -146,8 +146,8 @@ class Session(Case):
         self.do("the cell below", lambda: self.at(5, "ArrowDown"), SELECTED, "cell-2")
         self.do("the one above", lambda: self.keys("k"), SELECTED, "cell-5")
         self.do("new cell above", lambda: self.keys("a"), ORDER, [1, 6, 5, 2, 3], SELECTED, "cell-6")
-        self.do("remove it", lambda: self.keys("d", "d"), ORDER, [1, 5, 2, 3], SELECTED, "cell-5")
-        self.do("remove another", lambda: self.keys("d", "d"), ORDER, [1, 2, 3], SELECTED, "cell-2")
+        self.do("remove it", lambda: self.tab.twice("d"), ORDER, [1, 5, 2, 3], SELECTED, "cell-5")
+        self.do("remove another", lambda: self.tab.twice("d"), ORDER, [1, 2, 3], SELECTED, "cell-2")
         self.do("bring it back", lambda: self.keys("z"), ORDER, [1, 7, 2, 3], TEXT % 7, "get", SELECTED, "cell-7")
         self.do("bring back one of the list", self.restore_first, ORDER, lambda order: len(order) == 5, SELECTED, "cell-8")
         self.do("evaluate what came back", lambda: self.at(7, "Control+Enter"), STATE % 7, "answered", OUTPUT % 7, "nothing")
@@ -280,7 +280,7 @@ class Session(Case):
         self.do("a session that can't start", lambda: self.make_session("c", "/nothing/there"), "document.querySelectorAll('#sessions li').length", 3)
         self.do("a cell of it", self.cell_of_c, NOTE, begins("session c can't be started: there is no program /nothing/there. Its words are: /nothing/there"),
                 "document.querySelector('.cell:last-child').dataset.state", "empty")
-        self.do("remove it", lambda: self.keys("d", "d"), NOTE, "")
+        self.do("remove it", lambda: self.tab.twice("d"), NOTE, "")
 
     def cell_of_c(self) -> None:
         self.tab.value("document.querySelector('#which').value = 'c'")

@@ -114,8 +114,7 @@ class Undo(PageCase):
         tab.key("Enter", "Control")
         tab.until(SAYS % 2, "saved")
         tab.click("#cell-11 .number")
-        tab.key("d")
-        tab.key("d")
+        tab.twice("d")
         tab.until(f"{ORDER}.length", 11)
         self.texts = [f"say {number}" for number in range(1, 13) if number != 11]
         self.texts[1] = "edited say 2"
