@@ -37,21 +37,21 @@ fn creates(alloc: Global, folder: &Folder) -> bool {
 // Whether a run of this script ends well, and tells this. No interpreter can be started.
 fn runs(alloc: Global, folder: &Folder, script: &[u8], told: &[u8]) -> bool {
     let children = Scripted::new(alloc, Vec::new(alloc));
-    let mut sources = ScriptedSources::new(children, Vec::new(alloc));
+    let sources = ScriptedSources::new(children, Vec::new(alloc));
     let mut input = script;
-    let mut text: Vec<u8> = Vec::new(alloc);
+    let text: Vec<u8> = Vec::new(alloc);
     let mut errors: Vec<u8> = Vec::new(alloc);
     let files = opened::open(&Machine { folder }, alloc, "sheet");
-    let ended = run_script(
+    let done = run_script(
         alloc,
         false,
         &mut input,
-        &mut text,
+        text,
         &mut errors,
         files,
-        &mut sources,
+        sources,
     );
-    ended.status == 0 && text.as_slice() == told
+    done.ending.status == 0 && done.output.as_slice() == told
 }
 
 // Whether what is rescued of one folder is written to another one, and this is printed.
