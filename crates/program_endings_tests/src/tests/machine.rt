@@ -5,6 +5,7 @@ use disk_model::{Area, Choice, Disk, MemoryDisk};
 use sheet_files::{Identity, Lock, SheetFile, SystemFile};
 use std::alloc::{Allocator, Global};
 use std::cell::{Cell, RefCell};
+use std::env::{Env, FillError};
 use std::fs::{Metadata, OpenFile, OpenOptions, TryLockError};
 use std::io;
 use std::io::{ErrorKind, SeekFrom};
@@ -153,6 +154,21 @@ impl MachineFile<'_> {
             Place::File(area) => Ok(area),
             Place::Folder => Err(broken()),
         }
+    }
+}
+
+/// It has no words and no environment.
+impl Env for Machine<'_> {
+    fn arg(&self, _i: usize, _buf: &mut [u8]) -> Result<usize, FillError> {
+        Err(FillError::NotPresent)
+    }
+
+    fn var(&self, _name: &str, _buf: &mut [u8]) -> Result<usize, FillError> {
+        Err(FillError::NotPresent)
+    }
+
+    fn var_at(&self, _i: usize, _buf: &mut [u8]) -> Result<usize, FillError> {
+        Err(FillError::NotPresent)
     }
 }
 

@@ -2,6 +2,7 @@
 use sheet_files::{Identity, Lock, SheetFile, SystemFile};
 use std::alloc::{Allocator, Global};
 use std::cell::{Cell, RefCell};
+use std::env::{Env, FillError};
 use std::fmt::Write;
 use std::fs::{Metadata, OpenFile, OpenOptions, TryLockError};
 use std::io;
@@ -196,6 +197,21 @@ fn verb(how: &OpenOptions) -> &'static str {
 
 pub fn unsupported<T>() -> io::Result<T> {
     Err(io::Error::from(ErrorKind::Unsupported))
+}
+
+/// It has no words and no environment.
+impl Env for MadeUp<'_> {
+    fn arg(&self, _i: usize, _buf: &mut [u8]) -> Result<usize, FillError> {
+        Err(FillError::NotPresent)
+    }
+
+    fn var(&self, _name: &str, _buf: &mut [u8]) -> Result<usize, FillError> {
+        Err(FillError::NotPresent)
+    }
+
+    fn var_at(&self, _i: usize, _buf: &mut [u8]) -> Result<usize, FillError> {
+        Err(FillError::NotPresent)
+    }
 }
 
 impl<'a> Files for MadeUp<'a> {

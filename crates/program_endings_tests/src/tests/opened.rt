@@ -1,6 +1,7 @@
 //! Worksheets in the files of a runtime that has all its standard streams.
 use sheet_files::{Closed, FileDisk, FileNames, FilesFault, MakeFault, SheetFile};
 use std::alloc::Global;
+use std::env::Env;
 use std::rt::Files;
 
 const OPEN: Closed = Closed {
@@ -10,28 +11,28 @@ const OPEN: Closed = Closed {
 };
 
 /// Makes the files of a worksheet.
-pub fn create<F: SheetFile + Drop, R: Files<File = F>>(
+pub fn create<F: SheetFile + Drop, R: Files<File = F> + Env>(
     rt: &R,
     alloc: Global,
     path: &str,
 ) -> Result<FileDisk<F>, MakeFault> {
-    FileDisk::create(&mut FileNames::new(rt, OPEN), alloc, path)
+    FileDisk::create(&mut FileNames::new((rt, alloc), OPEN), alloc, path)
 }
 
 /// Opens them.
-pub fn open<F: SheetFile + Drop, R: Files<File = F>>(
+pub fn open<F: SheetFile + Drop, R: Files<File = F> + Env>(
     rt: &R,
     alloc: Global,
     path: &str,
 ) -> Result<FileDisk<F>, FilesFault> {
-    FileDisk::open(&mut FileNames::new(rt, OPEN), alloc, path)
+    FileDisk::open(&mut FileNames::new((rt, alloc), OPEN), alloc, path)
 }
 
 /// Opens them to read alone.
-pub fn open_to_read<F: SheetFile + Drop, R: Files<File = F>>(
+pub fn open_to_read<F: SheetFile + Drop, R: Files<File = F> + Env>(
     rt: &R,
     alloc: Global,
     path: &str,
 ) -> Result<FileDisk<F>, FilesFault> {
-    FileDisk::open_to_read(&mut FileNames::new(rt, OPEN), alloc, path)
+    FileDisk::open_to_read(&mut FileNames::new((rt, alloc), OPEN), alloc, path)
 }
