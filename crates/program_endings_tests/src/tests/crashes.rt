@@ -42,15 +42,7 @@ fn runs(alloc: Global, folder: &Folder, script: &[u8], told: &[u8]) -> bool {
     let text: Vec<u8> = Vec::new(alloc);
     let mut errors: Vec<u8> = Vec::new(alloc);
     let files = opened::open(&Machine { folder }, alloc, "sheet");
-    let done = run_script(
-        alloc,
-        false,
-        &mut input,
-        text,
-        &mut errors,
-        files,
-        sources,
-    );
+    let done = run_script(alloc, false, &mut input, text, &mut errors, files, sources);
     done.ending.status == 0 && done.output.as_slice() == told
 }
 
