@@ -25,6 +25,8 @@ export class Actions {
     this.cells = cells;
     this.note = note;
     this.held = new Held();
+    /** @type {Promise<unknown>} */
+    this.evaluating = Promise.resolve(); // till the last call that evaluates several cells has its reply
   }
 
   /**
@@ -47,11 +49,12 @@ export class Actions {
   }
 
   /**
-   * Does a call that evaluates these cells.
+   * Does a call that evaluates these cells, once the one before has its reply: two that are under way at once may come in either order.
    * @type {(views: CellView[], call: string, members: Record<string, unknown>) => Promise<Reply>}
    */
   evaluateEach(views, call, members) {
-    const told = this.ask(call, { ...members, stops: stopsAtErrors() });
+    const told = this.evaluating.then(() => this.ask(call, { ...members, stops: stopsAtErrors() }));
+    this.evaluating = told.catch(() => undefined);
     for (const view of views) if (!view.isProse) view.risk(EVALUATED, () => told);
     return told;
   }

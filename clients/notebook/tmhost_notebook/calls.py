@@ -232,14 +232,16 @@ def evaluate_each(book: Book, fields: Sequence[Field], missing: Dict[str, str], 
 def call_eval_from(book: Book, asked: Facts) -> Facts:
     """Evaluates all cells, or those from one on."""
     start = None if asked.get("id") is None else number(asked, "id")
-    fields = book.sheet.fields
-    first = next((place for place, field in enumerate(fields) if field.id == start), 0)
-    return evaluate_each(book, fields[first:], {}, asked.get("stops") is True)
+    with book.order:
+        fields = book.sheet.fields
+        first = next((place for place, field in enumerate(fields) if field.id == start), 0)
+        return evaluate_each(book, fields[first:], {}, asked.get("stops") is True)
 
 
 def call_eval_stale(book: Book, asked: Facts) -> Facts:
     """Evaluates the cells whose answers are stale, or that have none, and those above them whose interpreter has ended, whose variables they may need."""
-    return evaluate_each(book, stale(book), {}, asked.get("stops") is True)
+    with book.order:
+        return evaluate_each(book, stale(book), {}, asked.get("stops") is True)
 
 
 def stale(book: Book) -> List[Field]:
@@ -260,15 +262,15 @@ def call_restart(book: Book, asked: Facts) -> Facts:
     """Stops the interpreter of a session, or all of them, and evaluates their cells. One that can't be started again isn't stopped."""
     wanted = None if asked.get("session") is None else text(asked, "session")
     missing: Dict[str, str] = {}
-    for name, session in book.sheet.sessions.items():
-        if name == wanted or (wanted is None and session.life is not None):
-            why = startable.why_not(session)
-            if why is not None:
-                missing[name] = why
-                continue
-            with book.order:
-                book.stop(name)
-    return evaluate_each(book, [field for field in book.sheet.fields if wanted in (None, field.session)], missing, asked.get("stops") is True)
+    with book.order:
+        for name, session in list(book.sheet.sessions.items()):
+            if name == wanted or (wanted is None and session.life is not None):
+                why = startable.why_not(session)
+                if why is None:
+                    book.stop(name)
+                else:
+                    missing[name] = why
+        return evaluate_each(book, [field for field in book.sheet.fields if wanted in (None, field.session)], missing, asked.get("stops") is True)
 
 
 def call_stop(book: Book, asked: Facts) -> Facts:
