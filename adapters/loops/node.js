@@ -35,6 +35,7 @@
         } catch (error) {
             process.stdout.write(`${fault}Uncaught ${told(error)}\n`);
         }
+        await new Promise(resolve => setImmediate(resolve)); // what a promise that it left reports at once stands in its own answer
         stop = () => {};
     };
     let before = Promise.resolve();
