@@ -221,7 +221,8 @@ def call_eval(book: Book, asked: Facts) -> Facts:
 
 def evaluate_each(book: Book, fields: Sequence[Field], missing: Dict[str, str], stops: bool) -> Facts:
     """Has these cells evaluated, but those of prose and of sessions that can't be started: `missing` says why, and so does a warning.
-    `stops` says that the rest isn't asked where one is an error."""
+    `stops` says that the rest isn't asked where one is an error. With the book's `order`: a cell that is just being asked waits no more and
+    doesn't show it yet, so it would be asked twice."""
     named = {field.session for field in fields} - book.prose
     missing = {**{name: why for name, why in ((name, book.why_not(name)) for name in named) if why}, **missing}
     count = book.evaluate_each((field for field in fields if field.session in named and field.session not in missing), stops)

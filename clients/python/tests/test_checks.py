@@ -102,6 +102,14 @@ class Checks(Case):
         self.assertEqual([one["type"] for one in told], ["hello", *4 * ["checked"], "compared", "end", "hello", *4 * ["checked"], "compared", "end", "hello", "fault", "fault"])
         self.assertEqual(told[-2], {"id": 9, "name": "NoField", "number": 37, "type": "fault"})
 
+        with self.open() as sheet:
+            sheet.session("gone", ["./no-program"])
+            lacking = sheet.new("gone", "hello").id
+        unfound = [json.loads(line) for line in lines("eval", "--json", self.path, str(lacking))]
+        for one in unfound:
+            schema.validate(one)
+        self.assertEqual(unfound[1:], [{"name": "NoProgram", "number": 44, "session": "gone", "type": "fault"}])
+
 
 if __name__ == "__main__":
     unittest.main()
