@@ -21,10 +21,9 @@ use Rattle.live.specs.declared.holding.Hold.{Hold}
 use Rattle.live.specs.declared.holding.Hold.TheVariants as hold
 use Rattle.live.specs.Records.{left, turn}
 use Rattle.live.specs.Saying.{SaidUpTo, WaitGoesOn}
-use Rattle.live.specs.Arrivals.{time_over}
 use Rattle.live.specs.Taking.{TurnComes, Heard, HeardLed, HeardUnwritten, HearingFailed, Said, SaidLed, SaidUnwritten, SayingFailed, Stalled, StallingLed, StalledUnwritten, StallingFailed}
 use Rattle.live.specs.Taking as lives
-use Rattle.live.proofs.Coming.{comes_by, told_life}
+use Rattle.live.proofs.Coming.{told_life, told_over}
 use Rattle.evaluation.specs.declared.plan.Stand.{Stand}
 use Rattle.evaluation.specs.Meant.{IsAsked, line_behind}
 use Rattle.evaluation.specs.Steps.{Setting, EvalPlace, Step, ask, heard, stalled, LimitBegins, StepComes, WatchesAt, asked_at, edge_of, fields_at, held_at, watches_of, woken_in}
@@ -121,8 +120,8 @@ module _ {C : Type 0} (o : Setting C) (p : EvalPlace C) (d : C) where
   TurnsTo told_of = TurnComes (watches_of o) p.stand.held p.run.children (turn told_of false) d
 
   time-comes : (s : Step) → WatchesAt o p → TurnsTo woken.TimeOver → IsTimeOf o (woken_in p d) s → StepComes o p s d
-  time-comes s due comes (steps.of_field n id first late) = inl (first, due, late, comes.0, comes_by (watches_of o) p.stand.held p.run.children (turn woken.TimeOver false) d time_over comes refl)
-  time-comes s due comes (steps.of_grace warned) = (warned, due, comes.0, comes_by (watches_of o) p.stand.held p.run.children (turn woken.TimeOver false) d time_over comes refl)
+  time-comes s due comes (steps.of_field n id first late) = inl (first, due, late, comes.0, told_over (watches_of o) p.stand.held p.run.children false d comes.1)
+  time-comes s due comes (steps.of_grace warned) = (warned, due, comes.0, told_over (watches_of o) p.stand.held p.run.children false d comes.1)
 
   pub comes_of : (told_of : Woken) (s : Step) → WatchesAt o p → TurnsTo told_of → IsOf o (woken_in p d) told_of s → StepComes o p s d
   comes_of told_of s due comes (steps.of_life seat) = (due, told_life (watches_of o) p.stand.held p.run.children false d seat comes.1)

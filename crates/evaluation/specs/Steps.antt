@@ -20,7 +20,7 @@ use Rattle.live.specs.declared.holding.Hold.{Hold}
 use Rattle.live.specs.declared.holding.Hold.TheVariants as hold
 use Rattle.live.specs.Records.{Clock, Edge, Watch, Watches, edge, watches}
 use Rattle.live.specs.Saying.{IsTimed, WaitGoesOn, is_held, seconds_behind}
-use Rattle.live.specs.Arrivals.{WatchTells, Comes, respite, time_over}
+use Rattle.live.specs.Arrivals.{TimeComes, WatchTells, respite}
 use Rattle.evaluation.specs.declared.plan.Plan.{Plan}
 use Rattle.evaluation.specs.declared.plan.Stand.{Stand}
 use Rattle.evaluation.specs.Lasts.{after_asking}
@@ -80,7 +80,7 @@ WatchesAt o p = IsWatchDue o.plan p.run.world o.meant p.stand
 -- The time of this field is over here: that of a first one by the clock, and then, before any watch, that of each other that waits.
 abbrev pub OverComes : {C : Type 0} → Setting C → EvalPlace C → ℕ → ℕ → C → Type 0
 OverComes o p n id d =
-    ((p.stand.warned ≡ false) × WatchesAt o p × IsLate p.run.world o.meant p.stand n id × IsTimed p.stand.held × Comes (watches_of o) p.stand.held p.run.children time_over d)
+    ((p.stand.warned ≡ false) × WatchesAt o p × IsLate p.run.world o.meant p.stand n id × IsTimed p.stand.held × TimeComes (watches_of o) p.stand.held p.run.children d)
     ⊎ ((p.stand.warned ≡ true) × (p.stand.held ≢ hold.Free) × IsFirstWaiting p.run.world o.meant p.stand n id × (d ≡ p.run.children))
 
 -- The step is due, and these are the sources after the watch that reported it. While no item waits the next field is asked. While one does,
@@ -89,7 +89,7 @@ abbrev pub StepComes : {C : Type 0} → Setting C → EvalPlace C → Step → C
 StepComes o p (ask k id) d = MayAsk o p k id × (d ≡ p.run.children)
 StepComes o p (heard seat) d = WatchesAt o p × WatchTells (watches_of o) p.stand.held p.run.children false (Some (woken.Life seat)) d
 StepComes o p (over n id) d = OverComes o p n id d
-StepComes o p stalled d = (p.stand.warned ≡ true) × WatchesAt o p × IsTimed p.stand.held × Comes (watches_of o) p.stand.held p.run.children time_over d
+StepComes o p stalled d = (p.stand.warned ≡ true) × WatchesAt o p × IsTimed p.stand.held × TimeComes (watches_of o) p.stand.held p.run.children d
 
 -- the fields of the worksheet where it stands so
 abbrev pub fields_at : {C : Type 0} → EvalPlace C → List Field

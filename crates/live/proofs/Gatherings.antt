@@ -1,23 +1,17 @@
 -- Lines that were there together, and were gathered.
-use Rattle.std.proofs.Common.{◌≡◌, ◌⊎◌, ◌≤◌, inl, inr, ℕ, Bool, true, List, [], ◌∷◌, ◌++◌, Option, Some, refl, ap, sym, ◌∙◌, subst, length, length-append, arith, append-nil, append_assoc, map}
+use Rattle.std.proofs.Common.{◌≡◌, ◌⊎◌, ◌≤◌, inl, inr, ℕ, true, List, [], ◌∷◌, ◌++◌, refl, ap, sym, ◌∙◌, subst, length, length-append, arith, append-nil, append_assoc, map}
 use Rattle.std.specs.List.{AllByRecursion}
 use Rattle.host_events.specs.declared.command.Command.{Command}
 use Rattle.host_events.specs.declared.event.Event.{Event}
 use Rattle.host_events.specs.declared.event.Event.TheVariants as event
 use Rattle.arrivals.specs.Lines.{InputLine, whole}
-use Rattle.arrivals.specs.Held.{GivesLine, Held, IsNextLine, Readiness, left_with, to_come}
+use Rattle.arrivals.specs.Held.{GivesLine, Held, IsNextLine, Readiness, left_with}
 use Rattle.arrivals.specs.declared.buffer.NextLine.{NextLine}
-use Rattle.arrivals.specs.declared.sources.Woken.TheVariants as woken
 use Rattle.arrivals.proofs.Peeking.{peeked_is_given}
 use Rattle.sheet_text.specs.Script.{line_of}
-use Rattle.sheet_text.specs.declared.script.ScriptLine.TheVariants as says
 use Rattle.sheet_programs.specs.Together.{line_events, lines_events}
-use Rattle.live.specs.Records.{between, turn}
 use Rattle.live.specs.Saying.{SaysGrouped}
-use Rattle.live.specs.Arrivals.{together}
-use Rattle.live.specs.Taking.{IsBy, TakesLines}
-use Rattle.live.specs.Gathering.{Gathered, GathersOne, GroupOf, arrival_of}
-use Rattle.live.proofs.Coming.{line_given, lines_given}
+use Rattle.live.specs.Gathering.{Gathered, GathersOne}
 
 -- Commands that may be in a group.
 
@@ -82,49 +76,3 @@ some_gathered h k events g some = go g.begins
     go : ((g.given ≡ []) × (k ≡ h)) ⊎ ((1 ≤ length g.given) × Readiness h true) → (1 ≤ length g.given) × Readiness h true
     go (inl none) = let same = ap length g.are in let no = ap (λ (ls : List (List ℕ)). length ls) none.0 in absurd (omega (arith, some, no, same, grouped_count g.given g.each))
     go (inr there) = there
-
--- The arrival.
-
-pub by_input : (given : List (List ℕ)) (there : Bool) → there ≡ true → IsBy (turn woken.Input there) (arrival_of given)
-by_input [] there is = (refl, is)
-by_input (l ∷ []) there is = (refl, is)
-by_input (l ∷ m ∷ ls) there is = (refl, is)
-
-pub takes_given : (given : List (List ℕ)) (h k : Held) (r : Option (List ℕ)) → ((more : List ℕ) → left_with h more ≡ map whole given ++ left_with k more)
-    → TakesLines (arrival_of given) (between (to_come h r) (to_come k r))
-takes_given [] h k r gives = lines_given h k [] r gives
-takes_given (l ∷ []) h k r gives = line_given h k (whole l) r gives
-takes_given (l ∷ m ∷ ls) h k r gives = lines_given h k (l ∷ m ∷ ls) r gives
-
-pub as_group : (given : List (List ℕ)) → 2 ≤ length given → together given ≡ arrival_of given
-as_group [] many = refl
-as_group (l ∷ []) many = absurd (omega (arith, many))
-as_group (l ∷ m ∷ ls) many = refl
-
--- Two events or more are those of a group.
-pub group_of : (given : List (List ℕ)) (events : List Event) → AllByRecursion SaysGrouped given → events ≡ lines_events given → 2 ≤ length events → GroupOf given events
-group_of given events each are many = let count = ap length are in record { each = each; are = are; many = omega (arith, many, count, grouped_count given each) }
-
--- One event is that of one line.
-pub record OneGiven (given : List (List ℕ)) (e : Event) : Type 0 where
-  pub line : List ℕ
-  pub said : Command
-  pub is : given ≡ line ∷ []
-  pub tells : line_of line ≡ Some (says.Command said)
-  pub asks : e ≡ event.Command said
-
-pub one_given : (given : List (List ℕ)) (e : Event) → AllByRecursion SaysGrouped given → e ∷ [] ≡ lines_events given → OneGiven given e
-one_given [] e all is = cc
-one_given (l ∷ ls) e all is =
-    let own : e ∷ [] ≡ event.Command all.0.0 ∷ lines_events ls = is ∙ ap (λ (es : List Event). es ++ lines_events ls) (one-event l all.0) in
-    record { line = l; said = all.0.0; is = ap (λ (x : List (List ℕ)). l ∷ x) (no-more ls all.1 (tail-of own)); tells = all.0.1; asks = head-of own }
-  where
-    head-of : {x y : Event} {xs ys : List Event} → x ∷ xs ≡ y ∷ ys → x ≡ y
-    head-of same = cc
-
-    tail-of : {x y : Event} {xs ys : List Event} → x ∷ xs ≡ y ∷ ys → xs ≡ ys
-    tail-of same = cc
-
-    no-more : (ms : List (List ℕ)) → AllByRecursion SaysGrouped ms → [] ≡ lines_events ms → ms ≡ []
-    no-more [] edits none = refl
-    no-more (m ∷ ms) edits none = let wrong : [] ≡ event.Command edits.0.0 ∷ lines_events ms = none ∙ ap (λ (es : List Event). es ++ lines_events ms) (one-event m edits.0) in absurd cc

@@ -1,12 +1,5 @@
 pub mod Said
 pub mod Turns
 pub mod Coming
-pub mod Stopping
-pub mod Goings
 pub mod Ends
-pub mod InManner
 pub mod Gatherings
-pub mod GroupRuns
-pub mod Hearings
-pub mod Groups
-pub mod Examples

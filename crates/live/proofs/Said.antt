@@ -1,10 +1,7 @@
 -- A line that is said.
-use Rattle.std.proofs.Common.{◌≡◌, inl, inr, ℕ, Bool, true, false, ◌∙◌, true≢false, List, [], Option, Some, None, refl, ap, sym, subst}
-use Rattle.std.specs.Prelude.{◌||◌, not}
-use Rattle.std.specs.List.{list_any}
+use Rattle.std.proofs.Common.{◌≡◌, inl, inr, ℕ, true, false, true≢false, List, [], Option, Some, None, refl, ap, sym, subst}
 use Rattle.std.specs.Io.KnownBytes.{Appends}
 use Rattle.session_engine.specs.World.{World, sheet_in}
-use Rattle.worksheet.specs.Checks.{has_session}
 use Rattle.worksheet.specs.Contents.{Contents}
 use Rattle.host_events.specs.declared.reply.Reply.{Reply}
 use Rattle.host_events.specs.declared.event.Event.TheVariants as event
@@ -19,23 +16,16 @@ use Rattle.sheet_text.specs.declared.script.ScriptLine.{ScriptLine}
 use Rattle.sheet_text.specs.declared.script.ScriptLine.TheVariants as line
 use Rattle.live.specs.declared.live_line.LiveLine.{LiveLine}
 use Rattle.live.specs.declared.live_line.LiveLine.TheVariants as live
-use Rattle.sheet_programs.specs.Strict.{is_wrong}
 use Rattle.sheet_programs.specs.Told.{fault_of_cause}
 use Rattle.child_edge.specs.Edge.{ByCause, Ran}
 use Rattle.child_edge.specs.Moments.{BrokeFrom}
 use Rattle.child_edge.specs.Told.{told}
 use Rattle.tellings.specs.Voice.{IsUntold, replied_text}
-use Rattle.tellings.specs.declared.note.Note.TheVariants as note
 use Rattle.offline_programs.specs.declared.fault.RunFault.{RunFault}
-use Rattle.offline_programs.specs.declared.fault.RunFault.TheVariants as fault
-use Rattle.live.specs.declared.saying.Beginning.{Beginning}
-use Rattle.live.specs.declared.holding.Hold.{Hold}
 use Rattle.live.specs.declared.holding.Hold.TheVariants as hold
-use Rattle.child_edge.specs.Interrupts.{Interrupts}
-use Rattle.child_edge.specs.declared.interrupting.Interrupted.{Interrupted}
 use Rattle.live.specs.Records.{Edge, brought, left}
-use Rattle.live.specs.Saying.{IsCommand, SaidDone, Begins, line_goes_wrong}
-use Rattle.live.specs.Taking.{SaidSo, SaidUnwritten, SayingFailed, all, up_to, none, refused, stopped, untold, unwritten}
+use Rattle.live.specs.Saying.{IsCommand}
+use Rattle.live.specs.Taking.{SaidUnwritten, SayingFailed, all, up_to, none, refused, stopped, untold, unwritten}
 
 -- memory is wanted for a line that says a command
 pub wants_command : (bytes : List ℕ) → wants_memory (line_of bytes) ≡ true → IsCommand (live_line_of bytes)
@@ -48,62 +38,25 @@ wants_command bytes wants = go (line_of bytes) wants
     go (Some line.Wait) e = absurd (true≢false (sym e))
     go (Some line.Print) e = absurd (true≢false (sym e))
 
--- a line that gives no reply goes wrong where it asks in vain
-pub or_false : (b : Bool) → b ≡ (b || false)
-or_false true = refl
-or_false false = refl
-
 module _ {C : Type 0} (o : Edge C) where
   -- what couldn't be printed
-  pub said_untold : (number : ℕ) (l : Option LiveLine) (s : At C) (h : HostView) (c : C) (a b : Option (List ℕ)) (f : RunFault)
+  said_untold : (number : ℕ) (l : Option LiveLine) (s : At C) (h : HostView) (c : C) (a b : Option (List ℕ)) (f : RunFault)
       → IsUntold o.voice f → SaidUnwritten o l s (left h c a b) → SayingFailed o number l s (left h c a b) f
   said_untold number l s h c a b f (inl is) p = subst (SayingFailed o number l s (left h c a b)) (sym is) (unwritten p)
   said_untold number l s h c a b f (inr both) p = subst (SayingFailed o number l s (left h c a b)) (sym both.0) (untold both.1 p)
 
-  -- a line that no event comes of
-  pub said_still : (number : ℕ) (l : Option LiveLine) (w : World) (h : HostView) (c : C) (a b : Option (List ℕ)) (begun : Beginning) (text : List ℕ)
-      → SaidDone o number l (at w c h.store.disk) (brought [] text) (at w c h.store.disk) → Begins o c l begun.wait → begun.wrong ≡ line_goes_wrong w l [] → IsHost h w → Appends a b text
-      → SaidSo o number l (at w c h.store.disk) (left h c a b) begun
-  said_still number l w h c a b begun text done begins wrong stands wrote = ((brought [] text, w, done, begins, stands, wrote), wrong)
-
-  -- one that couldn't be printed
-  pub still_unwritten : (number : ℕ) (l : Option LiveLine) (w : World) (h : HostView) (c : C) (a b : Option (List ℕ)) (begun : Hold) (f : RunFault)
-      → Begins o c l begun → ((line : ℕ) → (text : List ℕ) × SaidDone o line l (at w c h.store.disk) (brought [] text) (at w c h.store.disk)) → IsHost h w → IsUntold o.voice f
-      → SayingFailed o number l (at w c h.store.disk) (left h c a b) f
-  still_unwritten number l w h c a b begun f begins done stands is =
-      said_untold number l (at w c h.store.disk) h c a b f is
-      (w, h.store.disk, all begun begins (λ line. (brought [] (done line).0, (done line).1)), inl (stands, refl))
-
-  -- an interrupt, of which no event comes
-  pub said_interrupt : (number : ℕ) (name : List ℕ) (came : Interrupted) (begun : Beginning) (w : World) (h : HostView) (c d : C) (a b : Option (List ℕ))
-      → Interrupts o.after w name c came d → IsHost h w → Appends a b (o.voice.note (note.Interrupted number name came))
-      → begun.wait ≡ hold.Free → begun.wrong ≡ not (has_session (sheet_in w) name) → SaidSo o number (Some (live.Interrupt name)) (at w c h.store.disk) (left h d a b) begun
-  said_interrupt number name came begun w h c d a b done stands wrote free wrong =
-      ((brought [] (o.voice.note (note.Interrupted number name came)), w, (refl, (came, done, refl), refl), free, stands, wrote), wrong ∙ or_false (not (has_session (sheet_in w) name)))
-
-  -- one that couldn't be printed
-  pub interrupt_unwritten : (number : ℕ) (name : List ℕ) (came : Interrupted) (w : World) (h : HostView) (c d : C) (a b : Option (List ℕ)) (f : RunFault)
-      → Interrupts o.after w name c came d → IsHost h w → IsUntold o.voice f
-      → SayingFailed o number (Some (live.Interrupt name)) (at w c h.store.disk) (left h d a b) f
-  interrupt_unwritten number name came w h c d a b f done stands is =
-      said_untold number (Some (live.Interrupt name)) (at w c h.store.disk) h d a b f is
-      (w, h.store.disk, all hold.Free refl (λ line. (brought [] (o.voice.note (note.Interrupted line name came)), (refl, (came, done, refl), refl))), inl (stands, refl))
-
   -- A command, and all that came of it.
 
-  pub said_command : (number : ℕ) (c : Command) (begun : Beginning) (w : World) (h g : HostView) (x d : C) (replies : List Reply) (a b : Option (List ℕ))
+  pub said_command : (number : ℕ) (c : Command) (w : World) (h g : HostView) (x d : C) (replies : List Reply) (a b : Option (List ℕ))
       → Ran (Served o.after (at w x h.store.disk) (event.Command c)) [] g d replies → Appends a b (replied_text o.voice number g.store.sheet.contents replies)
-      → begun.wait ≡ hold.Free → begun.wrong ≡ list_any is_wrong replies → SaidSo o number (Some (live.Script (line.Command c))) (at w x h.store.disk) (left g d a b) begun
-  said_command number c begun w h g x d replies a b p wrote free wrong = (
-    (
-      brought p.beats (replied_text o.voice number (sheet_in p.leads) (told p.beats)),
-      p.leads,
-      (p.form, refl),
-      free,
-      p.stands,
-      subst (λ (s : Contents). Appends a b (replied_text o.voice number s (told p.beats))) p.stands.stands.contents (subst (λ (rs : List Reply). Appends a b (replied_text o.voice number g.store.sheet.contents rs)) p.replied wrote),
-    ),
-    wrong ∙ ap (λ (rs : List Reply). list_any is_wrong rs) p.replied,
+      → Said o number (Some (live.Script (line.Command c))) (at w x h.store.disk) (left g d a b) hold.Free
+  said_command number c w h g x d replies a b p wrote = (
+    brought p.beats (replied_text o.voice number (sheet_in p.leads) (told p.beats)),
+    p.leads,
+    (p.form, refl),
+    refl,
+    p.stands,
+    subst (λ (s : Contents). Appends a b (replied_text o.voice number s (told p.beats))) p.stands.stands.contents (subst (λ (rs : List Reply). Appends a b (replied_text o.voice number g.store.sheet.contents rs)) p.replied wrote),
   )
 
   pub command_untold : (number : ℕ) (c : Command) (w : World) (h g : HostView) (x d : C) (replies : List Reply) (a b : Option (List ℕ)) (f : RunFault)

@@ -1,9 +1,6 @@
 pub mod LiveLines
 pub mod Records
 pub mod Saying
-pub mod Groups
 pub mod Arrivals
-pub mod Broken
-pub mod Live
 pub mod Taking
 pub mod Gathering

@@ -4,9 +4,7 @@ use Rattle.child_edge.specs.Faithful.{Relation}
 use Rattle.arrivals.specs.Lines.{InputLine}
 use Rattle.arrivals.specs.Watching.{Asked}
 use Rattle.arrivals.specs.declared.sources.Input.{Input}
-use Rattle.arrivals.specs.declared.sources.Input.TheVariants as input
 use Rattle.arrivals.specs.declared.sources.Woken.{Woken}
-use Rattle.arrivals.specs.declared.sources.Woken.TheVariants as woken
 use Rattle.live.specs.declared.manner.Manner.{Manner}
 use Rattle.tellings.specs.Voice.{Voice}
 -- Those of any program: what something brought, what a call leaves, and what is outside.
@@ -19,21 +17,6 @@ Clock C = C → ℕ → Type 0
 -- The relation of a watch: the sources before it, what it was asked, what it returned, and the sources after it.
 abbrev pub Watch : Type 0 → Type 1
 Watch C = C → Asked → Option Woken → C → Type 0
-
--- An input that may come comes at once, and the sources stay as they are; else it is as they are watched.
-abbrev pub ComesFirst : {C : Type 0} → Input → C → Option Woken → C → Type 0 → Type 0
-ComesFirst input.HeldBack c told d watched = watched
-ComesFirst input.Empty c told d watched = (told ≡ Some woken.Input) × (d ≡ c)
-ComesFirst input.Ready c told d watched = (told ≡ Some woken.Input) × (d ≡ c)
-
--- The watch of sources of which the input comes first: what children have is returned only where it is held back.
-abbrev pub lines_first_of : {C : Type 0} → Watch C → Watch C
-lines_first_of wakes c question told d = ComesFirst question.input c told d (wakes c question told d)
-
--- with lines first, or as they come
-abbrev pub wakes_by : {C : Type 0} → Bool → Watch C → Watch C
-wakes_by false wakes = wakes
-wakes_by true wakes = lines_first_of wakes
 
 -- How the sources are watched: what their clock reads, and what a watch of them returns.
 pub record Watches (C : Type 0) : Type 1 where
@@ -63,19 +46,6 @@ as_it_comes = record { lines_first = false; limit = None; strict = false }
 -- a strict one.
 abbrev pub line_by_line : Option ℕ → Bool → Manner
 line_by_line limit strict = record { lines_first = true; limit = limit; strict = strict }
-
--- the same for lines that are taken in this manner
-abbrev pub edge_by : {C : Type 0} → Manner → Voice → Relation C → Clock C → Watch C → Edge C
-edge_by manner voice after clock wakes =
-    record { voice = voice; after = after; watches = watches clock (wakes_by manner.lines_first wakes); limit = manner.limit; strict = manner.strict }
-
--- The lines to come, before a call and after it.
-pub record Lines : Type 0 where
-  pub old : Option (List InputLine)
-  pub new : Option (List InputLine)
-
-abbrev pub between : Option (List InputLine) → Option (List InputLine) → Lines
-between old new = record { old = old; new = new }
 
 -- A turn: whose it is, and whether a line was there when it came.
 pub record Turn : Type 0 where

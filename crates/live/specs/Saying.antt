@@ -1,6 +1,5 @@
 -- What comes of one line of a live input. (docs/SCRIPT.md, "Live".)
-use Rattle.std.specs.Prelude.{◌≡◌, ◌≢◌, ◌⊎◌, ℕ, ◌+◌, ◌-◌, ◌*◌, ◌^◌, ◌≤◌, ◌&&◌, ◌||◌, not, min, Bool, true, false, List, [], Option, Some, None, IsSome, is_some, length, if◌then◌else◌}
-use Rattle.std.specs.List.{AllByRecursion, list_any}
+use Rattle.std.specs.Prelude.{◌≡◌, ◌≢◌, ◌⊎◌, ℕ, ◌+◌, ◌-◌, ◌*◌, ◌^◌, not, min, Bool, true, false, List, [], Option, Some, None, IsSome, is_some}
 use Rattle.host_events.specs.declared.command.Command.{Command}
 use Rattle.host_events.specs.declared.event.Event.{Event}
 use Rattle.host_events.specs.declared.event.Event.TheVariants as event
@@ -18,9 +17,7 @@ use Rattle.sheet_text.specs.Script.{line_of}
 use Rattle.sheet_text.specs.declared.script.ScriptLine.TheVariants as line
 use Rattle.live.specs.declared.live_line.LiveLine.{LiveLine}
 use Rattle.live.specs.declared.live_line.LiveLine.TheVariants as live
-use Rattle.sheet_programs.specs.Strict.{is_wrong}
-use Rattle.sheet_programs.specs.Together.{most_commands}
-use Rattle.tellings.specs.Voice.{Voice, replied_text}
+use Rattle.tellings.specs.Voice.{replied_text}
 use Rattle.tellings.specs.declared.note.Note.TheVariants as note
 use Rattle.live.specs.declared.holding.Hold.{Hold}
 use Rattle.live.specs.declared.holding.Hold.TheVariants as hold
@@ -57,11 +54,6 @@ asks_in_vain w (live.WaitFor seconds) = false
 asks_in_vain w (live.Interrupt name) = not (has_session (sheet_in w) name)
 asks_in_vain w (live.Export format) = false
 
--- The line isn't known, asks for what isn't there, or one of these replies, which it gave, is a refusal or tells that items were lost.
-abbrev pub line_goes_wrong : World → Option LiveLine → List Reply → Bool
-line_goes_wrong w None replies = true
-line_goes_wrong w (Some said) replies = asks_in_vain w said || list_any is_wrong replies
-
 -- a line that says a command of the host
 abbrev pub IsCommand : Option LiveLine → Type 0
 IsCommand l = (c : Command) × (l ≡ Some (live.Script (line.Command c)))
@@ -69,10 +61,6 @@ IsCommand l = (c : Command) × (l ≡ Some (live.Script (line.Command c)))
 -- the line says a command, and not that the journal is rewritten
 abbrev pub SaysGrouped : List ℕ → Type 0
 SaysGrouped l = (c : Command) × (line_of l ≡ Some (line.Command c)) × (is_checkpoint (event.Command c) ≡ false)
-
--- Lines that may be taken as one group: two or more, and at most 1,024, of which each says a command other than `checkpoint`.
-abbrev pub MayGroup : List (List ℕ) → Type 0
-MayGroup lines = AllByRecursion SaysGrouped lines × (2 ≤ length lines) × (length lines ≤ most_commands)
 
 -- the moment at which a wait ends by its time, where it has one
 abbrev pub time_of : Hold → Option ℕ
@@ -152,18 +140,3 @@ has_closed (reply.Asked number) = false
 has_closed (reply.Refused why) = false
 has_closed (reply.Child one) = is_some one.closed
 has_closed reply.Nothing = false
-
--- a wait stays as it is, or begins again where the sources stand so
-abbrev pub BeginsAgain : {C : Type 0} → Edge C → C → Bool → Hold → Hold → Type 0
-BeginsAgain o c false held behind = behind ≡ held
-BeginsAgain o c true held behind = UntimedBegins o.watches.clock c o.limit behind
-
--- The wait after a life's turn that gave these replies: it goes on as long as an item waits for an answer. Where something closed, the next
--- line of that session was sent, so the time of a line begins again.
-abbrev pub TurnGoesOn : {C : Type 0} → Edge C → Hold → List Reply → At C → Hold → Type 0
-TurnGoesOn o held replies t behind =
-    ((waits t.world ≡ []) × (behind ≡ hold.Free)) ⊎ ((waits t.world ≢ []) × BeginsAgain o t.children (has_limit held && list_any has_closed replies) held behind)
-
--- what is printed of a wait of this line that goes on or not, by how it stood before and how it stands
-abbrev pub over_text : Voice → ℕ → Hold → Hold → List ℕ
-over_text V number before now = if is_held before && not (is_held now) then V.note (note.Waited number false) else []
