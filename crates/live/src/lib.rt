@@ -1,4 +1,4 @@
-//! The words of a live worksheet: what a line says, which wait holds back the lines behind it, and what a turn of a command or of a life
+//! The words of a live worksheet: what a line says, which wait holds back the lines after it, and what a turn of a command or of a life
 //! gives.
 #![tactic(auto)]
 
