@@ -9,11 +9,11 @@ use Rattle.journal.specs.declared.journal.OpenFault.{OpenFault}
 use Rattle.journal.specs.declared.opening.OpenCause.{OpenCause}
 use Rattle.journal.specs.declared.opening.OpenCause.TheVariants as causes
 use Rattle.offline_programs.specs.declared.fault.RunFault.TheVariants as fault
-use Rattle.past.specs.Earlier.{FirstAreRead, IsAfter, StandFirst, TellsHeadless, TellsOfLack, TellsOfPast, after_first}
+use Rattle.past.specs.Earlier.{FirstAreRead, IsOfFirst, StandFirst, TellsOfLack, TellsOfPast, after_first}
 use Rattle.past.specs.declared.fault.PastFault.{PastFault}
 use Rattle.past.specs.declared.fault.PastFault.TheVariants as past
 use Rattle.past.specs.inside.First.{FindsEnough, FindsFirst, lack}
-use Rattle.recovery.specs.Laws.{LongestRescue, OneRescue}
+use Rattle.recovery.specs.Laws.{LongestRescue}
 use Rattle.recovery.specs.Rescued.{IsRescued}
 use Rattle.recovery.specs.Sheets.{Makes}
 use Rattle.recovery.specs.declared.rescuing.Rescued.{Rescued}
@@ -75,24 +75,16 @@ after_enough longest i n ops all damage sheet first count is rescued =
       is ∙ ap sheet_of (sym (first_of_more ops more.0) ∙ ap (λ (m : ℕ). take m (ops ++ more.0)) count ∙ ap (λ (l : List Op). take n l) (sym more.1)),
     )
 
-tells_lack : (n : ℕ) (all : List Op) (found damage : Option ℕ) → length all < n → found ≡ damage → TellsOfPast n all damage (lack n found)
-tells_lack n all None damage less same = (refl, less, sym same)
-tells_lack n all (Some gate) damage less same = (less, sym same)
-
-lack_headed : (i : Image) (n : ℕ) (damage : Option ℕ) → TellsHeadless i (lack n damage)
-lack_headed i n None = tt
-lack_headed i n (Some gate) = tt
-
 lack_no_fault : {T P : Type 0} (n : ℕ) (damage : Option ℕ) → Err {T = T} (lack n damage) ≡ Err (past.Run (fault.Open causes.Disk)) → P
 lack_no_fault n None e = absurd cc
 lack_no_fault n (Some gate) e = absurd cc
 
 -- of n that were asked for fewer were found
-few_after : OneRescue → {D : Type 0} (i : Image) (n : ℕ) (found : Rescued D) → found.kept < n → FindsFirst i n found → (all : List Op) (damage : Option ℕ) → IsRescued i all damage → TellsOfPast n all damage (lack n found.damage)
-few_after one i n found less (inl few) all damage rescued =
-    let same = one i few.1.0 all found.damage damage few.1.1 rescued in
-    tells_lack n all found.damage damage (omega (arith, less, few.1.3, ap length same.0)) same.1
-few_after one i n found less (inr enough) all damage rescued = absurd (omega (arith, less, enough.0))
+few_after : {D : Type 0} (i : Image) (n : ℕ) (found : Rescued D) (damage : Option ℕ) → found.damage ≡ damage → found.kept < n → FindsFirst i n found → TellsOfPast i n (lack n damage)
+few_after i n found None is less (inl few) = (refl, few.1.0, subst (λ (d : Option ℕ). IsRescued i few.1.0 d) is few.1.1, omega (arith, less, few.1.3))
+few_after i n found (Some gate) is less (inl few) = (few.1.0, subst (λ (d : Option ℕ). IsRescued i few.1.0 d) is few.1.1, omega (arith, less, few.1.3))
+few_after i n found None is less (inr enough) = absurd (omega (arith, less, enough.0))
+few_after i n found (Some gate) is less (inr enough) = absurd (omega (arith, less, enough.0))
 
 -- so many were found
 all_after : LongestRescue → {D : Type 0} (i : Image) (n : ℕ) (found : Rescued D) → (found.kept < n → ⊥) → FindsFirst i n found → (all : List Op) (damage : Option ℕ) → IsRescued i all damage
@@ -102,7 +94,7 @@ all_after longest i n found most (inr enough) all damage rescued =
     after_enough longest i n enough.2.0 all damage found.sheet.contents enough.2.1 (omega (arith, enough.0, enough.2.3)) enough.2.2 rescued
 
 enough_found : {D : Type 0} (i : Image) (n : ℕ) (found : Rescued D) → (found.kept < n → ⊥) → FindsFirst i n found
-    → (ops : List Op) × StandFirst i ops × (length ops ≡ n) × (found.sheet.contents ≡ sheet_of ops)
+    → IsOfFirst i n found
 enough_found i n found most (inl few) = absurd (most few.0)
 enough_found i n found most (inr enough) = (enough.2.0, enough.2.1, omega (arith, enough.0, enough.2.3), enough.2.2)
 
@@ -113,17 +105,16 @@ damage_none i n found most (inr enough) = enough.1
 module _ {D : Type 0} (view : D → DiskView) (n : ℕ) (disk : D) (found : Rescued D) (same : SameDisk (view disk) (view found.disk))
     (looks : InModel (view disk) (Looks (view disk).history (view found.disk).history)) (faults : (view found.disk).faults ≡ (view disk).faults)
     (finds : InModel (view disk) (FindsFirst (bytes_on (view disk)) n found)) where
-  pub read_few : OneRescue → found.kept < n → FirstAreRead view n disk found.disk (Err (lack n found.damage))
-  read_few one less = record {
+  pub read_few : found.kept < n → FirstAreRead view n disk found.disk (Err (lack n found.damage))
+  read_few less = record {
     same = same;
     looks = looks;
     disk_is = tt;
     made = tt;
     counted = tt;
     whole = λ model. tt;
-    found = λ model. tt;
-    after_them = λ model. few_after one (bytes_on (view disk)) n found less (finds model);
-    headless = λ model. lack_headed (bytes_on (view disk)) n found.damage;
+    after_them = λ model. few_after (bytes_on (view disk)) n found found.damage refl less (finds model);
+    of_all = λ model all damage rescued. tt;
     failed = λ e. lack_no_fault n found.damage e;
     steady = λ none. faults;
   }
@@ -136,24 +127,17 @@ module _ {D : Type 0} (view : D → DiskView) (n : ℕ) (disk : D) (found : Resc
     made = made;
     counted = counted;
     whole = λ model. damage_none (bytes_on (view disk)) n found most (finds model);
-    found = λ model. enough_found (bytes_on (view disk)) n found most (finds model);
-    after_them = λ model. all_after longest (bytes_on (view disk)) n found most (finds model);
-    headless = λ model. tt;
+    after_them = λ model. enough_found (bytes_on (view disk)) n found most (finds model);
+    of_all = λ model. all_after longest (bytes_on (view disk)) n found most (finds model);
     failed = λ e. absurd cc;
     steady = λ none. faults;
   }
 
-headed : (i : Image) (cause : OpenCause) → TellsHeader i cause → TellsHeadless i (past.Run (fault.Open cause))
-headed i (causes.Damaged gate) told = tt
-headed i causes.NotASheet told = told
-headed i causes.Disk told = tt
-headed i causes.OutOfMemory told = tt
-
-nothing_after : (n : ℕ) (all : List Op) (damage : Option ℕ) (i : Image) (cause : OpenCause) → TellsHeader i cause → TellsOfLack n all damage cause
-nothing_after n all damage i (causes.Damaged gate) told = absurd told
-nothing_after n all damage i causes.NotASheet told = tt
-nothing_after n all damage i causes.Disk told = tt
-nothing_after n all damage i causes.OutOfMemory told = tt
+headed : (i : Image) (n : ℕ) (cause : OpenCause) → TellsHeader i cause → TellsOfLack i n cause
+headed i n (causes.Damaged gate) told = absurd told
+headed i n causes.NotASheet told = told
+headed i n causes.Disk told = tt
+headed i n causes.OutOfMemory told = tt
 
 pub passing_told : (i : Image) (cause : OpenCause) → IsPassing cause → TellsHeader i cause
 passing_told i (causes.Damaged gate) passing = absurd passing
@@ -175,9 +159,8 @@ read_none view n disk after cause same looks told failed steady = record {
   made = tt;
   counted = tt;
   whole = λ model. tt;
-  found = λ model. tt;
-  after_them = λ model all damage rescued. nothing_after n all damage (bytes_on (view disk)) cause (told model);
-  headless = λ model. headed (bytes_on (view disk)) cause (told model);
+  after_them = λ model. headed (bytes_on (view disk)) n cause (told model);
+  of_all = λ model all damage rescued. tt;
   failed = λ e. failed (same_cause cause causes.Disk e);
   steady = λ none. steady (λ e. none (ap (λ (c : OpenCause). Err (past.Run (fault.Open c))) e));
 }

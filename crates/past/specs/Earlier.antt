@@ -1,5 +1,5 @@
 -- What a worksheet was: the worksheet of the first of the changes that stand on its disk.
-use Rattle.std.specs.Prelude.{◌≡◌, ◌<◌, ◌≤◌, ℕ, Bool, List, ◌++◌, Option, Some, None, Result, Ok, Err, IfOk, IfErr, MatchResult, length, take}
+use Rattle.std.specs.Prelude.{◌≡◌, ◌<◌, ◌≤◌, ℕ, Bool, List, ◌++◌, Option, Some, None, Result, Ok, Err, IfOk, length, take}
 use Rattle.disk_model.specs.Disk.{DiskView, Image, InModel, Looks, Rises, SameDisk, bytes_on}
 use Rattle.journal.specs.Front.{ImageHasFront, TellsHeader}
 use Rattle.journal.specs.declared.opening.OpenCause.{OpenCause}
@@ -27,33 +27,35 @@ pub record StandFirst (i : Image) (ops : List Op) : Type 0 where
   pub front : ImageHasFront i (codes_of ops ++ left) damaged
   pub makes : Makes ops (sheet_of ops)
 
--- What the cause of a refused reading of n changes says, where these stand on the disk before this damage: there are fewer,
--- and the damage is why; or it isn't in the bytes. Of a missing header says `headless`.
-abbrev pub TellsOfLack : ℕ → List Op → Option ℕ → OpenCause → Type 0
-TellsOfLack n all damage (opens.Damaged gate) = (length all < n) × (damage ≡ Some gate)
-TellsOfLack n all damage opens.NotASheet = Unit {0}
-TellsOfLack n all damage opens.Disk = Unit {0}
-TellsOfLack n all damage opens.OutOfMemory = Unit {0}
+-- These are all changes that stand on an image before this damage, or none, and they are fewer than n.
+abbrev pub AreFewer : Image → ℕ → Option ℕ → Type 0
+AreFewer i n damage = (all : List Op) × IsRescued i all damage × (length all < n)
+
+-- What the cause of a refused reading of n changes says: a damage comes before so many; there is no header; or it isn't in the bytes.
+abbrev pub TellsOfLack : Image → ℕ → OpenCause → Type 0
+TellsOfLack i n (opens.Damaged gate) = AreFewer i n (Some gate)
+TellsOfLack i n opens.NotASheet = TellsHeader i opens.NotASheet
+TellsOfLack i n opens.Disk = Unit {0}
+TellsOfLack i n opens.OutOfMemory = Unit {0}
 
 -- a program that reads changes has the faults of an opening alone
-abbrev pub TellsOfRun : ℕ → List Op → Option ℕ → RunFault → Type 0
-TellsOfRun n all damage (fault.Open cause) = TellsOfLack n all damage cause
-TellsOfRun n all damage _ = ⊥
+abbrev pub TellsOfRun : Image → ℕ → RunFault → Type 0
+TellsOfRun i n (fault.Open cause) = TellsOfLack i n cause
+TellsOfRun i n _ = ⊥
 
 -- that there is no such change is answered only where they are fewer, and no damage is after them
-abbrev pub TellsOfPast : ℕ → List Op → Option ℕ → PastFault → Type 0
-TellsOfPast n all damage (past.NoChange number) = (number ≡ n) × (length all < n) × (damage ≡ None)
-TellsOfPast n all damage (past.Run why) = TellsOfRun n all damage why
+abbrev pub TellsOfPast : Image → ℕ → PastFault → Type 0
+TellsOfPast i n (past.NoChange number) = (number ≡ n) × AreFewer i n None
+TellsOfPast i n (past.Run why) = TellsOfRun i n why
 
--- The worksheet after the first n changes, where so many stand on the disk before this damage; else why it can't be had.
-abbrev pub IsAfter : {D : Type 0} → ℕ → List Op → Option ℕ → Result (Rescued D) PastFault → Type 0
-IsAfter n all damage (Ok found) = (n ≤ length all) × (found.sheet.contents ≡ after_first n all)
-IsAfter n all damage (Err why) = TellsOfPast n all damage why
+-- the worksheet of n changes that stand first on an image
+abbrev pub IsOfFirst : {D : Type 0} → Image → ℕ → Rescued D → Type 0
+IsOfFirst i n found = (ops : List Op) × StandFirst i ops × (length ops ≡ n) × (found.sheet.contents ≡ sheet_of ops)
 
--- of a disk without a header no other cause lies in the bytes
-abbrev pub TellsHeadless : Image → PastFault → Type 0
-TellsHeadless i (past.Run (fault.Open opens.NotASheet)) = TellsHeader i opens.NotASheet
-TellsHeadless i other = Unit {0}
+-- The worksheet after the first n changes of an image, where so many stand on it; else why it can't be had.
+abbrev pub IsAfter : {D : Type 0} → Image → ℕ → Result (Rescued D) PastFault → Type 0
+IsAfter i n (Ok found) = IsOfFirst i n found
+IsAfter i n (Err why) = TellsOfPast i n why
 
 -- the disk whose first changes were read, after that
 abbrev pub disk_read : {D : Type 0} → Result (Rescued D) (Unread D) → D
@@ -76,11 +78,10 @@ pub record FirstAreRead {D : Type 0} (view : D → DiskView) (n : ℕ) (disk aft
   pub made : IfOk answer (λ found. (ops : List Op) × Makes ops found.sheet.contents × (length ops ≡ n))
   pub counted : IfOk answer (λ found. found.kept ≡ n)
   pub whole : InModel (view disk) (IfOk answer (λ found. found.damage ≡ None))
-  pub found : InModel (view disk) (IfOk answer (λ found. (ops : List Op) × StandFirst (bytes_on (view disk)) ops
-      × (length ops ≡ n) × (found.sheet.contents ≡ sheet_of ops)))
-  -- which they are, the bytes say: of those that a rescue would keep they are the first n
-  pub after_them : InModel (view disk) ((all : List Op) (damage : Option ℕ) → IsRescued (bytes_on (view disk)) all damage → IsAfter n all damage answer)
-  pub headless : InModel (view disk) (IfErr answer (TellsHeadless (bytes_on (view disk))))
+  pub after_them : InModel (view disk) (IsAfter (bytes_on (view disk)) n answer)
+  -- of those that a rescue would keep they are the first n, so the bytes say which they are
+  pub of_all : InModel (view disk) ((all : List Op) (damage : Option ℕ) → IsRescued (bytes_on (view disk)) all damage
+      → IfOk answer (λ found. (n ≤ length all) × (found.sheet.contents ≡ after_first n all)))
   pub failed : answer ≡ Err (past.Run (fault.Open opens.Disk)) → Rises (view disk).faults (view after).faults
   -- where anything else is answered, no call of the disk failed
   pub steady : (answer ≡ Err (past.Run (fault.Open opens.Disk)) → ⊥) → (view after).faults ≡ (view disk).faults

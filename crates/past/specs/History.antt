@@ -1,11 +1,12 @@
 -- The list of the changes that stand on a disk.
-use Rattle.std.specs.Prelude.{◌≡◌, ℕ, ◌+◌, List, [], ◌∷◌, ◌++◌, Option, Some, None, Result, Ok, Err, codes}
+use Rattle.std.specs.Prelude.{◌≡◌, ◌⊎◌, ℕ, ◌+◌, List, [], ◌∷◌, ◌++◌, Option, Some, None, Result, Ok, Err, codes}
 use Rattle.std.specs.Fmt.{decimal}
 use Rattle.std.specs.Io.KnownBytes.{Appends}
 use Rattle.disk_model.specs.Disk.{DiskView, Image, InModel, Looks, Rises, SameDisk, bytes_on}
 use Rattle.journal.specs.Front.{TellsHeader}
 use Rattle.journal.specs.declared.opening.OpenCause.{OpenCause}
 use Rattle.journal.specs.declared.opening.OpenCause.TheVariants as opens
+use Rattle.past.specs.Earlier.{StandFirst}
 use Rattle.recovery.specs.Rescued.{IsRescued}
 use Rattle.offline_programs.specs.declared.fault.RunFault.{RunFault}
 use Rattle.offline_programs.specs.declared.fault.RunFault.TheVariants as fault
@@ -43,13 +44,17 @@ history_text ops = changes_from 1 1 ops
 abbrev pub Lists : Image → Option ℕ → (List ℕ → Type 0) → Type 0
 Lists i damage written = (all : List Op) × IsRescued i all damage × written (history_text all)
 
+-- These changes stand first on an image, whatever comes after them, and their list was written.
+abbrev pub ListsFirst : Image → (List ℕ → Type 0) → Type 0
+ListsFirst i written = (ops : List Op) × StandFirst i ops × written (history_text ops)
+
 -- What the cause says that ended a list: the first damage, up to which all was written; that there is no header, where nothing was;
--- or it isn't in the bytes.
+-- or it isn't in the bytes, and then nothing was written, or the list of some that stand first.
 abbrev pub TellsEnd : Image → (List ℕ → Type 0) → Type 0 → OpenCause → Type 0
 TellsEnd i written nothing (opens.Damaged gate) = Lists i (Some gate) written
 TellsEnd i written nothing opens.NotASheet = TellsHeader i opens.NotASheet × nothing
-TellsEnd i written nothing opens.Disk = Unit {0}
-TellsEnd i written nothing opens.OutOfMemory = Unit {0}
+TellsEnd i written nothing opens.Disk = nothing ⊎ ListsFirst i written
+TellsEnd i written nothing opens.OutOfMemory = nothing ⊎ ListsFirst i written
 
 -- the same of a fault of the program: one of reading or of writing
 abbrev pub TellsListFault : Image → (List ℕ → Type 0) → Type 0 → RunFault → Type 0

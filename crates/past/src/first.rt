@@ -20,7 +20,7 @@ use crate::changes::{do_op, op_of};
 use disk_model::Disk;
 use journal::{Front, InFront, OpenCause, OpenFault, Payload};
 use offline_programs::RunFault;
-use recovery::{Rescued, longest_rescue, one_rescue};
+use recovery::{Rescued, longest_rescue};
 use std::alloc::Global;
 use worksheet::Sheet;
 
@@ -157,7 +157,6 @@ pub fn read_first<D: Disk>(alloc: Global, disk: D, count: u64) -> Result<Rescued
     ensures { FirstAreRead D.view count disk (disk_read result) (answer_read result) }
 {
     longest_rescue();
-    one_rescue();
     let front = match Front::begin(alloc, disk) {
         Ok(front) => front,
         Err(fault) => return Err(not_begun(fault)),

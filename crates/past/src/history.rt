@@ -44,7 +44,9 @@ fn list_one<W: Write>(
         × Appends (W.contents writer.old) (W.contents writer.new)
         (change_line number sheet.old.contents.next takes.next)) }
     ensures refused { (ops : List Op) → Makes ops sheet.old.contents
-        → IfErr result (RefusesToList ops payload.now (writer.new ≡ writer.old)) }
+        → IfErr result (RefusesToList ops payload.now (writer.new ≡ writer.old)
+        (λ op. Appends (W.contents writer.old) (W.contents writer.new)
+        (change_line number sheet.old.contents.next op))) }
     ensures passing { IsErrOf result (told.Open opens.Disk) → ⊥ }
 {
     let op = match op_of(alloc, sheet, payload) {

@@ -33,7 +33,7 @@ returns-then g c =
     (read_few g.D.Disk.view c.args.count c.args.disk c.in-Ok-take_first.found (both_same _ _ _ begun.same read.same)
     (λ model. looks_on _ _ _ (begun.looks model) (read.looks (subst IsTrue (sym begun.same.keeps_model) model))) (read.steady ∙ begun.steady)
     (λ model. let found = begun.found model in subst (λ (i : Image). FindsFirst i c.args.count c.in-Ok-take_first.found) (begun.looks model).content (read.found (subst IsTrue (sym begun.same.keeps_model) model) found.0 found.2))
-    c.one_rescue.ensures c.if.true)
+    c.if.true)
 
 pub returns : goal.returns
 returns g c =

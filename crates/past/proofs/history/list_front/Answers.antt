@@ -1,11 +1,11 @@
-use Rattle.std.proofs.Common.{◌≡◌, ◌++◌, ◌∷◌, [], sym, ◌∙◌, subst, arith, length-append, IsTrue}
+use Rattle.std.proofs.Common.{◌≡◌, ◌++◌, ◌∷◌, ◌+◌, [], sym, ◌∙◌, subst, arith, length-append, IsTrue}
 use Rattle.std.specs.Prelude.{Result}
 use Rattle.std.specs.Io.KnownBytes.{Appends}
 use Rattle.disk_model.specs.Disk.{DiskView, Looks, bytes_on}
 use Rattle.disk_model.specs.inside.Moments.{looks_on}
 use Rattle.offline_programs.specs.declared.fault.RunFault.{RunFault}
-use Rattle.past.specs.History.{TellsList, history_text}
-use Rattle.past.proofs.Lists.{list_before, list_passing, list_whole, one_listed}
+use Rattle.past.specs.History.{TellsList, change_line, history_text}
+use Rattle.past.proofs.Lists.{list_before, list_stopped, list_whole, one_listed}
 use Rattle.recovery.specs.Sheets.{codes_of}
 use Rattle.recovery.proofs.Rescues.{left_behind}
 use Rattle.past.proofs.history.list_front.Goals as goal
@@ -26,8 +26,10 @@ returns-in-Err-list_one-clause-listed g c = λ model payloads has.
     let next = rw c.in-Ok-Payload.field-0-is at (c.in-Ok-Payload.ensures.given model1 (codes_of reached.ops) far.left far.given) in
     let on = rw c.in-Ok-Payload.field-0-is at c.in-Ok-Payload.ensures.on in
     list_before c.args.front c.loop-behind.front c.loop-behind.sheet.contents c.loop-behind.count c.in-Ok-Payload.payload payloads c.in-Err-list_one.fault
-    (Appends (g.W.Write.contents c.args.writer.now) (g.W.Write.contents c.list_one.new.writer)) (c.list_one.new.writer ≡ c.args.writer.now) (c.list_one.new.writer ≡ c.loop-behind.writer) reached has far next.0 next.1 on.0
+    (Appends (g.W.Write.contents c.args.writer.now) (g.W.Write.contents c.list_one.new.writer)) (c.list_one.new.writer ≡ c.args.writer.now) (c.list_one.new.writer ≡ c.loop-behind.writer)
+    (λ op. Appends (g.W.Write.contents c.loop-behind.writer) (g.W.Write.contents c.list_one.new.writer) (change_line (c.loop-behind.count + 1) c.loop-behind.sheet.contents.next op)) reached has far next.0 next.1 on.0
     (λ same. subst (λ w. Appends (g.W.Write.contents c.args.writer.now) (g.W.Write.contents w) (history_text reached.ops)) (sym same) before.listed.text)
+    (λ op line. one_listed _ _ _ reached.ops op c.loop-behind.sheet.contents c.loop-behind.count reached.count reached.makes.is before.listed.text line)
     (c.in-Err-list_one.ensures.refused reached.ops reached.makes)
 
 pub returns-in-Ok-End-clause-looks : goal.returns-in-Ok-End-clause-looks
@@ -58,7 +60,10 @@ returns-in-Err-clause-looks g c = λ model.
 
 pub returns-in-Err-clause-listed : goal.returns-in-Err-clause-listed
 returns-in-Err-clause-listed g c = λ model payloads has.
-    list_passing (bytes_on c.args.front.disk) (Appends (g.W.Write.contents c.args.writer.now) (g.W.Write.contents c.loop-behind.writer)) (c.loop-behind.writer ≡ c.args.writer.now) c.in-Err.cause c.in-Err.ensures.cause
+    let before = c.loop-behind.invariant in
+    let reached = before.listed.reached in
+    list_stopped c.args.front c.loop-behind.front c.loop-behind.sheet.contents c.loop-behind.count payloads (Appends (g.W.Write.contents c.args.writer.now) (g.W.Write.contents c.loop-behind.writer))
+    (c.loop-behind.writer ≡ c.args.writer.now) c.in-Err.cause reached has (reached.so_far model payloads has) before.listed.text c.in-Err.ensures.cause
 
 pub loop-behind-preserved : goal.loop-behind-preserved
 loop-behind-preserved g c =
