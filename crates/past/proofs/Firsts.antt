@@ -39,10 +39,7 @@ pub enough_given : {D : Type 0} (old now : FrontView) (sheet : SheetView) (kept 
 enough_given old now sheet kept n disk payloads reached has far all = inr (
   all,
   refl,
-  reached.ops,
-  stand_first old now reached.ops payloads sheet.contents reached.makes has far,
-  reached.makes.is,
-  reached.count,
+  (reached.ops, stand_first old now reached.ops payloads sheet.contents reached.makes has far, reached.makes.is, reached.count),
 )
 
 -- fewer were given, and a payload was refused
@@ -75,13 +72,13 @@ after_enough longest i n ops all damage sheet first count is rescued =
       is ∙ ap sheet_of (sym (first_of_more ops more.0) ∙ ap (λ (m : ℕ). take m (ops ++ more.0)) count ∙ ap (λ (l : List Op). take n l) (sym more.1)),
     )
 
-lack_no_fault : {T P : Type 0} (n : ℕ) (damage : Option ℕ) → Err {T = T} (lack n damage) ≡ Err (past.Run (fault.Open causes.Disk)) → P
+lack_no_fault : {T P : Type 0} (n : ℕ) (damage : Option ℕ) → let one : Result T PastFault = Err (lack n damage) in one ≡ Err (past.Run (fault.Open causes.Disk)) → P
 lack_no_fault n None e = absurd cc
 lack_no_fault n (Some gate) e = absurd cc
 
 -- of n that were asked for fewer were found
 few_after : {D : Type 0} (i : Image) (n : ℕ) (found : Rescued D) (damage : Option ℕ) → found.damage ≡ damage → found.kept < n → FindsFirst i n found → TellsOfPast i n (lack n damage)
-few_after i n found None is less (inl few) = (refl, few.1.0, subst (λ (d : Option ℕ). IsRescued i few.1.0 d) is few.1.1, omega (arith, less, few.1.3))
+few_after i n found None is less (inl few) = (refl, (few.1.0, subst (λ (d : Option ℕ). IsRescued i few.1.0 d) is few.1.1, omega (arith, less, few.1.3)))
 few_after i n found (Some gate) is less (inl few) = (few.1.0, subst (λ (d : Option ℕ). IsRescued i few.1.0 d) is few.1.1, omega (arith, less, few.1.3))
 few_after i n found None is less (inr enough) = absurd (omega (arith, less, enough.0))
 few_after i n found (Some gate) is less (inr enough) = absurd (omega (arith, less, enough.0))
@@ -145,7 +142,7 @@ passing_told i causes.NotASheet passing = absurd passing
 passing_told i causes.Disk passing = tt
 passing_told i causes.OutOfMemory passing = tt
 
-same_cause : {T : Type 0} (one two : OpenCause) → Err {T = T} (past.Run (fault.Open one)) ≡ Err (past.Run (fault.Open two)) → one ≡ two
+same_cause : {T : Type 0} (one two : OpenCause) → let why : Result T PastFault = Err (past.Run (fault.Open one)) in why ≡ Err (past.Run (fault.Open two)) → one ≡ two
 same_cause one two e = cc
 
 -- a disk that isn't read as far, for a cause that isn't in the bytes behind its header

@@ -1,5 +1,5 @@
 //! The list of the changes of a journal.
-ghost use Rattle.std.specs.Prelude.{◌≡◌, ◌≤◌, [], List, ℕ, IfErr, IsErrOf, OnOk};
+ghost use Rattle.std.specs.Prelude.{◌≡◌, ◌≤◌, [], Err, List, ℕ, IfErr, IsErrOf, OnOk};
 ghost use Rattle.std.specs.Io.KnownBytes.{Appends};
 ghost use Rattle.disk_model.specs.Disk.{InModel, Looks, Rises, SameDisk, bytes_on, greatest_room};
 ghost use Rattle.journal.specs.Area.{IsPayload, first_gate};
@@ -72,6 +72,17 @@ fn whole_or(damage: Option<u64>) -> Result<(), RunFault>
     }
 }
 
+/// How a list ends where the disk isn't read further.
+fn not_read<D: Disk>(fault: OpenFault<D>) -> Listed<D>
+    ensures { result ≡ record { disk = fault.disk; answer = Err (told.Open fault.cause) } }
+{
+    let OpenFault { cause, disk } = fault;
+    Listed {
+        disk,
+        answer: Err(RunFault::Open(cause)),
+    }
+}
+
 /// Lists what a front gives that has given nothing.
 fn list_front<D: Disk, W: Write>(alloc: Global, front: Front<D>, writer: &mut W) -> Listed<D>
     requires first { front.gate ≡ first_gate }
@@ -108,12 +119,7 @@ fn list_front<D: Disk, W: Write>(alloc: Global, front: Front<D>, writer: &mut W)
                     answer: whole_or(damage),
                 };
             }
-            Err(OpenFault { cause, disk }) => {
-                return Listed {
-                    disk,
-                    answer: Err(RunFault::Open(cause)),
-                };
-            }
+            Err(fault) => return not_read(fault),
         }
     }
 }
@@ -142,9 +148,6 @@ pub fn list_changes<D: Disk, W: Write>(alloc: Global, disk: D, writer: &mut W) -
 {
     match Front::begin(alloc, disk) {
         Ok(front) => list_front(alloc, front, writer),
-        Err(OpenFault { cause, disk }) => Listed {
-            disk,
-            answer: Err(RunFault::Open(cause)),
-        },
+        Err(fault) => not_read(fault),
     }
 }

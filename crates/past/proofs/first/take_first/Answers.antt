@@ -59,7 +59,7 @@ pub returns-clause-found : goal.returns-clause-found
 returns-clause-found g c = λ model payloads has.
     let before = c.loop-kept.invariant in
     let far = before.reached.so_far model payloads has in
-    enough_given c.args.front c.loop-kept.front c.loop-kept.sheet c.loop-kept.kept c.args.count c.into_disk.result payloads before.reached has far (omega (arith, c.loop-kept-test.false, before.most))
+    enough_given c.args.front c.loop-kept.front c.loop-kept.sheet c.loop-kept.kept c.args.count c.into_disk-2.result payloads before.reached has far (omega (arith, c.loop-kept-test.false, before.most))
 
 pub loop-kept-preserved : goal.loop-kept-preserved
 loop-kept-preserved g c =

@@ -1,4 +1,4 @@
-use Rattle.std.proofs.Common.{◌≡◌, ◌++◌, ◌∷◌, ◌+◌, [], sym, ◌∙◌, subst, arith, length-append, IsTrue}
+use Rattle.std.proofs.Common.{◌≡◌, ◌++◌, ◌∷◌, ◌+◌, [], sym, ◌∙◌, refl, rules, subst, arith, length-append, IsTrue}
 use Rattle.std.specs.Prelude.{Result}
 use Rattle.std.specs.Io.KnownBytes.{Appends}
 use Rattle.disk_model.specs.Disk.{DiskView, Looks, bytes_on}
@@ -6,6 +6,7 @@ use Rattle.disk_model.specs.inside.Moments.{looks_on}
 use Rattle.offline_programs.specs.declared.fault.RunFault.{RunFault}
 use Rattle.past.specs.History.{TellsList, change_line, history_text}
 use Rattle.past.proofs.Lists.{list_before, list_stopped, list_whole, one_listed}
+use Rattle.past.specs.declared.history.Listed.{Listed}
 use Rattle.recovery.specs.Sheets.{codes_of}
 use Rattle.recovery.proofs.Rescues.{left_behind}
 use Rattle.past.proofs.history.list_front.Goals as goal
@@ -56,14 +57,31 @@ pub returns-in-Err-clause-looks : goal.returns-in-Err-clause-looks
 returns-in-Err-clause-looks g c = λ model.
     let before = c.loop-behind.invariant in
     let model1 = subst IsTrue (sym before.same.keeps_model) model in
-    looks_on _ _ _ (before.looks model) (c.in-Err.ensures.looks model1)
+    subst (λ (l : Listed g.row.D.Denot). Looks c.args.front.disk.history (g.D.Disk.view l.disk).history) (sym c.not_read.ensures) (looks_on _ _ _ (before.looks model) (c.in-Err.ensures.looks model1))
 
 pub returns-in-Err-clause-listed : goal.returns-in-Err-clause-listed
 returns-in-Err-clause-listed g c = λ model payloads has.
     let before = c.loop-behind.invariant in
     let reached = before.listed.reached in
-    list_stopped c.args.front c.loop-behind.front c.loop-behind.sheet.contents c.loop-behind.count payloads (Appends (g.W.Write.contents c.args.writer.now) (g.W.Write.contents c.loop-behind.writer))
-    (c.loop-behind.writer ≡ c.args.writer.now) c.in-Err.cause reached has (reached.so_far model payloads has) before.listed.text c.in-Err.ensures.cause
+    let written = Appends (g.W.Write.contents c.args.writer.now) (g.W.Write.contents c.loop-behind.writer) in
+    let nothing = c.loop-behind.writer ≡ c.args.writer.now in
+    subst (λ (l : Listed g.row.D.Denot). TellsList (bytes_on c.args.front.disk) written nothing l.answer) (sym c.not_read.ensures)
+    (list_stopped c.args.front c.loop-behind.front c.loop-behind.sheet.contents c.loop-behind.count payloads written nothing c.in-Err.fault.cause reached has
+    (reached.so_far model payloads has) before.listed.text c.in-Err.ensures.cause)
+
+pub loop-behind-init : goal.loop-behind-init
+loop-behind-init g c = record {
+  before = c.requires.end;
+  small = c.requires.small;
+  counted = search rules;
+  same = search rules;
+  steady = refl;
+  looks = search rules;
+  listed = record {
+    reached = search rules;
+    text = search rules;
+  };
+}
 
 pub loop-behind-preserved : goal.loop-behind-preserved
 loop-behind-preserved g c =
