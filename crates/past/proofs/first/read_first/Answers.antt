@@ -43,4 +43,4 @@ returns-else-found-count g c =
     read_all g.D.Disk.view c.args.count c.args.disk c.in-Ok-take_first.found (both_same _ _ _ begun.same read.same)
     (λ model. looks_on _ _ _ (begun.looks model) (read.looks (subst IsTrue (sym begun.same.keeps_model) model))) (read.steady ∙ begun.steady)
     (λ model. let found = begun.found model in subst (λ (i : Image). FindsFirst i c.args.count c.in-Ok-take_first.found) (begun.looks model).content (read.found (subst IsTrue (sym begun.same.keeps_model) model) found.0 found.2))
-    c.longest_rescue.ensures (λ less. omega (arith, less, c.if-found-count.false)) (read.made.0, read.made.1.0, omega (arith, read.made.1.1, read.most, c.if-found-count.false)) all
+    c.longest_rescue.ensures (λ less. omega (arith, less, c.if-found-count.false)) (read.made.0, read.made.1, omega (arith, read.made.2, read.most, c.if-found-count.false)) all
