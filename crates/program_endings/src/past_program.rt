@@ -1,8 +1,7 @@
 //! The programs over what a worksheet was, from its files on: `history`, `show --at`, `export --at`, and what
 //! `restore` reads.
-ghost use Rattle.std.specs.Prelude.{◌≡◌, List, Some, IfOk};
+ghost use Rattle.std.specs.Prelude.{◌≡◌, List, IfOk};
 ghost use Rattle.offline_programs.specs.Saying.{saying};
-ghost use Rattle.past.specs.Faults as printed;
 ghost use Rattle.program_endings.specs.PastProgram.{DiskIsPast, EndsPast, FilesArePast, HistoryEnds, HistoryOf, PastExported, PastShown};
 ghost use Rattle.program_endings.specs.Records.{given_disk, streams, writing};
 ghost use Rattle.recovery.specs.Sheets.{Makes};
@@ -11,30 +10,16 @@ ghost use Rattle.worksheet.specs.declared.op.Op.{Op};
 
 use crate::ending::{answered, ended};
 use crate::export_program::end_export;
+use crate::messages::NoPast;
 use crate::telling::no_files;
 use crate::{Ending, end_program};
-use offline_programs::{Message, RunFault, Says, tell_sheet};
-use past::{Listed, PastFault, Unread, list_changes, past_fault_text, read_first};
+use offline_programs::{RunFault, Says, tell_sheet};
+use past::{Listed, PastFault, Unread, list_changes, read_first};
 use recovery::Rescued;
 use sheet_export::{Format, write_in_format};
 use sheet_files::{Close, FilesFault};
-use sheet_text::WriteFault;
 use std::alloc::Global;
 use std::io::Write;
-
-/// Why an earlier worksheet can't be had.
-#[derive(Clone, Copy)]
-struct NoPast {
-    why: PastFault,
-}
-
-impl Message for NoPast {
-    ghost text = { λ past. Some (printed.past_fault_text past.why) };
-
-    fn write<W: Write>(&self, out: &mut W) -> Result<(), WriteFault> {
-        past_fault_text(self.why, out)
-    }
-}
 
 /// Tells on a line why an earlier worksheet can't be had.
 pub fn end_past<E: Says>(why: PastFault, errors: &mut E) -> Ending
