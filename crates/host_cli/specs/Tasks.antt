@@ -344,8 +344,8 @@ module _ {Y D P S I W E Q : Type 0} (o : OutsideView D P S I W E) where
       HeldFirst old new (λ why. EndsWith old new ending (Err why)) (λ held. (files : Result D FilesFault) × o.places.reads held path files new.places
       × HistoryEnds o.disks files (streams_of old new) ending)
 
-  -- What a program does with the worksheet after its first n changes, where the places opened it to read; else why it can't be had is told, and
-  -- nothing else is done.
+  -- What a program does with the worksheet after its first n changes, where the places opened it to read. Else why it can't be had is
+  -- reported, and nothing else is done.
   abbrev pub ReadsPast : ℕ → Outside Y D P S I W E Q → Outside Y D P S I W E Q → Ending → Text → (P → Rescued D → Type 0) → Type 0
   ReadsPast n old new ending path with_it =
       HeldFirst old new (λ why. EndsWith old new ending (Err why)) (λ held. (files : Result D FilesFault) × (opened : P) × o.places.reads held path files opened

@@ -145,7 +145,7 @@ passing_told i causes.OutOfMemory passing = tt
 same_cause : {T : Type 0} (one two : OpenCause) → let why : Result T PastFault = Err (past.Run (fault.Open one)) in why ≡ Err (past.Run (fault.Open two)) → one ≡ two
 same_cause one two e = cc
 
--- a disk that isn't read as far, for a cause that isn't in the bytes behind its header
+-- a disk that isn't read as far, for a cause that isn't in the bytes after its header
 pub read_none : {D : Type 0} (view : D → DiskView) (n : ℕ) (disk after : D) (cause : OpenCause) → SameDisk (view disk) (view after) → InModel (view disk) (Looks (view disk).history (view after).history)
     → InModel (view disk) (TellsHeader (bytes_on (view disk)) cause) → (cause ≡ causes.Disk → Rises (view disk).faults (view after).faults)
     → ((cause ≡ causes.Disk → ⊥) → (view after).faults ≡ (view disk).faults) → FirstAreRead view n disk after (Err (past.Run (fault.Open cause)))

@@ -30,7 +30,7 @@ changes_push number next (p ∷ ops) o =
     ∙ sym (append_assoc (change_line number next p) (changes_from (number + 1) (next_after next p) ops) (change_line (number + 1 + length ops) (next_from (next_after next p) ops) o))
     ∙ ap (λ (n : ℕ). (change_line number next p ++ changes_from (number + 1) (next_after next p) ops) ++ change_line n (next_from (next_after next p) ops) o) (omega arith)
 
--- the line of one more was written behind theirs
+-- the line of one more was written after theirs
 pub one_listed : (a b c : Option (List ℕ)) (ops : List Op) (o : Op) (sheet : Contents) (count : ℕ) → count ≡ length ops → sheet ≡ sheet_of ops
     → Appends a b (history_text ops) → Appends b c (change_line (count + 1) sheet.next o) → Appends a c (history_text (ops ++ o ∷ []))
 one_listed a b c ops o sheet count counted is before line =
@@ -74,8 +74,7 @@ list_next old now ops p payloads written line has far others next more listed =
     let takes = listed.1 in
     let are : payloads ≡ codes_of (ops ++ takes.next ∷ []) ++ others =
     far.are ∙ ap (λ (l : List (List ℕ)). codes_of ops ++ l) next ∙ sym (append_assoc (codes_of ops) (p.bytes ∷ []) others)
-    ∙ ap (λ (b : List ℕ). (codes_of ops ++ b ∷ []) ++ others) takes.is ∙ ap (λ (l : List (List ℕ)). l ++ others) (sym (codes_push ops takes.next)) in
-    (
+    ∙ ap (λ (b : List ℕ). (codes_of ops ++ b ∷ []) ++ others) takes.is ∙ ap (λ (l : List (List ℕ)). l ++ others) (sym (codes_push ops takes.next)) in (
       ops ++ takes.next ∷ [],
       record {
         left = others;

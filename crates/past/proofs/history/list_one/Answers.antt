@@ -13,8 +13,7 @@ returns-in-Err-clause-refused g c = λ ops makes. refuses_in ops c.args.payload.
 pub returns-in-Ok-do_op-clause-taken : goal.returns-in-Ok-do_op-clause-taken
 returns-in-Ok-do_op-clause-taken g c = λ ops makes.
     let own = c.in-Ok.ensures.own in
-    let line = subst (λ (n : ℕ). Appends (g.W.Write.contents c.args.writer.now) (g.W.Write.contents c.write_line.new.out) (change_line c.args.number n c.in-Ok.op)) c.next_id.ensures c.in_default.ensures in
-    (
+    let line = subst (λ (n : ℕ). Appends (g.W.Write.contents c.args.writer.now) (g.W.Write.contents c.write_line.new.out) (change_line c.args.number n c.in-Ok.op)) c.next_id.ensures c.in_default.ensures in (
       record {
         next = c.in-Ok.op;
         is = own.is;
