@@ -1,0 +1,4 @@
+pub mod Faults
+pub mod Earlier
+pub mod History
+pub mod inside
