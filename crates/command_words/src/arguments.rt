@@ -91,6 +91,12 @@ const ACCEPT: Word = Word {
     help: "Put the answers that differ into the worksheet",
 };
 
+const WHOLE: Word = Word {
+    name: "whole",
+    given: Given::Flag,
+    help: "Write both outputs whole where they differ",
+};
+
 const WAIT_TIMEOUT: Word = Word {
     name: "timeout",
     given: Given::Value("SECONDS"),
@@ -153,7 +159,7 @@ static EVAL: [Word; 9] = [
     IDS,
 ];
 
-static CHECK: [Word; 8] = [
+static CHECK: [Word; 9] = [
     PATHS,
     JSON,
     REPORT,
@@ -161,6 +167,7 @@ static CHECK: [Word; 8] = [
     LEFT_OUT,
     FIELD_TIMEOUT,
     ACCEPT,
+    WHOLE,
     JOBS,
 ];
 
