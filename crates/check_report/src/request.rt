@@ -1,5 +1,5 @@
 //! What a check is asked for.
-ghost use Rattle.std.specs.Prelude.{◌≡◌, IfErr, IfOk, None, Some, false, option_map};
+ghost use Rattle.std.specs.Prelude.{◌≡◌, IfErr, IfOk, None, Some, false, option_map, true};
 ghost use Rattle.check_report.specs.Requests as asked;
 
 use crate::chosen::{Chosen, Ids};
