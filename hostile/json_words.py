@@ -315,6 +315,22 @@ def marked(mark: bytes, output: bytes) -> bytes:
     return b"".join(mark + line + b"\n" for line in ended_line(output)[:-1].split(b"\n"))
 
 
+def changed(old: bytes, new: bytes) -> bytes:
+    """The hunk of a unified diff that turns an output into another."""
+    olds, news = (ended_line(one)[:-1].split(b"\n") for one in (old, new))
+    if olds == news:
+        return b"= the same in print\n"
+    least = min(len(olds), len(news))
+    front = next((at for at in range(least) if olds[at] != news[at]), least)
+    back = next((at for at in range(least - front) if olds[-1 - at] != news[-1 - at]), least - front)
+    before, behind = olds[max(0, front - 3) : front], olds[len(olds) - back :][:3]
+    gone, came = olds[front : len(olds) - back], news[front : len(news) - back]
+    around, first = len(before) + len(behind), front - len(before) + 1
+    place = b"@@ -%d,%d +%d,%d @@\n" % (first, around + len(gone), first, around + len(came)) if max(front, back) > 3 else b""
+    parts = [(b"  ", before), (b"- ", gone), (b"+ ", came), (b"  ", behind)]
+    return place + b"".join(mark + line + b"\n" for mark, lines in parts for line in lines)
+
+
 def checked(it: Object) -> bytes:
     verdict = it.get("verdict")
     more = {"same": [], "left_out": [], "differs": ["came", "input", "shows"], "unanswered": ["input", "reason", "shows"]}
@@ -327,8 +343,10 @@ def checked(it: Object) -> bytes:
     prompt, old = answer_of(it["shows"])
     if verdict == "unanswered" and it["reason"] is not None:
         text_of(it["reason"])
-    new = answer_of(it["came"])[1] if verdict == "differs" else b"?"
-    return head_of(id, session, prompt, it["input"]) + marked(b"- ", old) + marked(b"+ ", new)
+    head = head_of(id, session, prompt, it["input"])
+    if verdict == "differs":
+        return head + changed(old, answer_of(it["came"])[1])
+    return head + marked(b"- ", old) + marked(b"+ ", b"?")
 
 
 def compared(it: Object) -> bytes:

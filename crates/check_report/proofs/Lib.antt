@@ -1,6 +1,8 @@
 pub mod Parts
 pub mod Points
 pub mod Marking
+pub mod Runs
+pub mod HunkLaw
 pub mod Written
 pub mod Comments
 pub mod Texts

@@ -22,7 +22,10 @@ one_marked mark a b c d rest line others all e m p q = record {
   whole = append_assoc m.text (mark ++ line) (flat_map (λ l. mark ++ l) others) ∙ ap (λ ls. m.text ++ flat_map (λ l. mark ++ l) ls) (sym e) ∙ m.whole;
 }
 
+pub rest_marked : (mark : List ℕ) (a b : Option (List ℕ)) (rest all : List (List ℕ)) → rest ≡ [] → Marked mark a b rest all → Appends a b (flat_map (λ line. mark ++ line) all)
+rest_marked mark a b rest all e m = subst (Appends a b) (sym (append-nil m.text) ∙ ap (λ ls. m.text ++ flat_map (λ line. mark ++ line) ls) (sym e) ∙ m.whole) m.wrote
+
 pub all_marked : (mark text : List ℕ) (a b : Option (List ℕ)) (rest : List (List ℕ)) → rest ≡ [] → Marked mark a b rest (lines_of text) → Appends a b (marked mark text)
-all_marked mark text a b rest e m = subst (Appends a b) (sym (append-nil m.text) ∙ ap (λ ls. m.text ++ flat_map (λ line. mark ++ line) ls) (sym e) ∙ m.whole) m.wrote
+all_marked mark text a b rest e m = rest_marked mark a b rest (lines_of text) e m
 
 pub ruleset mark_steps = (nothing_marked, one_marked, all_marked)

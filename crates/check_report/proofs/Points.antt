@@ -6,7 +6,7 @@ use Rattle.check_report.specs.Laws.{ReportsAreTheirTexts}
 use Rattle.check_report.specs.Reports.{Case, cases_text, point_of, verdicts_of}
 use Rattle.check_report.specs.Tap.{plan_line, tap_point, tap_points, version_line}
 use Rattle.check_report.specs.Verdicts.{counts_of, total}
-use Rattle.check_report.specs.Words.{acceptance_text, accepted_counts_text, counts_text, verdict_text}
+use Rattle.check_report.specs.Words.{acceptance_text, accepted_counts_text, counts_text, verdict_text, whole_text}
 use Rattle.check_report.proofs.JsonLines.{json_report}
 use Rattle.check_report.proofs.Totals.{total-of}
 
@@ -21,6 +21,10 @@ junits number (c ∷ cases) = ap (λ t. junit_case (point_of c) ++ t) (junits (n
 words : (number : ℕ) (cases : List Case) → cases_text format.Text number cases ≡ flat_map (λ c. verdict_text c.field c.came c.verdict) cases
 words number [] = refl
 words number (c ∷ cases) = ap (λ t. verdict_text c.field c.came c.verdict ++ t) (words (number + 1) cases)
+
+whole : (number : ℕ) (cases : List Case) → cases_text format.Whole number cases ≡ flat_map (λ c. whole_text c.field c.came c.verdict) cases
+whole number [] = refl
+whole number (c ∷ cases) = ap (λ t. whole_text c.field c.came c.verdict ++ t) (whole (number + 1) cases)
 
 accepted : (number : ℕ) (cases : List Case) → cases_text format.Accepting number cases ≡ flat_map (λ c. acceptance_text c.field c.came c.verdict) cases
 accepted number [] = refl
@@ -37,5 +41,6 @@ are_their_texts cases = (
   ap (λ t. head ++ t ++ tail) (junits 1 cases),
   json_report cases,
   ap (λ t. t ++ counts_text (counts_of (verdicts_of cases))) (words 1 cases),
+  ap (λ t. t ++ counts_text (counts_of (verdicts_of cases))) (whole 1 cases),
   ap (λ t. t ++ accepted_counts_text (counts_of (verdicts_of cases))) (accepted 1 cases),
 )

@@ -1,5 +1,5 @@
 -- Laws of the definitions.
-use Rattle.std.specs.Prelude.{ℕ, ◌+◌, Bool, List, [], ◌∷◌, ◌++◌, ◌≡◌, ◌<◌, ◌^◌, ◌==◌, ◌||◌, ◌&&◌, not, nat_eq, true, false, codes, cond, length, map, slice_index}
+use Rattle.std.specs.Prelude.{ℕ, ◌+◌, Bool, List, [], ◌∷◌, ◌++◌, ◌≡◌, ◌<◌, ◌^◌, ◌==◌, ◌||◌, ◌&&◌, not, nat_eq, true, false, codes, cond, drop, length, map, take, slice_index}
 use Rattle.std.specs.List.{AllByRecursion, filter, flat_map, list_all, list_any, starts_with}
 use Rattle.bstr.specs.Text.{lines_of}
 use Rattle.worksheet.specs.Names.{is_name}
@@ -9,11 +9,13 @@ use Rattle.sheet_json.specs.Sheets.{telling_line, tellings_text}
 use Rattle.sheet_json.specs.Tellings.{Telling}
 use Rattle.sheet_json.specs.Tellings as told
 use Rattle.check_report.specs.declared.report.Format.TheVariants as format
+use Rattle.check_report.specs.declared.hunks.Hunk.{Hunk}
+use Rattle.check_report.specs.Hunks.{hunk_of, lines_added, some_lines, lines_removed, tail_start}
 use Rattle.check_report.specs.Points.{Point}
 use Rattle.check_report.specs.Json.{counts_told}
 use Rattle.check_report.specs.Reports.{Case, point_of, report_text, telling_of, verdicts_of}
 use Rattle.check_report.specs.Verdicts.{counts_of}
-use Rattle.check_report.specs.Words.{acceptance_text, accepted_counts_text, counts_text, verdict_text}
+use Rattle.check_report.specs.Words.{acceptance_text, accepted_counts_text, counts_text, verdict_text, whole_text}
 use Rattle.check_report.specs.Junit.{junit_text}
 use Rattle.check_report.specs.Tap.{plan_line, point_line, tap_text, version_line}
 use Rattle.check_report.specs.Xml.{stays_in_xml, xml_text}
@@ -47,6 +49,7 @@ ReportsAreTheirTexts = (cases : List Case)
     × (report_text format.Junit cases ≡ junit_text (map point_of cases))
     × (report_text format.Json cases ≡ tellings_text (report_tellings cases))
     × (report_text format.Text cases ≡ flat_map (λ c. verdict_text c.field c.came c.verdict) cases ++ counts_text (counts_of (verdicts_of cases)))
+    × (report_text format.Whole cases ≡ flat_map (λ c. whole_text c.field c.came c.verdict) cases ++ counts_text (counts_of (verdicts_of cases)))
     × (report_text format.Accepting cases ≡ flat_map (λ c. acceptance_text c.field c.came c.verdict) cases ++ accepted_counts_text (counts_of (verdicts_of cases)))
 
 -- Without its comments a report as TAP has these lines, one by one: the version, a point for each field, numbered from 1, and the
@@ -99,3 +102,14 @@ untold p = record p { told = [] }
 -- attribute, and no part of one.
 abbrev pub TextsAreNoTags : Type 0
 TextsAreNoTags = (points : List Point) → tags false (junit_text points) ≡ tags false (junit_text (map untold points))
+
+-- two lists of lines are the same before this hunk of them and behind it, and stand around what differs
+abbrev pub AgreeAround : Hunk → List (List ℕ) → List (List ℕ) → Type 0
+AgreeAround h old new =
+    (take h.front old ++ (some_lines h.front (lines_removed h) old ++ drop (tail_start h) old) ≡ old)
+    × (take h.front old ++ (some_lines h.front (lines_added h) new ++ drop (tail_start h) old) ≡ new)
+
+-- A hunk turns the old output into the new one: with its lines with `+ ` in the place of those with `- `, and all others of the old one, it is
+-- the new one. So what is left out of a report is the same in both.
+abbrev pub HunksTurnOneIntoTheOther : Type 0
+HunksTurnOneIntoTheOther = (old new : List (List ℕ)) → AgreeAround (hunk_of old new) old new

@@ -3,6 +3,7 @@ pub mod Verdicts
 pub mod Chosen
 pub mod IdLists
 pub mod Requests
+pub mod Hunks
 pub mod Words
 pub mod Points
 pub mod Tap

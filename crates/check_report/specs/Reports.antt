@@ -13,7 +13,7 @@ use Rattle.check_report.specs.declared.verdict.Verdict.{Verdict}
 use Rattle.check_report.specs.declared.verdict.Verdict.TheVariants as verdict
 use Rattle.check_report.specs.Verdicts.{counts_of, total}
 use Rattle.check_report.specs.Points.{Point, point}
-use Rattle.check_report.specs.Words.{acceptance_text, accepted_counts_text, counts_text, verdict_text}
+use Rattle.check_report.specs.Words.{acceptance_text, accepted_counts_text, counts_text, verdict_text, whole_text}
 use Rattle.check_report.specs.Tap.{plan_line, tap_point, version_line}
 use Rattle.check_report.specs.Junit.{head, junit_case, tail}
 use Rattle.check_report.specs.Json.{checked_told, json_head, json_tail}
@@ -45,6 +45,7 @@ telling_of c = checked_told c.field c.came c.lost c.verdict
 -- what stands first
 abbrev pub opening_text : Format → List ℕ
 opening_text format.Text = []
+opening_text format.Whole = []
 opening_text format.Tap = version_line
 opening_text format.Junit = head
 opening_text format.Json = json_head
@@ -53,6 +54,7 @@ opening_text format.Accepting = []
 -- what is written of a case, of which this is the number
 abbrev pub case_text : Format → ℕ → Case → List ℕ
 case_text format.Text number c = verdict_text c.field c.came c.verdict
+case_text format.Whole number c = whole_text c.field c.came c.verdict
 case_text format.Tap number c = tap_point number (point_of c)
 case_text format.Junit number c = junit_case (point_of c)
 case_text format.Json number c = telling_line (telling_of c)
@@ -66,6 +68,7 @@ cases_text F number (c ∷ cases) = case_text F number c ++ cases_text F (number
 -- what stands last
 abbrev pub closing_text : Format → Counts → List ℕ
 closing_text format.Text counts = counts_text counts
+closing_text format.Whole counts = counts_text counts
 closing_text format.Tap counts = plan_line (total counts)
 closing_text format.Junit counts = tail
 closing_text format.Json counts = json_tail counts
@@ -88,6 +91,7 @@ is_written_in_words verdict.LeftOut = false
 -- In words a field is written where an output differs or didn't come, and in the formats that programs read always.
 abbrev pub is_written : Format → Verdict → Bool
 is_written format.Text v = is_written_in_words v
+is_written format.Whole v = is_written_in_words v
 is_written format.Tap v = true
 is_written format.Junit v = true
 is_written format.Json v = true

@@ -33,23 +33,45 @@ format_asked true (Some name) = Err fault.Both
 -- answers that differ are accepted in words alone
 abbrev pub accepting : Format → Option Format
 accepting format.Text = Some format.Accepting
+accepting format.Whole = None
 accepting format.Tap = None
 accepting format.Junit = None
 accepting format.Json = None
 accepting format.Accepting = Some format.Accepting
 
--- the report that is asked for: in a format, and whether answers that differ are accepted
-abbrev pub report_asked : Bool → Format → Option Format
-report_asked false format = Some format
-report_asked true format = accepting format
+-- and whole outputs are written in words alone
+abbrev pub in_whole : Format → Option Format
+in_whole format.Text = Some format.Whole
+in_whole format.Whole = Some format.Whole
+in_whole format.Tap = None
+in_whole format.Junit = None
+in_whole format.Json = None
+in_whole format.Accepting = None
+
+-- the words of a report: whether answers that differ are accepted, whether outputs are whole, whether it is lines of JSON, and its format
+pub record ReportWords : Type 0 where
+  pub accept : Bool
+  pub whole : Bool
+  pub json : Bool
+  pub format : Option (List ℕ)
+
+abbrev pub report_words : Bool → Bool → Bool → Option (List ℕ) → ReportWords
+report_words accept whole json format = record { accept = accept; whole = whole; json = json; format = format }
+
+-- The report that is asked for: in a format, and whether answers that differ are accepted, or outputs are whole. Both at once are refused.
+abbrev pub report_asked : Bool → Bool → Format → Option Format
+report_asked false false format = Some format
+report_asked true false format = accepting format
+report_asked false true format = in_whole format
+report_asked true true format = None
 
 -- a format is asked for, and this is the report
-abbrev pub AsksReport : Bool → Bool → Option (List ℕ) → Format → Type 0
-AsksReport accept json name report = (named : Format) × (format_asked json name ≡ Ok named) × (report_asked accept named ≡ Some report)
+abbrev pub AsksReport : ReportWords → Format → Type 0
+AsksReport words report = (named : Format) × (format_asked words.json words.format ≡ Ok named) × (report_asked words.accept words.whole named ≡ Some report)
 
--- a format is asked for, in which nothing is accepted
-abbrev pub AsksNoReport : Bool → Bool → Option (List ℕ) → Type 0
-AsksNoReport accept json name = (named : Format) × (format_asked json name ≡ Ok named) × (report_asked accept named ≡ None)
+-- a format is asked for that has no such report, by whether outputs are to be whole
+abbrev pub AsksNoReport : Bool → ReportWords → Type 0
+AsksNoReport whole words = (words.whole ≡ whole) × ((named : Format) × (format_asked words.json words.format ≡ Ok named) × (report_asked words.accept words.whole named ≡ None))
 
 -- the session that is asked for, where one is, and it can be the name of one
 abbrev pub session_asked : Option (List ℕ) → Option (Option (List ℕ))
@@ -62,14 +84,15 @@ ids_asked None = Some []
 ids_asked (Some text) = ids_named text
 
 -- all that is asked for has a form
-abbrev pub Asks : Bool → Bool → Option (List ℕ) → Option (List ℕ) → Option (List ℕ) → Request → Type 0
-Asks accept json format session ids request = AsksReport accept json format request.format × (session_asked session ≡ Some request.chosen.only) × (ids_asked ids ≡ Some request.chosen.left_out)
+abbrev pub Asks : ReportWords → Option (List ℕ) → Option (List ℕ) → Request → Type 0
+Asks words session ids request = AsksReport words request.format × (session_asked session ≡ Some request.chosen.only) × (ids_asked ids ≡ Some request.chosen.left_out)
 
 -- this has none, or there was no memory
-abbrev pub AsksFor : Bool → Bool → Option (List ℕ) → Option (List ℕ) → Option (List ℕ) → RequestFault → Type 0
-AsksFor accept json format session ids fault.Format = format_asked json format ≡ Err fault.Format
-AsksFor accept json format session ids fault.Session = session_asked session ≡ None
-AsksFor accept json format session ids fault.Ids = ids_asked ids ≡ None
-AsksFor accept json format session ids fault.OutOfMemory = Unit {0}
-AsksFor accept json format session ids fault.Accepting = AsksNoReport accept json format
-AsksFor accept json format session ids fault.Both = format_asked json format ≡ Err fault.Both
+abbrev pub AsksFor : ReportWords → Option (List ℕ) → Option (List ℕ) → RequestFault → Type 0
+AsksFor words session ids fault.Format = format_asked words.json words.format ≡ Err fault.Format
+AsksFor words session ids fault.Session = session_asked session ≡ None
+AsksFor words session ids fault.Ids = ids_asked ids ≡ None
+AsksFor words session ids fault.OutOfMemory = Unit {0}
+AsksFor words session ids fault.Accepting = AsksNoReport false words
+AsksFor words session ids fault.Whole = AsksNoReport true words
+AsksFor words session ids fault.Both = format_asked words.json words.format ≡ Err fault.Both

@@ -2,13 +2,16 @@
 use Rattle.std.specs.Prelude.{ℕ, List, [], ◌∷◌, ◌++◌, Option, None, codes, nat_eq, if◌then◌else◌}
 use Rattle.std.specs.Fmt.{decimal}
 use Rattle.std.specs.List.{flat_map}
+use Rattle.std.specs.Str.{bytes_eq}
 use Rattle.bstr.specs.Text.{lines_of}
 use Rattle.worksheet.specs.declared.field.Answer.{Answer}
 use Rattle.worksheet.specs.declared.field.Field.{Field}
 use Rattle.sheet_text.specs.Texts.{input_line, number_line, output_lines}
+use Rattle.check_report.specs.declared.hunks.Hunk.{Hunk}
 use Rattle.check_report.specs.declared.verdict.Counts.{Counts}
 use Rattle.check_report.specs.declared.verdict.Verdict.{Verdict}
 use Rattle.check_report.specs.declared.verdict.Verdict.TheVariants as verdict
+use Rattle.check_report.specs.Hunks.{hunk_of, hunk_text}
 
 -- each line of a text with a mark in front
 abbrev pub marked : List ℕ → List ℕ → List ℕ
@@ -23,10 +26,33 @@ difference_of field shown came = number_line field ++ (input_line field ++ (mark
 abbrev pub difference_text : Field → Option Answer → List ℕ
 difference_text field came = difference_of field (output_lines field.answer None) (output_lines came None)
 
+-- how the output of a field became another: that both are the same in print, or where they differ
+abbrev pub changed_lines : Hunk → List ℕ → List ℕ → List ℕ
+changed_lines h shown came = if bytes_eq shown came then codes "= the same in print\n" else hunk_text h shown came
+
+abbrev pub change_of : Hunk → Field → List ℕ → List ℕ → List ℕ
+change_of h field shown came = number_line field ++ (input_line field ++ changed_lines h shown came)
+
+-- between two texts
+abbrev pub change_between : Field → List ℕ → List ℕ → List ℕ
+change_between field shown came = change_of (hunk_of (lines_of shown) (lines_of came)) field shown came
+
+-- A field, and where the answer that came differs from the one that it shows: its lines as `print` has them, but in place of its output
+-- the hunk that turns it into the output that came.
+abbrev pub change_text : Field → Option Answer → List ℕ
+change_text field came = change_between field (output_lines field.answer None) (output_lines came None)
+
+-- what is written of a field that came to this, with whole outputs
+abbrev pub whole_text : Field → Option Answer → Verdict → List ℕ
+whole_text field came verdict.Same = []
+whole_text field came verdict.Differs = difference_text field came
+whole_text field came verdict.Unanswered = difference_text field came
+whole_text field came verdict.LeftOut = []
+
 -- what is written of a field that came to this
 abbrev pub verdict_text : Field → Option Answer → Verdict → List ℕ
 verdict_text field came verdict.Same = []
-verdict_text field came verdict.Differs = difference_text field came
+verdict_text field came verdict.Differs = change_text field came
 verdict_text field came verdict.Unanswered = difference_text field came
 verdict_text field came verdict.LeftOut = []
 
@@ -37,7 +63,7 @@ accepted_line id = codes "accepted " ++ decimal id ++ 10 ∷ []
 -- what is written of a field that came to this, where answers that differ are accepted
 abbrev pub acceptance_text : Field → Option Answer → Verdict → List ℕ
 acceptance_text field came verdict.Same = []
-acceptance_text field came verdict.Differs = difference_text field came ++ accepted_line field.id
+acceptance_text field came verdict.Differs = change_text field came ++ accepted_line field.id
 acceptance_text field came verdict.Unanswered = difference_text field came
 acceptance_text field came verdict.LeftOut = []
 

@@ -1,6 +1,6 @@
 //! Laws of the definitions that the contracts cite. Each function does nothing: its contract is the
 //! law.
-ghost use Rattle.check_report.specs.Laws.{JsonIsItsLines, ReportsAreTheirTexts, TapIsItsPoints, TextsAreNoTags, XmlHasNoMarks};
+ghost use Rattle.check_report.specs.Laws.{HunksTurnOneIntoTheOther, JsonIsItsLines, ReportsAreTheirTexts, TapIsItsPoints, TextsAreNoTags, XmlHasNoMarks};
 
 /// Reports as TAP and in JUnit's XML are those of their points, and those as JSON the lines of their
 /// tellings, so the laws below are about them.
@@ -28,4 +28,10 @@ pub fn xml_has_no_marks()
 /// The tags of a report in JUnit's XML are those of one in which nothing is reported.
 pub fn texts_are_no_tags()
     ensures { TextsAreNoTags }
+{}
+
+/// The hunk of a difference turns the output that a field shows into the one that came: all lines around those
+/// that it marks are the same in both.
+pub fn hunks_turn_one_into_the_other()
+    ensures { HunksTurnOneIntoTheOther }
 {}

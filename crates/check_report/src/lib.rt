@@ -3,6 +3,7 @@
 #![tactic(auto)]
 
 mod chosen;
+mod hunks;
 mod ids;
 mod junit;
 pub mod laws;

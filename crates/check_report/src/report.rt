@@ -9,13 +9,14 @@ ghost use Rattle.check_report.specs.Junit as junits;
 ghost use Rattle.check_report.specs.Json.{checked_told};
 ghost use Rattle.sheet_json.specs.Sheets.{telling_line};
 
+use crate::hunks::{Hunk, find_hunk};
 use crate::junit::{write_case, write_head, write_tail};
 use crate::objects::{case_in_memory, write_end, write_hello};
 use crate::tap::{write_plan, write_point, write_version};
 use crate::verdict::{Counts, Verdict};
 use crate::words::{
-    acceptance_in_memory, outputs_in_memory, verdict_in_memory, write_accepted_counts,
-    write_counts, write_difference,
+    Outputs, acceptance_in_memory, outputs_in_memory, verdict_in_memory, write_accepted_counts,
+    write_change, write_counts, write_difference,
 };
 use crate::writing::write_bytes;
 use block_tree::Reason;
@@ -29,6 +30,8 @@ use worksheet::{Answer, Field};
 pub enum Format {
     /// In words, which people read: what differs, and the counts.
     Text,
+    /// The same, with both outputs whole where one differs.
+    Whole,
     /// As TAP, version 13: a test point for each field.
     Tap,
     /// In JUnit's XML: a test case for each field.
@@ -54,7 +57,7 @@ pub fn open_report<W: Write>(format: Format, writer: &mut W) -> Result<(), Write
         (opening_text format)) }
 {
     match format {
-        Format::Text | Format::Accepting => return Ok(()),
+        Format::Text | Format::Whole | Format::Accepting => return Ok(()),
         Format::Tap => write_version(writer)?,
         Format::Junit => write_head(writer)?,
         Format::Json => write_hello(writer)?,
@@ -68,7 +71,7 @@ fn write_closing<W: Write>(format: Format, counts: Counts, writer: &mut W) -> Re
         (closing_text format counts)) }
 {
     match format {
-        Format::Text => write_counts(counts, writer),
+        Format::Text | Format::Whole => write_counts(counts, writer),
         Format::Tap => write_plan(counts.total(), writer),
         Format::Junit => write_tail(writer),
         Format::Json => write_end(counts, writer),
@@ -102,7 +105,7 @@ pub fn is_written(format: Format, verdict: Verdict) -> bool
     ensures { result ≡ is_written_in format verdict }
 {
     match format {
-        Format::Text | Format::Accepting => is_written_in_words(verdict),
+        Format::Text | Format::Whole | Format::Accepting => is_written_in_words(verdict),
         Format::Tap | Format::Junit | Format::Json => true,
     }
 }
@@ -142,6 +145,62 @@ fn report_difference<W: Write>(
     }
 }
 
+/// Writes in words where an output differs, and brings it out.
+fn write_in_part<W: Write>(
+    field: &Field,
+    both: &Outputs,
+    hunk: Hunk,
+    writer: &mut W,
+) -> Result<(), WriteFault>
+    ensures { OnOk result (Appends (W.contents writer.old) (W.contents writer.new)
+        (printed.change_of hunk field.now both.now.shown.items both.now.came.items)) }
+{
+    write_change(field, both, hunk, writer)?;
+    writer.flush().map_err(|_| WriteFault)?;
+    Ok(())
+}
+
+/// Tells in words where the output of an answer differs from that of its field.
+fn report_change<W: Write>(
+    alloc: Global,
+    field: &Field,
+    came: &Option<Answer>,
+    writer: &mut W,
+) -> Result<(), ReportFault>
+    ensures ok { OnOk result (Appends (W.contents writer.old) (W.contents writer.new)
+        (printed.change_text field.now came.now)) }
+    ensures err { IfErr result (Unreported (W.contents writer.old) (W.contents writer.new)) }
+{
+    let Some(both) = outputs_in_memory(alloc, field, came) else {
+        return Err(ReportFault::OutOfMemory);
+    };
+    let Some(hunk) = find_hunk(alloc, both.shown.as_slice(), both.came.as_slice()) else {
+        return Err(ReportFault::OutOfMemory);
+    };
+    match write_in_part(field, &both, hunk, writer) {
+        Ok(()) => Ok(()),
+        Err(_) => Err(ReportFault::Output),
+    }
+}
+
+/// Tells a field in words, with whole outputs.
+fn report_whole<W: Write>(
+    alloc: Global,
+    field: &Field,
+    came: &Option<Answer>,
+    verdict: Verdict,
+    writer: &mut W,
+) -> Result<(), ReportFault>
+    ensures ok { OnOk result (Appends (W.contents writer.old) (W.contents writer.new)
+        (printed.whole_text field.now came.now verdict)) }
+    ensures err { IfErr result (Unreported (W.contents writer.old) (W.contents writer.new)) }
+{
+    match verdict {
+        Verdict::Same | Verdict::LeftOut => Ok(()),
+        Verdict::Differs | Verdict::Unanswered => report_difference(alloc, field, came, writer),
+    }
+}
+
 /// Tells a field in words.
 fn report_words<W: Write>(
     alloc: Global,
@@ -156,7 +215,8 @@ fn report_words<W: Write>(
 {
     match verdict {
         Verdict::Same | Verdict::LeftOut => Ok(()),
-        Verdict::Differs | Verdict::Unanswered => report_difference(alloc, field, came, writer),
+        Verdict::Differs => report_change(alloc, field, came, writer),
+        Verdict::Unanswered => report_difference(alloc, field, came, writer),
     }
 }
 
@@ -313,6 +373,7 @@ pub fn report_case<W: Write>(
 {
     match format {
         Format::Text => report_words(alloc, field, came, verdict, writer),
+        Format::Whole => report_whole(alloc, field, came, verdict, writer),
         Format::Tap => report_point(alloc, number, field, came, verdict, writer),
         Format::Junit => report_junit(alloc, field, came, verdict, writer),
         Format::Json => report_json(alloc, field, came, lost, verdict, writer),

@@ -1,5 +1,5 @@
 //! What a check is asked for.
-ghost use Rattle.std.specs.Prelude.{◌≡◌, IfErr, IfOk, None, Some, false, option_map};
+ghost use Rattle.std.specs.Prelude.{◌≡◌, IfErr, IfOk, None, Some, false, option_map, true};
 ghost use Rattle.check_report.specs.Requests as asked;
 
 use crate::chosen::{Chosen, Ids};
@@ -31,6 +31,8 @@ pub enum RequestFault {
     OutOfMemory,
     /// In that format nothing is accepted.
     Accepting,
+    /// In that format no outputs are whole, or answers that differ are to be accepted, too.
+    Whole,
     /// They name a format, and ask for lines of JSON beside it.
     Both,
 }
@@ -76,20 +78,59 @@ fn accepting(format: Format) -> Option<Format>
 {
     match format {
         Format::Text | Format::Accepting => Some(Format::Accepting),
-        Format::Tap | Format::Junit | Format::Json => None,
+        Format::Whole | Format::Tap | Format::Junit | Format::Json => None,
     }
 }
 
-/// The report that is asked for, by its format, and by whether answers that differ are accepted.
-fn read_report(json: bool, name: Option<&str>, accept: bool) -> Result<Format, RequestFault>
-    ensures ok { IfOk result (asked.AsksReport accept json (option_map (λ text. text.now) name.entry)) }
-    ensures err { IfErr result
-        (asked.AsksFor accept json (option_map (λ text. text.now) name.entry) None None) }
+/// The report in a format, with whole outputs. None where that format has none.
+fn in_whole(format: Format) -> Option<Format>
+    ensures { result ≡ asked.in_whole format }
+{
+    match format {
+        Format::Text | Format::Whole => Some(Format::Whole),
+        Format::Tap | Format::Junit | Format::Json | Format::Accepting => None,
+    }
+}
+
+/// The same, where nothing is accepted.
+fn in_whole_alone(format: Format, accept: bool) -> Option<Format>
+    ensures { result ≡ asked.report_asked accept true format }
+{
+    if accept { None } else { in_whole(format) }
+}
+
+/// The same, or why there is none.
+fn read_whole(format: Format, accept: bool) -> Result<Format, RequestFault>
+    ensures ok { IfOk result (λ report. asked.report_asked accept true format ≡ Some report) }
+    ensures err { IfErr result (λ why. (why ≡ RequestFault.Whole)
+        × (asked.report_asked accept true format ≡ None)) }
+{
+    match in_whole_alone(format, accept) {
+        Some(format) => Ok(format),
+        None => Err(RequestFault::Whole),
+    }
+}
+
+/// The report that is asked for, by its format, and by whether answers that differ are accepted, or outputs are
+/// whole.
+fn read_report(
+    json: bool,
+    name: Option<&str>,
+    accept: bool,
+    whole: bool,
+) -> Result<Format, RequestFault>
+    ensures ok { IfOk result (asked.AsksReport
+        (asked.report_words accept whole json (option_map (λ text. text.now) name.entry))) }
+    ensures err { IfErr result (asked.AsksFor
+        (asked.report_words accept whole json (option_map (λ text. text.now) name.entry)) None None) }
 {
     let format = match read_format(json, name) {
         Ok(format) => format,
         Err(why) => return Err(why),
     };
+    if whole {
+        return read_whole(format, accept);
+    }
     if !accept {
         return Ok(format);
     }
@@ -119,7 +160,8 @@ fn read_session(name: Option<&str>) -> Result<Option<Name>, RequestFault>
 fn read_left_out(alloc: Global, text: Option<&str>) -> Result<Sequence<Ids>, RequestFault>
     ensures ok { IfOk result (λ ids.
         asked.ids_asked (option_map (λ text. text.now) text.entry) ≡ Some ids) }
-    ensures err { IfErr result (asked.AsksFor false false None None (option_map (λ text. text.now) text.entry)) }
+    ensures err { IfErr result (asked.AsksFor (asked.report_words false false false None) None
+        (option_map (λ text. text.now) text.entry)) }
 {
     let Some(text) = text else {
         return Ok(Sequence::new(alloc));
@@ -132,7 +174,8 @@ fn read_left_out(alloc: Global, text: Option<&str>) -> Result<Sequence<Ids>, Req
 }
 
 /// What the words of a command line ask for: lines of JSON, or a format; a session, numbers of fields that
-/// are left out, and whether answers that differ are accepted; within this limit of time, where there is one.
+/// are left out, whether answers that differ are accepted, and whether outputs are whole; within this limit of
+/// time, where there is one.
 pub fn read_request(
     alloc: Global,
     json: bool,
@@ -140,15 +183,18 @@ pub fn read_request(
     session: Option<&str>,
     ids: Option<&str>,
     accept: bool,
+    whole: bool,
     limit: Option<u32>,
 ) -> Result<Request, RequestFault>
-    ensures ok { IfOk result (asked.Asks accept json (option_map (λ text. text.now) format.entry)
+    ensures ok { IfOk result (asked.Asks
+        (asked.report_words accept whole json (option_map (λ text. text.now) format.entry))
         (option_map (λ text. text.now) session.entry) (option_map (λ text. text.now) ids.entry)) }
     ensures within { IfOk result (λ request. request.limit ≡ limit) }
-    ensures err { IfErr result (asked.AsksFor accept json (option_map (λ text. text.now) format.entry)
+    ensures err { IfErr result (asked.AsksFor
+        (asked.report_words accept whole json (option_map (λ text. text.now) format.entry))
         (option_map (λ text. text.now) session.entry) (option_map (λ text. text.now) ids.entry)) }
 {
-    let format = match read_report(json, format, accept) {
+    let format = match read_report(json, format, accept, whole) {
         Ok(format) => format,
         Err(why) => return Err(why),
     };

@@ -1,9 +1,10 @@
 //! A report in words.
-ghost use Rattle.std.specs.Prelude.{◌≡◌, ◌++◌, None, IfOk, IfSome, OnOk};
+ghost use Rattle.std.specs.Prelude.{◌≡◌, ◌++◌, None, IfOk, IfSome, OnOk, codes};
 ghost use Rattle.std.specs.Io.KnownBytes.{Appends};
 ghost use Rattle.sheet_text.specs.Texts.{output_lines};
 ghost use Rattle.check_report.specs.Words as printed;
 
+use crate::hunks::{Hunk, find_hunk, write_hunk};
 use crate::verdict::{Counts, Verdict};
 use crate::writing::write_bytes;
 use bstr::ByteSlice;
@@ -78,6 +79,64 @@ pub(crate) fn write_difference<W: Write>(
     Ok(())
 }
 
+/// Writes the line that says that two outputs are the same in print.
+fn write_alike<W: Write>(writer: &mut W) -> Result<(), WriteFault>
+    ensures { OnOk result (Appends (W.contents writer.old) (W.contents writer.new)
+        (codes "= the same in print\n")) }
+{
+    write_bytes(b"= the same in print\n", writer)
+}
+
+/// Writes how the lines of an output became those of another, by their hunk.
+fn write_changed<W: Write>(
+    hunk: Hunk,
+    shown: &[u8],
+    came: &[u8],
+    writer: &mut W,
+) -> Result<(), WriteFault>
+    ensures { OnOk result (Appends (W.contents writer.old) (W.contents writer.new)
+        (printed.changed_lines hunk shown.now came.now)) }
+{
+    if shown == came {
+        write_alike(writer)
+    } else {
+        write_hunk(hunk, shown, came, writer)
+    }
+}
+
+/// Writes the lines of a field, and how its output became the one that came, by their hunk.
+pub(crate) fn write_change<W: Write>(
+    field: &Field,
+    both: &Outputs,
+    hunk: Hunk,
+    writer: &mut W,
+) -> Result<(), WriteFault>
+    ensures { OnOk result (Appends (W.contents writer.old) (W.contents writer.new)
+        (printed.change_of hunk field.now both.now.shown.items both.now.came.items)) }
+{
+    write_number(field, writer)?;
+    write_input(field, writer)?;
+    write_changed(hunk, both.shown.as_slice(), both.came.as_slice(), writer)?;
+    Ok(())
+}
+
+/// Where the output of an answer differs from that of its field, in memory.
+fn change_in_memory(alloc: Global, field: &Field, came: &Option<Answer>) -> Option<Vec<u8>>
+    ensures { IfSome result (λ text. text.items ≡ printed.change_text field.now came.now) }
+{
+    let Some(both) = outputs_in_memory(alloc, field, came) else {
+        return Option::None;
+    };
+    let Some(hunk) = find_hunk(alloc, both.shown.as_slice(), both.came.as_slice()) else {
+        return Option::None;
+    };
+    let mut text = Vec::new(alloc);
+    match write_change(field, &both, hunk, &mut text) {
+        Ok(()) => Some(text),
+        Err(_) => Option::None,
+    }
+}
+
 /// How an answer differs from that of its field, or that none came, in memory.
 fn difference_in_memory(alloc: Global, field: &Field, came: &Option<Answer>) -> Option<Vec<u8>>
     ensures { IfSome result (λ text. text.items ≡ printed.difference_text field.now came.now) }
@@ -109,7 +168,8 @@ pub(crate) fn verdict_in_memory(
 {
     match verdict {
         Verdict::Same | Verdict::LeftOut => Some(Vec::new(alloc)),
-        Verdict::Differs | Verdict::Unanswered => difference_in_memory(alloc, field, came),
+        Verdict::Differs => change_in_memory(alloc, field, came),
+        Verdict::Unanswered => difference_in_memory(alloc, field, came),
     }
 }
 
@@ -146,7 +206,7 @@ pub fn acceptance_in_memory(
     match verdict {
         Verdict::Same | Verdict::LeftOut => Some(Vec::new(alloc)),
         Verdict::Unanswered => difference_in_memory(alloc, field, came),
-        Verdict::Differs => match difference_in_memory(alloc, field, came) {
+        Verdict::Differs => match change_in_memory(alloc, field, came) {
             Some(text) => with_accepted(text, field.id),
             None => Option::None,
         },

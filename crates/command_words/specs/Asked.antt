@@ -29,6 +29,7 @@ pub record CheckView : Type 0 where
   pub leave_out : Option Text
   pub timeout : Option Text
   pub accept : Bool
+  pub whole : Bool
   pub jobs : Option Text
 
 abbrev pub check_view : CheckWords → CheckView
@@ -40,6 +41,7 @@ check_view words = record {
   leave_out = option_map (λ text. text.now) words.leave_out;
   timeout = option_map (λ text. text.now) words.timeout;
   accept = words.accept;
+  whole = words.whole;
   jobs = option_map (λ text. text.now) words.jobs;
 }
 
@@ -145,7 +147,7 @@ abbrev pub with_show : Text → App
 with_show name = with_rule (with_json name) at_rule
 
 -- and of the one with as many paths as there are, and with options: whether it writes JSON, the format of its report, the session that it is about, the fields
--- that aren't compared, the time that a field may take, whether answers that differ are accepted, and how many sessions go side by side
+-- that aren't compared, the time that a field may take, whether answers that differ are accepted, whether outputs are whole, and how many sessions go side by side
 abbrev pub paths_rule : Rule
 paths_rule = record (new_rule (codes "PATH")) { required = true; action = Some Append }
 
@@ -185,8 +187,14 @@ with_accept name = with_rule (with_check_timeout name) accept_rule
 abbrev pub jobs_rule : Rule
 jobs_rule = record (new_rule (codes "jobs")) { long = Some (codes "jobs"); value_names = 1 }
 
+abbrev pub whole_rule : Rule
+whole_rule = record (new_rule (codes "whole")) { long = Some (codes "whole"); action = Some SetTrue }
+
+abbrev pub with_whole : Text → App
+with_whole name = with_rule (with_accept name) whole_rule
+
 abbrev pub with_check : Text → App
-with_check name = with_rule (with_accept name) jobs_rule
+with_check name = with_rule (with_whole name) jobs_rule
 
 -- and of `eval`, with flags, the time that a field may take, the number of the first field, how many sessions go side by side, and numbers of
 -- fields after the path
@@ -305,6 +313,7 @@ check_in rows = record {
   leave_out = first_of (codes "leave-out") rows;
   timeout = first_of (codes "timeout") rows;
   accept = is_set (first_of (codes "accept") rows);
+  whole = is_set (first_of (codes "whole") rows);
   jobs = first_of (codes "jobs") rows;
 }
 

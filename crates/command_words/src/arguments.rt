@@ -103,6 +103,12 @@ const ACCEPT: Word = Word {
     help: "Put the answers that differ into the worksheet",
 };
 
+const WHOLE: Word = Word {
+    name: "whole",
+    given: Given::Flag,
+    help: "Write both outputs whole where they differ",
+};
+
 const WAIT_TIMEOUT: Word = Word {
     name: "timeout",
     given: Given::Value("SECONDS"),
@@ -167,7 +173,7 @@ static EVAL: [Word; 9] = [
     IDS,
 ];
 
-static CHECK: [Word; 8] = [
+static CHECK: [Word; 9] = [
     PATHS,
     JSON,
     REPORT,
@@ -175,6 +181,7 @@ static CHECK: [Word; 8] = [
     LEFT_OUT,
     FIELD_TIMEOUT,
     ACCEPT,
+    WHOLE,
     JOBS,
 ];
 

@@ -154,10 +154,11 @@ const CHECK_ABOUT: &str = "Evaluate a worksheet again, and write what differs";
 const CHECK_NOTES: &str =
     "Each field that shows an answer is evaluated again, with interpreters of its own, on\n\
 a copy in memory; the worksheet stays as it is. In the worksheet's order, where\n\
-another output comes, the field's line, its prompt and input, the lines that it\n\
-shows, with `- `, and those that came, with `+ `, are written, or `+ ?` where no\n\
-answer came. Prompts aren't compared. The last line has the counts, as\n\
-`same 4 differ 1 unanswered 0`.\n\n\
+another output comes, the field's line, its prompt and input, and a hunk of a diff\n\
+are written: with `- ` what it shows, with `+ ` what came, three lines around them;\n\
+where no answer came, all that it shows, and `+ ?`. With --whole, in words alone and\n\
+without --accept, both outputs are written whole. Prompts aren't compared. The last\n\
+line has the counts, as `same 4 differ 1 unanswered 0`.\n\n\
 With --format it reports each field as a test: as a point of TAP 13, or as a case\n\
 in JUnit's XML. With --json, which is --format json, each is one object, which\n\
 programs read (docs/JSON.md). --only names the one session whose fields are\n\

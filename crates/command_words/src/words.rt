@@ -25,6 +25,8 @@ pub struct CheckWords<'a> {
     pub timeout: Option<&'a str>,
     /// Answers that differ are put into the worksheet.
     pub accept: bool,
+    /// It writes both outputs whole where they differ.
+    pub whole: bool,
     /// In how many sessions fields wait at a time.
     pub jobs: Option<&'a str>,
 }
@@ -290,6 +292,7 @@ fn check_words<'a>(alloc: Global, matches: &ArgMatches<'a>) -> Result<CheckWords
         leave_out: matches.get_str("leave-out"),
         timeout: matches.get_str("timeout"),
         accept: is_set(matches.get_str("accept")),
+        whole: is_set(matches.get_str("whole")),
         jobs: matches.get_str("jobs"),
     })
 }

@@ -16,6 +16,7 @@ pub check_unheld : {Y D P S I W E Q : Type 0} (o : OutsideView D P S I W E) (F :
     → (why : HoldFault) × o.places.holds old.places (Err why) new.places × OnlyHeld old new × ((new.sources ≡ old.sources) × EndsWith o old new ending (Err (no_place why)))
     → ChecksIn o F old new ending path c
 check_unheld o report.Text old new ending path c unheld = inl unheld
+check_unheld o report.Whole old new ending path c unheld = inl unheld
 check_unheld o report.Tap old new ending path c unheld = inl unheld
 check_unheld o report.Junit old new ending path c unheld = inl unheld
 check_unheld o report.Json old new ending path c unheld = inl unheld

@@ -77,6 +77,7 @@ left_out_of_several (Some ids) = Some several_fault.LeftOut
 
 abbrev pub several_refused : Format → Option Text → Option SeveralFault
 several_refused format.Text left_out = left_out_of_several left_out
+several_refused format.Whole left_out = left_out_of_several left_out
 several_refused format.Tap left_out = Some several_fault.Format
 several_refused format.Junit left_out = Some several_fault.Format
 several_refused format.Json left_out = Some several_fault.Format

@@ -68,6 +68,9 @@ no_ids_text = codes "error: these are no fields: IDS are numbers and ranges of t
 abbrev pub no_acceptance_text : List ℕ
 no_acceptance_text = codes "error: --accept goes with no FORMAT but text\n\nFor more information, try 'tmhost check --help'.\n"
 
+abbrev pub no_whole_text : List ℕ
+no_whole_text = codes "error: --whole goes with no FORMAT but text, and with no --accept\n\nFor more information, try 'tmhost check --help'.\n"
+
 -- and of a number of sessions that go side by side, or of one where answers are accepted
 abbrev pub no_check_jobs_text : List ℕ
 no_check_jobs_text = codes "error: this is no number of jobs: N is a number from 1 to 64\n\nFor more information, try 'tmhost check --help'.\n"
@@ -117,6 +120,7 @@ RefusesRequest request.Format errors ending = RefusesWith no_report_text errors 
 RefusesRequest request.Session errors ending = RefusesWith no_session_text errors ending
 RefusesRequest request.Ids errors ending = RefusesWith no_ids_text errors ending
 RefusesRequest request.Accepting errors ending = RefusesWith no_acceptance_text errors ending
+RefusesRequest request.Whole errors ending = RefusesWith no_whole_text errors ending
 RefusesRequest request.Both errors ending = RefusesWith two_formats_text errors ending
 RefusesRequest request.OutOfMemory errors ending = (ending.status ≡ 1) × TellsFault errors ending.told (Err fault.OutOfMemory)
 

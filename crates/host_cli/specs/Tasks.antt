@@ -8,7 +8,7 @@ use Rattle.clap.specs.Words.{FailsBy, Text, fault_of, kind_of}
 use Rattle.clap.specs.declared.error.Error.{Error}
 use Rattle.clap.specs.declared.error.kind.ErrorKind.{ErrorKind}
 use Rattle.clap.specs.declared.error.kind.ErrorKind.TheVariants as kind
-use Rattle.check_report.specs.Requests.{Asks, AsksFor}
+use Rattle.check_report.specs.Requests.{Asks, AsksFor, report_words}
 use Rattle.check_report.specs.declared.report.Format.{Format as Report}
 use Rattle.check_report.specs.declared.report.Format.TheVariants as report
 use Rattle.check_report.specs.declared.request.Request.{Request}
@@ -177,6 +177,7 @@ module _ {Y D P S I W E Q : Type 0} (o : OutsideView D P S I W E) where
   -- the one or the other
   abbrev pub ChecksIn : Report → Outside Y D P S I W E Q → Outside Y D P S I W E Q → Ending → Text → CheckPlan → Type 0
   ChecksIn report.Text old new ending path c = ComparesBy old new ending path c
+  ChecksIn report.Whole old new ending path c = ComparesBy old new ending path c
   ChecksIn report.Tap old new ending path c = ComparesBy old new ending path c
   ChecksIn report.Junit old new ending path c = ComparesBy old new ending path c
   ChecksIn report.Json old new ending path c = ComparesBy old new ending path c
@@ -234,9 +235,9 @@ module _ {Y D P S I W E Q : Type 0} (o : OutsideView D P S I W E) where
 
   -- `check` by what its words name, within these bounds
   abbrev pub ChecksWithin : Outside Y D P S I W E Q → Outside Y D P S I W E Q → Ending → Text → CheckView → CheckBounds → Type 0
-  ChecksWithin old new ending path words b = (read : Result Request RequestFault) × IfOk read (Asks words.accept words.json words.format words.only words.leave_out)
+  ChecksWithin old new ending path words b = (read : Result Request RequestFault) × IfOk read (Asks (report_words words.accept words.whole words.json words.format) words.only words.leave_out)
       × IfOk read (λ request. request.limit ≡ b.limit)
-      × IfErr read (AsksFor words.accept words.json words.format words.only words.leave_out)
+      × IfErr read (AsksFor (report_words words.accept words.whole words.json words.format) words.only words.leave_out)
       × MatchResult read (λ request. ChecksPaths old new ending path words (check_plan request b.jobs)) (ChecksNone old new ending)
 
   abbrev pub ChecksJobs : Outside Y D P S I W E Q → Outside Y D P S I W E Q → Ending → Text → CheckView → Option ℕ → Type 0

@@ -109,7 +109,7 @@ fn check_by<Y: System>(
             &mut outside.output,
             &mut outside.errors,
         ),
-        Report::Text | Report::Tap | Report::Junit | Report::Json => {
+        Report::Text | Report::Whole | Report::Tap | Report::Junit | Report::Json => {
             compare(alloc, outside, request, jobs, path).ending
         }
     }
@@ -207,6 +207,7 @@ pub(crate) fn check_at<Y: System>(
         words.only,
         words.leave_out,
         words.accept,
+        words.whole,
         limit,
     ) {
         Ok(request) => check_paths(alloc, outside, path, &words, &request, jobs),

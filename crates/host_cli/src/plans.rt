@@ -176,7 +176,7 @@ pub(crate) fn several_fault(format: Report, left_out: Option<&str>) -> Option<Se
     ensures { result ≡ several_refused format (option_map (λ text. text.now) left_out.entry) }
 {
     match format {
-        Report::Text => refuse_left_out(left_out),
+        Report::Text | Report::Whole => refuse_left_out(left_out),
         Report::Tap | Report::Junit | Report::Json => Some(SeveralFault::Format),
         Report::Accepting => Some(SeveralFault::Accepting),
     }

@@ -247,6 +247,11 @@ pub(crate) fn refuse_request<E: Says>(why: RequestFault, errors: &mut E) -> Endi
             For more information, try 'tmhost check --help'.\n",
             errors,
         ),
+        RequestFault::Whole => refuse_with(
+            b"error: --whole goes with no FORMAT but text, and with no --accept\n\n\
+            For more information, try 'tmhost check --help'.\n",
+            errors,
+        ),
         RequestFault::Accepting => refuse_with(
             b"error: --accept goes with no FORMAT but text\n\n\
             For more information, try 'tmhost check --help'.\n",

@@ -44,6 +44,7 @@ answer_of_check chosen (Err why) = Err why
 abbrev pub LastOfCheck : {W : Type 0} → Format → Writing W → Bool → ProgramAnswer → Type 0
 LastOfCheck format.Json w told answer = LastTold in_json w.contents w.old w.new told answer
 LastOfCheck format.Text w told answer = w.new ≡ w.old
+LastOfCheck format.Whole w told answer = w.new ≡ w.old
 LastOfCheck format.Tap w told answer = w.new ≡ w.old
 LastOfCheck format.Junit w told answer = w.new ≡ w.old
 LastOfCheck format.Accepting w told answer = w.new ≡ w.old

@@ -68,7 +68,7 @@ fn end_report<W: Write, E: Says>(
 {
     match format {
         Format::Json => end_told(answer, &InJson { alloc }, output, errors),
-        Format::Text | Format::Tap | Format::Junit | Format::Accepting => {
+        Format::Text | Format::Whole | Format::Tap | Format::Junit | Format::Accepting => {
             end_program(answer, errors)
         }
     }

@@ -38,7 +38,7 @@ accepts_none 'one of four, again' 1 '#3 a\na] hangs\n- hangs\n+ ?\nsame 3 accept
 
 # All that differ, in the order of the worksheet; then nothing differs any more.
 made "$a"'new 0 a differs\nnew 1 a longer\nnew 2 a tagged\nnew 3 a shorter\nmove 4 0\neval 1\neval 2\neval 3\neval 4\nwait\n'
-accepts 'four of four' 0 '#4 a\na] shorter\n- shorter\n+ \naccepted 4\n#1 a\na] differs\n- differs\n+ another\naccepted 1\n#2 a\na] longer\n- one\n- two\n+ one\n+ two\n+ three\naccepted 2\n#3 a\na] tagged\n- tagged\n+ {latex:$x$}\naccepted 3\nsame 0 accepted 4 unanswered 0\n' \
+accepts 'four of four' 0 '#4 a\na] shorter\n- shorter\n+ \naccepted 4\n#1 a\na] differs\n- differs\n+ another\naccepted 1\n#2 a\na] longer\n  one\n  two\n+ three\naccepted 2\n#3 a\na] tagged\n- tagged\n+ {latex:$x$}\naccepted 3\nsame 0 accepted 4 unanswered 0\n' \
     '#4 a\na] shorter\n\n#1 a\na] differs\nanother\n#2 a\na] longer\none\ntwo\nthree\n#3 a\na] tagged\n{latex:$x$}\n'
 checks 'four that were accepted' 0 'same 4 differ 0 unanswered 0\n'
 

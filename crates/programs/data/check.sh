@@ -16,6 +16,11 @@ while IFS= read -r line; do
             prompts) printf '\002verbatim:%s\002prompt#new> \005\005' "$line"; continue ;;
             inputs) printf '\002verbatim:%s\002input#y\005\005' "$line"; continue ;;
             longer) printf '\002verbatim:one\ntwo\nthree\n\005'; continue ;;
+            middle) printf '\002verbatim:%s\005' "$(printf '%s\n' 1 2 3 4 five more 6 7 8 9)"; continue ;;
+            begins) printf '\002verbatim:%s\005' "$(seq 2 9)"; continue ;;
+            ends) printf '\002verbatim:%s\005' "$(seq 10)"; continue ;;
+            twice) printf '\002verbatim:%s\005' "$(seq 4; seq 2 9)"; continue ;;
+            large) printf '\002verbatim:%s\005' "$(seq 999; echo another; seq 1001 2000)"; continue ;;
             shorter) printf '\002verbatim:\005'; continue ;;
             tagged) printf '\002latex:$x$\005'; continue ;;
             nested) printf '\002verbatim:\002verbatim:nested\005\005'; continue ;;
@@ -30,6 +35,8 @@ while IFS= read -r line; do
     fi
     case $line in
         longer) printf '\002verbatim:one\ntwo\005' ;;
+        middle | begins | ends | twice) printf '\002verbatim:%s\005' "$(seq 9)" ;;
+        large) printf '\002verbatim:%s\005' "$(seq 2000)" ;;
         *) printf '\002verbatim:%s\005' "$line" ;;
     esac
 done
@@ -112,11 +119,25 @@ sent 'all that differs' 'start a\nsend a differs\nsend a hangs\nstart a\nsend a 
 checks 'the same again' 1 \
     '#1 a\na] differs\n- differs\n+ another\n#2 a\na] hangs\n- hangs\n+ ?\n#3 a\na] differs\n- differs\n+ another\n#4 a\na] hangs\n- hangs\n+ ?\nsame 0 differ 2 unanswered 2\n'
 checked 'prompts that differ' "$a"'new 0 a prompts\nnew 1 a y\nnew 2 a inputs\neval 1\neval 2\neval 3\nwait\n' 0 'same 3 differ 0 unanswered 0\n'
-checked 'an output of more lines' "$a"'new 0 a longer\neval 1\nwait\n' 1 '#1 a\na] longer\n- one\n- two\n+ one\n+ two\n+ three\nsame 0 differ 1 unanswered 0\n'
+checked 'an output of more lines' "$a"'new 0 a longer\neval 1\nwait\n' 1 '#1 a\na] longer\n  one\n  two\n+ three\nsame 0 differ 1 unanswered 0\n'
+checks 'an output of more lines, whole' 1 '#1 a\na] longer\n- one\n- two\n+ one\n+ two\n+ three\nsame 0 differ 1 unanswered 0\n' --whole
 checked 'an output without a byte' "$a"'new 0 a shorter\neval 1\nwait\n' 1 '#1 a\na] shorter\n- shorter\n+ \nsame 0 differ 1 unanswered 0\n'
 checked 'an output with a tag' "$a"'new 0 a tagged\neval 1\nwait\n' 1 '#1 a\na] tagged\n- tagged\n+ {latex:$x$}\nsame 0 differ 1 unanswered 0\n'
-checked 'an output that differs in what is not shown' "$a"'new 0 a nested\neval 1\nwait\n' 1 '#1 a\na] nested\n- nested\n+ nested\nsame 0 differ 1 unanswered 0\n'
+checked 'an output that differs in what is not shown' "$a"'new 0 a nested\neval 1\nwait\n' 1 '#1 a\na] nested\n= the same in print\nsame 0 differ 1 unanswered 0\n'
+checks 'an output that differs in what is not shown, whole' 1 '#1 a\na] nested\n- nested\n+ nested\nsame 0 differ 1 unanswered 0\n' --whole
 checked 'bytes that are not plain' "$a"'new 0 a bytes\neval 1\nwait\n' 1 '#1 a\na] bytes\n- bytes\n+ \\x01\\x0d\303\251\\x7f\nsame 0 differ 1 unanswered 0\n'
+# Hunks: what both outputs begin with and end with is left out but for three lines on either side.
+hunk='@@ -2,7 +2,8 @@\n  2\n  3\n  4\n- 5\n+ five\n+ more\n  6\n  7\n  8\n'
+checked 'lines that differ in the middle' "$a"'new 0 a middle\neval 1\nwait\n' 1 "#1 a\na] middle\n${hunk}same 0 differ 1 unanswered 0\n"
+checks 'lines that differ in the middle, whole' 1 \
+    "#1 a\na] middle\n$(seq 9 | sed 's/^/- /; s/$/\\n/' | tr -d '\n')$(printf '%s\n' 1 2 3 4 five more 6 7 8 9 | sed 's/^/+ /; s/$/\\n/' | tr -d '\n')same 0 differ 1 unanswered 0\n" --whole
+checks 'lines that differ in the middle, as TAP' 1 \
+    'TAP version 13\nnot ok 1 - field 1 of a\n# #1 a\n# a] middle\n# @@ -2,7 +2,8 @@\n#   2\n#   3\n#   4\n# - 5\n# + five\n# + more\n#   6\n#   7\n#   8\n1..1\n' --format tap
+checked 'a first line that is gone' "$a"'new 0 a begins\neval 1\nwait\n' 1 '#1 a\na] begins\n@@ -1,4 +1,3 @@\n- 1\n  2\n  3\n  4\nsame 0 differ 1 unanswered 0\n'
+checked 'a last line that is new' "$a"'new 0 a ends\neval 1\nwait\n' 1 '#1 a\na] ends\n@@ -7,3 +7,4 @@\n  7\n  8\n  9\n+ 10\nsame 0 differ 1 unanswered 0\n'
+checked 'lines that came twice' "$a"'new 0 a twice\neval 1\nwait\n' 1 '#1 a\na] twice\n@@ -2,6 +2,9 @@\n  2\n  3\n  4\n+ 2\n+ 3\n+ 4\n  5\n  6\n  7\nsame 0 differ 1 unanswered 0\n'
+checked 'one line of two thousand' "$a"'new 0 a large\neval 1\nwait\n' 1 \
+    '#1 a\na] large\n@@ -997,7 +997,7 @@\n  997\n  998\n  999\n- 1000\n+ another\n  1001\n  1002\n  1003\nsame 0 differ 1 unanswered 0\n'
 checked 'the output of a question mark' "$a"'new 0 a ?\neval 1\nwait\n' 0 'same 1 differ 0 unanswered 0\n'
 
 # Each difference is written when it is known, where fields of one session are checked, or one after another: the next field of session a
@@ -240,6 +261,9 @@ reports 'another format' 2 "error: there is no such format: FORMAT is text, tap,
 reports 'the name of no session' 2 "error: no session can have this name: NAME is 1 to 32 letters, digits, \`_\` and \`-\`$help" --only 'a b'
 reports 'lines of JSON and a format' 2 "error: --json goes with no --format$help" --json --format tap
 reports 'lines of JSON, by the name too' 2 "error: --json goes with no --format$help" --format json --json
+for words in '--accept' '--format tap' '--format junit' '--json'; do
+    reports "whole outputs, $words" 2 "error: --whole goes with no FORMAT but text, and with no --accept$help" --whole $words
+done
 reports 'lines of JSON that are accepted' 2 "error: --accept goes with no FORMAT but text$help" --json --accept
 for ids in '' , 1, 1,,2 x 3-1 1- -1 01 1-2-3 4294967296 '1, 2'; do
     reports "no fields: $ids" 2 "error: these are no fields: IDS are numbers and ranges of them, as 3,7-9$help" "--leave-out=$ids"
@@ -476,6 +500,7 @@ exec 4<&-
 words 'a session of both' 0 'worksheet one\nsame 2 differ 0 unanswered 0\nworksheet two\nsame 1 differ 0 unanswered 0\ntotal of 2 worksheets: same 3 differ 0 unanswered 0\n' check --only a one two
 made_at four 'session b plain sh suite.sh b\nnew 0 b x\neval 1\nwait\n'
 words 'a session of one of two' 1 'worksheet one\nsame 0 differ 0 unanswered 0\nworksheet four\nsame 1 differ 0 unanswered 0\ntotal of 2 worksheets: same 1 differ 0 unanswered 0\n' check --only b one four
+words 'two worksheets, whole' 1 "$differ"'worksheet one\nsame 2 differ 0 unanswered 0\ntotal of 2 worksheets: same 3 differ 1 unanswered 1\n' check --whole bad one
 words 'two worksheets, by the name of the format' 0 'worksheet one\nsame 2 differ 0 unanswered 0\nworksheet four\nsame 1 differ 0 unanswered 0\ntotal of 2 worksheets: same 3 differ 0 unanswered 0\n' check --format text one four
 for flags in '--jobs 4' '--timeout 60' '--jobs 4 --timeout 60'; do
     compare "several worksheets, $flags" "$(answer check $flags one bad nowhere four </dev/null)" "$(answer check one bad nowhere four </dev/null)"
