@@ -40,7 +40,7 @@ fn is_behind_lost(sheet: &Sheet, lasts: &[Last], field: Option<&Field>) -> bool
 }
 
 /// Whether the field at this place of those that are to be evaluated is passed over.
-fn is_passed(plan: &Plan, sheet: &Sheet, lasts: &[Last], ids: &[u32], at: usize) -> bool
+pub fn is_passed(plan: &Plan, sheet: &Sheet, lasts: &[Last], ids: &[u32], at: usize) -> bool
     requires { at < length ids.now }
     ensures { result ≡ meant.is_passed plan.now sheet.now.contents.fields lasts.now ids.now at }
 {
@@ -89,7 +89,7 @@ fn wrong_line(sheet: &Sheet, stand: &Stand) -> Option<u64>
 }
 
 /// The line after which a strict evaluation stops here, if it does.
-pub(crate) fn stop_line(plan: &Plan, sheet: &Sheet, stand: &Stand) -> Option<u64>
+pub fn stop_line(plan: &Plan, sheet: &Sheet, stand: &Stand) -> Option<u64>
     requires { stand.now.taken < 2 ^ 32 }
     ensures { result ≡ meant.stop_line plan.now.strict sheet.now.contents.fields stand.now }
 {
@@ -120,7 +120,7 @@ pub(crate) fn id_at(ids: &[u32], place: usize) -> u32
 
 /// The place of the field that is asked next, where it doesn't come to its end here.
 #[tactic(auto, using(crate::proofs::Meaning::none_asked_steps))]
-pub(crate) fn next_place(plan: &Plan, sheet: &Sheet, ids: &[u32], stand: &Stand) -> Option<usize>
+pub fn next_place(plan: &Plan, sheet: &Sheet, ids: &[u32], stand: &Stand) -> Option<usize>
     requires few { length ids.now < 2 ^ 32 }
     requires taken { stand.now.taken ≤ length ids.now }
     ensures within { IfSome result (λ at. at < length ids.now) }

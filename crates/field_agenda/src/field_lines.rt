@@ -1,0 +1,117 @@
+//! Fields as lines: that of the Nth field that is asked has the number 2N - 1, and its wait the next one.
+
+use disk_model::Disk;
+use host_events::{Outcome, Reply};
+use offline_programs::RunFault;
+use session_engine::Host;
+use sheet_export::Format;
+use std::io::Write;
+use std::slice;
+use tellings::{Frame, Note, Tells};
+use worksheet::Sheet;
+
+/// A voice that is told the number of a field in the place of a line's.
+#[derive(Clone, Copy, Debug)]
+pub struct FieldLines<T> {
+    pub tells: T,
+}
+
+/// The number of the line of a field.
+fn line_of(field: u64) -> u64 {
+    field.saturating_mul(2).saturating_sub(1)
+}
+
+impl<T: Tells> Tells for FieldLines<T> {
+    ghost use Rattle.field_agenda.specs.FieldLines.{by_fields};
+
+    ghost voice = { by_fields T.voice };
+
+    fn frame<W: Write>(&self, frame: Frame, writer: &mut W) -> Result<(), RunFault> {
+        self.tells.frame(frame, writer)
+    }
+
+    fn note<W: Write>(&self, note: Note, writer: &mut W) -> Result<(), RunFault> {
+        self.tells.note(note, writer)
+    }
+
+    fn replies<W: Write>(
+        &self,
+        line: u64,
+        sheet: &Sheet,
+        replies: &[Reply],
+        writer: &mut W,
+    ) -> Result<(), RunFault> {
+        self.tells.replies(line_of(line), sheet, replies, writer)
+    }
+
+    fn outcomes<W: Write>(
+        &self,
+        first: u64,
+        sheet: &Sheet,
+        outcomes: &[Outcome],
+        writer: &mut W,
+    ) -> Result<(), RunFault> {
+        let mut line = first;
+        for outcome in outcomes {
+            match self
+                .tells
+                .outcomes(line_of(line), sheet, slice::from_ref(outcome), writer)
+            {
+                Ok(()) => line = line + 1,
+                Err(why) => return Err(why),
+            }
+        }
+        Ok(())
+    }
+
+    fn lives<W: Write>(
+        &self,
+        sheet: &Sheet,
+        replies: &[Reply],
+        writer: &mut W,
+    ) -> Result<(), RunFault> {
+        self.tells.lives(sheet, replies, writer)
+    }
+
+    fn events<W: Write>(
+        &self,
+        sheet: &Sheet,
+        replies: &[Reply],
+        writer: &mut W,
+    ) -> Result<(), RunFault> {
+        self.tells.events(sheet, replies, writer)
+    }
+
+    fn sheet<D: Disk, W: Write>(
+        &self,
+        line: u64,
+        host: &Host<D>,
+        writer: &mut W,
+    ) -> Result<(), RunFault> {
+        self.tells.sheet(line_of(line), host, writer)
+    }
+
+    fn field<D: Disk, W: Write>(
+        &self,
+        line: u64,
+        id: u32,
+        host: &Host<D>,
+        writer: &mut W,
+    ) -> Result<(), RunFault> {
+        self.tells.field(line_of(line), id, host, writer)
+    }
+
+    fn export<W: Write>(
+        &self,
+        line: u64,
+        format: Format,
+        sheet: &Sheet,
+        writer: &mut W,
+    ) -> Result<(), RunFault> {
+        self.tells.export(line_of(line), format, sheet, writer)
+    }
+
+    fn fault<W: Write>(&self, why: RunFault, writer: &mut W) -> bool {
+        self.tells.fault(why, writer)
+    }
+}
