@@ -30,7 +30,7 @@ fn is_lost(sheet: &Sheet, id: Option<u32>) -> bool
 }
 
 /// Whether the field that was asked last of this one's session shows no answer.
-fn is_behind_lost(sheet: &Sheet, lasts: &[Last], field: Option<&Field>) -> bool
+pub fn is_behind_lost(sheet: &Sheet, lasts: &[Last], field: Option<&Field>) -> bool
     ensures { result ≡ meant.is_behind_lost sheet.now.contents.fields lasts.now (option_copied field.entry) }
 {
     match field {
@@ -40,7 +40,7 @@ fn is_behind_lost(sheet: &Sheet, lasts: &[Last], field: Option<&Field>) -> bool
 }
 
 /// Whether the field at this place of those that are to be evaluated is passed over.
-pub fn is_passed(plan: &Plan, sheet: &Sheet, lasts: &[Last], ids: &[u32], at: usize) -> bool
+fn is_passed(plan: &Plan, sheet: &Sheet, lasts: &[Last], ids: &[u32], at: usize) -> bool
     requires { at < length ids.now }
     ensures { result ≡ meant.is_passed plan.now sheet.now.contents.fields lasts.now ids.now at }
 {
@@ -52,7 +52,7 @@ pub fn is_passed(plan: &Plan, sheet: &Sheet, lasts: &[Last], ids: &[u32], at: us
 
 /// The next place, from this one on, whose field isn't passed over, or their number where there is none.
 #[tactic(auto, using(crate::proofs::Meaning::next_steps))]
-pub(crate) fn next_of(plan: &Plan, sheet: &Sheet, lasts: &[Last], ids: &[u32], from: usize) -> usize
+pub fn next_of(plan: &Plan, sheet: &Sheet, lasts: &[Last], ids: &[u32], from: usize) -> usize
     requires { from ≤ length ids.now }
     ensures next { meant.IsNext plan.now sheet.now.contents.fields lasts.now ids.now from result }
     ensures within { result ≤ length ids.now }
@@ -120,7 +120,7 @@ pub(crate) fn id_at(ids: &[u32], place: usize) -> u32
 
 /// The place of the field that is asked next, where it doesn't come to its end here.
 #[tactic(auto, using(crate::proofs::Meaning::none_asked_steps))]
-pub fn next_place(plan: &Plan, sheet: &Sheet, ids: &[u32], stand: &Stand) -> Option<usize>
+pub(crate) fn next_place(plan: &Plan, sheet: &Sheet, ids: &[u32], stand: &Stand) -> Option<usize>
     requires few { length ids.now < 2 ^ 32 }
     requires taken { stand.now.taken ≤ length ids.now }
     ensures within { IfSome result (λ at. at < length ids.now) }

@@ -1,5 +1,11 @@
 //! Fields as lines: that of the Nth field that is asked has the number 2N - 1, and its wait the next one.
 
+ghost use Rattle.std.specs.Prelude.{◌≡◌, ◌+◌, ◌<◌, ◌^◌, IfErr, OnOk, length};
+ghost use Rattle.std.specs.Io.KnownBytes.{Appends};
+ghost use Rattle.worksheet.specs.Contents.{Contents};
+ghost use Rattle.tellings.specs.Voice.{IsUntold, numbered_text};
+ghost use Rattle.field_agenda.specs.FieldLines as lines;
+
 use disk_model::Disk;
 use host_events::{Outcome, Reply};
 use offline_programs::RunFault;
@@ -17,14 +23,31 @@ pub struct FieldLines<T> {
 }
 
 /// The number of the line of a field.
-fn line_of(field: u64) -> u64 {
+fn line_of(field: u64) -> u64
+    ensures { result ≡ lines.field_line field }
+{
     field.saturating_mul(2).saturating_sub(1)
 }
 
-impl<T: Tells> Tells for FieldLines<T> {
-    ghost use Rattle.field_agenda.specs.FieldLines.{by_fields};
+/// Tells what the command gave that asked the field with this number in their order.
+fn tell_one<T: Tells, W: Write>(
+    tells: &T,
+    field: u64,
+    sheet: &Sheet,
+    outcome: &Outcome,
+    writer: &mut W,
+) -> Result<(), RunFault>
+    ensures ok { OnOk result (Appends (W.contents writer.old) (W.contents writer.new)
+        (T.voice.reply (lines.field_line field) sheet.now.contents outcome.now.reply)) }
+    ensures err { IfErr result (IsUntold T.voice) }
+{
+    tells.outcomes(line_of(field), sheet, slice::from_ref(outcome), writer)
+}
 
-    ghost voice = { by_fields T.voice };
+impl<T: Tells> Tells for FieldLines<T> {
+    ghost use Rattle.field_agenda.specs.FieldLines.{by_field_lines};
+
+    ghost voice = { by_field_lines T.voice };
 
     fn frame<W: Write>(&self, frame: Frame, writer: &mut W) -> Result<(), RunFault> {
         self.tells.frame(frame, writer)
@@ -51,14 +74,10 @@ impl<T: Tells> Tells for FieldLines<T> {
         outcomes: &[Outcome],
         writer: &mut W,
     ) -> Result<(), RunFault> {
-        let mut line = first;
-        for outcome in outcomes {
-            match self
-                .tells
-                .outcomes(line_of(line), sheet, slice::from_ref(outcome), writer)
-            {
-                Ok(()) => line = line + 1,
-                Err(why) => return Err(why),
+        for at in 0..outcomes.len() {
+            let outcome = &outcomes[at];
+            if let Err(why) = tell_one(&self.tells, first + at as u64, sheet, outcome, writer) {
+                return Err(why);
             }
         }
         Ok(())

@@ -1,27 +1,26 @@
 //! What is made of what came.
+ghost use Rattle.std.specs.Prelude.{◌≡◌};
+ghost use Rattle.session_engine.specs.World.{World};
+ghost use Rattle.session_engine.specs.Host.{IsHost};
+ghost use Rattle.driver.specs.Reports.{came_of};
+ghost use Rattle.agendas.specs.Heeds.{interrupt_note};
+ghost use Rattle.field_agenda.specs.Heeds as heeds;
 
-use crate::asking::is_held;
 use crate::stage::FieldDoing;
-use crate::times::begun;
-use block_tree::Sequence;
+use crate::times::limit_begun;
+use agendas::heeding::interrupt_of;
+use agendas::waits::is_held;
 use child_edge::Interrupted;
 use disk_model::Disk;
 use driver::Came;
-use evaluation::plan::Stand;
 use live::{Hold, RESPITE, go_on, wait_for};
 use session_engine::Host;
 use tellings::Note;
 
-/// What came of an interrupt, where the turn was one.
-fn interrupt_of(came: &Came) -> Option<Interrupted> {
-    match came {
-        Came::Interrupted(told) => Some(*told),
-        Came::Gave(_) | Came::Rewrote(_) | Came::Shown => None,
-    }
-}
-
 /// What came of the interrupt for this field is noted.
-fn note_over(id: u32, told: Option<Interrupted>) -> Option<Note> {
+fn note_over(id: u32, told: Option<Interrupted>) -> Option<Note>
+    ensures { result ≡ interrupt_note (Note.Over id) told }
+{
     match told {
         Some(told) => Some(Note::Over(id, told)),
         None => None,
@@ -29,34 +28,46 @@ fn note_over(id: u32, told: Option<Interrupted>) -> Option<Note> {
 }
 
 /// What is noted of what came, where this was done.
-pub(crate) fn note_of(doing: FieldDoing, came: &Came) -> Option<Note> {
+pub(crate) fn noted_of(doing: FieldDoing, came: &Came) -> Option<Note>
+    ensures { result ≡ heeds.noted_of doing (came_of came.now) }
+{
     match doing {
+        FieldDoing::Nothing => None,
+        FieldDoing::Ask => None,
+        FieldDoing::Life => None,
         FieldDoing::Over(id) => note_over(id, interrupt_of(came)),
-        FieldDoing::Nothing | FieldDoing::Ask | FieldDoing::Life | FieldDoing::Stall => None,
+        FieldDoing::Stall => None,
     }
 }
 
 /// The wait that goes on, where this was done.
-pub(crate) fn held_behind<D: Disk>(
+pub(crate) fn wait_behind<D: Disk>(
     host: &Host<D>,
     limit: Option<u32>,
     now: u64,
     doing: FieldDoing,
     held: Hold,
-) -> Hold {
+) -> Hold
+    ensures { (w : World) → IsHost host.now w → heeds.WaitBehind doing limit w now held result }
+{
     match doing {
         FieldDoing::Nothing => held,
-        FieldDoing::Ask => go_on(begun(limit, now), host),
+        FieldDoing::Ask => go_on(limit_begun(limit, now), host),
         FieldDoing::Life => go_on(held, host),
         FieldDoing::Over(_) => wait_for(now, RESPITE),
         FieldDoing::Stall => Hold::Free,
     }
 }
 
-/// Whether no item waits right after fields were asked, where this was done and this wait goes on.
-pub(crate) fn at_once_behind(doing: FieldDoing, before: bool, held: Hold) -> bool {
+/// Whether no item waited right after the last fields were asked, where this was done and this wait goes on.
+pub(crate) fn at_once_behind(doing: FieldDoing, before: bool, held: Hold) -> bool
+    ensures { result ≡ heeds.at_once_behind doing before held }
+{
     match doing {
         FieldDoing::Ask => !is_held(held),
-        FieldDoing::Nothing | FieldDoing::Life | FieldDoing::Over(_) | FieldDoing::Stall => before,
+        FieldDoing::Nothing => before,
+        FieldDoing::Life => before,
+        FieldDoing::Over(_) => before,
+        FieldDoing::Stall => before,
     }
 }

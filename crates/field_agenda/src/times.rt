@@ -1,6 +1,13 @@
 //! The time that fields have.
+ghost use Rattle.std.specs.Prelude.{◌≡◌, ◌⊎◌, ◌≤◌, IfSome, None, false, length, true};
+ghost use Rattle.session_engine.specs.World.{World};
+ghost use Rattle.session_engine.specs.Host.{IsHost};
+ghost use Rattle.live.specs.Arrivals.{IsOver};
+ghost use Rattle.field_agenda.specs.Says.{IsLateNow, NoneLate};
+ghost use Rattle.field_agenda.specs.Standing as standing;
 
-use arrivals::{Input, Woken};
+use agendas::waits::is_over;
+use arrivals::Woken;
 use child_calls::Seat;
 use disk_model::Disk;
 use evaluation::beside::{Late, first_late, further_late};
@@ -9,42 +16,24 @@ use live::{Hold, wait_for};
 use session_engine::Host;
 
 /// The wait for fields that were asked now.
-pub(crate) fn begun(limit: Option<u32>, now: u64) -> Hold {
+pub(crate) fn limit_begun(limit: Option<u32>, now: u64) -> Hold
+    ensures { result ≡ standing.limit_begun limit now }
+{
     match limit {
         None => Hold::Wait,
         Some(seconds) => wait_for(now, seconds),
     }
 }
 
-/// Whether the time of a wait is over at this moment.
-pub(crate) fn is_over(held: Hold, now: u64) -> bool {
-    match held {
-        Hold::Free | Hold::Wait | Hold::Stopped => false,
-        Hold::Until(end) | Hold::Limited(end) | Hold::Warned(end) => now >= end,
-    }
-}
-
-/// The milliseconds that are left at this moment, where there is a limit.
-pub(crate) fn patience(held: Hold, now: u64) -> Option<u64> {
-    match held {
-        Hold::Free | Hold::Wait | Hold::Stopped => None,
-        Hold::Until(end) | Hold::Limited(end) | Hold::Warned(end) => Some(end.saturating_sub(now)),
-    }
-}
-
-/// Whether no wait holds back what comes next.
-pub(crate) fn is_free(held: Hold) -> bool {
-    match held {
-        Hold::Free => true,
-        Hold::Wait | Hold::Until(_) | Hold::Limited(_) | Hold::Warned(_) | Hold::Stopped => false,
-    }
-}
-
-/// The life whose turn it is by a watch.
-pub(crate) fn life_of(due: Option<Woken>) -> Option<Seat> {
+/// The life whose turn it is, by what a watch returned.
+pub(crate) fn life_due(due: Option<Woken>) -> Option<Seat>
+    ensures { result ≡ standing.life_due due }
+{
     match due {
         Some(Woken::Life(seat)) => Some(seat),
-        Some(Woken::Input | Woken::TimeOver) | None => None,
+        Some(Woken::Input) => None,
+        Some(Woken::TimeOver) => None,
+        None => None,
     }
 }
 
@@ -54,10 +43,15 @@ pub(crate) fn late_now<D: Disk>(
     ids: &[u32],
     stand: &Stand,
     now: u64,
-) -> Option<Late> {
+) -> Option<Late>
+    requires { stand.now.taken ≤ length ids.now }
+    ensures some { (w : World) → IsHost host.now w → IfSome result (λ late. IsLateNow ids.now stand.now w now late.place late.id) }
+    ensures none { (w : World) → IsHost host.now w → result ≡ None → NoneLate ids.now stand.now w now }
+{
     if stand.warned {
-        further_late(host, ids, stand)
-    } else if is_over(stand.held, now) {
+        return further_late(host, ids, stand);
+    }
+    if is_over(stand.held, now) {
         Some(first_late(host, ids, stand))
     } else {
         None
