@@ -5,3 +5,5 @@ pub mod Says
 pub mod Heeds
 pub mod FieldsRules
 pub mod FieldLines
+pub mod Stages
+pub mod LooksFirst

@@ -44,6 +44,27 @@ fn tell_one<T: Tells, W: Write>(
     tells.outcomes(line_of(field), sheet, slice::from_ref(outcome), writer)
 }
 
+/// Tells what commands gave that asked as many fields, from the one with this number in their order on.
+fn tell_each<T: Tells, W: Write>(
+    tells: &T,
+    first: u64,
+    sheet: &Sheet,
+    outcomes: &[Outcome],
+    writer: &mut W,
+) -> Result<(), RunFault>
+    requires { first + length outcomes.now < 2 ^ 64 }
+    ensures ok { OnOk result (Appends (W.contents writer.old) (W.contents writer.new)
+        (numbered_text (lines.by_field_lines T.voice) first sheet.now.contents outcomes.now)) }
+    ensures err { IfErr result (IsUntold T.voice) }
+{
+    let mut field = first;
+    for outcome in outcomes {
+        tell_one(tells, field, sheet, outcome, writer)?;
+        field += 1;
+    }
+    Ok(())
+}
+
 impl<T: Tells> Tells for FieldLines<T> {
     ghost use Rattle.field_agenda.specs.FieldLines.{by_field_lines};
 
@@ -74,13 +95,7 @@ impl<T: Tells> Tells for FieldLines<T> {
         outcomes: &[Outcome],
         writer: &mut W,
     ) -> Result<(), RunFault> {
-        for at in 0..outcomes.len() {
-            let outcome = &outcomes[at];
-            if let Err(why) = tell_one(&self.tells, first + at as u64, sheet, outcome, writer) {
-                return Err(why);
-            }
-        }
-        Ok(())
+        tell_each(&self.tells, first, sheet, outcomes, writer)
     }
 
     fn lives<W: Write>(

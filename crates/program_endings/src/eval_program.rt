@@ -1,10 +1,10 @@
 //! The program `eval` over a worksheet's files, from its files on.
-ghost use Rattle.std.specs.Prelude.{◌≡◌, Err, IfErr, IfOk, []};
-ghost use Rattle.evaluation.specs.Steps.{setting};
+ghost use Rattle.std.specs.Prelude.{◌≡◌, Err, IfErr, IfOk, Ok, true};
 ghost use Rattle.evaluation.specs.declared.fault.EvalFault.TheVariants as evals;
+ghost use Rattle.field_agenda.specs.Stages.{IsEnded};
 ghost use Rattle.offline_programs.specs.Saying.{saying};
-ghost use Rattle.program_endings.specs.EvalProgram.{EvalAnswer, EvaluatesTo, EvaluationEnded, FramedLast, LastOfEval, TellsEval, are_none_over, counts_status, evaluation_status};
-ghost use Rattle.program_endings.specs.LiveProgram.{LiveUnopened};
+ghost use Rattle.program_endings.specs.EvalProgram.{AnswersAfter, EndsEvaluated, EvaluatesTo, EvaluationEnded, FramedLast, LastOfEnd, LastOfFault, TellsEval, are_none_over, counts_status, eval_setting, evaluation_status};
+ghost use Rattle.program_endings.specs.LiveProgram.{EndsFaulted, LiveUnopened};
 ghost use Rattle.program_endings.specs.Records.{calling, given_disk, streams, writing};
 ghost use Rattle.sheet_files.specs.Closing.{closable};
 
@@ -52,15 +52,27 @@ struct Evaluated<S, W> {
     output: W,
 }
 
+/// What the program answers after a run that came to its end so.
+fn answer_at(stage: Stage) -> Result<EvalEnd, EvalFault>
+    requires { IsEnded stage }
+    ensures { (done : Unit {0}) → AnswersAfter (Ok done) stage result }
+{
+    match stage {
+        Stage::Counted(end) => Ok(end),
+        Stage::NoField(id) => Err(EvalFault::NoField(id)),
+        Stage::NoProgram(name) => Err(EvalFault::NoProgram(name)),
+        Stage::New => unreachable!(),
+        Stage::Going => unreachable!(),
+    }
+}
+
 /// What the program answers after a run that came so far.
-fn answer_after(run: Result<(), RunFault>, stage: Stage) -> Result<EvalEnd, EvalFault> {
+fn answer_after(run: Result<(), RunFault>, stage: Stage) -> Result<EvalEnd, EvalFault>
+    requires { IfOk run (λ done. IsEnded stage) }
+    ensures { AnswersAfter run stage result }
+{
     match run {
-        Ok(()) => match stage {
-            Stage::Counted(end) => Ok(end),
-            Stage::NoField(id) => Err(EvalFault::NoField(id)),
-            Stage::NoProgram(name) => Err(EvalFault::NoProgram(name)),
-            Stage::New | Stage::Going => Err(EvalFault::Run(RunFault::InputTooLong)),
-        },
+        Ok(()) => answer_at(stage),
         Err(why) => Err(EvalFault::Run(why)),
     }
 }
@@ -74,7 +86,10 @@ fn evaluate_on<W: Write, D: Close, S: Sources, T: Tells + Copy, P: Programs + Dr
     output: W,
     disk: D,
     sources: S,
-) -> Evaluated<S, W> {
+) -> Evaluated<S, W>
+    ensures { EvaluatesTo (eval_setting plan programs P.finds T.voice S.after S.clock S.wakes) (given_disk (closable D.view D.closed) disk)
+        (calling sources result.sources) (writing W.contents output result.output) result.whole result.answer }
+{
     let sink = Noting {
         sink: Voiced {
             tells: FieldLines { tells },
@@ -134,8 +149,18 @@ fn end_without<W: Write, E: Says, T: Tells>(
 }
 
 /// Whether a fault goes to the output, where its voice has it: a run prints its own, but where its output failed.
-fn tell_run_fault<W: Write, T: Tells>(why: RunFault, whole: bool, tells: &T, output: &mut W) -> bool {
-    if is_printed(why) { whole } else { tells.fault(why, output) }
+fn tell_run_fault<W: Write, T: Tells>(
+    why: RunFault,
+    whole: bool,
+    tells: &T,
+    output: &mut W,
+) -> bool
+    ensures { EndsFaulted T.voice (writing W.contents output.old output.new) whole result why }
+{
+    if is_printed(why) {
+        return whole;
+    }
+    tells.fault(why, output)
 }
 
 /// Ends the program where a run had a fault, of whose last text this is known.
@@ -145,7 +170,11 @@ fn end_broken<W: Write, E: Says, T: Tells>(
     tells: &T,
     output: &mut W,
     errors: &mut E,
-) -> Ending {
+) -> Ending
+    ensures last { LastOfFault T.voice (streams (writing W.contents output.old output.new) (saying E.contents E.tried errors.old errors.new)) whole result (evals.Run why) }
+    ensures status { result.status ≡ 1 }
+    ensures told { TellsEval (saying E.contents E.tried errors.old errors.new) result.told (Err (evals.Run why)) }
+{
     let said = tell_run_fault(why, whole, tells, output);
     with_last(end_program(Err(why), errors), said)
 }
@@ -157,7 +186,11 @@ fn end_faulty<W: Write, E: Says, T: Tells>(
     tells: &T,
     output: &mut W,
     errors: &mut E,
-) -> Ending {
+) -> Ending
+    ensures last { LastOfFault T.voice (streams (writing W.contents output.old output.new) (saying E.contents E.tried errors.old errors.new)) whole result fault }
+    ensures status { result.status ≡ 1 }
+    ensures told { TellsEval (saying E.contents E.tried errors.old errors.new) result.told (Err fault) }
+{
     match fault {
         EvalFault::NoField(id) => end_without(
             EvalFault::NoField(id),
@@ -183,7 +216,9 @@ fn end_framed<W: Write, E: Says, T: Tells>(
     tells: &T,
     output: &mut W,
     errors: &mut E,
-) -> Ending {
+) -> Ending
+    ensures { LastOfEnd T.voice (streams (writing W.contents output.old output.new) (saying E.contents E.tried errors.old errors.new)) result end }
+{
     match tells.frame(Frame::End, output) {
         Ok(()) => end_evaluated(end, errors),
         Err(why) => end_told(Err(why), tells, output, errors),
@@ -197,7 +232,9 @@ fn end_evaluation<W: Write, E: Says, T: Tells>(
     tells: &T,
     output: &mut W,
     errors: &mut E,
-) -> Ending {
+) -> Ending
+    ensures { EndsEvaluated T.voice (streams (writing W.contents output.old output.new) (saying E.contents E.tried errors.old errors.new)) whole result answer }
+{
     match answer {
         Ok(end) => end_framed(end, tells, output, errors),
         Err(fault) => end_faulty(fault, whole, tells, output, errors),
@@ -214,7 +251,10 @@ fn end_on<W: Write, E: Says, D: Close, S: Sources, T: Tells + Copy, P: Programs 
     errors: &mut E,
     disk: D,
     sources: S,
-) -> LiveEnding<S, W> {
+) -> LiveEnding<S, W>
+    ensures { EvaluationEnded (eval_setting plan programs P.finds T.voice S.after S.clock S.wakes) (given_disk (closable D.view D.closed) disk) (calling sources result.sources)
+        (streams (writing W.contents output result.output) (saying E.contents E.tried errors.old errors.new)) result.ending }
+{
     let Evaluated {
         answer,
         whole,
@@ -238,7 +278,10 @@ fn end_greeted<W: Write, E: Says, D: Close, S: Sources, T: Tells + Copy, P: Prog
     errors: &mut E,
     disk: D,
     sources: S,
-) -> LiveEnding<S, W> {
+) -> LiveEnding<S, W>
+    ensures { EvaluationEnded (eval_setting plan programs P.finds T.voice S.after S.clock S.wakes) (given_disk (closable D.view D.closed) disk) (calling sources result.sources)
+        (streams (writing W.contents output result.output) (saying E.contents E.tried errors.old errors.new)) result.ending }
+{
     match tells.frame(Frame::Hello, &mut output) {
         Ok(()) => end_on(alloc, plan, programs, tells, output, errors, disk, sources),
         Err(why) => {
@@ -265,7 +308,13 @@ pub fn run_evaluation<W: Write, E: Says, D: Close, S: Sources, T: Tells + Copy, 
     errors: &mut E,
     files: Result<D, FilesFault>,
     sources: S,
-) -> LiveEnding<S, W> {
+) -> LiveEnding<S, W>
+    ensures unopened { IfErr files (LiveUnopened T.voice (calling sources result.sources)
+        (streams (writing W.contents output result.output) (saying E.contents E.tried errors.old errors.new)) result.ending) }
+
+    ensures files { IfOk files (λ disk. EvaluationEnded (eval_setting plan programs P.finds T.voice S.after S.clock S.wakes) (given_disk (closable D.view D.closed) disk) (calling sources result.sources)
+        (streams (writing W.contents output result.output) (saying E.contents E.tried errors.old errors.new)) result.ending) }
+{
     match files {
         Ok(disk) => end_greeted(alloc, plan, programs, tells, output, errors, disk, sources),
         Err(why) => LiveEnding {
