@@ -53,3 +53,11 @@ pub lasts_next : (lasts : List Last) (fields : List Field) (ids : List ℕ) (at 
     → more ≡ after_asking asked (field_in fields id) → more ≡ lasts_behind lasts fields (take (at + 1) ids)
 lasts_next lasts fields ids at id asked more there so is =
     is ∙ ap (λ (l : List Last). after_asking l (field_in fields id)) so ∙ sym (lasts_on lasts fields (take at ids) id) ∙ ap (lasts_behind lasts fields) (sym (taken ids at id there))
+
+-- the group begins with the first of them
+pub begins : (goes : List ℕ → ℕ → Bool) (ids group : List ℕ) (from x id : ℕ) → group ≡ x ∷ [] → slice_get ids from ≡ Some x → slice_get ids from ≡ Some id
+    → with_others goes group (drop (from + 1) ids) ≡ with_others goes (id ∷ []) (drop (from + 1) ids)
+begins goes ids group from x id is there same =
+    let equal : Some x ≡ Some id = sym there ∙ same in
+    let number : x ≡ id = cc in
+    ap (λ (l : List ℕ). with_others goes l (drop (from + 1) ids)) (is ∙ ap (λ (n : ℕ). n ∷ []) number)

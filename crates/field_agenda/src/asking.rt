@@ -1,8 +1,9 @@
 //! Which fields are asked together.
-ghost use Rattle.std.specs.Prelude.{◌≡◌, ◌+◌, ◌-◌, ◌<◌, ◌≤◌, ◌^◌, ℕ, IfOk, IfSome, Some, None, get_or, length, map, slice_get};
+ghost use Rattle.std.specs.Prelude.{◌≡◌, ◌+◌, ◌-◌, ◌<◌, ◌≤◌, ◌^◌, ℕ, IfOk, IfSome, List, Option, Some, None, get_or, length, map, slice_get, true};
 ghost use Rattle.std.specs.Option.{option_copied};
 ghost use Rattle.session_engine.specs.World.{World, sheet_in};
 ghost use Rattle.session_engine.specs.Host.{IsHost};
+ghost use Rattle.driver.specs.Steps.{most_together};
 ghost use Rattle.evaluation.specs.Meant.{EndsHere, IsAsked};
 ghost use Rattle.evaluation.specs.Steps.{first_by};
 ghost use Rattle.live.specs.Saying as saying;
@@ -45,7 +46,8 @@ fn is_apart<D: Disk>(host: &Host<D>, group: &[u32], field: Option<&Field>) -> bo
 
 /// Whether there is room for one field more beside so many, in one group and in sessions.
 fn has_room<D: Disk>(host: &Host<D>, plan: &Plan, count: usize) -> bool
-    ensures { (w : World) → IsHost host.now w → result ≡ together.has_room plan.now w count }
+    ensures room { (w : World) → IsHost host.now w → result ≡ together.has_room plan.now w count }
+    ensures few { result ≡ true → count < most_together }
 {
     if count >= MOST_TOGETHER {
         return false;
@@ -85,7 +87,8 @@ fn goes_with<D: Disk>(
     group: &[u32],
     id: u32,
 ) -> bool
-    ensures { (w : World) → IsHost host.now w → result ≡ together.goes_with plan.now w lasts.now group.now id }
+    ensures goes { (w : World) → IsHost host.now w → result ≡ together.goes_with plan.now w lasts.now group.now id }
+    ensures few { result ≡ true → length group.now < most_together }
 {
     if plan.strict {
         return false;
@@ -111,8 +114,9 @@ pub(crate) fn group_from<D: Disk>(
     from: usize,
 ) -> Result<Vec<u32>, AllocError>
     requires { from < length ids.now }
-    ensures { (w : World) (id : ℕ) → IsHost host.now w → slice_get ids.now from ≡ Some id
+    ensures group { (w : World) (id : ℕ) → IsHost host.now w → slice_get ids.now from ≡ Some id
         → IfOk result (λ group. group.items ≡ together.group_at plan.now w lasts.now ids.now from id) }
+    ensures few { IfOk result (λ group. length group.items ≤ most_together) }
 {
     let mut group = Vec::new(alloc);
     group.push(id_at(ids, from))?;
