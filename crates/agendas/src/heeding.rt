@@ -94,7 +94,7 @@ fn went_wrong(came: &Came) -> bool
 }
 
 /// What came of an interrupt, where the turn was one.
-fn interrupt_of(came: &Came) -> Option<Interrupted>
+pub fn interrupt_of(came: &Came) -> Option<Interrupted>
     ensures { result ≡ (came_of came.now).interrupted }
 {
     match came {

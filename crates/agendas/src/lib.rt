@@ -5,11 +5,11 @@ mod alone;
 pub mod by_lines;
 pub mod doing;
 mod gathering;
-mod heeding;
+pub mod heeding;
 pub mod laws;
-mod matter;
+pub mod matter;
 mod taking;
-mod waits;
+pub mod waits;
 
 pub use by_lines::ByLines;
 pub use doing::{Chosen, Doing};

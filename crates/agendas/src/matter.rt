@@ -31,7 +31,7 @@ pub enum Matter {
 const MOST_OTHERS: u64 = 1_023;
 
 /// How many lives are heard with another: a strict input takes them one by one.
-pub(crate) fn most_others(strict: bool) -> u64
+pub fn most_others(strict: bool) -> u64
     ensures { result ≡ matters.others strict }
 {
     if strict { 0 } else { MOST_OTHERS }

@@ -60,7 +60,7 @@ pub(crate) fn begun_again(limit: Option<u32>, now: u64, closed: bool, held: Hold
 }
 
 /// Whether lines are held back.
-pub(crate) fn is_held(held: Hold) -> bool
+pub fn is_held(held: Hold) -> bool
     ensures { result ≡ saying.is_held held }
 {
     match held {
@@ -70,7 +70,7 @@ pub(crate) fn is_held(held: Hold) -> bool
 }
 
 /// Whether no wait holds lines back, and more may come.
-pub(crate) fn is_free(held: Hold) -> bool
+pub fn is_free(held: Hold) -> bool
     ensures free { result ≡ true → held ≡ Hold.Free }
     ensures other { result ≡ false → held ≡ Hold.Free → ⊥ }
 {
@@ -103,7 +103,7 @@ pub(crate) fn is_timed(held: Hold) -> bool
 }
 
 /// Whether the time of a wait is over at this moment.
-pub(crate) fn is_over(held: Hold, now: u64) -> bool
+pub fn is_over(held: Hold, now: u64) -> bool
     ensures over { result ≡ true → IsOver held now }
     ensures not_over { result ≡ false → IsOver held now → ⊥ }
     ensures timed { result ≡ true → IsTimed held }
@@ -137,7 +137,7 @@ pub(crate) fn input(held: Hold, is_ready: bool) -> Input
 }
 
 /// The milliseconds that are left at this moment, where there is a limit.
-pub(crate) fn patience(held: Hold, now: u64) -> Option<u64>
+pub fn patience(held: Hold, now: u64) -> Option<u64>
     ensures { result ≡ patience_at held now }
 {
     match held {

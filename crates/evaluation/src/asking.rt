@@ -30,7 +30,7 @@ fn is_lost(sheet: &Sheet, id: Option<u32>) -> bool
 }
 
 /// Whether the field that was asked last of this one's session shows no answer.
-fn is_behind_lost(sheet: &Sheet, lasts: &[Last], field: Option<&Field>) -> bool
+pub fn is_behind_lost(sheet: &Sheet, lasts: &[Last], field: Option<&Field>) -> bool
     ensures { result ≡ meant.is_behind_lost sheet.now.contents.fields lasts.now (option_copied field.entry) }
 {
     match field {
@@ -52,7 +52,7 @@ fn is_passed(plan: &Plan, sheet: &Sheet, lasts: &[Last], ids: &[u32], at: usize)
 
 /// The next place, from this one on, whose field isn't passed over, or their number where there is none.
 #[tactic(auto, using(crate::proofs::Meaning::next_steps))]
-pub(crate) fn next_of(plan: &Plan, sheet: &Sheet, lasts: &[Last], ids: &[u32], from: usize) -> usize
+pub fn next_of(plan: &Plan, sheet: &Sheet, lasts: &[Last], ids: &[u32], from: usize) -> usize
     requires { from ≤ length ids.now }
     ensures next { meant.IsNext plan.now sheet.now.contents.fields lasts.now ids.now from result }
     ensures within { result ≤ length ids.now }
@@ -89,7 +89,7 @@ fn wrong_line(sheet: &Sheet, stand: &Stand) -> Option<u64>
 }
 
 /// The line after which a strict evaluation stops here, if it does.
-pub(crate) fn stop_line(plan: &Plan, sheet: &Sheet, stand: &Stand) -> Option<u64>
+pub fn stop_line(plan: &Plan, sheet: &Sheet, stand: &Stand) -> Option<u64>
     requires { stand.now.taken < 2 ^ 32 }
     ensures { result ≡ meant.stop_line plan.now.strict sheet.now.contents.fields stand.now }
 {

@@ -17,11 +17,11 @@ use worksheet::Field;
 
 /// A field whose time is over.
 #[derive(Clone, Copy, Debug)]
-pub(crate) struct Late {
+pub struct Late {
     /// Which of the fields that are to be evaluated it is: 1 for the first.
-    pub(crate) place: usize,
+    pub place: usize,
     /// Its number.
-    pub(crate) id: u32,
+    pub id: u32,
 }
 
 /// Whether an item waits in this life.
@@ -35,7 +35,7 @@ fn is_busy(life: Option<LifeView>) -> bool
 }
 
 /// Whether an item waits in the session of this field.
-fn is_session_busy<D: Disk>(host: &Host<D>, field: Option<&Field>) -> bool
+pub fn is_session_busy<D: Disk>(host: &Host<D>, field: Option<&Field>) -> bool
     ensures { (w : World) → IsHost host.now w → result ≡ beside.is_session_busy w (option_copied field.entry) }
 {
     match field {
@@ -57,7 +57,7 @@ fn left_of(left: u32, is_busy: bool) -> u32
 
 /// Whether items wait in fewer sessions than this.
 #[tactic(auto, using(crate::proofs::Together::none_left))]
-fn wait_in_fewer<D: Disk>(host: &Host<D>, most: u32) -> bool
+pub fn wait_in_fewer<D: Disk>(host: &Host<D>, most: u32) -> bool
     ensures { (w : World) → IsHost host.now w → result ≡ nat_lt (length (waits w)) most }
 {
     let mut left = most;
@@ -102,7 +102,7 @@ fn joins_next<D: Disk>(host: &Host<D>, plan: &Plan, ids: &[u32], stand: &Stand, 
 }
 
 /// The place of the field that is asked although others wait, where there is one.
-pub(crate) fn joining<D: Disk>(
+pub fn joining<D: Disk>(
     host: &Host<D>,
     plan: &Plan,
     ids: &[u32],
@@ -164,7 +164,7 @@ fn next_late<D: Disk>(host: &Host<D>, ids: &[u32], stand: &Stand) -> Option<Late
 }
 
 /// The field whose time is over first: the one that was asked last where none is known to wait.
-pub(crate) fn first_late<D: Disk>(host: &Host<D>, ids: &[u32], stand: &Stand) -> Late
+pub fn first_late<D: Disk>(host: &Host<D>, ids: &[u32], stand: &Stand) -> Late
     requires { stand.now.taken ≤ length ids.now }
     ensures late { (w : World) → IsHost host.now w → beside.IsLate w ids.now stand.now result.place result.id }
     ensures taken { result.place ≤ stand.now.taken }
@@ -179,7 +179,7 @@ pub(crate) fn first_late<D: Disk>(host: &Host<D>, ids: &[u32], stand: &Stand) ->
 }
 
 /// The next field whose interpreter is interrupted after that of another one whose time was over.
-pub(crate) fn further_late<D: Disk>(host: &Host<D>, ids: &[u32], stand: &Stand) -> Option<Late>
+pub fn further_late<D: Disk>(host: &Host<D>, ids: &[u32], stand: &Stand) -> Option<Late>
     requires { stand.now.taken ≤ length ids.now }
     ensures found { (w : World) → IsHost host.now w → IfSome result (λ late. (stand.now.warned ≡ true)
         × beside.IsFirstWaiting w ids.now stand.now late.place late.id) }

@@ -85,7 +85,7 @@ fn missing_of(ids: &[u32], sheet: &Sheet) -> Option<u32>
 }
 
 /// The first number that is asked for and that no field has.
-pub(crate) fn missing_in(which: &Which, sheet: &Sheet) -> Option<u32>
+pub fn missing_in(which: &Which, sheet: &Sheet) -> Option<u32>
     ensures { result ≡ meant.missing_in which.now sheet.now.contents.fields }
 {
     match which {

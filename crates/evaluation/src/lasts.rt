@@ -42,7 +42,7 @@ fn with_last(alloc: Global, all: &[Last], field: Last) -> Result<Vec<Last>, Allo
 }
 
 /// The same where this field was asked after them, if it is there.
-pub(crate) fn after_asking(
+pub fn after_asking(
     alloc: Global,
     all: &[Last],
     field: Option<&Field>,

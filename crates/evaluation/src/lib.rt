@@ -1,16 +1,16 @@
 //! The evaluation of a worksheet's fields, one after another or those of several sessions side by side, with a limit of time where one is wanted.
 #![tactic(auto)]
 
-mod asking;
-mod beside;
-mod choosing;
+pub mod asking;
+pub mod beside;
+pub mod choosing;
 mod evaluating;
 mod fault;
-mod lasts;
+pub mod lasts;
 mod laws;
 pub mod plan;
 pub mod programs;
-mod rounds;
+pub mod rounds;
 mod silence;
 mod silently;
 mod stepping;

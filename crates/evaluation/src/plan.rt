@@ -111,7 +111,7 @@ fn overs_by(limit: Option<u32>, all: u64, stand: &Stand) -> Option<Overs>
 }
 
 /// What an evaluation of so many fields came to.
-pub(crate) fn counts_of(plan: &Plan, all: u64, sheet: &Sheet, stand: &Stand) -> Counts
+pub fn counts_of(plan: &Plan, all: u64, sheet: &Sheet, stand: &Stand) -> Counts
     requires { length sheet.now.contents.fields < 2 ^ 31 }
     ensures { result ≡ meant.evaluation_counts plan.now all sheet.now.contents.fields stand.now }
 {

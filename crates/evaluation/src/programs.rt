@@ -18,7 +18,7 @@ pub trait Programs {
 }
 
 /// Whether one of the fields with these numbers is of this session.
-fn is_needed(sheet: &Sheet, ids: &[u32], session: Name) -> bool
+pub fn is_needed(sheet: &Sheet, ids: &[u32], session: Name) -> bool
     ensures { result ≡ needs.is_needed sheet.now.contents.fields ids.now session }
 {
     ids.iter().any(|id| is_field_of(session, sheet.field(*id)))
@@ -48,7 +48,7 @@ fn is_ready<P: Programs>(programs: &P, sheet: &Sheet, ids: &[u32], session: &Ses
 }
 
 /// The first session whose program isn't there, of those of which a field has one of these numbers.
-pub(crate) fn lacking_in<P: Programs>(programs: &P, sheet: &Sheet, ids: &[u32]) -> Option<Name>
+pub fn lacking_in<P: Programs>(programs: &P, sheet: &Sheet, ids: &[u32]) -> Option<Name>
     ensures found { IfSome result (needs.IsFirstLacking (P.finds programs.now) sheet.now.contents.fields ids.now sheet.now.contents.sessions) }
     ensures none { result ≡ None → needs.HaveAll (P.finds programs.now) sheet.now.contents.fields ids.now sheet.now.contents.sessions }
 {

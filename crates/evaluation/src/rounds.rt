@@ -122,7 +122,7 @@ fn in_order(
 }
 
 /// The numbers of the fields that are to be evaluated, in the order in which they are asked.
-pub(crate) fn asked_in(alloc: Global, plan: &Plan, sheet: &Sheet) -> Result<Vec<u32>, AllocError>
+pub fn asked_in(alloc: Global, plan: &Plan, sheet: &Sheet) -> Result<Vec<u32>, AllocError>
     ensures { IfOk result (λ ids. ids.items ≡ rounds.asking_order plan.now sheet.now.contents.fields) }
 {
     let ids = meant_in(alloc, plan, sheet)?;

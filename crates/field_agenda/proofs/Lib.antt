@@ -1,0 +1,4 @@
+pub mod Groups
+pub mod Faults
+pub mod Endings
+pub mod Looked
