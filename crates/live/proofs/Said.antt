@@ -25,7 +25,7 @@ use Rattle.offline_programs.specs.declared.fault.RunFault.{RunFault}
 use Rattle.live.specs.declared.holding.Hold.TheVariants as hold
 use Rattle.live.specs.Records.{Edge, brought, left}
 use Rattle.live.specs.Saying.{IsCommand}
-use Rattle.live.specs.Taking.{SaidUnwritten, SayingFailed, all, up_to, none, refused, stopped, untold, unwritten}
+use Rattle.live.specs.Taking.{Said, SaidUnwritten, SayingFailed, all, up_to, none, refused, stopped, untold, unwritten}
 
 -- memory is wanted for a line that says a command
 pub wants_command : (bytes : List ℕ) → wants_memory (line_of bytes) ≡ true → IsCommand (live_line_of bytes)
