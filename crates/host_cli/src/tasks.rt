@@ -67,7 +67,11 @@ fn eval_as<Y: System, T: Tells + Copy>(
     plan: Plan,
     tells: T,
     path: &str,
-) -> Performed<Y> {
+) -> Performed<Y>
+    ensures does { EvaluatesAs (outer Y.Places.Places (disks_seen Y.Disk.Disk Y.Disk.closed) (sources_seen Y.Sources.after Y.Sources.clock Y.Sources.wakes)
+        (streams_seen Y.Input.Read Y.Output.Write Y.Output.brought Y.Output.tried Y.Errors.Write Y.Errors.tried)) T.voice plan outside result.outside result.ending path.now }
+    ensures leaves { (result.outside.input ≡ outside.input) × (result.outside.progress ≡ outside.progress) }
+{
     if let Err(why) = outside.places.hold() {
         let ending = end_unheld(why, &mut outside.errors);
         return Performed { ending, outside };
@@ -81,7 +85,7 @@ fn eval_as<Y: System, T: Tells + Copy>(
         mut errors,
         progress,
     } = outside;
-    let programs = FoundIn::<Y> { places: &places };
+    let programs = FoundIn::<Y>::new(&places);
     let LiveEnding {
         ending,
         sources,
@@ -116,7 +120,11 @@ fn eval_told<Y: System>(
     plan: Plan,
     json: bool,
     path: &str,
-) -> Performed<Y> {
+) -> Performed<Y>
+    ensures does { EvaluatesAs (outer Y.Places.Places (disks_seen Y.Disk.Disk Y.Disk.closed) (sources_seen Y.Sources.after Y.Sources.clock Y.Sources.wakes)
+        (streams_seen Y.Input.Read Y.Output.Write Y.Output.brought Y.Output.tried Y.Errors.Write Y.Errors.tried)) (voice_by json) plan outside result.outside result.ending path.now }
+    ensures leaves { (result.outside.input ≡ outside.input) × (result.outside.progress ≡ outside.progress) }
+{
     if json {
         eval_as(alloc, outside, plan, InJson { alloc }, path)
     } else {
@@ -130,7 +138,11 @@ fn eval_at<Y: System>(
     mut outside: Outside<Y>,
     path: &str,
     words: EvalWords<'_>,
-) -> Performed<Y> {
+) -> Performed<Y>
+    ensures does { DoesEval (outer Y.Places.Places (disks_seen Y.Disk.Disk Y.Disk.closed) (sources_seen Y.Sources.after Y.Sources.clock Y.Sources.wakes)
+        (streams_seen Y.Input.Read Y.Output.Write Y.Output.brought Y.Output.tried Y.Errors.Write Y.Errors.tried)) outside result.outside result.ending path.now (eval_view words.entry) }
+    ensures leaves { LeavesAlone outside result.outside (asked.eval path.now (eval_view words.entry)) }
+{
     match read_plan(alloc, &words) {
         Ok(plan) => eval_told(alloc, outside, plan, words.json, path),
         Err(why) => {
