@@ -22,8 +22,8 @@ use command_words::{EvalWords, Task, read_words};
 use evaluation::Plan;
 use offline_programs::{RunFault, Says};
 use program_endings::{
-    Ending, LiveEnding, end_program, end_unheld, read_rescued, run_create, run_evaluation, run_export,
-    run_rescue, run_show,
+    Ending, LiveEnding, end_program, end_unheld, read_rescued, run_create, run_evaluation,
+    run_export, run_rescue, run_show,
 };
 use sheet_export::{Format, format_named, last_part};
 use sheet_files::Places;
