@@ -273,8 +273,8 @@ impl<P: Programs> ByFields<P> {
 
     /// Watches the sources, or takes it that lives have stalled where the two seconds after an interrupt are over.
     fn watch(&mut self, now: u64) -> Turn
-        ensures over { IsOver self.old.stand.held now → (result ≡ Turn.Stall) × (self.new ≡ does_now self.old does.Stall) }
-        ensures going { (IsOver self.old.stand.held now → ⊥) → (result ≡ Turn.Watch Input.HeldBack (patience_at self.old.stand.held now)) × (self.new ≡ self.old) }
+        ensures { ((IsOver self.old.stand.held now) × (result ≡ Turn.Stall) × (self.new ≡ does_now self.old does.Stall))
+            ⊎ ((IsOver self.old.stand.held now → ⊥) × (result ≡ Turn.Watch Input.HeldBack (patience_at self.old.stand.held now)) × (self.new ≡ self.old)) }
     {
         if is_over(self.stand.held, now) {
             self.doing = FieldDoing::Stall;
