@@ -102,12 +102,7 @@ fn joins_next<D: Disk>(host: &Host<D>, plan: &Plan, ids: &[u32], stand: &Stand, 
 }
 
 /// The place of the field that is asked although others wait, where there is one.
-pub fn joining<D: Disk>(
-    host: &Host<D>,
-    plan: &Plan,
-    ids: &[u32],
-    stand: &Stand,
-) -> Option<usize>
+pub fn joining<D: Disk>(host: &Host<D>, plan: &Plan, ids: &[u32], stand: &Stand) -> Option<usize>
     requires few { length ids.now < 2 ^ 32 }
     requires taken { stand.now.taken ≤ length ids.now }
     ensures within { IfSome result (λ at. at < length ids.now) }

@@ -19,7 +19,7 @@ use Rattle.field_agenda.specs.declared.stage.Stage.TheVariants as stage
 use Rattle.field_agenda.specs.FieldsRules.{fields_rules}
 use Rattle.field_agenda.specs.Heeds.{FieldsHeed}
 use Rattle.field_agenda.specs.Looks.{LooksFor, looked, unlooked}
-use Rattle.field_agenda.specs.Says.{AsksFrom, EndsSo, FieldsSay, GoesOn, GoesUnheard, SaysAt, asked, asks, ends, ends_with, goes_unheard, hears, interrupts, interrupts_of, stalls, too_many_fields, unasked, uncounted, watches}
+use Rattle.field_agenda.specs.Says.{AsksFrom, ComesToItsEnd, FieldsSay, FieldsGoOn, GoesUnheard, SaysAt, asked, asks, ends, ends_with, goes_unheard, hears, interrupts, interrupts_of, stalls, too_many_fields, unasked, uncounted, watches}
 use Rattle.field_agenda.specs.Stages.{IsEnded}
 use Rattle.field_agenda.specs.Standing.{seen_due}
 use Rattle.worksheet.specs.declared.field.Field.{Field}
@@ -92,7 +92,7 @@ module _ {P : Type 0} where
       let wrong : turn.Lines (k + 1) taken ≡ turn.End = sym lines ∙ not_turn r t end is in absurd cc
   end_of_asking a w k id r b end (unasked is same) = not_fault r _ end is
 
-  end_of_end : (a : ByFields P) (w : World) (stopped : Option ℕ) (r : Result Turn RunFault) (b : ByFields P) → r ≡ Ok turn.End → EndsSo a w stopped r b → ⊥
+  end_of_end : (a : ByFields P) (w : World) (stopped : Option ℕ) (r : Result Turn RunFault) (b : ByFields P) → r ≡ Ok turn.End → ComesToItsEnd a w stopped r b → ⊥
   end_of_end a w stopped r b end (ends_with counts count is same) = let wrong = not_turn r _ end is in absurd cc
   end_of_end a w stopped r b end (too_many_fields many is same) = not_fault r _ end is
 
@@ -103,7 +103,7 @@ module _ {P : Type 0} where
   end_of_unheard a w now r b end (stalls held none late over is same) = let wrong = not_turn r turn.Stall end is in absurd cc
   end_of_unheard a w now r b end (watches held none late going is same) = let wrong = not_turn r _ end is in absurd cc
 
-  end_of_going : (a : ByFields P) (w : World) (now : ℕ) (r : Result Turn RunFault) (b : ByFields P) → r ≡ Ok turn.End → GoesOn a w now r b → ⊥
+  end_of_going : (a : ByFields P) (w : World) (now : ℕ) (r : Result Turn RunFault) (b : ByFields P) → r ≡ Ok turn.End → FieldsGoOn a w now r b → ⊥
   end_of_going a w now r b end (uncounted many is same) = not_fault r _ end is
   end_of_going a w now r b end (hears seat due is same) = let wrong = not_turn r _ end is in absurd cc
   end_of_going a w now r b end (goes_unheard none goes) = end_of_unheard (seen_due a) w now r b end goes

@@ -12,7 +12,7 @@ use Rattle.field_agenda.specs.declared.by_fields.ByFields.{ByFields}
 use Rattle.field_agenda.specs.declared.stage.Stage.{Stage}
 use Rattle.field_agenda.specs.declared.stage.Stage.TheVariants as stage
 use Rattle.field_agenda.specs.Looks.{LooksFor, looked, unlooked}
-use Rattle.field_agenda.specs.Says.{AsksFrom, EndsSo, FieldsSay, GoesOn, GoesUnheard, SaysAt, asked, asks, ends, ends_with, goes_unheard, hears, interrupts, stalls, too_many_fields, unasked, uncounted, watches}
+use Rattle.field_agenda.specs.Says.{AsksFrom, ComesToItsEnd, FieldsSay, FieldsGoOn, GoesUnheard, SaysAt, asked, asks, ends, ends_with, goes_unheard, hears, interrupts, stalls, too_many_fields, unasked, uncounted, watches}
 use Rattle.field_agenda.specs.Standing.{seen_due}
 
 module _ {P : Type 0} (d : DiskView) where
@@ -38,7 +38,7 @@ module _ {P : Type 0} (d : DiskView) where
   of_asking a w k id r b (asked t lines is same) = at_turn r t is
   of_asking a w k id r b (unasked is same) = at_memory r is
 
-  of_end : (a : ByFields P) (w : World) (stopped : Option ℕ) (r : Result Turn RunFault) (b : ByFields P) → EndsSo a w stopped r b → IsTrueAnswer r
+  of_end : (a : ByFields P) (w : World) (stopped : Option ℕ) (r : Result Turn RunFault) (b : ByFields P) → ComesToItsEnd a w stopped r b → IsTrueAnswer r
   of_end a w stopped r b (ends_with counts count is same) = at_turn r _ is
   of_end a w stopped r b (too_many_fields many is same) = at_count r is
 
@@ -49,7 +49,7 @@ module _ {P : Type 0} (d : DiskView) where
   of_unheard a w now r b (stalls held none late over is same) = at_turn r _ is
   of_unheard a w now r b (watches held none late going is same) = at_turn r _ is
 
-  of_going : (a : ByFields P) (w : World) (now : ℕ) (r : Result Turn RunFault) (b : ByFields P) → GoesOn a w now r b → IsTrueAnswer r
+  of_going : (a : ByFields P) (w : World) (now : ℕ) (r : Result Turn RunFault) (b : ByFields P) → FieldsGoOn a w now r b → IsTrueAnswer r
   of_going a w now r b (uncounted many is same) = at_count r is
   of_going a w now r b (hears seat due is same) = at_turn r _ is
   of_going a w now r b (goes_unheard none goes) = of_unheard (seen_due a) w now r b goes

@@ -20,7 +20,7 @@ use Rattle.field_agenda.specs.declared.stage.Stage.TheVariants as stage
 use Rattle.field_agenda.specs.FieldsRules.{fields_rules}
 use Rattle.field_agenda.specs.Looks.{LookFinds, LooksFor, all_there, looked, no_field, no_program, unlooked}
 use Rattle.field_agenda.specs.LooksFirst.{DidNothing, IsUnderWay, LookedFirst, all_found, in_vain, not_looked}
-use Rattle.field_agenda.specs.Says.{AsksFrom, EndsSo, FieldsSay, GoesOn, GoesUnheard, SaysAt, asked, asks, ends, ends_with, goes_unheard, hears, interrupts, stalls, too_many_fields, unasked, uncounted, watches}
+use Rattle.field_agenda.specs.Says.{AsksFrom, ComesToItsEnd, FieldsSay, FieldsGoOn, GoesUnheard, SaysAt, asked, asks, ends, ends_with, goes_unheard, hears, interrupts, stalls, too_many_fields, unasked, uncounted, watches}
 use Rattle.field_agenda.specs.Standing.{found, seen_due}
 use Rattle.field_agenda.proofs.Endings.{none_to_do}
 
@@ -33,7 +33,7 @@ module _ {P : Type 0} where
   asking_on a w k id r b under (asked t lines is same) = moved b _ same under
   asking_on a w k id r b under (unasked is same) = moved b a same under
 
-  end_on : (a : ByFields P) (w : World) (stopped : Option ℕ) (r : Result Turn RunFault) (b : ByFields P) → IsUnderWay a.stage → EndsSo a w stopped r b → IsUnderWay b.stage
+  end_on : (a : ByFields P) (w : World) (stopped : Option ℕ) (r : Result Turn RunFault) (b : ByFields P) → IsUnderWay a.stage → ComesToItsEnd a w stopped r b → IsUnderWay b.stage
   end_on a w stopped r b under (ends_with counts count is same) = moved b _ same tt
   end_on a w stopped r b under (too_many_fields many is same) = moved b a same under
 
@@ -44,7 +44,7 @@ module _ {P : Type 0} where
   unheard_on a w now r b under (stalls held none late over is same) = moved b _ same under
   unheard_on a w now r b under (watches held none late going is same) = moved b a same under
 
-  going_on : (a : ByFields P) (w : World) (now : ℕ) (r : Result Turn RunFault) (b : ByFields P) → IsUnderWay a.stage → GoesOn a w now r b → IsUnderWay b.stage
+  going_on : (a : ByFields P) (w : World) (now : ℕ) (r : Result Turn RunFault) (b : ByFields P) → IsUnderWay a.stage → FieldsGoOn a w now r b → IsUnderWay b.stage
   going_on a w now r b under (uncounted many is same) = moved b a same under
   going_on a w now r b under (hears seat due is same) = moved b _ same under
   going_on a w now r b under (goes_unheard none goes) = unheard_on (seen_due a) w now r b under goes

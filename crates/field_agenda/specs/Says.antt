@@ -37,8 +37,8 @@ use Rattle.field_agenda.specs.Standing.{asked_together, at_stage, does_at, does_
 use Rattle.field_agenda.specs.Together.{group_at}
 
 -- the command that asks a field
-abbrev pub eval_of : ℕ → Event
-eval_of id = event.Command (command.Eval id)
+abbrev pub asks_field : ℕ → Event
+asks_field id = event.Command (command.Eval id)
 
 -- The field at this place, with this number, may be asked here: it is the next one, and no item waits, or it joins those that wait.
 abbrev pub MayBeAsked : {P : Type 0} → ByFields P → World → ℕ → ℕ → Type 0
@@ -50,15 +50,15 @@ asked_with a w k id = group_at a.plan w a.stand.lasts a.ids k id
 
 -- It is asked, and so are those that go with it: all by one group of commands, in their order. Or there was no memory for that.
 pub data AsksFrom {P : Type 0} (a : ByFields P) (w : World) (k id : ℕ) (r : Result Turn RunFault) (b : ByFields P) : Type 0 where
-  asked : (t : Turn) → AsksLines (k + 1) (map eval_of (asked_with a w k id)) t → r ≡ Ok t
+  asked : (t : Turn) → AsksLines (k + 1) (map asks_field (asked_with a w k id)) t → r ≡ Ok t
       → b ≡ does_at a doing.Ask (asked_together a.stand k (sheet_in w).fields (asked_with a w k id)) → AsksFrom a w k id r b
   unasked : r ≡ Err fault.OutOfMemory → b ≡ a → AsksFrom a w k id r b
 
 -- It comes to its end here, after that line where a strict one stops: what it came to is printed. Or the worksheet has more fields than are counted.
-pub data EndsSo {P : Type 0} (a : ByFields P) (w : World) (stopped : Option ℕ) (r : Result Turn RunFault) (b : ByFields P) : Type 0 where
+pub data ComesToItsEnd {P : Type 0} (a : ByFields P) (w : World) (stopped : Option ℕ) (r : Result Turn RunFault) (b : ByFields P) : Type 0 where
   ends_with : (counts : Counts) → counts ≡ evaluation_counts a.plan (length a.ids) (sheet_in w).fields a.stand → r ≡ Ok (turn.Show (show.Note (note.Counted counts)))
-      → b ≡ at_stage a (stage.Counted (record { stopped_at = stopped; counts = counts })) → EndsSo a w stopped r b
-  too_many_fields : 2 ^ 31 ≤ length (sheet_in w).fields → r ≡ Err fault.InputTooLong → b ≡ a → EndsSo a w stopped r b
+      → b ≡ at_stage a (stage.Counted (record { stopped_at = stopped; counts = counts })) → ComesToItsEnd a w stopped r b
+  too_many_fields : 2 ^ 31 ≤ length (sheet_in w).fields → r ≡ Err fault.InputTooLong → b ≡ a → ComesToItsEnd a w stopped r b
 
 -- The field that is the nth of those to be evaluated, with this number, is the one whose interpreter is interrupted now: the first whose time is over by
 -- the clock, and then each other that waits.
@@ -77,7 +77,7 @@ NoneLate ids stand w now = ((stand.warned ≡ false) × (IsOver stand.held now �
 -- What is next while it is no life's turn.
 pub data GoesUnheard {P : Type 0} (a : ByFields P) (w : World) (now : ℕ) (r : Result Turn RunFault) (b : ByFields P) : Type 0 where
   asks : (k id : ℕ) → MayBeAsked a w k id → AsksFrom a w k id r b → GoesUnheard a w now r b
-  ends : (stopped : Option ℕ) → a.stand.held ≡ hold.Free → EndsHere a.plan (sheet_in w).fields a.ids a.stand stopped → EndsSo a w stopped r b → GoesUnheard a w now r b
+  ends : (stopped : Option ℕ) → a.stand.held ≡ hold.Free → EndsHere a.plan (sheet_in w).fields a.ids a.stand stopped → ComesToItsEnd a w stopped r b → GoesUnheard a w now r b
   -- items wait, and no field joins them
   interrupts : (n id : ℕ) → a.stand.held ≢ hold.Free → NoneJoins a.plan w a.ids a.stand → IsLateNow a.ids a.stand w now n id → r ≡ Ok (interrupts_of id (field_in (sheet_in w).fields id))
       → b ≡ does_at a (doing.Over id) (warned_from a.stand n) → GoesUnheard a w now r b
@@ -92,15 +92,15 @@ abbrev pub IsUncounted : Stand → ℕ → Type 0
 IsUncounted s all = (2 ^ 64 ≤ s.asked + most_together + 1) ⊎ (2 ^ 64 ≤ s.overs + 1) ⊎ (all < s.taken) ⊎ (2 ^ 31 ≤ all)
 
 -- What is next while fields are asked. That a watch returned that a time is over isn't believed: the clock is read again.
-pub data GoesOn {P : Type 0} (a : ByFields P) (w : World) (now : ℕ) (r : Result Turn RunFault) (b : ByFields P) : Type 0 where
-  uncounted : IsUncounted a.stand (length a.ids) → r ≡ Err fault.InputTooLong → b ≡ a → GoesOn a w now r b
-  hears : (seat : Seat) → life_due a.due ≡ Some seat → r ≡ Ok (turn.Hear seat (others a.plan.strict)) → b ≡ does_now (seen_due a) doing.Life → GoesOn a w now r b
-  goes_unheard : life_due a.due ≡ None → GoesUnheard (seen_due a) w now r b → GoesOn a w now r b
+pub data FieldsGoOn {P : Type 0} (a : ByFields P) (w : World) (now : ℕ) (r : Result Turn RunFault) (b : ByFields P) : Type 0 where
+  uncounted : IsUncounted a.stand (length a.ids) → r ≡ Err fault.InputTooLong → b ≡ a → FieldsGoOn a w now r b
+  hears : (seat : Seat) → life_due a.due ≡ Some seat → r ≡ Ok (turn.Hear seat (others a.plan.strict)) → b ≡ does_now (seen_due a) doing.Life → FieldsGoOn a w now r b
+  goes_unheard : life_due a.due ≡ None → GoesUnheard (seen_due a) w now r b → FieldsGoOn a w now r b
 
 -- What is asked for next, by how far it is.
 abbrev pub SaysAt : {P : Type 0} → Stage → Finds → ByFields P → World → ℕ → Result Turn RunFault → ByFields P → Type 0
 SaysAt stage.New finds a w now r b = LooksFor finds a w r b
-SaysAt stage.Going finds a w now r b = GoesOn a w now r b
+SaysAt stage.Going finds a w now r b = FieldsGoOn a w now r b
 SaysAt (stage.Counted end) finds a w now r b = (r ≡ Ok turn.End) × (b ≡ a)
 SaysAt (stage.NoField id) finds a w now r b = (r ≡ Ok turn.End) × (b ≡ a)
 SaysAt (stage.NoProgram name) finds a w now r b = (r ≡ Ok turn.End) × (b ≡ a)

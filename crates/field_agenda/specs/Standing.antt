@@ -42,15 +42,15 @@ lasts_behind lasts fields [] = lasts
 lasts_behind lasts fields (id ∷ ids) = lasts_behind (after_asking lasts (field_in fields id)) fields ids
 
 -- the last of these numbers, or this one where there is none
-abbrev pub last_number : List ℕ → ℕ → ℕ
-last_number group other = get_or group (length group - 1) other
+abbrev pub last_of_group : List ℕ → ℕ → ℕ
+last_of_group group other = get_or group (length group - 1) other
 
 -- These fields are asked, from this place on. What waits then is known when they were.
 abbrev pub asked_together : Stand → ℕ → List Field → List ℕ → Stand
 asked_together s k fields group = record {
   taken = k + length group;
   first = first_by (is_held s.held) s.first k;
-  field = last_number group s.field;
+  field = last_of_group group s.field;
   held = s.held;
   warned = false;
   at_once = s.at_once;

@@ -39,11 +39,11 @@ abbrev pub goes_with : Plan → World → List Last → List ℕ → ℕ → Boo
 goes_with plan w lasts group id = not plan.strict && (has_room plan w (length group) && may_go_with plan w lasts group id)
 
 -- these, and behind them the first ones of those, one after another as long as each goes with all before it
-abbrev pub with_others : (List ℕ → ℕ → Bool) → List ℕ → List ℕ → List ℕ
-with_others goes group [] = group
-with_others goes group (id ∷ ids) = if goes group id then with_others goes (group ++ id ∷ []) ids else group
+abbrev pub with_those_that_go : (List ℕ → ℕ → Bool) → List ℕ → List ℕ → List ℕ
+with_those_that_go goes group [] = group
+with_those_that_go goes group (id ∷ ids) = if goes group id then with_those_that_go goes (group ++ id ∷ []) ids else group
 
 -- The fields that are asked together where the one at this place is asked, which has this number: it, and the next ones as long as each goes with all
 -- before it.
 abbrev pub group_at : Plan → World → List Last → List ℕ → ℕ → ℕ → List ℕ
-group_at plan w lasts ids k id = with_others (goes_with plan w lasts) (id ∷ []) (drop (k + 1) ids)
+group_at plan w lasts ids k id = with_those_that_go (goes_with plan w lasts) (id ∷ []) (drop (k + 1) ids)

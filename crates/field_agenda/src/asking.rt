@@ -66,27 +66,14 @@ fn is_passed_over(plan: &Plan, sheet: &Sheet, lasts: &[Last], id: u32) -> bool
 }
 
 /// Whether the field with this number may be asked with these, as far as its session goes.
-fn may_go_with<D: Disk>(
-    host: &Host<D>,
-    plan: &Plan,
-    lasts: &[Last],
-    group: &[u32],
-    id: u32,
-) -> bool
+fn may_go_with<D: Disk>(host: &Host<D>, plan: &Plan, lasts: &[Last], group: &[u32], id: u32) -> bool
     ensures { (w : World) → IsHost host.now w → result ≡ together.may_go_with plan.now w lasts.now group.now id }
 {
-    is_apart(host, group, host.sheet().field(id))
-        && !is_passed_over(plan, host.sheet(), lasts, id)
+    is_apart(host, group, host.sheet().field(id)) && !is_passed_over(plan, host.sheet(), lasts, id)
 }
 
 /// Whether the field with this number is asked together with these, which come before it.
-fn goes_with<D: Disk>(
-    host: &Host<D>,
-    plan: &Plan,
-    lasts: &[Last],
-    group: &[u32],
-    id: u32,
-) -> bool
+fn goes_with<D: Disk>(host: &Host<D>, plan: &Plan, lasts: &[Last], group: &[u32], id: u32) -> bool
     ensures goes { (w : World) → IsHost host.now w → result ≡ together.goes_with plan.now w lasts.now group.now id }
     ensures few { result ≡ true → length group.now < most_together }
 {
@@ -131,19 +118,19 @@ pub(crate) fn group_from<D: Disk>(
 }
 
 /// The command that asks a field.
-fn eval_of(id: u32) -> Event
-    ensures { result ≡ says.eval_of id }
+fn asks_field(id: u32) -> Event
+    ensures { result ≡ says.asks_field id }
 {
     Event::Command(Command::Eval { id })
 }
 
 /// The commands that ask these fields.
 pub(crate) fn evals(alloc: Global, group: &[u32]) -> Result<Vec<Event>, AllocError>
-    ensures { IfOk result (λ events. events.items ≡ map says.eval_of group.now) }
+    ensures { IfOk result (λ events. events.items ≡ map says.asks_field group.now) }
 {
     let mut events = Vec::new(alloc);
     for id in group {
-        events.push(eval_of(*id))?;
+        events.push(asks_field(*id))?;
     }
     Ok(events)
 }
@@ -165,8 +152,8 @@ pub(crate) fn lasts_behind(
 }
 
 /// The last of these numbers, or this one where there is none.
-fn last_number(group: &[u32], other: u32) -> u32
-    ensures { result ≡ standing.last_number group.now other }
+fn last_of_group(group: &[u32], other: u32) -> u32
+    ensures { result ≡ standing.last_of_group group.now other }
 {
     if group.is_empty() {
         return other;
@@ -191,7 +178,7 @@ pub(crate) fn asked_together(stand: &Stand, at: usize, group: &[u32], lasts: Vec
     Stand {
         taken: at + group.len(),
         first: first_at(stand.held, stand.first, at),
-        field: last_number(group, stand.field),
+        field: last_of_group(group, stand.field),
         held: stand.held,
         warned: false,
         at_once: stand.at_once,

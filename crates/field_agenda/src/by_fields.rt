@@ -12,7 +12,7 @@ ghost use Rattle.std.specs.Option.{option_copied};
 ghost use Rattle.std.specs.Prelude.{IfOk, None, map};
 ghost use Rattle.live.specs.Arrivals.{IsOver, patience_at};
 ghost use Rattle.field_agenda.specs.Says as says;
-ghost use Rattle.field_agenda.specs.Says.{eval_of};
+ghost use Rattle.field_agenda.specs.Says.{asks_field};
 ghost use Rattle.field_agenda.specs.Standing as standing;
 
 use crate::asking::{asked_together, evals, group_from, lasts_behind, next_asked};
@@ -131,7 +131,7 @@ struct Asking {
 impl<P: Programs> ByFields<P> {
     ghost use Rattle.field_agenda.specs.FieldsRules.{fields_rules};
     ghost use Rattle.field_agenda.specs.Looks.{LooksFor};
-    ghost use Rattle.field_agenda.specs.Says.{AsksFrom, EndsSo, GoesOn, GoesUnheard, IsUncounted, MayBeAsked, asked_with};
+    ghost use Rattle.field_agenda.specs.Says.{AsksFrom, ComesToItsEnd, FieldsGoOn, GoesUnheard, IsUncounted, MayBeAsked, asked_with};
     ghost use Rattle.field_agenda.specs.Standing.{does_at, does_now, first_fields, warned_from};
     ghost use Rattle.field_agenda.specs.declared.stage.FieldDoing.TheVariants as does;
 
@@ -182,7 +182,7 @@ impl<P: Programs> ByFields<P> {
         requires few { length self.now.ids < 2 ^ 31 }
         requires counted { self.now.stand.asked + most_together + 1 < 2 ^ 64 }
         ensures { (w : World) (id : ℕ) → IsHost host.now w → slice_get self.now.ids at ≡ Some id
-            → IfOk result (λ asking. (asking.events.items ≡ map eval_of (asked_with self.now w at id))
+            → IfOk result (λ asking. (asking.events.items ≡ map asks_field (asked_with self.now w at id))
             × (asking.stand ≡ standing.asked_together self.now.stand at (sheet_in w).fields (asked_with self.now w at id))) }
     {
         let lasts = self.stand.lasts.as_slice();
@@ -195,12 +195,7 @@ impl<P: Programs> ByFields<P> {
     }
 
     /// Asks the fields that are asked together from this place on.
-    fn ask<D: Disk>(
-        &mut self,
-        alloc: Global,
-        host: &Host<D>,
-        at: usize,
-    ) -> Result<Turn, RunFault>
+    fn ask<D: Disk>(&mut self, alloc: Global, host: &Host<D>, at: usize) -> Result<Turn, RunFault>
         requires there { at < length self.old.ids }
         requires few { length self.old.ids < 2 ^ 31 }
         requires counted { self.old.stand.asked + most_together + 1 < 2 ^ 64 }
@@ -222,7 +217,7 @@ impl<P: Programs> ByFields<P> {
         requires taken { self.old.stand.taken ≤ length self.old.ids }
         requires few { length self.old.ids < 2 ^ 31 }
         ensures { (w : World) (stopped : Option ℕ) → IsHost host.now w → EndsHere self.old.plan (sheet_in w).fields self.old.ids self.old.stand stopped
-            → EndsSo self.old w stopped result self.new }
+            → ComesToItsEnd self.old w stopped result self.new }
     {
         let sheet = host.sheet();
         if !has_few_fields(sheet) {
@@ -248,12 +243,7 @@ impl<P: Programs> ByFields<P> {
         requires free { self.old.stand.held ≡ Hold.Free }
         ensures { (w : World) → IsHost host.now w → GoesUnheard self.old w now result self.new }
     {
-        match next_asked(
-            &self.plan,
-            host.sheet(),
-            self.ids.as_slice(),
-            &self.stand,
-        ) {
+        match next_asked(&self.plan, host.sheet(), self.ids.as_slice(), &self.stand) {
             Some(at) => self.ask(alloc, host, at),
             None => self.end(host),
         }
@@ -283,8 +273,8 @@ impl<P: Programs> ByFields<P> {
 
     /// Watches the sources, or takes it that lives have stalled where the two seconds after an interrupt are over.
     fn watch(&mut self, now: u64) -> Turn
-        ensures over { IsOver self.old.stand.held now → (result ≡ Turn.Stall) × (self.new ≡ does_now self.old does.Stall) }
-        ensures going { (IsOver self.old.stand.held now → ⊥) → (result ≡ Turn.Watch Input.HeldBack (patience_at self.old.stand.held now)) × (self.new ≡ self.old) }
+        ensures { ((IsOver self.old.stand.held now) × (result ≡ Turn.Stall) × (self.new ≡ does_now self.old does.Stall))
+            ⊎ ((IsOver self.old.stand.held now → ⊥) × (result ≡ Turn.Watch Input.HeldBack (patience_at self.old.stand.held now)) × (self.new ≡ self.old)) }
     {
         if is_over(self.stand.held, now) {
             self.doing = FieldDoing::Stall;
@@ -364,7 +354,7 @@ impl<P: Programs> ByFields<P> {
         requires taken { self.old.stand.taken ≤ length self.old.ids }
         requires few { length self.old.ids < 2 ^ 31 }
         requires counted { (self.old.stand.asked + most_together + 1 < 2 ^ 64) × (self.old.stand.overs + 1 < 2 ^ 64) }
-        ensures { (w : World) → IsHost host.now w → GoesOn self.old w now result self.new }
+        ensures { (w : World) → IsHost host.now w → FieldsGoOn self.old w now result self.new }
     {
         match self.take_due() {
             Some(seat) => Ok(self.hear(seat)),
@@ -379,7 +369,7 @@ impl<P: Programs> ByFields<P> {
         host: &Host<D>,
         now: u64,
     ) -> Result<Turn, RunFault>
-        ensures { (w : World) → IsHost host.now w → GoesOn self.old w now result self.new }
+        ensures { (w : World) → IsHost host.now w → FieldsGoOn self.old w now result self.new }
     {
         if is_full(&self.stand) {
             return Err(RunFault::InputTooLong);

@@ -24,7 +24,7 @@ pub struct FieldLines<T> {
 
 /// The number of the line of a field.
 fn line_of(field: u64) -> u64
-    ensures { result ≡ lines.field_line field }
+    ensures { result ≡ lines.line_of_field field }
 {
     field.saturating_mul(2).saturating_sub(1)
 }
@@ -38,7 +38,7 @@ fn tell_one<T: Tells, W: Write>(
     writer: &mut W,
 ) -> Result<(), RunFault>
     ensures ok { OnOk result (Appends (W.contents writer.old) (W.contents writer.new)
-        (T.voice.reply (lines.field_line field) sheet.now.contents outcome.now.reply)) }
+        (T.voice.reply (lines.line_of_field field) sheet.now.contents outcome.now.reply)) }
     ensures err { IfErr result (IsUntold T.voice) }
 {
     tells.outcomes(line_of(field), sheet, slice::from_ref(outcome), writer)

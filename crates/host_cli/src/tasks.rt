@@ -23,8 +23,8 @@ use command_words::{EvalWords, Task, read_words};
 use evaluation::Plan;
 use offline_programs::{RunFault, Says};
 use program_endings::{
-    Ending, LiveEnding, end_program, end_unheld, read_rescued, run_create, run_evaluation, run_export,
-    run_rescue, run_show,
+    Ending, LiveEnding, end_program, end_unheld, read_rescued, run_create, run_evaluation,
+    run_export, run_rescue, run_show,
 };
 use sheet_export::{Format, format_named, last_part};
 use sheet_files::Places;
@@ -68,7 +68,11 @@ fn eval_as<Y: System, T: Tells + Copy>(
     plan: Plan,
     tells: T,
     path: &str,
-) -> Performed<Y> {
+) -> Performed<Y>
+    ensures does { EvaluatesAs (outer Y.Places.Places (disks_seen Y.Disk.Disk Y.Disk.closed) (sources_seen Y.Sources.after Y.Sources.clock Y.Sources.wakes)
+        (streams_seen Y.Input.Read Y.Output.Write Y.Output.brought Y.Output.tried Y.Errors.Write Y.Errors.tried)) T.voice plan outside result.outside result.ending path.now }
+    ensures leaves { (result.outside.input ≡ outside.input) × (result.outside.progress ≡ outside.progress) }
+{
     if let Err(why) = outside.places.hold() {
         let ending = end_unheld(why, &mut outside.errors);
         return Performed { ending, outside };
@@ -82,7 +86,7 @@ fn eval_as<Y: System, T: Tells + Copy>(
         mut errors,
         progress,
     } = outside;
-    let programs = FoundIn::<Y> { places: &places };
+    let programs = FoundIn::<Y>::new(&places);
     let LiveEnding {
         ending,
         sources,
@@ -117,7 +121,11 @@ fn eval_told<Y: System>(
     plan: Plan,
     json: bool,
     path: &str,
-) -> Performed<Y> {
+) -> Performed<Y>
+    ensures does { EvaluatesAs (outer Y.Places.Places (disks_seen Y.Disk.Disk Y.Disk.closed) (sources_seen Y.Sources.after Y.Sources.clock Y.Sources.wakes)
+        (streams_seen Y.Input.Read Y.Output.Write Y.Output.brought Y.Output.tried Y.Errors.Write Y.Errors.tried)) (voice_by json) plan outside result.outside result.ending path.now }
+    ensures leaves { (result.outside.input ≡ outside.input) × (result.outside.progress ≡ outside.progress) }
+{
     if json {
         eval_as(alloc, outside, plan, InJson { alloc }, path)
     } else {
@@ -131,7 +139,11 @@ fn eval_at<Y: System>(
     mut outside: Outside<Y>,
     path: &str,
     words: EvalWords<'_>,
-) -> Performed<Y> {
+) -> Performed<Y>
+    ensures does { DoesEval (outer Y.Places.Places (disks_seen Y.Disk.Disk Y.Disk.closed) (sources_seen Y.Sources.after Y.Sources.clock Y.Sources.wakes)
+        (streams_seen Y.Input.Read Y.Output.Write Y.Output.brought Y.Output.tried Y.Errors.Write Y.Errors.tried)) outside result.outside result.ending path.now (eval_view words.entry) }
+    ensures leaves { LeavesAlone outside result.outside (asked.eval path.now (eval_view words.entry)) }
+{
     match read_plan(alloc, &words) {
         Ok(plan) => eval_told(alloc, outside, plan, words.json, path),
         Err(why) => {

@@ -149,12 +149,7 @@ fn end_without<W: Write, E: Says, T: Tells>(
 }
 
 /// Whether a fault goes to the output, where its voice has it: a run prints its own, but where its output failed.
-fn tell_run_fault<W: Write, T: Tells>(
-    why: RunFault,
-    whole: bool,
-    tells: &T,
-    output: &mut W,
-) -> bool
+fn tell_run_fault<W: Write, T: Tells>(why: RunFault, whole: bool, tells: &T, output: &mut W) -> bool
     ensures { EndsFaulted T.voice (writing W.contents output.old output.new) whole result why }
 {
     if is_printed(why) {
