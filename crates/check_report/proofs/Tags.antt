@@ -55,9 +55,9 @@ closed : (inside : Bool) → open_behind inside (codes "\">") ≡ false
 closed true = refl
 closed false = refl
 
-start-closed : (id : ℕ) (session : List ℕ) → open_behind false (case_start id session) ≡ false
-start-closed id session =
-    let front = codes "<testcase classname=\"" ++ xml_text session ++ codes "\" name=\"field " ++ decimal id in
+start-closed : (id : ℕ) (session input : List ℕ) → open_behind false (case_start id session input) ≡ false
+start-closed id session input =
+    let front = codes "<testcase classname=\"" ++ xml_text session ++ codes "\" name=\"field " ++ decimal id ++ codes ": " ++ xml_text input in
     open-append false front (codes "\">") ∙ closed (open_behind false front)
 
 result_start-closed : (v : Verdict) → open_behind false (result_start v) ≡ false
@@ -72,25 +72,25 @@ result_end-closed verdict.Differs = refl
 result_end-closed verdict.Unanswered = refl
 result_end-closed verdict.LeftOut = refl
 
-front-closed : (p : Point) → open_behind false (case_start p.id p.session ++ result_start p.verdict) ≡ false
+front-closed : (p : Point) → open_behind false (case_start p.id p.session p.input ++ result_start p.verdict) ≡ false
 front-closed p =
-    open-append false (case_start p.id p.session) (result_start p.verdict) ∙ ap (λ b. open_behind b (result_start p.verdict)) (start-closed p.id p.session)
+    open-append false (case_start p.id p.session p.input) (result_start p.verdict) ∙ ap (λ b. open_behind b (result_start p.verdict)) (start-closed p.id p.session p.input)
     ∙ result_start-closed p.verdict
 
-told-closed : (p : Point) → open_behind false (case_start p.id p.session ++ result_start p.verdict ++ xml_text p.told) ≡ false
+told-closed : (p : Point) → open_behind false (case_start p.id p.session p.input ++ result_start p.verdict ++ xml_text p.told) ≡ false
 told-closed p =
-    open-append false (case_start p.id p.session ++ result_start p.verdict) (xml_text p.told) ∙ ap (λ b. open_behind b (xml_text p.told)) (front-closed p)
+    open-append false (case_start p.id p.session p.input ++ result_start p.verdict) (xml_text p.told) ∙ ap (λ b. open_behind b (xml_text p.told)) (front-closed p)
     ∙ text-opens (xml_text p.told) (no_marks p.told).0
 
 case-closed : (p : Point) → open_behind false (junit_case p) ≡ false
 case-closed p =
-    open-append false (case_start p.id p.session ++ result_start p.verdict ++ xml_text p.told) (result_end p.verdict)
+    open-append false (case_start p.id p.session p.input ++ result_start p.verdict ++ xml_text p.told) (result_end p.verdict)
     ∙ ap (λ b. open_behind b (result_end p.verdict)) (told-closed p) ∙ result_end-closed p.verdict
 
 -- the tags of a case, without what is reported
-case-tags : (p : Point) → tags false (junit_case p) ≡ tags false (case_start p.id p.session ++ result_start p.verdict) ++ tags false (result_end p.verdict)
+case-tags : (p : Point) → tags false (junit_case p) ≡ tags false (case_start p.id p.session p.input ++ result_start p.verdict) ++ tags false (result_end p.verdict)
 case-tags p =
-    let front = case_start p.id p.session ++ result_start p.verdict in
+    let front = case_start p.id p.session p.input ++ result_start p.verdict in
     tags-append false (front ++ xml_text p.told) (result_end p.verdict)
     ∙ ap (λ b. tags false (front ++ xml_text p.told) ++ tags b (result_end p.verdict)) (told-closed p)
     ∙ ap (λ t. t ++ tags false (result_end p.verdict)) (tags-append false front (xml_text p.told)

@@ -1,5 +1,5 @@
 -- Which fields are checked, and which of those are compared.
-use Rattle.std.specs.Prelude.{◌≡◌, ◌&&◌, ℕ, Bool, true, false, List, Option, Some, None, nat_le, if◌then◌else◌}
+use Rattle.std.specs.Prelude.{◌≡◌, ◌&&◌, ◌||◌, not, ℕ, Bool, true, false, List, Option, Some, None, nat_le, if◌then◌else◌}
 use Rattle.std.specs.List.{list_any}
 use Rattle.std.specs.Str.{bytes_eq}
 use Rattle.block_tree.specs.Tree.{Tree}
@@ -24,8 +24,14 @@ shown_by chosen field = if is_session_asked chosen.only field.session then field
 abbrev pub has_id : ℕ → Ids → Bool
 has_id id ids = nat_le ids.first id && nat_le id ids.last
 
+-- whether a number is one of these, where any are named
+abbrev pub is_among : Option (List Ids) → ℕ → Bool
+is_among None id = true
+is_among (Some ids) id = list_any (has_id id) ids
+
+-- A field isn't compared where it is left out, and where others are named that are.
 abbrev pub is_left_out : Chosen → ℕ → Bool
-is_left_out chosen id = list_any (has_id id) chosen.left_out
+is_left_out chosen id = list_any (has_id id) chosen.left_out || not (is_among chosen.compared id)
 
 -- What another evaluation of the field with this number comes to, by the output that it shows and the answer that came: what is left out
 -- isn't compared.

@@ -71,7 +71,8 @@ some_lines from count lines = take count (drop from lines)
 abbrev pub marked_part : List ℕ → ℕ → ℕ → List ℕ → List ℕ
 marked_part mark from count text = flat_map (λ line. mark ++ line) (some_lines from count (lines_of text))
 
--- The hunk: its place where lines are left out, then its lines in their order, those of both texts indented, those of the old one with `- ` in front, those of the new one with `+ `.
+-- The hunk: its place where lines are left out, then its lines in their order: those of both texts indented, those of the old one with `- ` in
+-- front, and those of the new one with `+ `.
 abbrev pub hunk_text : Hunk → List ℕ → List ℕ → List ℕ
 hunk_text h old new =
     head_text h

@@ -15,9 +15,9 @@ head = codes "<?xml version=\"1.0\" encoding=\"UTF-8\"?>\n<testsuites>\n<testsui
 abbrev pub tail : List ℕ
 tail = codes "</testsuite>\n</testsuites>\n"
 
--- what begins a case: the name of its session, and the number of its field
-abbrev pub case_start : ℕ → List ℕ → List ℕ
-case_start id session = codes "<testcase classname=\"" ++ xml_text session ++ codes "\" name=\"field " ++ decimal id ++ codes "\">"
+-- what begins a case: the name of its session, and the number and the input of its field
+abbrev pub case_start : ℕ → List ℕ → List ℕ → List ℕ
+case_start id session input = codes "<testcase classname=\"" ++ xml_text session ++ codes "\" name=\"field " ++ decimal id ++ codes ": " ++ xml_text input ++ codes "\">"
 
 -- in front of what is reported of a case
 abbrev pub result_start : Verdict → List ℕ
@@ -35,7 +35,7 @@ result_end verdict.LeftOut = codes "</skipped></testcase>\n"
 
 -- a case
 abbrev pub junit_case : Point → List ℕ
-junit_case p = case_start p.id p.session ++ result_start p.verdict ++ xml_text p.told ++ result_end p.verdict
+junit_case p = case_start p.id p.session p.input ++ result_start p.verdict ++ xml_text p.told ++ result_end p.verdict
 
 -- a whole report
 abbrev pub junit_text : List Point → List ℕ

@@ -103,7 +103,7 @@ untold p = record p { told = [] }
 abbrev pub TextsAreNoTags : Type 0
 TextsAreNoTags = (points : List Point) → tags false (junit_text points) ≡ tags false (junit_text (map untold points))
 
--- two lists of lines are the same before this hunk of them and behind it, and stand around what differs
+-- two lists of lines are the same before what a hunk of them marks, and after it
 abbrev pub AgreeAround : Hunk → List (List ℕ) → List (List ℕ) → Type 0
 AgreeAround h old new =
     (take h.front old ++ (some_lines h.front (lines_removed h) old ++ drop (tail_start h) old) ≡ old)

@@ -33,7 +33,7 @@ case field came lost verdict = record { field = field; came = came; lost = lost;
 
 -- what is said of it in a format that programs read
 abbrev pub point_of : Case → Point
-point_of c = point c.field.id c.field.session c.verdict (verdict_text c.field c.came c.verdict)
+point_of c = point c.field.id c.field.session c.field.input c.verdict (verdict_text c.field c.came c.verdict)
 
 abbrev pub verdicts_of : List Case → List Verdict
 verdicts_of cases = map (λ c. c.verdict) cases

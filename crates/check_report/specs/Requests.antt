@@ -1,10 +1,12 @@
 -- What the words of a command line ask a check for.
-use Rattle.std.specs.Prelude.{◌≡◌, ℕ, Bool, true, false, List, [], Option, Some, None, Result, Ok, Err, codes, if◌then◌else◌}
+use Rattle.std.specs.Prelude.{◌≡◌, ◌⊎◌, ℕ, Bool, true, false, List, [], Option, Some, None, Result, Ok, Err, codes, option_map, if◌then◌else◌}
 use Rattle.std.specs.Str.{bytes_eq}
 use Rattle.worksheet.specs.Names.{is_name}
+use Rattle.check_report.specs.declared.chosen.Chosen.{Chosen}
 use Rattle.check_report.specs.declared.chosen.Ids.{Ids}
 use Rattle.check_report.specs.declared.report.Format.{Format}
 use Rattle.check_report.specs.declared.report.Format.TheVariants as format
+use Rattle.check_report.specs.declared.request.FieldWords.{FieldWords}
 use Rattle.check_report.specs.declared.request.Request.{Request}
 use Rattle.check_report.specs.declared.request.RequestFault.{RequestFault}
 use Rattle.check_report.specs.declared.request.RequestFault.TheVariants as fault
@@ -83,16 +85,41 @@ abbrev pub ids_asked : Option (List ℕ) → Option (List Ids)
 ids_asked None = Some []
 ids_asked (Some text) = ids_named text
 
+-- the numbers of those that are compared, where any are named
+abbrev pub some_ids : Option (List Ids) → Option (Option (List Ids))
+some_ids None = None
+some_ids (Some ids) = Some (Some ids)
+
+abbrev pub compared_asked : Option (List ℕ) → Option (Option (List Ids))
+compared_asked None = Some None
+compared_asked (Some text) = some_ids (ids_named text)
+
+-- the words that say which fields: the session that they are of, and the numbers of those that are left out, and of those that are compared
+pub record FieldView : Type 0 where
+  pub only : Option (List ℕ)
+  pub left_out : Option (List ℕ)
+  pub compared : Option (List ℕ)
+
+abbrev pub field_words : Option (List ℕ) → Option (List ℕ) → Option (List ℕ) → FieldView
+field_words only left_out compared = record { only = only; left_out = left_out; compared = compared }
+
+-- they name these fields
+abbrev pub fields_view : FieldWords → FieldView
+fields_view words = field_words (option_map (λ text. text.now) words.only) (option_map (λ text. text.now) words.left_out) (option_map (λ text. text.now) words.compared)
+
+abbrev pub AsksFields : FieldView → Chosen → Type 0
+AsksFields words chosen = (session_asked words.only ≡ Some chosen.only) × (ids_asked words.left_out ≡ Some chosen.left_out) × (compared_asked words.compared ≡ Some chosen.compared)
+
 -- all that is asked for has a form
-abbrev pub Asks : ReportWords → Option (List ℕ) → Option (List ℕ) → Request → Type 0
-Asks words session ids request = AsksReport words request.format × (session_asked session ≡ Some request.chosen.only) × (ids_asked ids ≡ Some request.chosen.left_out)
+abbrev pub Asks : ReportWords → FieldView → Request → Type 0
+Asks words fields request = AsksReport words request.format × AsksFields fields request.chosen
 
 -- this has none, or there was no memory
-abbrev pub AsksFor : ReportWords → Option (List ℕ) → Option (List ℕ) → RequestFault → Type 0
-AsksFor words session ids fault.Format = format_asked words.json words.format ≡ Err fault.Format
-AsksFor words session ids fault.Session = session_asked session ≡ None
-AsksFor words session ids fault.Ids = ids_asked ids ≡ None
-AsksFor words session ids fault.OutOfMemory = Unit {0}
-AsksFor words session ids fault.Accepting = AsksNoReport false words
-AsksFor words session ids fault.Whole = AsksNoReport true words
-AsksFor words session ids fault.Both = format_asked words.json words.format ≡ Err fault.Both
+abbrev pub AsksFor : ReportWords → FieldView → RequestFault → Type 0
+AsksFor words fields fault.Format = format_asked words.json words.format ≡ Err fault.Format
+AsksFor words fields fault.Session = session_asked fields.only ≡ None
+AsksFor words fields fault.Ids = (ids_asked fields.left_out ≡ None) ⊎ (compared_asked fields.compared ≡ None)
+AsksFor words fields fault.OutOfMemory = Unit {0}
+AsksFor words fields fault.Accepting = AsksNoReport false words
+AsksFor words fields fault.Whole = AsksNoReport true words
+AsksFor words fields fault.Both = format_asked words.json words.format ≡ Err fault.Both

@@ -39,6 +39,8 @@ pub struct Chosen {
     pub only: Option<Name>,
     /// Fields that are evaluated, and whose outputs aren't compared.
     pub left_out: Sequence<Ids>,
+    /// The fields whose outputs are compared. None: those of all that aren't left out.
+    pub compared: Option<Sequence<Ids>>,
 }
 
 impl Chosen {
@@ -46,10 +48,12 @@ impl Chosen {
     pub fn all(alloc: Global) -> Chosen
         ensures only { result.only ≡ None }
         ensures left_out { result.left_out ≡ [] }
+        ensures compared { result.compared ≡ None }
     {
         Chosen {
             only: Option::None,
             left_out: Sequence::new(alloc),
+            compared: Option::None,
         }
     }
 
@@ -74,11 +78,21 @@ impl Chosen {
         }
     }
 
+    /// Whether a field is one of those that are to be compared.
+    fn compares(&self, id: u32) -> bool
+        ensures { result ≡ choice.is_among self.now.compared id }
+    {
+        match &self.compared {
+            None => true,
+            Some(ids) => have(ids.as_slice(), id),
+        }
+    }
+
     /// Whether a field isn't compared.
     fn leaves_out(&self, id: u32) -> bool
         ensures { result ≡ choice.is_left_out self.now id }
     {
-        have(self.left_out.as_slice(), id)
+        have(self.left_out.as_slice(), id) || !self.compares(id)
     }
 
     /// What another evaluation of the field with this number comes to, by the answer that it shows and the

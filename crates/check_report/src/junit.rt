@@ -29,16 +29,23 @@ pub(crate) fn write_tail<W: Write>(out: &mut W) -> Result<(), WriteFault>
     write_bytes(b"</testsuite>\n</testsuites>\n", out)
 }
 
-/// Writes what begins a case: the name of its session, and the number of its field.
+/// Writes what begins a case: the name of its session, and the number and the input of its field.
 #[tactic(auto, using(crate::proofs::Written::steps))]
-fn write_start<W: Write>(id: u32, session: &[u8], out: &mut W) -> Result<(), WriteFault>
+fn write_start<W: Write>(
+    id: u32,
+    session: &[u8],
+    input: &[u8],
+    out: &mut W,
+) -> Result<(), WriteFault>
     ensures { OnOk result (Appends (W.contents out.old) (W.contents out.new)
-        (junit.case_start id session.now)) }
+        (junit.case_start id session.now input.now)) }
 {
     write_bytes(b"<testcase classname=\"", out)?;
     write_text(session, out)?;
     write_bytes(b"\" name=\"field ", out)?;
     write_id(id, out)?;
+    write_bytes(b": ", out)?;
+    write_text(input, out)?;
     write_bytes(b"\">", out)?;
     Ok(())
 }
@@ -74,14 +81,15 @@ fn write_result_end<W: Write>(verdict: Verdict, out: &mut W) -> Result<(), Write
 pub(crate) fn write_case<W: Write>(
     id: u32,
     session: &[u8],
+    input: &[u8],
     verdict: Verdict,
     told: &[u8],
     out: &mut W,
 ) -> Result<(), WriteFault>
     ensures { OnOk result (Appends (W.contents out.old) (W.contents out.new)
-        (junit.junit_case (point id session.now verdict told.now))) }
+        (junit.junit_case (point id session.now input.now verdict told.now))) }
 {
-    write_start(id, session, out)?;
+    write_start(id, session, input, out)?;
     write_result_start(verdict, out)?;
     write_text(told, out)?;
     write_result_end(verdict, out)?;

@@ -21,6 +21,6 @@ pub use ids::read_ids;
 pub use report::{
     Format, ReportFault, bring_out, close_report, is_written, open_report, report_case,
 };
-pub use request::{Request, RequestFault, read_request};
+pub use request::{FieldWords, Request, RequestFault, read_request};
 pub use verdict::{Counts, Verdict};
 pub use words::acceptance_in_memory;

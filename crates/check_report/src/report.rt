@@ -229,7 +229,7 @@ fn write_as_point<W: Write>(
     writer: &mut W,
 ) -> Result<(), WriteFault>
     ensures { OnOk result (Appends (W.contents writer.old) (W.contents writer.new)
-        (taps.tap_point number (point field.now.id field.now.session verdict told.now))) }
+        (taps.tap_point number (point field.now.id field.now.session field.now.input verdict told.now))) }
 {
     write_point(
         number,
@@ -251,9 +251,16 @@ fn write_as_case<W: Write>(
     writer: &mut W,
 ) -> Result<(), WriteFault>
     ensures { OnOk result (Appends (W.contents writer.old) (W.contents writer.new)
-        (junits.junit_case (point field.now.id field.now.session verdict told.now))) }
+        (junits.junit_case (point field.now.id field.now.session field.now.input verdict told.now))) }
 {
-    write_case(field.id, field.session.as_slice(), verdict, told, writer)?;
+    write_case(
+        field.id,
+        field.session.as_slice(),
+        field.input.as_bytes(),
+        verdict,
+        told,
+        writer,
+    )?;
     writer.flush().map_err(|_| WriteFault)?;
     Ok(())
 }
@@ -268,7 +275,7 @@ fn report_point<W: Write>(
     writer: &mut W,
 ) -> Result<(), ReportFault>
     ensures ok { OnOk result (Appends (W.contents writer.old) (W.contents writer.new)
-        (taps.tap_point number (point field.now.id field.now.session verdict
+        (taps.tap_point number (point field.now.id field.now.session field.now.input verdict
         (printed.verdict_text field.now came.now verdict)))) }
     ensures err { IfErr result (Unreported (W.contents writer.old) (W.contents writer.new)) }
 {
@@ -290,7 +297,7 @@ fn report_junit<W: Write>(
     writer: &mut W,
 ) -> Result<(), ReportFault>
     ensures ok { OnOk result (Appends (W.contents writer.old) (W.contents writer.new)
-        (junits.junit_case (point field.now.id field.now.session verdict
+        (junits.junit_case (point field.now.id field.now.session field.now.input verdict
         (printed.verdict_text field.now came.now verdict)))) }
     ensures err { IfErr result (Unreported (W.contents writer.old) (W.contents writer.new)) }
 {

@@ -99,18 +99,6 @@ fn in_whole_alone(format: Format, accept: bool) -> Option<Format>
     if accept { None } else { in_whole(format) }
 }
 
-/// The same, or why there is none.
-fn read_whole(format: Format, accept: bool) -> Result<Format, RequestFault>
-    ensures ok { IfOk result (λ report. asked.report_asked accept true format ≡ Some report) }
-    ensures err { IfErr result (λ why. (why ≡ RequestFault.Whole)
-        × (asked.report_asked accept true format ≡ None)) }
-{
-    match in_whole_alone(format, accept) {
-        Some(format) => Ok(format),
-        None => Err(RequestFault::Whole),
-    }
-}
-
 /// The report that is asked for, by its format, and by whether answers that differ are accepted, or outputs are
 /// whole.
 fn read_report(
@@ -122,14 +110,18 @@ fn read_report(
     ensures ok { IfOk result (asked.AsksReport
         (asked.report_words accept whole json (option_map (λ text. text.now) name.entry))) }
     ensures err { IfErr result (asked.AsksFor
-        (asked.report_words accept whole json (option_map (λ text. text.now) name.entry)) None None) }
+        (asked.report_words accept whole json (option_map (λ text. text.now) name.entry))
+        (asked.field_words None None None)) }
 {
     let format = match read_format(json, name) {
         Ok(format) => format,
         Err(why) => return Err(why),
     };
     if whole {
-        return read_whole(format, accept);
+        return match in_whole_alone(format, accept) {
+            Some(format) => Ok(format),
+            None => Err(RequestFault::Whole),
+        };
     }
     if !accept {
         return Ok(format);
@@ -160,8 +152,8 @@ fn read_session(name: Option<&str>) -> Result<Option<Name>, RequestFault>
 fn read_left_out(alloc: Global, text: Option<&str>) -> Result<Sequence<Ids>, RequestFault>
     ensures ok { IfOk result (λ ids.
         asked.ids_asked (option_map (λ text. text.now) text.entry) ≡ Some ids) }
-    ensures err { IfErr result (asked.AsksFor (asked.report_words false false false None) None
-        (option_map (λ text. text.now) text.entry)) }
+    ensures err { IfErr result (asked.AsksFor (asked.report_words false false false None)
+        (asked.field_words None (option_map (λ text. text.now) text.entry) None)) }
 {
     let Some(text) = text else {
         return Ok(Sequence::new(alloc));
@@ -173,38 +165,84 @@ fn read_left_out(alloc: Global, text: Option<&str>) -> Result<Sequence<Ids>, Req
     }
 }
 
-/// What the words of a command line ask for: lines of JSON, or a format; a session, numbers of fields that
-/// are left out, whether answers that differ are accepted, and whether outputs are whole; within this limit of
-/// time, where there is one.
+/// The numbers of the fields that are compared, where any are named.
+fn read_compared(alloc: Global, text: Option<&str>) -> Result<Option<Sequence<Ids>>, RequestFault>
+    ensures ok { IfOk result (λ ids.
+        asked.compared_asked (option_map (λ text. text.now) text.entry) ≡ Some ids) }
+    ensures err { IfErr result (asked.AsksFor (asked.report_words false false false None)
+        (asked.field_words None None (option_map (λ text. text.now) text.entry))) }
+{
+    let Some(text) = text else {
+        return Ok(None);
+    };
+    match read_ids(alloc, text.as_bytes()) {
+        Ok(Some(ids)) => Ok(Some(ids)),
+        Ok(None) => Err(RequestFault::Ids),
+        Err(_) => Err(RequestFault::OutOfMemory),
+    }
+}
+
+/// The words that say which fields are checked.
+#[derive(Clone, Copy, Debug)]
+pub struct FieldWords<'a> {
+    /// The session that they are of.
+    pub only: Option<&'a str>,
+    /// The numbers of those that are left out.
+    pub left_out: Option<&'a str>,
+    /// The numbers of those that are compared.
+    pub compared: Option<&'a str>,
+}
+
+/// The fields that the words ask for.
+fn read_chosen(alloc: Global, words: FieldWords<'_>) -> Result<Chosen, RequestFault>
+    ensures ok { IfOk result (asked.AsksFields (asked.fields_view words.entry)) }
+    ensures err { IfErr result (asked.AsksFor (asked.report_words false false false None)
+        (asked.fields_view words.entry)) }
+{
+    let only = match read_session(words.only) {
+        Ok(only) => only,
+        Err(why) => return Err(why),
+    };
+    let left_out = match read_left_out(alloc, words.left_out) {
+        Ok(left_out) => left_out,
+        Err(why) => return Err(why),
+    };
+    match read_compared(alloc, words.compared) {
+        Ok(compared) => Ok(Chosen {
+            only,
+            left_out,
+            compared,
+        }),
+        Err(why) => Err(why),
+    }
+}
+
+/// What the words of a command line ask for: lines of JSON, or a format; which fields are checked; whether answers
+/// that differ are accepted, and whether outputs are whole; within this limit of time, where there is one.
 pub fn read_request(
     alloc: Global,
     json: bool,
     format: Option<&str>,
-    session: Option<&str>,
-    ids: Option<&str>,
+    fields: FieldWords<'_>,
     accept: bool,
     whole: bool,
     limit: Option<u32>,
 ) -> Result<Request, RequestFault>
     ensures ok { IfOk result (asked.Asks
         (asked.report_words accept whole json (option_map (λ text. text.now) format.entry))
-        (option_map (λ text. text.now) session.entry) (option_map (λ text. text.now) ids.entry)) }
+        (asked.fields_view fields.entry)) }
     ensures within { IfOk result (λ request. request.limit ≡ limit) }
     ensures err { IfErr result (asked.AsksFor
         (asked.report_words accept whole json (option_map (λ text. text.now) format.entry))
-        (option_map (λ text. text.now) session.entry) (option_map (λ text. text.now) ids.entry)) }
+        (asked.fields_view fields.entry)) }
 {
     let format = match read_report(json, format, accept, whole) {
         Ok(format) => format,
         Err(why) => return Err(why),
     };
-    let only = match read_session(session) {
-        Ok(only) => only,
-        Err(why) => return Err(why),
-    };
-    match read_left_out(alloc, ids) {
-        Ok(left_out) => Ok(Request {
-            chosen: Chosen { only, left_out },
+    match read_chosen(alloc, fields) {
+        Ok(chosen) => Ok(Request {
+            chosen,
             limit,
             format,
         }),

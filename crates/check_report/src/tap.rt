@@ -1,5 +1,5 @@
 //! A report as TAP, version 13.
-ghost use Rattle.std.specs.Prelude.{OnOk};
+ghost use Rattle.std.specs.Prelude.{[], OnOk};
 ghost use Rattle.std.specs.Io.KnownBytes.{Appends};
 ghost use Rattle.check_report.specs.Points.{point};
 ghost use Rattle.check_report.specs.Tap as tap;
@@ -134,7 +134,7 @@ pub(crate) fn write_point<W: Write>(
     out: &mut W,
 ) -> Result<(), WriteFault>
     ensures { OnOk result (Appends (W.contents out.old) (W.contents out.new)
-        (tap.tap_point number (point id session.now verdict told.now))) }
+        (tap.tap_point number (point id session.now [] verdict told.now))) }
 {
     write_point_line(number, id, session, verdict, out)?;
     write_comments(told, out)?;

@@ -27,6 +27,7 @@ pub record CheckView : Type 0 where
   pub format : Option Text
   pub only : Option Text
   pub leave_out : Option Text
+  pub compare : Option Text
   pub timeout : Option Text
   pub accept : Bool
   pub whole : Bool
@@ -39,6 +40,7 @@ check_view words = record {
   format = option_map (λ text. text.now) words.format;
   only = option_map (λ text. text.now) words.only;
   leave_out = option_map (λ text. text.now) words.leave_out;
+  compare = option_map (λ text. text.now) words.compare;
   timeout = option_map (λ text. text.now) words.timeout;
   accept = words.accept;
   whole = words.whole;
@@ -147,7 +149,7 @@ abbrev pub with_show : Text → App
 with_show name = with_rule (with_json name) at_rule
 
 -- and of the one with as many paths as there are, and with options: whether it writes JSON, the format of its report, the session that it is about, the fields
--- that aren't compared, the time that a field may take, whether answers that differ are accepted, whether outputs are whole, and how many sessions go side by side
+-- that aren't compared, those that alone are, the time that a field may take, whether answers that differ are accepted, whether outputs are whole, and how many sessions go side by side
 abbrev pub paths_rule : Rule
 paths_rule = record (new_rule (codes "PATH")) { required = true; action = Some Append }
 
@@ -175,8 +177,14 @@ left_out_rule = record (new_rule (codes "leave-out")) { long = Some (codes "leav
 abbrev pub with_left_out : Text → App
 with_left_out name = with_rule (with_session name) left_out_rule
 
+abbrev pub compared_rule : Rule
+compared_rule = record (new_rule (codes "compare")) { long = Some (codes "compare"); value_names = 1 }
+
+abbrev pub with_compared : Text → App
+with_compared name = with_rule (with_left_out name) compared_rule
+
 abbrev pub with_check_timeout : Text → App
-with_check_timeout name = with_rule (with_left_out name) timeout_rule
+with_check_timeout name = with_rule (with_compared name) timeout_rule
 
 abbrev pub accept_rule : Rule
 accept_rule = record (new_rule (codes "accept")) { long = Some (codes "accept"); action = Some SetTrue }
@@ -311,6 +319,7 @@ check_in rows = record {
   format = first_of (codes "format") rows;
   only = first_of (codes "only") rows;
   leave_out = first_of (codes "leave-out") rows;
+  compare = first_of (codes "compare") rows;
   timeout = first_of (codes "timeout") rows;
   accept = is_set (first_of (codes "accept") rows);
   whole = is_set (first_of (codes "whole") rows);

@@ -139,6 +139,12 @@ const LEFT_OUT: Word = Word {
     help: "Don't compare the outputs of these fields, as 3,7-9",
 };
 
+const COMPARED: Word = Word {
+    name: "compare",
+    given: Given::Value("IDS"),
+    help: "Compare the outputs of these fields alone, as 3,7-9",
+};
+
 const FROM: Word = Word {
     name: "from",
     given: Given::Value("ID"),
@@ -173,12 +179,13 @@ static EVAL: [Word; 9] = [
     IDS,
 ];
 
-static CHECK: [Word; 9] = [
+static CHECK: [Word; 10] = [
     PATHS,
     JSON,
     REPORT,
     SESSION,
     LEFT_OUT,
+    COMPARED,
     FIELD_TIMEOUT,
     ACCEPT,
     WHOLE,

@@ -163,7 +163,8 @@ With --format it reports each field as a test: as a point of TAP 13, or as a cas
 in JUnit's XML. With --json, which is --format json, each is one object, which\n\
 programs read (docs/JSON.md). --only names the one session whose fields are\n\
 evaluated. The outputs of the fields that --leave-out names aren't compared, as of\n\
-3, 7, 8 and 9 by --leave-out 3,7-9; they are evaluated all the same.\n\n\
+3, 7, 8 and 9 by --leave-out 3,7-9, and with --compare 3,7-9 theirs alone are; all\n\
+are evaluated all the same, and counted as left out.\n\n\
 With --timeout SECONDS (1 to 1,000,000) the interpreter of a field that takes\n\
 longer is sent SIGINT, and is stopped where it hasn't answered two seconds later.\n\
 No answer came then, whatever came after SIGINT, and the next field is checked.\n\
@@ -182,7 +183,7 @@ With several PATHs each is checked as it would be alone, one after another, unde
 a line `worksheet PATH`; at a fault of one the next is checked all the same. The\n\
 last line is their total, as `total of 3 worksheets: same 9 differ 1 unanswered 0`,\n\
 with `faults 1` at its end where one had a fault. They go with no format but text,\n\
-with no --accept and with no --leave-out.\n\n\
+with no --accept, --leave-out or --compare.\n\n\
 Status: 0 where all outputs that are compared are the same, or were accepted; 1\n\
 where one differs or didn't come, where the session that --only names has no field\n\
 that shows an answer (with several PATHs: in one of them), or at a fault; 2 where\n\

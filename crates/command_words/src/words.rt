@@ -21,6 +21,8 @@ pub struct CheckWords<'a> {
     pub only: Option<&'a str>,
     /// The numbers of the fields that aren't compared.
     pub leave_out: Option<&'a str>,
+    /// The numbers of the fields whose outputs alone are compared.
+    pub compare: Option<&'a str>,
     /// How many seconds a field may take.
     pub timeout: Option<&'a str>,
     /// Answers that differ are put into the worksheet.
@@ -290,6 +292,7 @@ fn check_words<'a>(alloc: Global, matches: &ArgMatches<'a>) -> Result<CheckWords
         format: matches.get_str("format"),
         only: matches.get_str("only"),
         leave_out: matches.get_str("leave-out"),
+        compare: matches.get_str("compare"),
         timeout: matches.get_str("timeout"),
         accept: is_set(matches.get_str("accept")),
         whole: is_set(matches.get_str("whole")),

@@ -70,18 +70,19 @@ abbrev pub are_several : List Text → Bool
 are_several paths = nat_lt 1 (length paths)
 
 -- Why several aren't checked as it is asked for, if it isn't so: their reports are in words alone, no answer of them is accepted, and no fields
--- are left out by numbers, which are another worksheet's too.
-abbrev pub left_out_of_several : Option Text → Option SeveralFault
-left_out_of_several None = None
-left_out_of_several (Some ids) = Some several_fault.LeftOut
+-- are left out or compared by numbers, which are another worksheet's too.
+abbrev pub numbers_of_several : Option Text → Option Text → Option SeveralFault
+numbers_of_several None None = None
+numbers_of_several None (Some ids) = Some several_fault.Compared
+numbers_of_several (Some ids) compared = Some several_fault.LeftOut
 
-abbrev pub several_refused : Format → Option Text → Option SeveralFault
-several_refused format.Text left_out = left_out_of_several left_out
-several_refused format.Whole left_out = left_out_of_several left_out
-several_refused format.Tap left_out = Some several_fault.Format
-several_refused format.Junit left_out = Some several_fault.Format
-several_refused format.Json left_out = Some several_fault.Format
-several_refused format.Accepting left_out = Some several_fault.Accepting
+abbrev pub several_refused : Format → Option Text → Option Text → Option SeveralFault
+several_refused format.Text left_out compared = numbers_of_several left_out compared
+several_refused format.Whole left_out compared = numbers_of_several left_out compared
+several_refused format.Tap left_out compared = Some several_fault.Format
+several_refused format.Junit left_out compared = Some several_fault.Format
+several_refused format.Json left_out compared = Some several_fault.Format
+several_refused format.Accepting left_out compared = Some several_fault.Accepting
 
 -- The time that a field may take, and in how many sessions fields wait at a time.
 pub record CheckBounds : Type 0 where

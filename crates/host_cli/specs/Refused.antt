@@ -78,12 +78,15 @@ no_check_jobs_text = codes "error: this is no number of jobs: N is a number from
 abbrev pub accept_jobs_text : List ℕ
 accept_jobs_text = codes "error: --jobs goes with no --accept\n\nFor more information, try 'tmhost check --help'.\n"
 
--- and of several worksheets in another format than in words, with answers that are accepted, and with fields that are left out
+-- and of several worksheets in another format than in words, with answers that are accepted, and with fields that are left out or compared by their numbers
 abbrev pub several_formats_text : List ℕ
 several_formats_text = codes "error: several PATHs go with no FORMAT but text\n\nFor more information, try 'tmhost check --help'.\n"
 
 abbrev pub several_accept_text : List ℕ
 several_accept_text = codes "error: --accept goes with one PATH alone\n\nFor more information, try 'tmhost check --help'.\n"
+
+abbrev pub several_compared_text : List ℕ
+several_compared_text = codes "error: --compare goes with one PATH alone\n\nFor more information, try 'tmhost check --help'.\n"
 
 abbrev pub several_left_out_text : List ℕ
 several_left_out_text = codes "error: --leave-out goes with one PATH alone\n\nFor more information, try 'tmhost check --help'.\n"
@@ -134,3 +137,4 @@ abbrev pub RefusesSeveral : {E : Type 0} → SeveralFault → Saying E → Endin
 RefusesSeveral several_fault.Format errors ending = RefusesWith several_formats_text errors ending
 RefusesSeveral several_fault.Accepting errors ending = RefusesWith several_accept_text errors ending
 RefusesSeveral several_fault.LeftOut errors ending = RefusesWith several_left_out_text errors ending
+RefusesSeveral several_fault.Compared errors ending = RefusesWith several_compared_text errors ending

@@ -8,7 +8,7 @@ use Rattle.clap.specs.Words.{FailsBy, Text, fault_of, kind_of}
 use Rattle.clap.specs.declared.error.Error.{Error}
 use Rattle.clap.specs.declared.error.kind.ErrorKind.{ErrorKind}
 use Rattle.clap.specs.declared.error.kind.ErrorKind.TheVariants as kind
-use Rattle.check_report.specs.Requests.{Asks, AsksFor, report_words}
+use Rattle.check_report.specs.Requests.{Asks, AsksFor, field_words, report_words}
 use Rattle.check_report.specs.declared.report.Format.{Format as Report}
 use Rattle.check_report.specs.declared.report.Format.TheVariants as report
 use Rattle.check_report.specs.declared.request.Request.{Request}
@@ -226,7 +226,7 @@ module _ {Y D P S I W E Q : Type 0} (o : OutsideView D P S I W E) where
 
   -- several, or why they aren't
   abbrev pub ChecksSeveral : Outside Y D P S I W E Q → Outside Y D P S I W E Q → Ending → CheckView → CheckPlan → Type 0
-  ChecksSeveral old new ending words c = MatchOption (several_refused c.request.format words.leave_out) (ComparesAll old new ending words.paths c) (ChecksNoSeveral old new ending)
+  ChecksSeveral old new ending words c = MatchOption (several_refused c.request.format words.leave_out words.compare) (ComparesAll old new ending words.paths c) (ChecksNoSeveral old new ending)
 
   -- several or one, as this is asked for
   abbrev pub ChecksPaths : Outside Y D P S I W E Q → Outside Y D P S I W E Q → Ending → Text → CheckView → CheckPlan → Type 0
@@ -234,9 +234,9 @@ module _ {Y D P S I W E Q : Type 0} (o : OutsideView D P S I W E) where
 
   -- `check` by what its words name, within these bounds
   abbrev pub ChecksWithin : Outside Y D P S I W E Q → Outside Y D P S I W E Q → Ending → Text → CheckView → CheckBounds → Type 0
-  ChecksWithin old new ending path words b = (read : Result Request RequestFault) × IfOk read (Asks (report_words words.accept words.whole words.json words.format) words.only words.leave_out)
+  ChecksWithin old new ending path words b = (read : Result Request RequestFault) × IfOk read (Asks (report_words words.accept words.whole words.json words.format) (field_words words.only words.leave_out words.compare))
       × IfOk read (λ request. request.limit ≡ b.limit)
-      × IfErr read (AsksFor (report_words words.accept words.whole words.json words.format) words.only words.leave_out)
+      × IfErr read (AsksFor (report_words words.accept words.whole words.json words.format) (field_words words.only words.leave_out words.compare))
       × MatchResult read (λ request. ChecksPaths old new ending path words (check_plan request b.jobs)) (ChecksNone old new ending)
 
   abbrev pub ChecksJobs : Outside Y D P S I W E Q → Outside Y D P S I W E Q → Ending → Text → CheckView → Option ℕ → Type 0

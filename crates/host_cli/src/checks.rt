@@ -8,7 +8,7 @@ ghost use Rattle.host_cli.specs.Tasks.{ChecksAs, ChecksBy, ChecksPaths, Compares
 use crate::outside::{Outside, System};
 use crate::plans::{are_several, read_check_jobs, read_limit, several_fault};
 use crate::refusing::{refuse_check_limit, refuse_jobs, refuse_request, refuse_several};
-use check_report::{Format as Report, Request, read_request};
+use check_report::{FieldWords, Format as Report, Request, read_request};
 use command_words::CheckWords;
 use program_endings::{
     CheckEnding, Ending, Total, end_total, end_unheld, end_unwritten, is_unwritten, run_accept,
@@ -173,7 +173,7 @@ fn check_paths<Y: System>(
     if !are_several(words.paths.as_slice()) {
         return check_by(alloc, outside, request, jobs, path);
     }
-    if let Some(why) = several_fault(request.format, words.leave_out) {
+    if let Some(why) = several_fault(request.format, words.leave_out, words.compare) {
         return refuse_several(why, &mut outside.errors);
     }
     match outside.places.hold() {
@@ -204,8 +204,11 @@ pub(crate) fn check_at<Y: System>(
         alloc,
         words.json,
         words.format,
-        words.only,
-        words.leave_out,
+        FieldWords {
+            only: words.only,
+            left_out: words.leave_out,
+            compared: words.compare,
+        },
         words.accept,
         words.whole,
         limit,

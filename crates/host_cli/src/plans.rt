@@ -1,7 +1,7 @@
 //! What the words of `eval` ask for, and what those of `check` do beside its request.
 ghost use Rattle.std.specs.Prelude.{◌≡◌, Err, IfErr, IfOk, Ok, map, option_map, true};
 ghost use Rattle.command_words.specs.Asked.{eval_view};
-ghost use Rattle.host_cli.specs.Plans.{AsksNoPlan, AsksPlan, check_jobs_asked, check_jobs_by, from_asked, jobs_asked, jobs_by, jobs_unwritten, left_out_of_several, limit_asked, named_asked, numbers_in, several_refused, which_asked};
+ghost use Rattle.host_cli.specs.Plans.{AsksNoPlan, AsksPlan, check_jobs_asked, check_jobs_by, from_asked, jobs_asked, jobs_by, jobs_unwritten, numbers_of_several, limit_asked, named_asked, numbers_in, several_refused, which_asked};
 ghost use Rattle.host_cli.specs.Plans as plan;
 ghost use Rattle.host_cli.specs.inside.Reading.{IsWhy};
 
@@ -53,6 +53,8 @@ pub enum SeveralFault {
     Accepting,
     /// Fields are to be left out by their numbers.
     LeftOut,
+    /// Fields are to be compared by their numbers.
+    Compared,
 }
 
 /// The time that a field may take, where there is a limit. None where the words name no time.
@@ -162,21 +164,29 @@ pub(crate) fn are_several(paths: &[&str]) -> bool
 }
 
 /// Whether numbers of fields are named, which no several worksheets have alike.
-fn refuse_left_out(left_out: Option<&str>) -> Option<SeveralFault>
-    ensures { result ≡ left_out_of_several (option_map (λ text. text.now) left_out.entry) }
+fn refuse_numbers(left_out: Option<&str>, compared: Option<&str>) -> Option<SeveralFault>
+    ensures { result ≡ numbers_of_several (option_map (λ text. text.now) left_out.entry)
+        (option_map (λ text. text.now) compared.entry) }
 {
-    match left_out {
-        None => None,
-        Some(_) => Some(SeveralFault::LeftOut),
+    match (left_out, compared) {
+        (None, None) => None,
+        (None, Some(_)) => Some(SeveralFault::Compared),
+        (Some(_), _) => Some(SeveralFault::LeftOut),
     }
 }
 
-/// Why several worksheets aren't checked in this format, with these fields left out. None where they are.
-pub(crate) fn several_fault(format: Report, left_out: Option<&str>) -> Option<SeveralFault>
-    ensures { result ≡ several_refused format (option_map (λ text. text.now) left_out.entry) }
+/// Why several worksheets aren't checked in this format, with these fields left out, and these compared. None
+/// where they are.
+pub(crate) fn several_fault(
+    format: Report,
+    left_out: Option<&str>,
+    compared: Option<&str>,
+) -> Option<SeveralFault>
+    ensures { result ≡ several_refused format (option_map (λ text. text.now) left_out.entry)
+        (option_map (λ text. text.now) compared.entry) }
 {
     match format {
-        Report::Text | Report::Whole => refuse_left_out(left_out),
+        Report::Text | Report::Whole => refuse_numbers(left_out, compared),
         Report::Tap | Report::Junit | Report::Json => Some(SeveralFault::Format),
         Report::Accepting => Some(SeveralFault::Accepting),
     }

@@ -214,6 +214,11 @@ pub(crate) fn refuse_several<E: Says>(why: SeveralFault, errors: &mut E) -> Endi
             For more information, try 'tmhost check --help'.\n",
             errors,
         ),
+        SeveralFault::Compared => refuse_with(
+            b"error: --compare goes with one PATH alone\n\n\
+            For more information, try 'tmhost check --help'.\n",
+            errors,
+        ),
         SeveralFault::LeftOut => refuse_with(
             b"error: --leave-out goes with one PATH alone\n\n\
             For more information, try 'tmhost check --help'.\n",

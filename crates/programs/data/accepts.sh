@@ -52,6 +52,11 @@ made "$a"'session b plain sh suite.sh b\nnew 0 a differs\nnew 1 b differs\neval 
 accepts_none 'one that is left out' 0 'same 0 accepted 0 unanswered 0 left out 2\n' '#1 a\na] differs\ndiffers\n#2 b\nb] differs\ndiffers\n' --leave-out 1-2
 accepts 'one session' 0 '#2 b\nb] differs\n- differs\n+ another\naccepted 2\nsame 0 accepted 1 unanswered 0\n' '#1 a\na] differs\ndiffers\n#2 b\nb] differs\nanother\n' --only b --format text
 accepts_none 'a session that is not there' 1 'same 0 accepted 0 unanswered 0\n' '#1 a\na] differs\ndiffers\n#2 b\nb] differs\nanother\n' --only c
+made "$a"'new 0 a differs\nnew 1 a differs\nnew 2 a differs\neval 1\neval 2\neval 3\nwait\n'
+accepts 'one of three that is compared' 0 '#2 a\na] differs\n- differs\n+ another\naccepted 2\nsame 0 accepted 1 unanswered 0 left out 2\n' \
+    '#1 a\na] differs\ndiffers\n#2 a\na] differs\nanother\n#3 a\na] differs\ndiffers\n' --compare 2
+made "$a"'session b plain sh suite.sh b\nnew 0 a differs\nnew 1 b differs\neval 1\neval 2\nwait\n'
+accepts 'one session again' 0 '#2 b\nb] differs\n- differs\n+ another\naccepted 2\nsame 0 accepted 1 unanswered 0\n' '#1 a\na] differs\ndiffers\n#2 b\nb] differs\nanother\n' --only b
 rm -f sent
 for format in tap junit; do
     accepts_none "as $format" 2 "error: --accept goes with no FORMAT but text\n\nFor more information, try 'tmhost check --help'.\n" '#1 a\na] differs\ndiffers\n#2 b\nb] differs\nanother\n' --format "$format"

@@ -252,6 +252,9 @@ sent 'one session, of which what differs is left out' 'start a\nsend a # SKIP\ns
 reports 'a session that is not there' 1 'same 0 differ 0 unanswered 0\n' --only c
 reports 'fields that are left out' 0 'same 2 differ 0 unanswered 0 left out 2\n' --leave-out 2-3,7,4294967295
 reports 'all fields left out' 0 'same 0 differ 0 unanswered 0 left out 4\n' --leave-out 1,2,3-4
+reports 'one that is compared' 1 '#3 b\nb] hangs\n- hangs\n+ ?\nsame 1 differ 0 unanswered 1 left out 2\n' --compare 3-4
+reports 'one that is compared, and left out' 0 'same 1 differ 0 unanswered 0 left out 3\n' --compare 3-4 --leave-out 3
+reports 'none that is compared' 0 'TAP version 13\nok 1 - field 1 of a # SKIP left out\nok 2 - field 2 of a # SKIP left out\n1..2\n' --format tap --only a --compare 7
 reports 'one that is not left out' 1 '#3 b\nb] hangs\n- hangs\n+ ?\nsame 2 differ 0 unanswered 1 left out 1\n' --leave-out 2,2
 
 # Words that ask for no check.
@@ -266,6 +269,7 @@ for words in '--accept' '--format tap' '--format junit' '--json'; do
 done
 reports 'lines of JSON that are accepted' 2 "error: --accept goes with no FORMAT but text$help" --json --accept
 for ids in '' , 1, 1,,2 x 3-1 1- -1 01 1-2-3 4294967296 '1, 2'; do
+    reports "no fields to compare: $ids" 2 "error: these are no fields: IDS are numbers and ranges of them, as 3,7-9$help" "--compare=$ids"
     reports "no fields: $ids" 2 "error: these are no fields: IDS are numbers and ranges of them, as 3,7-9$help" "--leave-out=$ids"
 done
 for seconds in 0 1000001 x '' 1.5; do
@@ -282,16 +286,19 @@ head='<?xml version="1.0" encoding="UTF-8"?>\n<testsuites>\n<testsuite name="tmh
 made "$a"
 reports 'no case' 0 "$head$tail" --format junit
 made "$a"'new 0 a x\nnew 1 a tags\nnew 2 a odd\nnew 3 a hangs\nnew 4 a differs\neval 1\neval 2\neval 3\neval 4\neval 5\nwait\n'
-reports 'cases' 1 "$head"'<testcase classname="a" name="field 1"></testcase>\n<testcase classname="a" name="field 2"><failure message="differs">#2 a\na] tags\n- tags\n+ &lt;/failure&gt;&lt;b a=&quot;&amp;&quot;&gt;\n</failure></testcase>\n<testcase classname="a" name="field 3"><failure message="differs">#3 a\na] odd\n- odd\n+ \357\277\275\303\251\357\277\275\357\277\275\357\277\275\n</failure></testcase>\n<testcase classname="a" name="field 4"><error message="unanswered">#4 a\na] hangs\n- hangs\n+ ?\n</error></testcase>\n<testcase classname="a" name="field 5"><skipped message="left out"></skipped></testcase>\n'"$tail" --format junit --leave-out 5
+reports 'cases' 1 "$head"'<testcase classname="a" name="field 1: x"></testcase>\n<testcase classname="a" name="field 2: tags"><failure message="differs">#2 a\na] tags\n- tags\n+ &lt;/failure&gt;&lt;b a=&quot;&amp;&quot;&gt;\n</failure></testcase>\n<testcase classname="a" name="field 3: odd"><failure message="differs">#3 a\na] odd\n- odd\n+ \357\277\275\303\251\357\277\275\357\277\275\357\277\275\n</failure></testcase>\n<testcase classname="a" name="field 4: hangs"><error message="unanswered">#4 a\na] hangs\n- hangs\n+ ?\n</error></testcase>\n<testcase classname="a" name="field 5: differs"><skipped message="left out"></skipped></testcase>\n'"$tail" --format junit --leave-out 5
 "$tmhost" check --format junit --leave-out 5 sheet >report 2>errors
 compare 'cases, read' "$(python3 cases.py report 2>&1; cat errors)" "$(cat <<'END_OF_CASES'
-('a', 'field 1', [])
-('a', 'field 2', [('failure', 'differs', '#2 a\na] tags\n- tags\n+ </failure><b a="&">\n')])
-('a', 'field 3', [('failure', 'differs', '#3 a\na] odd\n- odd\n+ \ufffd\xe9\ufffd\ufffd\ufffd\n')])
-('a', 'field 4', [('error', 'unanswered', '#4 a\na] hangs\n- hangs\n+ ?\n')])
-('a', 'field 5', [('skipped', 'left out', None)])
+('a', 'field 1: x', [])
+('a', 'field 2: tags', [('failure', 'differs', '#2 a\na] tags\n- tags\n+ </failure><b a="&">\n')])
+('a', 'field 3: odd', [('failure', 'differs', '#3 a\na] odd\n- odd\n+ \ufffd\xe9\ufffd\ufffd\ufffd\n')])
+('a', 'field 4: hangs', [('error', 'unanswered', '#4 a\na] hangs\n- hangs\n+ ?\n')])
+('a', 'field 5: differs', [('skipped', 'left out', None)])
 END_OF_CASES
 )"
+
+made "$a"'new 0 a <b a="&">\neval 1\nwait\n'
+reports 'an input that looks like a tag' 0 "$head"'<testcase classname="a" name="field 1: &lt;b a=&quot;&amp;&quot;&gt;"></testcase>\n'"$tail" --format junit
 
 # As lines of JSON: NAME STATUS WORDS, where the lines that are wanted are the input here. The worksheet stays as it was.
 objects() {
@@ -456,7 +463,7 @@ made "$a"'new 0 a x\nnew 1 a kills\neval 1\neval 2\nwait\n'
 (exec "$tmhost" check --format tap sheet >text 2>errors) 2>/dev/null
 compare 'a report that is cut off' "$? $(cat text errors)" "$(printf '137 TAP version 13\nok 1 - field 1 of a')"
 (exec "$tmhost" check --format junit sheet >text 2>errors) 2>/dev/null
-compare 'cases that are cut off' "$? $(cat text errors)" "$(printf '137 %b<testcase classname="a" name="field 1"></testcase>' "$head")"
+compare 'cases that are cut off' "$? $(cat text errors)" "$(printf '137 %b<testcase classname="a" name="field 1: x"></testcase>' "$head")"
 made "$a"'new 0 a x\neval 1\nwait\n'
 "$tmhost" check --format tap sheet >/dev/full 2>errors
 compare 'a report on a full output' "$? $(cat errors)" '1 fault 42 Output'
@@ -513,6 +520,7 @@ for flags in '--format tap' '--format junit' '--format json' '--json'; do
 done
 words 'several that are accepted' 2 "error: --accept goes with one PATH alone$help" check --accept bad one
 words 'fields of several that are left out' 2 "error: --leave-out goes with one PATH alone$help" check --leave-out 2 bad one
+words 'fields of several that are compared' 2 "error: --compare goes with one PATH alone$help" check --compare 2 bad one
 words 'several side by side, and accepted' 2 "error: --jobs goes with no --accept$help" check --jobs 2 --accept bad one
 compare 'several worksheets that are not checked' "$(cat sent 2>/dev/null)" ''
 
@@ -547,7 +555,7 @@ grown() {
 made 'session g plain sh grows.sh\nnew 0 g x\neval 1\nwait\n'
 grown text '#1 g\n> x\n- x\n+ ' '\nsame 0 differ 1 unanswered 0\n'
 grown tap 'TAP version 13\nnot ok 1 - field 1 of g\n# #1 g\n# > x\n# - x\n# + ' '\n1..1\n'
-grown junit "$head"'<testcase classname="g" name="field 1"><failure message="differs">#1 g\n&gt; x\n- x\n+ ' '\n</failure></testcase>\n'"$tail"
+grown junit "$head"'<testcase classname="g" name="field 1: x"><failure message="differs">#1 g\n&gt; x\n- x\n+ ' '\n</failure></testcase>\n'"$tail"
 compare 'an output that grew, json' "$({ "$tmhost" check --json sheet 2>&1; echo "status $?"; } </dev/null | cksum)" "$({
     printf '{"format":1,"program":"tmhost","protocol":2,"type":"hello","version":"0.1.0"}\n{"came":{"output":{"items":["'
     long
