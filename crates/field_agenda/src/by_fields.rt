@@ -86,7 +86,8 @@ fn has_few_fields(sheet: &Sheet) -> bool
     ensures no { result ≡ false → 2 ^ 31 ≤ length sheet.now.contents.fields }
 {
     let mut count: usize = 0;
-    for _ in sheet.fields() {
+    for field in sheet.fields() {
+        let _ = field;
         if count >= MOST_FIELDS {
             return false;
         }

@@ -12,4 +12,4 @@ loop-id-preserved c =
     let group = c.args.group.now in
     let at = c.loop-id.id-index in
     lasts_next c.args.lasts.now fields group at (get_or group at 0) c.loop-id.asked.items c.in_ok-next.next.items (slice_get-get_or group at 0 (grind (arith))) c.loop-id.invariant
-    (c.in_ok-next.ensures ∙ ap (λ (l : List Last). after_asking l (option_copied c.field.result.entry)) c.as_slice.ensures.value ∙ ap (after_asking c.loop-id.asked.items) c.field.ensures)
+    (c.in_ok-next.ensures ∙ ap (λ (l : List Last). after_asking l (option_copied c.field.result)) c.as_slice.ensures.value ∙ ap (after_asking c.loop-id.asked.items) c.field.ensures)
