@@ -61,7 +61,7 @@ pub group_there : (plan : Plan) (w : World) (lasts asked : List Last) (l ids : L
 group_there plan w lasts asked l ids at id group so is made there =
     subst (λ (x : List Last). group ≡ group_at plan w x ids at id) so (subst (λ (m : List ℕ). slice_get m at ≡ Some id → group ≡ group_at plan w lasts m at id) is made there)
 
--- where it stands behind them
+-- where it stands after them
 pub stands_there : (s : Stand) (at : ℕ) (c d : Contents) (shown group all : List ℕ) (stand : Stand) → shown ≡ group → group ≡ all → c ≡ d → stand ≡ asked_together s at c.fields shown → stand ≡ asked_together s at d.fields all
 stands_there s at c d shown group all stand is so same made =
     made ∙ ap (λ (l : List ℕ). asked_together s at c.fields l) (is ∙ so) ∙ ap (λ (x : Contents). asked_together s at x.fields all) same

@@ -1,14 +1,21 @@
 -- A run of fields that has nothing left to be done came to its end.
 use Rattle.std.proofs.Common.{◌≡◌, ◌∙◌, inl, inr, ℕ, ◌+◌, List, [], ◌∷◌, ◌++◌, refl, sym, subst, Ok, Err}
-use Rattle.std.specs.Prelude.{◌⊎◌, Option, None, Some, Result}
+use Rattle.std.specs.Prelude.{◌⊎◌, Option, None, Some, Result, map}
 use Rattle.session_engine.specs.World.{World}
 use Rattle.offline_programs.specs.declared.fault.RunFault.{RunFault}
 use Rattle.offline_programs.specs.declared.fault.RunFault.TheVariants as fault
 use Rattle.tellings.specs.declared.note.Note.{Note}
+use Rattle.driver.specs.declared.report.Show.TheVariants as show
 use Rattle.driver.specs.declared.turn.Turn.{Turn}
 use Rattle.driver.specs.declared.turn.Turn.TheVariants as turn
-use Rattle.driver.specs.Items.{Item, RunStep, after_fault, ask, halt, items_by, notes, print, print_fault}
+use Rattle.driver.specs.Items.{Item, RunStep, after_fault, ask, group_of, halt, items_by, notes, print, print_fault}
+use Rattle.driver.specs.Items.{stalls as stalls_now}
 use Rattle.driver.specs.Items as item
+use Rattle.driver.specs.Reports.{Report, TurnCame, came, interrupt_came, shown}
+use Rattle.driver.specs.Reports.{followed as followed_of}
+use Rattle.child_edge.specs.Seats.{waits}
+use Rattle.child_edge.specs.Together.{beats_behind}
+use Rattle.child_edge.specs.Told.{told}
 use Rattle.driver.specs.Place.{RunPlace, SinkRules, SourceRules, rules}
 use Rattle.driver.specs.Steps.{Goes, Run}
 use Rattle.driver.specs.Steps as step
@@ -56,9 +63,13 @@ before : (i : Item) (rest : List Item) → AsksLast rest → AsksLast (i ∷ res
 before i [] last = absurd last
 before i (j ∷ rest) last = last
 
+-- what is printed of a group, and then heeded
+thrice : (s t : Report) (c : TurnCame) (rest : List Item) → AsksLast rest → AsksLast (item.print s ∷ item.print t ∷ item.heed c ∷ rest)
+thrice s t c rest last = before (item.print s) (item.print t ∷ item.heed c ∷ rest) (before (item.print t) (item.heed c ∷ rest) (before (item.heed c) rest last))
+
 noted : (n : Option Note) (rest : List Item) → AsksLast rest → AsksLast (notes n ++ rest)
 noted None rest last = last
-noted (Some n) rest last = before _ rest last
+noted (Some n) rest last = before (print (shown (show.Note n))) rest last
 
 fault_last : (why : RunFault) → AsksLast (after_fault why)
 fault_last fault.Input = tt
@@ -132,14 +143,14 @@ module _ {P : Type 0} where
 module _ {P C K : Type 0} (finds : P → Finds) (sources : SourceRules C) (sink : SinkRules K) where
   stays_open : (p q : RunPlace (ByFields P) C K) (todo next : List Item) (s : RunStep) → AsksLast todo → Goes (rules (fields_rules finds) sources sink) p todo s next q → Open next q.agenda.stage
   stays_open p q todo next s last (step.asks now t a clock said) = open_by finds p.agenda p.world now t a said
-  stays_open p q todo next s last (step.watches x w c a rest wakes told) = inl (behind _ rest (λ no. no) last)
-  stays_open p q todo next s last (step.hears seat most events c rest h) = inl (before _ rest (behind (item.hear seat most) rest (λ no. no) last))
+  stays_open p q todo next s last (step.watches x w c a rest wakes turned) = inl (behind (item.watch x) rest (λ no. no) last)
+  stays_open p q todo next s last (step.hears seat most events c rest h) = inl (before (item.take None events) rest (behind (item.hear seat most) rest (λ no. no) last))
   stays_open p q todo next s last (step.takes from events outcomes followed w c d rest t) =
-      inl (before _ (_ ∷ _ ∷ rest) (before _ (_ ∷ rest) (before _ rest (behind (item.take from events) rest (λ no. no) last))))
+      inl (thrice (group_of from outcomes) (followed_of (told (beats_behind followed))) (came outcomes (told (beats_behind followed))) rest (behind (item.take from events) rest (λ no. no) last))
   stays_open p q todo next s last (step.rewrites line o w d rest gives kept) =
-      inl (before _ (_ ∷ _ ∷ rest) (before _ (_ ∷ rest) (before _ rest (behind (item.rewrite line) rest (λ no. no) last))))
-  stays_open p q todo next s last (step.stalls_all rest) = inl (before _ rest (behind item.stall rest (λ no. no) last))
-  stays_open p q todo next s last (step.interrupts name told c rest i) = inl (before _ rest (behind (item.interrupt name) rest (λ no. no) last))
+      inl (thrice (group_of (Some line) (o ∷ [])) (followed_of []) (came (o ∷ []) []) rest (behind (item.rewrite line) rest (λ no. no) last))
+  stays_open p q todo next s last (step.stalls_all rest) = inl (before (item.take None (map stalls_now (waits p.world))) rest (behind item.stall rest (λ no. no) last))
+  stays_open p q todo next s last (step.interrupts name came_so c rest i) = inl (before (item.heed (interrupt_came came_so)) rest (behind (item.interrupt name) rest (λ no. no) last))
   stays_open p q todo next s last (step.prints t k rest went) = inl (behind (item.print t) rest (λ no. no) last)
   stays_open p q todo next s last (step.heeds c now n a rest clock h) = inl (noted n rest (behind (item.heed c) rest (λ no. no) last))
   stays_open p q todo next s last (step.breaks i beats why there rest fails) = inl (fault_last why)

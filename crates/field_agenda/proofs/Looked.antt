@@ -141,7 +141,7 @@ module _ {P C K : Type 0} (finds : P → Finds) (sources : SourceRules C) (sink 
   line_rests : (p q : Place) (why : RunFault) (left : List Item) (steps : List RunStep) → Run given p (print_fault why ∷ []) steps left q → Rests p q steps left
   line_rests p q why left [] ran = rests_at p q left ran.1
   line_rests p q why left (s ∷ steps) (next, mid, step.prints_fault w whole k tries, more) =
-      let last = halted_left given mid q why left steps more in
+      let last = halted_left mid q why left steps more in
       rests_after p mid q _ steps left refl refl refl (λ e. absurd (last e)) refl (halt_rests mid q why left steps more)
   line_rests p q why left (s ∷ steps) (next, mid, step.breaks i beats w x rest fails, more) = absurd (elim fails [ ])
 
@@ -188,7 +188,10 @@ module _ {P C K : Type 0} (finds : P → Finds) (sources : SourceRules C) (sink 
   nothing_rests p q left [] ran = rests_at p q left ran.1
   nothing_rests p q left (s ∷ steps) (next, mid, goes, more) = absurd (none_to_do finds sources sink p mid next s goes)
 
-  turn_is : (t u : Turn) → Ok {E = RunFault} t ≡ Ok u → t ≡ u
+  abbrev answers : Turn → Result Turn RunFault
+  answers t = Ok t
+
+  turn_is : (t u : Turn) → answers t ≡ answers u → t ≡ u
   turn_is t u is = cc
 
   vain_rests : (p q : Place) (left : List Item) (steps : List RunStep) → IsVain p.agenda.stage → Run given p (ask ∷ []) steps left q → Rests p q steps left

@@ -38,7 +38,7 @@ may_go_with plan w lasts group id = is_apart w group (field_in (sheet_in w).fiel
 abbrev pub goes_with : Plan → World → List Last → List ℕ → ℕ → Bool
 goes_with plan w lasts group id = not plan.strict && (has_room plan w (length group) && may_go_with plan w lasts group id)
 
--- these, and behind them the first ones of those, one after another as long as each goes with all before it
+-- these, and after them the first ones of those, one after another as long as each goes with all before it
 abbrev pub with_those_that_go : (List ℕ → ℕ → Bool) → List ℕ → List ℕ → List ℕ
 with_those_that_go goes group [] = group
 with_those_that_go goes group (id ∷ ids) = if goes group id then with_those_that_go goes (group ++ id ∷ []) ids else group

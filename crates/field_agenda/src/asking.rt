@@ -146,7 +146,8 @@ pub(crate) fn lasts_behind(
 {
     let mut asked = lasts.to_vec(alloc)?;
     for id in group {
-        asked = after_asking(alloc, asked.as_slice(), sheet.field(*id))?;
+        let next = after_asking(alloc, asked.as_slice(), sheet.field(*id))?;
+        asked = next;
     }
     Ok(asked)
 }

@@ -44,8 +44,8 @@ use worksheet::{Field, Sheet};
 /// The most fields that may have been asked, so that those of another group can be counted.
 const MOST_COUNTED: u64 = u64::MAX - 1_025;
 
-/// More fields than a worksheet has.
-const TOO_MANY_FIELDS: usize = 1 << 31;
+/// The most fields that are counted. A worksheet has fewer.
+const MOST_FIELDS: usize = (1 << 31) - 1;
 
 /// The fields of a worksheet that are evaluated by a plan (docs/SCRIPT.md, "Evaluating a worksheet").
 ///
@@ -77,7 +77,7 @@ fn is_beyond(taken: usize, all: usize) -> bool
     ensures yes { result ≡ true → (all < taken) ⊎ (2 ^ 31 ≤ all) }
     ensures no { result ≡ false → (taken ≤ all) × (all < 2 ^ 31) }
 {
-    taken > all || all >= TOO_MANY_FIELDS
+    taken > all || all > MOST_FIELDS
 }
 
 /// Whether a worksheet has so few fields that they are counted.
@@ -86,11 +86,12 @@ fn has_few_fields(sheet: &Sheet) -> bool
     ensures no { result ≡ false → 2 ^ 31 ≤ length sheet.now.contents.fields }
 {
     let mut count: usize = 0;
-    for _ in sheet.fields() {
-        count = count + 1;
-        if count >= TOO_MANY_FIELDS {
+    for field in sheet.fields() {
+        let _ = field;
+        if count >= MOST_FIELDS {
             return false;
         }
+        count = count + 1;
     }
     true
 }

@@ -16,7 +16,7 @@ use std::slice;
 use tellings::{Frame, Note, Tells};
 use worksheet::Sheet;
 
-/// A voice that is told the number of a field in the place of a line's.
+/// A voice that is given the number of a field in the place of a line's.
 #[derive(Clone, Copy, Debug)]
 pub struct FieldLines<T> {
     pub tells: T,

@@ -1,4 +1,4 @@
-use Rattle.std.proofs.Common.{◌≡◌, ◌+◌, ◌×◌}
+use Rattle.std.proofs.Common.{◌≡◌, ◌+◌}
 use Rattle.tellings.proofs.Voices.{OutcomesWritten}
 use Rattle.field_agenda.specs.FieldLines.{by_field_lines}
 use Rattle.field_agenda.proofs.field_lines.tell_each.Given as goal

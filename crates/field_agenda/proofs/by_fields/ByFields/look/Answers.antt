@@ -9,7 +9,7 @@ returns-in-Ok g c = λ w h.
     let a = c.args.self.now in
     looked c.in-Ok.field-0.ids.items c.in-Ok.field-0.stage
     (subst (λ (s : Contents). LookFinds (g.P.Programs.finds a.programs) a.plan s c.in-Ok.field-0.ids.items c.in-Ok.field-0.stage) (c.sheet.ensures.stands w h) c.in-Ok.ensures) refl
-    (ap (λ (l : List ℕ). found a l c.in-Ok.field-0.stage) c.from_vec-self.ensures)
+    (ap (λ (l : List ℕ). found a l c.in-Ok.field-0.stage) c.from_vec.ensures)
 
 pub returns-in-Err : goal.returns-in-Err
 returns-in-Err g c = λ w h. unlooked refl refl
