@@ -1,13 +1,12 @@
 -- The tags of a report in JUnit's XML.
 use Rattle.std.proofs.Common.{◌≡◌, ℕ, Bool, true, false, cond, List, [], ◌∷◌, ◌++◌, map, flat_map, refl, ap, sym, ◌∙◌, append-nil}
 use Rattle.std.specs.Prelude.{◌==◌, ◌||◌, codes}
-use Rattle.std.specs.Fmt.{decimal}
 use Rattle.std.specs.List.{list_all}
 use Rattle.check_report.specs.declared.verdict.Verdict.{Verdict}
 use Rattle.check_report.specs.declared.verdict.Verdict.TheVariants as verdict
 use Rattle.check_report.specs.Points.{Point}
 use Rattle.check_report.specs.Xml.{xml_text}
-use Rattle.check_report.specs.Junit.{case_start, head, junit_case, junit_text, result_end, result_start, tail}
+use Rattle.check_report.specs.Junit.{case_start, case_title, head, junit_case, junit_text, result_end, result_start, tail}
 use Rattle.check_report.specs.Laws.{TextsAreNoTags, tag_behind, tags, untold}
 use Rattle.check_report.proofs.Lines.{both-first, both-second}
 use Rattle.check_report.proofs.NoMarks.{no_marks, passes}
@@ -57,7 +56,7 @@ closed false = refl
 
 start-closed : (id : ℕ) (session input : List ℕ) → open_behind false (case_start id session input) ≡ false
 start-closed id session input =
-    let front = codes "<testcase classname=\"" ++ xml_text session ++ codes "\" name=\"field " ++ decimal id ++ codes ": " ++ xml_text input in
+    let front = codes "<testcase classname=\"" ++ xml_text session ++ codes "\" name=\"" ++ case_title id input in
     open-append false front (codes "\">") ∙ closed (open_behind false front)
 
 result_start-closed : (v : Verdict) → open_behind false (result_start v) ≡ false

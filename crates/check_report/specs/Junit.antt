@@ -15,9 +15,13 @@ head = codes "<?xml version=\"1.0\" encoding=\"UTF-8\"?>\n<testsuites>\n<testsui
 abbrev pub tail : List ℕ
 tail = codes "</testsuite>\n</testsuites>\n"
 
--- what begins a case: the name of its session, and the number and the input of its field
+-- the name of a case: the number of its field, and its input
+abbrev pub case_title : ℕ → List ℕ → List ℕ
+case_title id input = codes "field " ++ decimal id ++ codes ": " ++ xml_text input
+
+-- what begins a case: the name of its session, and its own
 abbrev pub case_start : ℕ → List ℕ → List ℕ → List ℕ
-case_start id session input = codes "<testcase classname=\"" ++ xml_text session ++ codes "\" name=\"field " ++ decimal id ++ codes ": " ++ xml_text input ++ codes "\">"
+case_start id session input = codes "<testcase classname=\"" ++ xml_text session ++ codes "\" name=\"" ++ case_title id input ++ codes "\">"
 
 -- in front of what is reported of a case
 abbrev pub result_start : Verdict → List ℕ

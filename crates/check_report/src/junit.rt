@@ -29,7 +29,20 @@ pub(crate) fn write_tail<W: Write>(out: &mut W) -> Result<(), WriteFault>
     write_bytes(b"</testsuite>\n</testsuites>\n", out)
 }
 
-/// Writes what begins a case: the name of its session, and the number and the input of its field.
+/// Writes the name of a case: the number of its field, and its input.
+#[tactic(auto, using(crate::proofs::Written::steps))]
+fn write_title<W: Write>(id: u32, input: &[u8], out: &mut W) -> Result<(), WriteFault>
+    ensures { OnOk result (Appends (W.contents out.old) (W.contents out.new)
+        (junit.case_title id input.now)) }
+{
+    write_bytes(b"field ", out)?;
+    write_id(id, out)?;
+    write_bytes(b": ", out)?;
+    write_text(input, out)?;
+    Ok(())
+}
+
+/// Writes what begins a case: the name of its session, and its own.
 #[tactic(auto, using(crate::proofs::Written::steps))]
 fn write_start<W: Write>(
     id: u32,
@@ -42,10 +55,8 @@ fn write_start<W: Write>(
 {
     write_bytes(b"<testcase classname=\"", out)?;
     write_text(session, out)?;
-    write_bytes(b"\" name=\"field ", out)?;
-    write_id(id, out)?;
-    write_bytes(b": ", out)?;
-    write_text(input, out)?;
+    write_bytes(b"\" name=\"", out)?;
+    write_title(id, input, out)?;
     write_bytes(b"\">", out)?;
     Ok(())
 }
