@@ -16,20 +16,20 @@ use Rattle.worksheet.specs.declared.op.Op.{Op}
 use Rattle.worksheet.specs.declared.op.Op.TheVariants as op
 
 -- what an op changes, where the next new field has this number
-abbrev pub change_text : ℕ → Op → List ℕ
-change_text next (op.Session name tab words) = codes "session " ++ name
-change_text next (op.New after session input) = codes "new " ++ decimal next ++ codes " " ++ session
-change_text next (op.Set id input) = codes "set " ++ decimal id
-change_text next (op.Remove id) = codes "remove " ++ decimal id
-change_text next (op.Move id after) = codes "move " ++ decimal id ++ codes " " ++ decimal after
-change_text next (op.Clear id) = codes "eval " ++ decimal id
-change_text next (op.Answer id prompt output) = codes "answered " ++ decimal id
-change_text next (op.Lost id reason) = codes "lost " ++ decimal id ++ codes " " ++ reason_name reason
-change_text next (op.Ids number) = codes "ids " ++ decimal number
+abbrev pub text_of_change : ℕ → Op → List ℕ
+text_of_change next (op.Session name tab words) = codes "session " ++ name
+text_of_change next (op.New after session input) = codes "new " ++ decimal next ++ codes " " ++ session
+text_of_change next (op.Set id input) = codes "set " ++ decimal id
+text_of_change next (op.Remove id) = codes "remove " ++ decimal id
+text_of_change next (op.Move id after) = codes "move " ++ decimal id ++ codes " " ++ decimal after
+text_of_change next (op.Clear id) = codes "eval " ++ decimal id
+text_of_change next (op.Answer id prompt output) = codes "answered " ++ decimal id
+text_of_change next (op.Lost id reason) = codes "lost " ++ decimal id ++ codes " " ++ reason_name reason
+text_of_change next (op.Ids number) = codes "ids " ++ decimal number
 
 -- its number and that
 abbrev pub change_line : ℕ → ℕ → Op → List ℕ
-change_line number next o = decimal number ++ codes " " ++ change_text next o ++ 10 ∷ []
+change_line number next o = decimal number ++ codes " " ++ text_of_change next o ++ 10 ∷ []
 
 -- The lines of these ops, where the first one has this number, and the next new field that one.
 abbrev pub changes_from : ℕ → ℕ → List Op → List ℕ

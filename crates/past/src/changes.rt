@@ -74,7 +74,7 @@ fn write_lost<W: Write>(id: u32, reason: Reason, out: &mut W) -> Result<(), Writ
 /// What an op changes, where the next new field has this number.
 fn write_change<W: Write>(op: &Op, next: u32, out: &mut W) -> Result<(), WriteFault>
     ensures { OnOk result (Appends (W.contents out.old) (W.contents out.new)
-        (printed.change_text next op.now)) }
+        (printed.text_of_change next op.now)) }
 {
     match op {
         Op::Session { name, .. } => write_named(b"session ", name.as_slice(), out),
