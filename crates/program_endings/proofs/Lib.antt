@@ -4,4 +4,3 @@ pub mod Lines
 pub mod Living
 pub mod Streams
 pub mod Totals
-pub mod Evaluating
