@@ -8,7 +8,7 @@ from xml.etree import ElementTree
 
 import yaml
 
-from .support import PROGRAM, ROOT, Case
+from .support import LIMIT, PROGRAM, ROOT, Case
 
 
 def in_yaml(name: str) -> Any:
@@ -47,7 +47,7 @@ class Example(Case):
         os.rename(self.folder, place)
         with open(os.path.join(place, "python.md"), "a", encoding="utf-8") as file:
             file.write("\n```py\n1 + 1\n```\n\n```answer\n3\n```\n")
-        ran = subprocess.run(["sh", "-c", command], capture_output=True, text=True, cwd=place, env={**os.environ, "TMHOST": PROGRAM, **variables}, timeout=120)
+        ran = subprocess.run(["sh", "-c", command], capture_output=True, text=True, cwd=place, env={**os.environ, "TMHOST": PROGRAM, **variables}, timeout=LIMIT)
         self.assertEqual((ran.returncode, ran.stderr), (1, ""))
         self.assertEqual(ElementTree.parse(os.path.join(place, "report.xml")).getroot()[0].get("failures"), "1")
         self.folder = place
