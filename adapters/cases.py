@@ -286,6 +286,7 @@ def ten_lines(name: str, call: str = "k(10)", said: str = "", told: str = "-5") 
 REDIRECTIONS: Dict[str, str] = {
     "set -x": "set +x", "exec >/dev/null": "exec >&199", 'sink("/dev/null")': "sink()", 'set print "/dev/null"': "set print",
     ".headers on": ".headers off", ".output /dev/null": ".output", ".echo on": ".echo off", ".mode box": ".mode list", ".changes on": ".changes off",
+    "(setf *standard-output* (make-broadcast-stream))": "(setf *standard-output* sb-sys:*stdout*)",
 }
 
 # For each interpreter a line that has a number, and its answer.

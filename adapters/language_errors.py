@@ -22,6 +22,10 @@ LANGUAGE_ERRORS: Dict[str, List[Tuple[str, str]]] = {
         ("1 / 0", "Exception: Division_by_zero."), ("1 +", "..Error: Syntax error"), ('print_string "so\\n"; failwith "no"', 'Exception: Failure "no".'), ("nothing", "..Error: Unbound value nothing"),
         ('1 + "a"', "..Error: This expression has type string"), ('print_string "Error: none\\n"', ""), ('try failwith "caught" with _ -> 5', ""), ("2", ""),
     ],
+    "sbcl": [
+        ("(/ 1 0)", "..DIVISION-BY-ZERO"), ("(foo", "END-OF-FILE: the form isn't complete"), ('(progn (princ "so") (terpri) (error "no"))', "SIMPLE-ERROR: no"), ("nothing", "UNBOUND-VARIABLE: The variable NOTHING is unbound."), ('(princ "SIMPLE-ERROR: none")', ""),
+        ('(handler-case (error "caught") (error () 5))', ""), ('(warn "careful")', ""), ("(make-condition 'error)", ""), ("2", ""),
+    ],
     "swipl": [
         ("X is 1 / 0.", "..zero_divisor"), ("foo(.", "..Syntax error"), ("write(so), nl, throw(no).", "Unknown message: no"), ("nothing.", "Unknown procedure: nothing/0"), ("write('Warning: none'), nl.", ""),
         ("catch(throw(caught), _, true).", ""), ("fail.", ""), ("X = 2.", ""),

@@ -78,6 +78,19 @@ OCAML_ODD = [
     "prerr_endline \"e\"", "for i = 1 to 2000 do print_int i; print_newline () done", "String.make 50000 'x'", "List.init 500 (fun i -> i)", "assert false", "raise Exit", "exception E of int", "raise (E 3)", "let rec f n = f (n + 1) + 1 in f 0", "fun x -> x",
     "module M = struct let a = 1 end", "M.a", "open List", "let x = 6", "Obj.magic 0", "Printf.printf \"%d\" 3", "Format.printf \"%d@.\" 3", "\"\\002\\005\\027\"", "let _ = 1", "1.5 +. 1", "stdout", "flush stdout", "ignore 1",
 ]
+SBCL: List[Line] = [
+    ("(+ 1 1)", "2"), ("(+ * 1)", "3"), ("(defparameter *x* 5)", "*X*"), ("*x*", "5"), ("", ""), ("; a remark", ""), ("1 2", "1\n2"), ("(values)", ""), ('"a\\"b"', '"a\\"b"'), ('(princ "a")', 'a\n"a"'), ('(format t "a~%b")', "a\nb\nNIL"),
+    ("(car 1)", "..TYPE-ERROR"), ("(foo", "END-OF-FILE: the form isn't complete"), ("nothing", "UNBOUND-VARIABLE: The variable NOTHING is unbound."), ('(error "no ~a" 1)', "SIMPLE-ERROR: no 1"), ("(break)", "SIMPLE-CONDITION: break"), ("(signal 'error)", "NIL"),
+    ("(loop)", "SB-SYS:INTERACTIVE-INTERRUPT: interrupted", True), ("(sleep 100)", "SB-SYS:INTERACTIVE-INTERRUPT: interrupted", True), ("*x*", "5"), ("(read-line)", "END-OF-FILE: end of file"), ('(y-or-n-p "so?")', "..END-OF-FILE"), ("(values 1 2)", "1\n2"),
+    *called("(defun k (n)\n  (let ((s 0))\n    (loop for i from 1 to n\n          do (if (oddp i)\n                 (incf s i)\n                 (decf s i)))\n    s))", "(k 10)", "K"),
+]
+SBCL_ODD = [
+    '"open', "#|open", "|open", "(1", ")", "(((", "'", "#", "#\\a", "#<a>", "nothing:x", "(read)", "(read-char)", "(read-line *query-io*)", '(sb-ext:run-program "/bin/cat" nil :input t :output t)', '(sb-ext:run-program "/bin/echo" \'("sub") :output t)', '(warn "w")', "(setf y 1)", "(1+ 'a)",
+    "(dotimes (i 2000) (print i))", "(make-string 20000 :initial-element #\\x)", "(loop for i below 500 collect i)", "(lambda (x) x)", "(defun g (n) (1+ (g n)))", "(g 1)", "(defmacro m (a) `(list ,a))", "(m 3)", "(throw 'a 1)", "(return 3)", "(go a)", "(abort)", "(continue)", "(invoke-debugger nil)",
+    "(in-package :nothing)", "(defclass c () ())", "(make-instance 'nothing)", "(vector 1 2)", "(/ 1 0)", "(/ 1.0 0)", "(assert nil)", "(cerror \"go on\" \"no\")", "(handler-case (error \"e\") (error () 3))", "(setf *standard-output* (make-broadcast-stream))", "(princ 3)", "(setf *standard-output* sb-sys:*stdout*)",
+    "(sb-thread:join-thread (sb-thread:make-thread (lambda () 3)))", "(sb-thread:join-thread (sb-thread:make-thread (lambda () (error \"e\"))))", "(map 'string #'code-char '(2 5 27))", "(require :sb-posix)", "(setf *print-base* 2)", "5", "(setf *print-base* 10)", "(list #1='(a) #1#)", "(code-char 233)",
+    "(setf *package* 3)", "(let ((*standard-input* nil)) (read))", "(close *standard-output*)",
+]
 SWIPL: List[Line] = [
     ("X is 1 + 1.", "X = 2."), ("member(X, [a, b])", "X = a.\nX = b."), ("fail.", "false."), ("true", "true."), ("assertz(p(1)), assertz(p(2)).", "true."), ("p(X), Y = f(X, _).", "X = 1, Y = f(1, _).\nX = 2, Y = f(2, _)."), ("", ""), ("foo(", "..Syntax error"),
     ("nothing(1)", "..nothing/1"), ("X is 1/0", "..zero_divisor"), ("repeat, fail", "..int", True), ("p(X), !", "X = 1."), ("read(X)", "X = end_of_file."), ("[user].\u2028q(3).\u2028q(X) :- p(X).", ""), ("q(X)", "X = 3.\nX = 1.\nX = 2."),
@@ -133,6 +146,7 @@ LANGUAGES: Dict[str, Lines] = {
     "perl": Lines("perl", "exit", "1 while 1", "'n%d'", "n%d", PERL, PERL_ODD),
     "guile": Lines("guile", "(exit)", "(let loop () (loop))", "'n%d", "n%d", GUILE, GUILE_ODD),
     "ocaml": Lines("ocaml", "exit 0", "while true do () done", '"n%d"', '- : string = "n%d"', OCAML, OCAML_ODD),
+    "sbcl": Lines("sbcl", "(exit)", "(loop)", "'n%d", "N%d", SBCL, SBCL_ODD),
     "swipl": Lines("swipl", "halt", "repeat, fail", "X = n%d", "X = n%d.", SWIPL, SWIPL_ODD),
     "sqlite3": Lines("sqlite3", ".quit", "with recursive c(x) as (select 1 union all select x + 1 from c) select count(*) from c", "select 'n%d'", "n%d", SQLITE, SQLITE_ODD),
     "ghci": Lines("ghci", ":quit", "let loop = loop in loop :: Int", '"n%d"', '"n%d"', GHCI, GHCI_ODD),

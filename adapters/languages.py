@@ -12,6 +12,8 @@ OF_SQL = re.compile(rb"""'(?:[^']|'')*'|"(?:[^"]|"")*"|`[^`]*`|\[[^]]*\]|--[^\n]
 SQL_OPEN = re.compile(rb"""['"`[]|/\*""")
 SQL_CLOSES = {b"'": b"'", b'"': b'"', b"`": b"`", b"[": b"]", b"/*": b"*/"}
 
+SBCL = "exec sbcl --noinform --no-sysinit --no-userinit --disable-debugger --load \"$0\" --eval '(tmhost::answer-lines)' 3<&0 </dev/null"
+
 
 def in_sql(text: bytes) -> bytes:
     """Statements with what is open in them closed, or a command of the shell, whose lines are commands, too."""
@@ -44,6 +46,7 @@ LANGUAGES = {
     "perl": by_loop(b"", "perl", "LOOPS/perl.pl"),
     "guile": by_loop(b"scheme@(guile-user)> ", "guile", "--no-auto-compile", "-s", "LOOPS/guile.scm"),
     "ocaml": by_loop(b"# ", "sh", "-c", 'exec ocaml -noinit -noprompt -I +compiler-libs 3<&0 <"$0"', "LOOPS/ocaml.ml"),
+    "sbcl": by_loop(b"* ", "sh", "-c", SBCL, "LOOPS/sbcl.lisp"),
     "swipl": by_loop(b"?- ", "swipl", "-q", "-f", "none", "LOOPS/swipl.pl"),
     "sqlite3": Profile(
         ["sqlite3", "-batch", "-init", os.devnull],

@@ -15,6 +15,8 @@ COMMAND = os.path.join(os.path.dirname(HERE), "tmhost-suite")
 # It answers a line by a value that depends on all lines that it has got; `say TEXT`, `die`, `stuck`, `sleep N` and the like are its words.
 INTERPRETER = os.path.join(ROOT, "clients/weave/tests/interpreter.py")
 
+LIMIT = 600.0  # seconds of a run, on a busy machine
+
 sys.path[:0] = [os.path.dirname(HERE), *(os.path.join(ROOT, "clients", name) for name in ("", "python", "fences", "weave"))]
 from tested import PROGRAM, WHY  # noqa: E402
 
@@ -75,7 +77,7 @@ class Case(unittest.TestCase):
             return []
 
     def run_suite(self, *more: str, given: str = "", **variables: str) -> Outcome:
-        ran = subprocess.run(words(*more), input=given, capture_output=True, text=True, env={**environment(), **variables}, cwd=self.folder, timeout=120)
+        ran = subprocess.run(words(*more), input=given, capture_output=True, text=True, env={**environment(), **variables}, cwd=self.folder, timeout=LIMIT)
         return Outcome(ran.returncode, ran.stdout, ran.stderr)
 
     def objects(self, *more: str) -> List[Dict[str, Any]]:

@@ -1,8 +1,19 @@
 """The suite of examples/suite, as its README says."""
+import json
 import os
 import shutil
+import subprocess
+from typing import Any
+from xml.etree import ElementTree
 
-from .support import ROOT, Case
+import yaml
+
+from .support import LIMIT, PROGRAM, ROOT, Case
+
+
+def in_yaml(name: str) -> Any:
+    with open(os.path.join(ROOT, "examples/suite", name), encoding="utf-8") as file:
+        return yaml.safe_load(file)
 
 
 class Example(Case):
@@ -11,7 +22,8 @@ class Example(Case):
         os.mkdir(self.place("suite"))
         shutil.copy(os.path.join(ROOT, "examples/suite/python.md"), self.place("suite"))
         shutil.copy(os.path.join(ROOT, "examples/python.py"), self.folder)
-        self.folder = self.place("suite")
+        os.symlink(os.path.join(ROOT, "clients"), self.place("clients"))
+        self.top, self.folder = self.folder, self.place("suite")
 
     def test_it_passes(self) -> None:
         ran = self.run_suite("python.md")
@@ -26,3 +38,29 @@ class Example(Case):
         ran = self.run_suite("python.md")
         told = 'differs: python.md:32 "a" + "b"\n  @@ -1 +1 @@\n  -\'ab\'\n  +ab\n10 ok, 1 xfail, 1 skip, 1 differs'
         self.assertEqual((ran.status, ran.output.partition(" in ")[0]), (1, told))
+
+    def run_nightly(self, command: str, **variables: str) -> str:
+        """What a step of a nightly file prints where the suite's folder is `examples/suite`; one case differs."""
+        os.mkdir(os.path.join(self.top, "examples"))
+        shutil.copy(os.path.join(self.top, "python.py"), os.path.join(self.top, "examples"))
+        place = os.path.join(self.top, "examples/suite")
+        os.rename(self.folder, place)
+        with open(os.path.join(place, "python.md"), "a", encoding="utf-8") as file:
+            file.write("\n```py\n1 + 1\n```\n\n```answer\n3\n```\n")
+        ran = subprocess.run(["sh", "-c", command], capture_output=True, text=True, cwd=place, env={**os.environ, "TMHOST": PROGRAM, **variables}, timeout=LIMIT)
+        self.assertEqual((ran.returncode, ran.stderr), (1, ""))
+        # On a busy machine more of them may be over their time.
+        self.assertGreaterEqual(int(ElementTree.parse(os.path.join(place, "report.xml")).getroot()[0].get("failures", "0")), 1)
+        self.folder = place
+        return ran.stdout
+
+    def test_its_night_on_github(self) -> None:
+        steps = in_yaml("nightly.github.yml")["jobs"]["suite"]["steps"]
+        command = next(step["run"] for step in steps if "tmhost-suite" in step.get("run", ""))
+        self.assertIn("::error file=examples/suite/python.md,line=118,", self.run_nightly(command, GITHUB_WORKSPACE=self.top))
+
+    def test_its_night_on_gitlab(self) -> None:
+        command = in_yaml("nightly.gitlab.yml")["nightly"]["script"][-1].partition(" ")[2]
+        self.run_nightly(command, CI_PROJECT_DIR=self.top)
+        with open(os.path.join(self.folder, "quality.json"), encoding="utf-8") as file:
+            self.assertIn({"path": "examples/suite/python.md", "lines": {"begin": 118}}, [one["location"] for one in json.load(file)])

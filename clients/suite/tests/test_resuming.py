@@ -4,12 +4,15 @@ import os
 import random
 import signal
 import subprocess
+import sys
 import time
 from typing import List, Tuple
 
 from .support import Case, case, environment, words
 from .values import expected
 
+# It writes two long texts in turn, as `--accept` writes one.
+WRITER = "import itertools, sys; from tmhost_weave.files import put; print('writes', flush=True); [put(sys.argv[1], letter * 300000) for letter in itertools.cycle([b'a', b'b'])]"
 KILLS = int(os.environ.get("TMHOST_KILLS", "20"))
 
 
@@ -122,3 +125,15 @@ class Resuming(Case):
             run.wait()
             after = self.read()
             self.assertTrue(after == before or after.count("````answer" if "````answer" in after else "```answer") == 3, after)
+
+    def test_a_writer_that_is_killed_within_its_write(self) -> None:
+        for _ in range(KILLS):
+            with open(self.path, "wb") as file:
+                file.write(b"a" * 300_000)
+            run = subprocess.Popen([sys.executable, "-B", "-c", WRITER, self.path], stdout=subprocess.PIPE, env={**environment(), "PYTHONPATH": os.pathsep.join(sys.path)})
+            assert run.stdout
+            run.stdout.readline()
+            time.sleep(self.random.uniform(0, 0.03))
+            run.kill()
+            run.communicate()
+            self.assertIn(self.read(), ("a" * 300_000, "b" * 300_000))

@@ -264,3 +264,9 @@ class Reports(Case):
         self.assertIn("the rule 'never' found nothing", ran.output)
         self.assertNotIn("'0x[0-9a-f]+' found nothing", ran.output)
         self.assertIn(f"normalised: {self.path}:8 say 0x12\n  N\n", ran.output)
+
+    def test_rules_of_one_case(self) -> None:
+        self.write(case("say 17 ms", "TIME", "a {normal '[0-9]+ ms' TIME}"), case("say 17 ms", "TIME"), case("say 1.01", "1.0", "a {tolerance 0.1} {normal z y}"), case("say 1.01", "1.0"))
+        self.assertEqual(self.verdicts(self.path), ["ok", "differs", "ok", "differs"])
+        self.assertIn("say 1.01: its rule 'z' found nothing", self.outcome.output)
+        self.assertNotIn("ms' found nothing", self.outcome.output)

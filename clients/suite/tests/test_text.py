@@ -25,6 +25,12 @@ class Reading(unittest.TestCase):
         marks = read("```a {setup} {xfail it is slow} {timeout 2.5} {tags p, q} {flaky 3}\nx\n```\n").cases[0].marks
         self.assertEqual((marks.is_setup, marks.xfail, marks.timeout, marks.tags, marks.flaky), (True, "it is slow", 2.5, {"p", "q"}, 3))
 
+    def test_rules_of_a_case(self) -> None:
+        text = read("```a {tolerance 1e-3} {normal 'in [0-9]+ ms' 'in TIME'} {normal x y}\nx\n```\n\n```a {tolerance 0 2}\nx\n```\n\n```a\nx\n```\n", FRONT[:-4] + "normal: {z: Z}\ntolerance: 1e-6\n---\n")
+        rules = [text.suite.rules_of(one) for one in text.suite.cases]
+        self.assertEqual([(str(one.relative), str(one.absolute)) for one in rules], [("0.001", "0"), ("0", "2"), ("0.000001", "0")])
+        self.assertEqual([[it.pattern.pattern for it in one.normal] for one in rules], [["z", "in [0-9]+ ms", "x"], ["z"], ["z"]])
+
     def test_marks_of_pandoc(self) -> None:
         marks = read('``` {.a .setup timeout=2 tags="p q" skip="no net"}\nx\n```\n').cases[0].marks
         self.assertEqual((marks.is_setup, marks.timeout, marks.tags, marks.skip), (True, 2.0, {"p", "q"}, "no net"))
@@ -32,6 +38,10 @@ class Reading(unittest.TestCase):
     def test_what_is_refused(self) -> None:
         for text, why in (
             ("```a {setpu}\nx\n```\n", "line 4: 'setpu' is none of the words"),
+            ("```a {tolerance -1}\nx\n```\n", "line 4: '-1' is nothing that tolerance can have"),
+            ("```a {tolerance 1 2 3}\nx\n```\n", "nothing that tolerance can have"),
+            ("```a {normal x}\nx\n```\n", "nothing that normal can have"),
+            ("```a {normal [ x}\nx\n```\n", "nothing that normal can have"),
             ("```a {timeout soon}\nx\n```\n", "line 4: 'soon' is nothing that timeout can have"),
             ("```a\nx\n```\n\nWords.\n\n```answer\n1\n```\n", "line 10: an answer stands behind no case"),
             ("```a\nx\n", "the fence in line 4 isn't closed"),
@@ -44,6 +54,7 @@ class Reading(unittest.TestCase):
         for more, why in (
             ("normal: {'[': x}\n", "`normal` has the pattern"),
             ("normal: x\n", "`normal` is no mapping"),
+            ("normal: {'a': '\\1'}\n", "which is no rule: invalid group reference"),
             ("tolerance: much\n", "the tolerance 'much' is no number"),
             ("tolerance: -1\n", "is no number from 0 on"),
             ("timeout: 0\n", "`timeout` is no number of seconds"),

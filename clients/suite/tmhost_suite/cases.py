@@ -2,11 +2,12 @@
 import dataclasses
 import hashlib
 import json
+from decimal import Decimal
 from typing import Dict, FrozenSet, List, Optional, Tuple
 
 from tmhost_fences.fields import Group
 
-from .rules import Rules
+from .rules import Normal, Rules
 
 
 @dataclasses.dataclass(frozen=True)
@@ -23,6 +24,8 @@ class Marks:
     tags: FrozenSet[str] = frozenset()
     flaky: int = 0
     any_spaces: bool = False
+    tolerance: Optional[Tuple[Decimal, Decimal]] = None  # relative and absolute, in place of those of the suite
+    normal: Tuple[Normal, ...] = ()  # behind those of the suite
 
 
 @dataclasses.dataclass(frozen=True)
@@ -58,8 +61,11 @@ class Suite:
     cases: Tuple[Case, ...]
 
     def rules_of(self, case: Case) -> Rules:
-        any_spaces, apart = self.rules.any_spaces or case.marks.any_spaces, self.rules.apart or case.errors is not None
-        return dataclasses.replace(self.rules, any_spaces=any_spaces, apart=apart)
+        own = case.marks
+        any_spaces, apart = self.rules.any_spaces or own.any_spaces, self.rules.apart or case.errors is not None
+        relative, absolute = own.tolerance or (self.rules.relative, self.rules.absolute)
+        normal = self.rules.normal + own.normal
+        return dataclasses.replace(self.rules, normal=normal, relative=relative, absolute=absolute, any_spaces=any_spaces, apart=apart)
 
     @property
     def digest(self) -> str:

@@ -1,11 +1,13 @@
 """What the info string of a fence says of its case: `gp {setup}`, `py {xfail slow machines} {timeout 5}`, `{.py .setup timeout=5}`."""
 import re
 import shlex
+from decimal import Decimal
 from typing import Callable, Dict, Iterator, Optional, Tuple
 
 from tmhost_fences.troubles import Trouble
 
 from .cases import Marks
+from .rules import Normal, allowance, normal_of
 
 BRACES = re.compile(r"\{([^{}]*)\}")
 MOST_SECONDS = 1_000_000
@@ -61,6 +63,19 @@ def pattern(word: str) -> str:
     return word
 
 
+def tolerance(word: str) -> Tuple[Decimal, Decimal]:
+    """The relative one, and the absolute one where it is there."""
+    first, *more = map(allowance, word.split())
+    (second,) = more or [Decimal(0)]
+    return first, second
+
+
+def normal(word: str) -> Tuple[Normal, ...]:
+    """A pattern and a text, each in quotes where it has blanks."""
+    found, put = shlex.split(word)
+    return (normal_of(found, put),)
+
+
 def tries(word: str) -> int:
     value = int(word or "1")
     if not 1 <= value <= MOST_TRIES:
@@ -79,6 +94,8 @@ READERS: Dict[str, Tuple[str, Callable[[str], object]]] = {
     "tags": ("tags", lambda rest: frozenset(re.split(r"[\s,]+", rest)) - {""}),
     "flaky": ("flaky", tries),
     "spaces": ("any_spaces", any_spaces),
+    "tolerance": ("tolerance", tolerance),
+    "normal": ("normal", normal),
 }
 # Words of tmhost-weave that change nothing of a case, so that a text may be woven and tested.
 IDLE = ("hide", "fold")
@@ -94,7 +111,9 @@ def read_marks(info: str, line: int) -> Marks:
             if name not in READERS:
                 raise Trouble(f"line {line}: {ascii(name)} is none of the words that a case can have: {', '.join(READERS)}")
             member, read = READERS[name]
-            found[member] = read(rest)
+            value = read(rest)
+            # Of these a case may have several.
+            found[member] = found.get(member, ()) + value if name == "normal" else value  # type: ignore[operator]
     except ValueError:
         raise Trouble(f"line {line}: {ascii(rest)} is nothing that {name} can have") from None
     return Marks(**found)  # type: ignore[arg-type]

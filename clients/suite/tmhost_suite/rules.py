@@ -3,7 +3,7 @@ import dataclasses
 import decimal
 import fnmatch
 import re
-from decimal import Decimal
+from decimal import Decimal, InvalidOperation
 from typing import FrozenSet, List, Optional, Sequence, Set, Tuple
 
 # A number that was rounded: it has a point or an exponent, which gp writes behind a space. An integer is exact, and has no tolerance.
@@ -13,12 +13,33 @@ BY_PATTERN, BY_GLOB = " (re)", " (glob)"
 PICTURES, FORMULAS = "pictures", "formulas"  # what can be left out
 
 
+def allowance(word: str) -> Decimal:
+    """How far numbers may be apart. Raises ValueError where the word is no number from 0 on."""
+    try:
+        value = Decimal(word)
+    except InvalidOperation:
+        raise ValueError from None
+    if not value.is_finite() or value < 0:
+        raise ValueError
+    return value
+
+
 @dataclasses.dataclass(frozen=True)
 class Normal:
     """Each place of this pattern is replaced by this text before texts are compared."""
 
     pattern: "re.Pattern[str]"
     put: str
+
+
+def normal_of(pattern: str, put: str) -> Normal:
+    """The rule of these. Raises ValueError, with what is wrong, where the one is no pattern, or the other names a group that isn't in it."""
+    try:
+        found = re.compile(pattern, re.MULTILINE)
+        found.sub(put, "")  # reads the text
+    except (re.error, IndexError) as error:
+        raise ValueError(str(error)) from None
+    return Normal(found, put)
 
 
 @dataclasses.dataclass(frozen=True)

@@ -66,10 +66,19 @@ class Teller:
             for at, normal in enumerate(rules.normal):
                 if at not in applied:
                     self.say(readable(f"{path}: the rule {normal.pattern.pattern!r} found nothing"))
+            for told in own:
+                self._tell_own_idle_rules(told)
+
+    def _tell_own_idle_rules(self, told: Told) -> None:
+        applied = applied_in([told])
+        first = len(told.suite.rules.normal)
+        for at, normal in enumerate(told.case.marks.normal, first):
+            if told.result and at not in applied:
+                self.say(readable(f"{told.name}: its rule {normal.pattern.pattern!r} found nothing"))
 
     def tell_normalised(self, told: Told) -> None:
         """What the rules made of what came, where they changed it."""
-        normalised = told.suite.rules.normalised(told.got, set())
+        normalised = told.suite.rules_of(told.case).normalised(told.got, set())
         if normalised != told.got:
             self.say(readable(f"normalised: {told.name}"))
             for line in normalised.split("\n"):
@@ -90,7 +99,7 @@ def applied_in(all_told: List[Told]) -> Set[int]:
     applied: Set[int] = set()
     for told in all_told:
         for text in (told.case.wanted or "", told.case.errors or "", told.got, told.errors):
-            told.suite.rules.normalised(text, applied)
+            told.suite.rules_of(told.case).normalised(text, applied)
     return applied
 
 

@@ -2,7 +2,7 @@
 `error` where errors are compared apart."""
 import dataclasses
 import re
-from decimal import Decimal, InvalidOperation
+from decimal import Decimal
 from typing import Any, Dict, FrozenSet, List, Optional, Sequence, Tuple
 
 from tmhost_fences.blocks import LINE, Block, blocks_of, cut
@@ -12,7 +12,7 @@ from tmhost_fences.troubles import Trouble, needed
 
 from .cases import Case, Suite
 from .marks import read_marks, seconds, session_in
-from .rules import FORMULAS, PICTURES, Normal, Rules
+from .rules import FORMULAS, PICTURES, Normal, Rules, allowance, normal_of
 
 ANSWER, ERROR = "answer", "error"
 RUN = re.compile("`+")
@@ -31,12 +31,9 @@ class Span:
 
 def decimal_in(word: str) -> Decimal:
     try:
-        value = Decimal(word)
-    except InvalidOperation:
-        raise Trouble(f"the tolerance {ascii(word)} is no number") from None
-    if not value.is_finite() or value < 0:
-        raise Trouble(f"the tolerance {ascii(word)} is no number from 0 on")
-    return value
+        return allowance(word)
+    except ValueError:
+        raise Trouble(f"the tolerance {ascii(word)} is no number from 0 on") from None
 
 
 def normals_in(value: Any) -> Tuple[Normal, ...]:
@@ -44,10 +41,14 @@ def normals_in(value: Any) -> Tuple[Normal, ...]:
     pairs = list(value.items()) if isinstance(value, dict) else value
     if not isinstance(pairs, list) or not all(len(pair) == 2 and all(isinstance(it, str) for it in pair) for pair in pairs):
         raise Trouble("`normal` is no mapping from patterns to texts, and no list of pairs of them")
+    return tuple(normal_in(*pair) for pair in pairs)
+
+
+def normal_in(pattern: str, put: str) -> Normal:
     try:
-        return tuple(Normal(re.compile(pattern, re.MULTILINE), put) for pattern, put in pairs)
-    except re.error as error:
-        raise Trouble(f"`normal` has the pattern {ascii(error.pattern)}, which is none: {error.msg}") from None
+        return normal_of(pattern, put)
+    except ValueError as error:
+        raise Trouble(f"`normal` has the pattern {ascii(pattern)} with {ascii(put)}, which is no rule: {error}") from None
 
 
 def rules_in(front: Dict[str, Any]) -> Rules:
