@@ -1,5 +1,0 @@
-pub mod Groups
-pub mod Faults
-pub mod Endings
-pub mod Looked
-pub mod Choices
