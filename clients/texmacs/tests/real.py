@@ -12,7 +12,7 @@ import signal
 import subprocess
 import tempfile
 import time
-from typing import Dict, NamedTuple
+from typing import Dict, NamedTuple, Tuple
 
 from .support import COMMAND, HERE, PROGRAM
 
@@ -92,16 +92,24 @@ def prepared_home() -> str:
     return home
 
 
+def screen() -> "Tuple[subprocess.Popen[str], str]":
+    """A screen of its own that is ready, with its name: the first one that is free."""
+    process = subprocess.Popen(["Xvfb", "-displayfd", "1", "-screen", "0", SCREEN], stdout=subprocess.PIPE, stderr=subprocess.DEVNULL, text=True)
+    assert process.stdout
+    return process, ":" + process.stdout.readline().strip()
+
+
 class RealTeXmacs:
     """`number` tells those of a test apart. The home is that of its folder, unless another one is given."""
 
     def __init__(self, folder: str, number: int, document: str = "", home: str = "") -> None:
-        self.folder, self.display = os.path.join(folder, f"texmacs{number}"), f":{100 + os.getpid() % 400 + number}"
+        self.folder = os.path.join(folder, f"texmacs{number}")
         os.makedirs(self.folder, exist_ok=True)
         self.home = home or os.path.join(folder, "home")
         if not os.path.isdir(self.home):
             shutil.copytree(prepared_home(), self.home, symlinks=True)
         self.put_plugin()
+        self.screen, self.display = screen()
         self.environment: Dict[str, str] = {
             **os.environ, "HOME": self.home, "DISPLAY": self.display, "TMHOST": PROGRAM, "TEXMACS_HOME_PATH": os.path.join(self.home, ".TeXmacs"),
             "XDG_RUNTIME_DIR": "", "LC_ALL": "C.UTF-8", "PATH": os.path.dirname(COMMAND) + ":" + os.environ["PATH"]}
@@ -110,8 +118,6 @@ class RealTeXmacs:
         driver = os.path.join(self.folder, "driver.scm")
         with open(driver, "w", encoding="utf-8") as file:
             file.write(DRIVER % {"folder": self.folder})
-        self.screen = subprocess.Popen(["Xvfb", self.display, "-screen", "0", SCREEN], stdout=subprocess.DEVNULL, stderr=subprocess.DEVNULL)
-        time.sleep(1)
         words = ["texmacs", *([document] if document else []), "-x", f'(load "{driver}")']
         with open(os.path.join(self.folder, "log"), "wb") as log:
             self.process = subprocess.Popen(words, stdin=subprocess.DEVNULL, stdout=log, stderr=log, env=self.environment, start_new_session=True)
@@ -207,6 +213,6 @@ class RealTeXmacs:
     def end(self) -> None:
         if self.process.poll() is None:
             self.kill()
-        self.screen.kill()
-        self.screen.wait()
+        with self.screen:
+            self.screen.kill()
 

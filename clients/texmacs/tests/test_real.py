@@ -57,10 +57,10 @@ class Real(Case):
 
     def enters(self, texmacs: RealTeXmacs, session: str, at: int = -1) -> None:
         """Puts the cursor into an input of the document's session, the last one or the one at that place."""
-        place = "(- (tree-arity d) 1)" if at < 0 else str(at)
+        place = "(- (length l) 1)" if at < 0 else str(at)
         texmacs.does(f"""(let* ((s (car (tree-search (buffer-tree) (lambda (t) (tree-is? t 'session)))))
-                                (d (tree-ref s 2)))
-                           (tree-go-to d {place} 1 :end) "there")""")
+                                (l (list-filter (tree-children (tree-ref s 2)) field-context?)))
+                           (tree-go-to (list-ref l {place}) 1 :end) "there")""")
         self.assertEqual(texmacs.session(), session)
 
     def keeps_document(self, texmacs: RealTeXmacs) -> None:
@@ -174,6 +174,19 @@ class Documents(Real):
         self.assertEqual(list(texmacs.fields())[:3], ["1", "2", "3"])
         texmacs.end()
         self.assertEqual([field.input for field in self.fields()], ["x = 5; x", "x + 1", "'last'"])
+
+    def test_lines_that_wait_for_their_turns(self) -> None:
+        """They stand in the worksheet as they do in the document, though none of them had a field when they were given."""
+        texmacs = self.texmacs_of()
+        session = self.begins(texmacs, "python")
+        lines = ["import time; time.sleep(2)", "'b'", "'c'", "'d'"]
+        for line in lines:
+            texmacs.types(line)
+        texmacs.waits(session)
+        shown = texmacs.answers()
+        texmacs.end()
+        self.assertEqual([field.input for field in self.fields()], lines)
+        self.assertEqual([told.output for told in shown.values()], ["'b'", "'c'", "'d'"])
 
     def test_an_exported_document(self) -> None:
         """It is opened and saved by TeXmacs, and read back."""

@@ -5,6 +5,7 @@ TMHOST_KILLS says how many kills are made in all.
 """
 import os
 import random
+import re
 import signal
 import sys
 import time
@@ -16,6 +17,7 @@ from .test_real import Real
 
 KILLS = int(os.environ.get("TMHOST_KILLS", "4"))
 BUSY = "import time; time.sleep(100)"
+REMARKS = re.compile(r"^(?:\[[^\]]*\] )+")
 TRIES = 5  # of a line behind a kill: one that is on its way then is lost, too
 
 
@@ -28,6 +30,8 @@ def environment_of(process: int) -> List[str]:
 
 
 class RealKills(Real):
+    real: RealTeXmacs
+
     def setUp(self) -> None:
         super().setUp()
         self.shown: Dict[str, Answered] = {}
@@ -44,25 +48,30 @@ class RealKills(Real):
         """A line whose answer is its number."""
         self.lines += 1
         self.says(self.real, self.session, f"'line {self.lines}'")
-        now = self.real.answers()
-        for id, told in now.items():
-            if not told.input.startswith("%"):
-                self.assertEqual(self.shown.setdefault(id, told), told)
+        for id, told in self.answers().items():
+            self.assertEqual(self.shown.setdefault(id, told), told)
+
+    def answers(self) -> Dict[str, Answered]:
+        """What is shown as answers, without the remarks before them; one that was lost is told by a question mark."""
+        found = {id: told._replace(output=REMARKS.sub("", told.output)) for id, told in self.real.answers().items()}
+        return {id: told for id, told in found.items() if not told.output.startswith("?")}
 
     def is_answered(self) -> bool:
         """Whether the last line has its own answer."""
         wanted = f"'line {self.lines}'"
         return any(told == (wanted, wanted) for told in self.shown.values())
 
-    def kills(self, *words: str) -> None:
-        found = processes(*words)
-        self.assertTrue(found, words)
-        for one in found:
-            os.kill(one, signal.SIGKILL)
-
     def kills_the_bridge(self) -> None:
         """The program of the session, which TeXmacs started."""
-        found = [one for one in processes("-B", "python") if f"TMHOST_TEXMACS_WORKSHEET={self.sheet}" in environment_of(one)]
+        self.kill([one for one in processes("-B", "python") if f"TMHOST_TEXMACS_WORKSHEET={self.sheet}" in environment_of(one)])
+
+    def kills_the_keeper(self) -> None:
+        self.kill(processes("--keep", self.sheet))
+
+    def kills_tmhost(self) -> None:
+        self.kill(processes("live", self.sheet))
+
+    def kill(self, found: List[int]) -> None:
         self.assertTrue(found)
         for one in found:
             os.kill(one, signal.SIGKILL)
@@ -89,7 +98,7 @@ class RealKills(Real):
             self.assertEqual((kept[id].input, str(kept[id].answer)), told)
 
     def test_kills(self) -> None:
-        kinds = [self.kills_texmacs, self.kills_the_bridge, lambda: self.kills("--keep", self.sheet), lambda: self.kills("live", self.sheet)]
+        kinds = [self.kills_texmacs, self.kills_the_bridge, self.kills_the_keeper, self.kills_tmhost]
         self.begins_document()
         for at in range(KILLS):
             until = time.monotonic() + 2 * self.dice.random()
@@ -110,12 +119,12 @@ class RealKills(Real):
     def restores(self) -> None:
         """The document, which was saved with its first line alone, gets all others."""
         kept = [str(field.id) for field in self.fields()]
-        self.real: RealTeXmacs = self.texmacs_of()
+        self.real = self.texmacs_of()
         self.enters(self.real, self.session)
         self.says(self.real, self.session, "%tmhost restore")
         time.sleep(2)
         self.real.waits(self.session)
         self.real.shoots("restored")
         self.assertEqual(list(self.real.fields()), kept)
-        again = self.real.answers()
+        again = self.answers()
         self.assertEqual({id: again[id] for id in self.shown}, self.shown)
