@@ -30,6 +30,7 @@ def environment_of(process: int) -> List[str]:
 
 
 class RealKills(Real):
+    maxDiff = None
     real: RealTeXmacs
 
     def setUp(self) -> None:
@@ -52,9 +53,9 @@ class RealKills(Real):
             self.assertEqual(self.shown.setdefault(id, told), told)
 
     def answers(self) -> Dict[str, Answered]:
-        """What is shown as answers, without the remarks before them; one that was lost is told by a question mark."""
+        """What is shown as answers, without the remarks before them. What tmhost-texmacs says in the place of one begins with a question mark."""
         found = {id: told._replace(output=REMARKS.sub("", told.output)) for id, told in self.real.answers().items()}
-        return {id: told for id, told in found.items() if not told.output.startswith("?")}
+        return {id: told for id, told in found.items() if "? " not in told.output}
 
     def is_answered(self) -> bool:
         """Whether the last line has its own answer."""
