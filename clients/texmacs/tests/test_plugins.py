@@ -122,7 +122,7 @@ class Trees(unittest.TestCase):
         for piece in (b"\n2\n\x02channel:prompt\x05CLi", b"sp> \x05"):
             for is_block, data in stream.add(piece):
                 group.take(is_block, data)
-        self.assertEqual((group.prompt, [part.text.strip() for part in group.parts]), (b"CLisp> ", [b"2", b""]))
+        self.assertEqual((group.prompt, [part.text.strip() for part in group.parts]), (b"CLisp> ", [b"2"]))
 
     def test_values_of_axiom(self) -> None:
         written = (b"$\\displaystyle\n{ \\frac{1}{3}} \\leqno(2)$", b"\\axiomtype{Polynomial(Fraction(Integer))\n}")
