@@ -28,7 +28,11 @@ FONTS = r"""<TeXmacs|2.1.4>
 <style|generic>
 
 <\body>
+  <chapter*|A>
+
   <section*|A> <strong|b> <em|c>
+
+  <subsection*|A>
 
   <\session|shell|default>
     <\unfolded-io>

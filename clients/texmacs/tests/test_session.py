@@ -119,7 +119,7 @@ class Documents(Case):
     def test_sessions_that_begin_at_once(self) -> None:
         self.make()
         found: "queue.SimpleQueue[str]" = queue.SimpleQueue()
-        threads = [threading.Thread(target=lambda name=name: found.put(self.texmacs(name).banner.text)) for name in ("t:x", "sh:x", "bc:x")]
+        threads = [threading.Thread(target=lambda name=name: found.put(self.texmacs(name).banner.text)) for name in ("t:x", "sh:x", "python:x")]
         for thread in threads:
             thread.start()
         for thread in threads:
