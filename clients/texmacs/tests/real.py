@@ -160,11 +160,10 @@ class RealTeXmacs:
         return said
 
     def types(self, text: str) -> None:
-        """Puts a text into the input where the cursor is, as it is pasted, and gives it to be evaluated. (Shift-Enter indents the next line by itself.)"""
+        """Writes into the input where the cursor is, with Shift-Enter between lines, and gives it to be evaluated."""
         quoted = (line.replace("\\", "\\\\").replace('"', '\\"') for line in text.split("\n"))
-        lines = " ".join(f'(utf8->cork "{line}")' for line in quoted)
-        pasted = f"(list 'document {lines})" if "\n" in text else lines
-        self.does(f'(begin (insert {pasted}) (session-evaluate) "typed")')
+        typed = " (kbd-shift-return) ".join(f'(insert (utf8->cork "{line}"))' for line in quoted)
+        self.does(f'(begin {typed} (session-evaluate) "typed")')
 
     def waits(self, session: str) -> None:
         """Until a session has nothing more to answer."""
