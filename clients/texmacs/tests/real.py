@@ -166,11 +166,13 @@ class RealTeXmacs:
         self.does(f'(begin {typed} (session-evaluate) "typed")')
 
     def waits(self, session: str) -> None:
-        """Until a session has nothing more to answer."""
-        until = time.monotonic() + WITHIN
+        """Until a session has nothing more to answer. It is looked for less and less often, since TeXmacs answers nothing else meanwhile."""
+        until, pause = time.monotonic() + WITHIN, 0.02
         while self.does(f'(pending-ref "tmhost" "{session}")') != "()":
             if time.monotonic() > until:
                 raise AssertionError("the session has no answer")
+            time.sleep(pause)
+            pause = min(2.0, pause * 1.3)
 
     def session(self) -> str:
         """The name of the session where the cursor is."""
