@@ -15,6 +15,8 @@ FILE = re.compile(rb"([^?]*)(?:\?.*)?", re.DOTALL)
 COLOURS = re.compile(rb"\\(?:magenta|blue|red|black|green|brown|cyan)\b ?")
 LABEL = re.compile(rb"\\mbox\{\\tt\(\\mathrm\{\\%(\w+)\}\) \}")  # as Maxima writes the number of a value
 NAMED = re.compile(rb"(\\%\d+ =) ?\$([^$]*)\$")
+TYPE = re.compile(rb"\\axiomtype\{([^{}]*)\}\s*")
+NUMBER = re.compile(rb"\\leqno\(\d+\)|\\displaystyle\b\s*")  # of a formula, as Axiom writes it
 PROMPT_STYLE = re.compile(rb"\\(?:red|black|blue|mathrm|text)\b ?|[{}$\\]")
 
 
@@ -82,13 +84,23 @@ class Group:
         self.parts: List[Part] = []
         self.prompt: Optional[bytes] = None
         self.is_prompt_next = False
+        self.prompt_begun = b""  # of a prompt that isn't a block, as Lisp's: a byte 5 ends it
         self.has_text = False  # a block has said something
 
     def take(self, is_block: bool, data: bytes) -> None:
+        if not is_block and self.is_prompt_next:
+            data = self._bare_prompt(data)
         if not is_block:
             self._text(data.replace(b"\r", b"").replace(b"\x05", b""))  # of what closes nothing
             return
         self._node(parsed(data))
+
+    def _bare_prompt(self, data: bytes) -> bytes:
+        """Takes a prompt that stands outside of blocks; what comes behind it."""
+        self.prompt_begun, end, rest = (self.prompt_begun + data).partition(b"\x05")
+        if end:
+            self.prompt, self.is_prompt_next = plain_prompt(self.prompt_begun), False
+        return rest
 
     def _node(self, node: Node) -> None:
         if node.tag == b"prompt#" or self.is_prompt_next:
@@ -161,6 +173,11 @@ def with_environments(tex: bytes) -> bytes:
 
 def formula(text: bytes) -> Part:
     """A formula as one line of LaTeX. Colours go, and what stands before it, as gp's `%1 =`, comes into it."""
+    kind = TYPE.fullmatch(text)
+    if kind:
+        return Part(kind[1].strip())
+    if b"\\leqno" in text:
+        text = NUMBER.sub(b"", text)
     words = b" ".join(LABEL.sub(rb"(\\mathtt{\\%\1})\\;", COLOURS.sub(b"", text)).split())
     found = NAMED.fullmatch(words)
     if found:

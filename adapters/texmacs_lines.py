@@ -24,6 +24,16 @@ FRICAS = [
     "error \"boo\"", "1/0", "for i in 1..3 repeat output i", "output \"text\"", "2^200", "true", "\"text\"", "[i for i in 1..100]", ")set messages autoload off", ")show Integer", ")help", ")nonsense", "%", "%%(1)", "solve(x^2 = 4, x)", "series(sin x, x = 0)",
     "limit(1/x, x = 0)", "if true then 1 else 2", "(x +-> x + 1) 2", "[",
 ]
+LISP = [
+    "(list 1 2)", "'a", "\"text\"", "(print 5)", "(defun f (n) (* n n))", "(f 3)", "(f", ")", "(+ 1 2", "\"open", "; a remark", "#| open", "nothing", "(nothing 3)", "(error \"boo\")", "(setq a 5)", "a", "(values 1 2)", "(values)",
+    "(read)", "(read-line)", "(format t \"two~%lines~%\")", "(loop for i from 1 to 3 collect i)", "(expt 2 200)", "(make-list 500 :initial-element 1)", "(car '(1 . 2))", "1 2", "(sqrt -1)", "(code-char 5)", "(format t \"~a\" (code-char 2))", ":q", "(/ 1 3)",
+    "(throw 'a 1)", "(symbol-function 'car)", "*", "(let ((x 1)) x)",
+]
+TIKZ = [r"\draw (0,0) circle (1);", r"\nonsense", "nonsense", r"\draw (0,0) -- ", "{", "}", "", "% a remark", r"\node at (0,0) {\'e};", r"\draw[red] (0,0) rectangle (2,1);"]
+XYPIC = [r"\xymatrix{ A \ar[r]^f & B \ar[d] \\ & C }", r"\nonsense", r"\xymatrix{", "}", "", "% a remark", "text"]
+DRATEX = [r"\Draw \Line(10,20) \EndDraw", r"\nonsense", r"\Draw", "}", "", "text"]
+EUKLEIDES = ["A B C triangle; draw (A.B.C)", "nonsense", "draw(", "", "% a remark", "A = point(1, 2)\u2028draw(A)", "}"]
+PLANTUML = ["A -> B: hi", "nonsense", "@startuml\u2028A --> B\u2028@enduml", "@startuml", "", "' a remark", "@startuml\u2028class A\u2028@enduml"]
 GRAPHVIZ = ["digraph { a -> b }", "graph { a -- b }", "nonsense", "digraph {", "}", "", "%dot", "help", "digraph { a -> b -> c }", "%neato\u2028graph { a -- b }"]
 
 LINES: Dict[str, Lines] = {
@@ -60,6 +70,17 @@ LINES: Dict[str, Lines] = {
     "gnuplot": Lines(
         [("plot sin(x)", "..{image/")], "set title \"n%d\"; plot x", "..n%d", "while (1) { x = 1 }", "", "", ["plot x", "plot x**2", "foo", "plot [0:", "print 1", "%gnuplot -output png\u2028plot x", "splot x*y", "reset", "# a remark", "plot 'nothing'"]),
     "graphviz": Lines([("digraph { a -> b }", "..{image/")], "digraph { n%d }", "", "", "", "", GRAPHVIZ),
+    "tikz": Lines([(r"\draw (0,0) -- (1,1);", "..{image/"), (r"\nonsense", "..Undefined control sequence")], r"\node at (0,0) {n%d};", "", "", "", "", TIKZ),
+    "xypic": Lines([(r"\xymatrix{ A \ar[r] & B }", "..{image/"), (r"\nonsense", "..Undefined control sequence")], r"\xymatrix{ n%d \ar[r] & B }", "", "", "", "", XYPIC),
+    "dratex": Lines([(r"\Draw \LineTo(30,30) \EndDraw", "..{image/"), (r"\nonsense", "..Undefined control sequence")], r"\Draw \LineTo(30,%d) \EndDraw", "", "", "", "", DRATEX),
+    "eukleides": Lines([("A B C triangle; draw (A.B.C)", "..{image/")], "r = %d; A B C triangle; draw (A.B.C)", "", "", "", "", EUKLEIDES),
+    "plantuml": Lines([("@startuml\u2028A -> B: hi\u2028@enduml", "..{image/")], "@startuml\u2028A -> B: n%d\u2028@enduml", "", "", "", "", PLANTUML),
+    "axiom": Lines(
+        [("1 + 1", "{latex:$2 $}\nPositiveInteger"), ("1/0", "..division by zero"), ("x^2 / 3", ".."), ("(1 +", "..syntax error"), ("", "")],
+        "output \"n%d\"", "..n%d", "while true repeat 0", "", "", FRICAS),
+    "lisp": Lines(
+        [("(+ 1 1)", "2"), ("(/ 1 0)", "..division by zero"), ("(+ 1", ".." + SAID), ("", "")],
+        "(format nil \"n%d\")", "..\"n%d\"", "(loop)", "(quit)", "", LISP),
     "macaulay2": Lines([("1 + 1", "..2"), ("1/0", ".."), ("R = QQ[x, y]", "..R")], "print \"n%d\"", "..n%d", "while true do 0", "exit 0", "M2"),
 }
 
@@ -72,4 +93,4 @@ def odd_lines(name: str) -> List[str]:
 
 def expected(name: str) -> str:
     """The answer to a numbered line that is a value."""
-    return {"yacas": "{latex:$1%06d$}", "giac": "{latex:$1%06d$}", "fricas": "..n%d", "graphviz": "..{image/"}[name]
+    return {"yacas": "{latex:$1%06d$}", "giac": "{latex:$1%06d$}", "fricas": "..n%d"}.get(name, "..{image/")

@@ -66,6 +66,9 @@ KNOWN: Dict[str, Plugin] = {
     "gnuplot": tmpy("gnuplot", "gnuplot"),
     "graphviz": tmpy("graphviz", "dot"),
     "asymptote": tmpy("asy", "asy"),
+    **{name: tmpy(name, "latex") for name in ("dratex", "tikz", "xypic")},
+    "plantuml": tmpy("plantuml", "plantuml"),
+    "eukleides": Plugin((sys.executable, "-X", "utf8", f"{PLUGINS}/eukleides/python/tm_eukleides.py"), framed, "block", "prompt", True, "eukleides"),
     "octave": Plugin(("octave", "--no-gui", "-qi", f"{PLUGINS}/octave/octave/tmstart.m"), framed, "prompt", skips=True, needs="octave"),
     "maxima": Plugin((f"{BIN}/tm_maxima", "VERSION", "LISP"), closed, "prompt", needs="maxima", ready=rb"\(%i\d+\) "),
     "r": Plugin((f"{BIN}/tm_r",), in_r, "prompt", "text", needs="R", ready=rb"> "),
@@ -73,6 +76,8 @@ KNOWN: Dict[str, Plugin] = {
     "pari": Plugin(("gp", "--texmacs"), in_one, "request", "text", needs="gp", request=b'print("MARK")\n'),
     "yacas": Plugin(("yacas", "--texmacs"), in_one, "block", "text", True, needs="yacas"),
     "fricas": Plugin(("fricas", "-texmacs"), in_one, "prompt", needs="fricas"),
+    "axiom": Plugin((f"{BIN}/tm_axiom",), in_one, "prompt", needs="axiom"),
+    "lisp": Plugin((f"{BIN}/tm_lisp", "Clisp"), in_one, "prompt", skips=True, needs="clisp"),
     "giac": Plugin(("giac", "--texmacs"), in_one, "prompt", needs="giac"),
     "macaulay2": Plugin(("M2", "--texmacs"), in_one, "request", "block", needs="M2", request=b'<< "MARK" << endl;\n'),
 }

@@ -23,7 +23,7 @@ INTERPRETER = [sys.executable, os.path.join(ROOT, "clients/repl/tests/interprete
 SECONDS = 120.0  # in which everything comes, beside other work too
 sys.path[:0] = [*(os.path.join(ROOT, "clients", name) for name in ("", "python", "notebook", "fences")), os.path.dirname(HERE)]
 
-from tested import PROGRAM as PROGRAM, WHY as WHY, fields_of  # noqa: E402
+from tested import PROGRAM as PROGRAM, WHY as WHY, fields_of as fields_of  # noqa: E402
 from tmhost import Field, Worksheet as Worksheet  # noqa: E402
 from tmhost_texmacs import scheme  # noqa: E402
 

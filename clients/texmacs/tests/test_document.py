@@ -71,11 +71,11 @@ class Formulas(unittest.TestCase):
     def test_trees(self) -> None:
         wanted = {
             r"$\frac{1}{2}\,x^2$": "<math|<frac|1|2>x<rsup|2>>", r"$x_{10}^{k}$": "<math|x<rsub|10><rsup|k>>", r"$\sqrt{\alpha}$": r"<math|<sqrt|\<alpha\>>>",
-            r"$\begin{pmatrix}1&2\\ 3&4\end{pmatrix}$": "<math|(<tabular|<tformat|<table|<row|<cell|1>|<cell|2>>|<row|<cell|3>|<cell|4>>>>>)>",
-            r"$\left(a<b\right)$": r"<math|(a\<less\>b)>", r"$\%1 = 5$": "<math|%1=5>",
+            r"$\begin{pmatrix}1&2\\ 3&4\end{pmatrix}$": "<math|<matrix|<tformat|<table|<row|<cell|1>|<cell|2>>|<row|<cell|3>|<cell|4>>>>>>",
+            r"$\left(a<b\right)$": r"<math|<around*|(|a\<less\>b|)>>", r"$\left.\frac{1}{2}\right]$": r"<math|<around*|\<nobracket\>|<frac|1|2>|]>>", r"$\%1 = 5$": "<math|%1=5>",
         }
         self.assertEqual({text: formula(text) for text in wanted}, wanted)
 
     def test_what_is_not_known_stays_text(self) -> None:
-        for text in ("x", "$\\unknown{1}$", "$\\frac{1}$", "$a}$", "${a$", "$\\begin{pmatrix}1$", "$a^$", "$a&b$"):
+        for text in ("x", "$\\unknown{1}$", "$\\frac{1}$", "$a}$", "${a$", "$\\begin{pmatrix}1$", "$a^$", "$a&b$", "$\\left(a$", "$a\\right)$"):
             self.assertIsNone(formula(text), text)

@@ -116,6 +116,18 @@ class Trees(unittest.TestCase):
                 self.assertIsNone(texmacs_trees.formula(tree))
                 texmacs_trees.as_text(tree)
 
+    def test_a_prompt_outside_of_blocks(self) -> None:
+        """As Lisp's plugin writes it: a byte 5 ends it, which may come later."""
+        stream, group = texmacs_blocks.Stream(), texmacs_blocks.Group()
+        for piece in (b"\n2\n\x02channel:prompt\x05CLi", b"sp> \x05"):
+            for is_block, data in stream.add(piece):
+                group.take(is_block, data)
+        self.assertEqual((group.prompt, [part.text.strip() for part in group.parts]), (b"CLisp> ", [b"2"]))
+
+    def test_values_of_axiom(self) -> None:
+        written = (b"$\\displaystyle\n{ \\frac{1}{3}} \\leqno(2)$", b"\\axiomtype{Polynomial(Fraction(Integer))\n}")
+        self.assertEqual([texmacs_blocks.formula(text).text for text in written], [b"${ \\frac{1}{3}} $", b"Polynomial(Fraction(Integer))"])
+
     def test_streams_cut_anywhere(self) -> None:
         data = b"a\x02verbatim:b\x02latex:$x$\x05\x1b\x05c\x05d\x02prompt#> \x05"
         whole = texmacs_blocks.Stream().add(data)

@@ -1,22 +1,32 @@
-"""The plugin in GNU TeXmacs itself, where that is installed: forty lines in each of three systems, a completion, an interrupt, kills."""
+"""The plugin in GNU TeXmacs itself, where that is installed: forty lines in each of three systems, a completion, an interrupt, documents that are opened again."""
 import os
-import random
-import re
 import shutil
+import subprocess
 import sys
 import time
-from typing import Dict, List
 
 from .lines import BUSY, COMPLETED, LINES, PROGRAMS
 from .real import RealTeXmacs, lacking
-from .support import PROGRAM, ROOT, Case, Worksheet
+from .support import COMMAND, PROGRAM, ROOT, Case, Worksheet, fields_of
 
-KILLS = int(os.environ.get("TMHOST_KILLS", "2"))
 EMPTY = "<TeXmacs|2.1.4>\n\n<style|generic>\n\n<\\body>\n  \\;\n</body>\n"
-FIELD = re.compile(r"<with\|tmhost-field\|(\d+)\|tmhost-mark\|(\w*)\|")
+# An interpreter that answers each line with itself, as a formula or as a text.
+ECHO = r"""
+import sys
+def write(text):
+    sys.stdout.write("\2verbatim:" + text + "\5")
+    sys.stdout.flush()
+write("")
+for line in sys.stdin:
+    line = line.rstrip("\n")
+    write("\2latex:$" + line + "$\5" if sys.argv[1] == "formula" else line)
+"""
+IMPORT = os.path.join(ROOT, "clients/import/tmhost-import")
 
 
 class Real(Case):
+    """A document with a worksheet beside it."""
+
     def setUp(self) -> None:
         super().setUp()
         if why := lacking():
@@ -45,16 +55,25 @@ class Real(Case):
         texmacs.types(line)
         texmacs.waits(session)
 
-    def noted(self, texmacs: RealTeXmacs) -> Dict[str, str]:
-        """The fields that the document has, with their marks."""
-        return dict(FIELD.findall(texmacs.saves(os.path.join(self.folder, "seen.tm"))))
+    def enters(self, texmacs: RealTeXmacs, session: str, at: int = -1) -> None:
+        """Puts the cursor into an input of the document's session, the last one or the one at that place."""
+        place = "(- (length l) 1)" if at < 0 else str(at)
+        texmacs.does(f"""(let* ((s (car (tree-search (buffer-tree) (lambda (t) (tree-is? t 'session)))))
+                                (l (list-filter (tree-children (tree-ref s 2)) field-context?)))
+                           (tree-go-to (list-ref l {place}) 1 :end) "there")""")
+        self.assertEqual(texmacs.session(), session)
 
+    def keeps_document(self, texmacs: RealTeXmacs) -> None:
+        texmacs.does(f'(begin (buffer-save (system->url "{self.document}")) "saved")')
+
+
+class Systems(Real):
     def system(self, name: str) -> None:
         if shutil.which(PROGRAMS[name]) is None:
             self.skipTest(f"there is no {PROGRAMS[name]}")
         texmacs = self.texmacs_of()
         session = self.begins(texmacs, name)
-        lines = [line for line, _ in LINES[name] if line and "\n" not in line]
+        lines = [line for line, _ in LINES[name] if line]  # TeXmacs sends no empty one
         for line in lines:
             self.says(texmacs, session, line)
         texmacs.does('(define tmhost-told "")')
@@ -68,10 +87,11 @@ class Real(Case):
         texmacs.does('(begin (plugin-interrupt) "interrupted")')
         self.says(texmacs, session, "6 * 7")
         texmacs.shoots(name)
-        noted = self.noted(texmacs)
+        noted, shown = texmacs.fields(), texmacs.answers()
         texmacs.end()
         fields = self.fields()
-        self.assertEqual([field.input for field in fields], [*lines, BUSY[name], "6 * 7"])
+        self.assertEqual(["\n".join(field.lines) for field in fields], [*lines, BUSY[name], "6 * 7"])
+        self.assertGreaterEqual(len(fields), 40)
         self.assertEqual([str(field.id) for field in fields], list(noted))
         self.assertNotIn(None, [field.answer for field in fields])
         self.assertIn("42", str(fields[-1].answer))
@@ -85,50 +105,13 @@ class Real(Case):
     def test_maxima(self) -> None:
         self.system("maxima")
 
-    def test_kills(self) -> None:
-        """TeXmacs is killed at random moments, and its document was saved once alone: the worksheet has what was shown, and it is put in again."""
-        dice = random.Random(1)
-        shown: List[str] = []
-        for at in range(KILLS):
-            texmacs = self.texmacs_of()
-            if at == 0:
-                session = self.begins(texmacs, "python")
-                self.says(texmacs, session, "x = 5")
-                texmacs.does(f'(begin (buffer-save (system->url "{self.document}")) "saved")')
-                shown = list(self.noted(texmacs))
-            else:
-                self.enters(texmacs, session)
-            until = time.monotonic() + 1 + 3 * dice.random()
-            while time.monotonic() < until:
-                self.says(texmacs, session, f"'line {len(shown)}'")
-                shown = [id for id in self.noted(texmacs)] if at == 0 else shown + [id for id in self.noted(texmacs) if id not in shown]
-            texmacs.types("import time; time.sleep(100)")
-            texmacs.kill()
-            texmacs.end()
-            kept = {str(field.id): field for field in self.fields()}
-            self.assertEqual([id for id in shown if kept[id].answer is None], [])
-        texmacs = self.texmacs_of()
-        self.enters(texmacs, session)
-        self.says(texmacs, session, "%tmhost restore")
-        time.sleep(2)
-        texmacs.waits(session)
-        self.says(texmacs, session, "%tmhost check")
-        texmacs.shoots("restored")
-        self.assertEqual(list(self.noted(texmacs)), list(kept))
-        print(f"{self.id().split('.')[-1]}: {KILLS} kills of TeXmacs, {len(shown)} answers shown, all there", file=sys.stderr)
 
-    def enters(self, texmacs: RealTeXmacs, session: str) -> None:
-        """Puts the cursor into the last input of the document's session."""
-        texmacs.does("""(let* ((s (car (tree-search (buffer-tree) (lambda (t) (tree-is? t 'session)))))
-                               (d (tree-ref s 2)))
-                          (tree-go-to d (- (tree-arity d) 1) 1 :end) "there")""")
-        self.assertEqual(texmacs.session(), session)
-
+class Documents(Real):
     def test_two_documents(self) -> None:
         texmacs = self.texmacs_of()
         session = self.begins(texmacs, "python")
         self.says(texmacs, session, "1 + 1")
-        texmacs.does(f'(begin (buffer-save (system->url "{self.document}")) "saved")')
+        self.keeps_document(texmacs)
         other = os.path.join(self.folder, "other.tm")
         shutil.copy(self.document, other)
         texmacs.does(f'(begin (load-buffer (system->url "{other}")) "loaded")')
@@ -153,14 +136,81 @@ class Real(Case):
         texmacs = self.texmacs_of()
         texmacs.does(f'(begin (tmhost-open (system->url "{sheet}")) "opened")')
         until = time.monotonic() + 60
-        while set(self.noted(texmacs)) != {"1", "2", "3", "4", "5"} and time.monotonic() < until:
+        while set(texmacs.fields()) != {"1", "2", "3", "4", "5"} and time.monotonic() < until:
             time.sleep(0.5)
         time.sleep(1)
         texmacs.shoots("shown")
         text = texmacs.saves(os.path.join(self.folder, "seen.tm"))
-        self.assertEqual(list(self.noted(texmacs)), ["1", "3", "5", "2", "4"])
+        self.assertEqual(list(texmacs.fields()), ["1", "3", "5", "2", "4"])
         self.assertNotIn("in use", text)
         self.assertIn("<frac|1|3>", text)
         self.assertIn("impossible inverse", text)
         self.assertIn("\xe9 5", text)
         self.assertEqual(text.count("<\\session|tmhost|"), 2)
+
+    def test_a_document_that_is_opened_again(self) -> None:
+        """It was saved before its first line was changed: it finds its fields, and says which answers are older than their inputs."""
+        texmacs = self.texmacs_of()
+        session = self.begins(texmacs, "python")
+        for line in ("x = 5; x", "x + 1", "'last'"):
+            self.says(texmacs, session, line)
+        self.keeps_document(texmacs)
+        self.enters(texmacs, session, 0)
+        texmacs.does("(with-innermost t field-context? (tree-set! t 1 '(document \"\")) (tree-go-to t 1 :start) \"emptied\")")
+        self.says(texmacs, session, "x = 7; x")
+        texmacs.end()
+        self.assertEqual([field.input for field in self.fields()], ["x = 7; x", "x + 1", "'last'"])
+        texmacs = self.texmacs_of()
+        self.assertEqual(list(texmacs.fields()), ["1", "2", "3"])
+        self.enters(texmacs, session)
+        self.says(texmacs, session, "%tmhost check")
+        texmacs.shoots("opened")
+        said = " ".join(texmacs.saves(os.path.join(self.folder, "seen.tm")).split())
+        self.assertIn("another input than when it was answered: #1 x = 7; x", said)
+        self.assertIn("an answer that is older than the inputs above it: #2 x + 1, #3 'last'", said)
+        self.enters(texmacs, session, 0)
+        texmacs.does("(session-evaluate)")
+        texmacs.waits(session)
+        self.assertEqual(list(texmacs.fields())[:3], ["1", "2", "3"])
+        texmacs.end()
+        self.assertEqual([field.input for field in self.fields()], ["x = 5; x", "x + 1", "'last'"])
+
+    def test_lines_that_wait_for_their_turns(self) -> None:
+        """They stand in the worksheet as they do in the document, though none of them had a field when they were given."""
+        texmacs = self.texmacs_of()
+        session = self.begins(texmacs, "python")
+        lines = ["import time; time.sleep(2)", "'b'", "'c'", "'d'"]
+        for line in lines:
+            texmacs.types(line)
+        texmacs.waits(session)
+        shown = texmacs.answers()
+        texmacs.end()
+        self.assertEqual([field.input for field in self.fields()], lines)
+        self.assertEqual([told.output for told in shown.values()], ["'b'", "'c'", "'d'"])
+
+    def test_an_exported_document(self) -> None:
+        """It is opened and saved by TeXmacs, and read back."""
+        old, again = os.path.join(self.folder, "old"), os.path.join(self.folder, "again")
+        echo = os.path.join(self.folder, "echo.py")
+        with open(echo, "w", encoding="ascii") as file:
+            file.write(ECHO)
+        wanted = [("a", "\\frac{1}{2}+x^2"), ("a", "\\sqrt{\\alpha}"), ("b", "first <line>\u2028a | b \\ c"), ("b", "\u00e9 \u4e2d")]
+        with Worksheet(old, create=True, program=PROGRAM) as worksheet:
+            for name, kind in (("a", "formula"), ("b", "text")):
+                worksheet.session(name, [sys.executable, "-X", "utf8", echo, kind])
+            worksheet.session("prose", ["true"])
+            worksheet.new("prose", "# A title\u2028\u2028A text.")
+            for name, text in wanted:
+                worksheet.new(name, text).evaluate(60)
+        environment = {**os.environ, "TMHOST": PROGRAM}
+        with open(self.document, "wb") as file:
+            subprocess.run([sys.executable, "-B", COMMAND, "--export", old], check=True, stdout=file, env=environment)
+        texmacs = self.texmacs_of()
+        texmacs.shoots("exported")
+        text = texmacs.saves(self.document)
+        texmacs.end()
+        for part in ("<chapter*|A title>", "<frac|1|2>", "x<rsup|2>", "<sqrt|\\<alpha\\>>", "\\<#4E2D\\>", "\\<less\\>line\\<gtr\\>"):
+            self.assertIn(part, text)
+        words = [sys.executable, "-B", IMPORT, "--no-prose", "--session", "a=true", "--session", "b=true", self.document, again]
+        subprocess.run(words, check=True, stderr=subprocess.PIPE, env=environment)
+        self.assertEqual([(field.session, field.input) for field in fields_of(again)], wanted)

@@ -119,7 +119,7 @@ class Documents(Case):
     def test_sessions_that_begin_at_once(self) -> None:
         self.make()
         found: "queue.SimpleQueue[str]" = queue.SimpleQueue()
-        threads = [threading.Thread(target=lambda name=name: found.put(self.texmacs(name).banner.text)) for name in ("t:x", "sh:x", "bc:x")]
+        threads = [threading.Thread(target=lambda name=name: found.put(self.texmacs(name).banner.text)) for name in ("t:x", "sh:x", "python:x")]
         for thread in threads:
             thread.start()
         for thread in threads:
@@ -183,6 +183,7 @@ class Documents(Case):
         self.assertIn("[not in the worksheet any more: #7]", told.text)
         self.assertIn("#3 say three", told.text)
         self.assertTrue(told.text.endswith("four"))
+        self.assertNotIn("#4", told.text)  # the line itself isn't told as missing
         self.assertEqual(self.kept()["4"], ("say four", "four"))  # the remarks are no part of the answer
 
     def test_what_a_document_lacks_is_put_in(self) -> None:

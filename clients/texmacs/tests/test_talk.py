@@ -1,7 +1,7 @@
 """A talk that was recorded between GNU TeXmacs 2.1.4 and tmhost-texmacs, byte for byte: `talk.txt`.
 
-`=` are the session, worksheet and document, `>` the bytes that TeXmacs wrote, `<` those that it read, `!` its signal. Python's tracebacks show the place of an error
-since 3.13 only, so lines of marks below an error aren't compared.
+`=` are the session, worksheet and document, `>` the bytes that TeXmacs wrote, `<` those that it read, `!` its signal. PROCESS stands for the number of the
+program's process. Python's tracebacks show the place of an error since 3.13 only, so lines of marks below an error aren't compared.
 """
 import ast
 import os
@@ -30,7 +30,7 @@ class Talk(Case):
     def test_each_byte(self) -> None:
         document = os.path.join(self.folder, "sheet.tm")
         texmacs = self.texmacs("python:doc", document)
-        places = ((b"SHEET", self.sheet.encode()), (b"DOCUMENT", document.encode()))
+        places = ((b"SHEET", self.sheet.encode()), (b"DOCUMENT", document.encode()), (b"PROCESS", b"%d" % texmacs.process.pid))
         said = talk()
         for at, (who, data) in enumerate(said[1:], 1):
             for name, place in places:

@@ -18,7 +18,7 @@ from tmhost import Event, Finished, InUse, TmhostError, Worksheet
 from .offered import ensured, none_of
 from .places import folder_of_pictures
 from .speech import Speech, whole
-from .talk import Gone, Interrupt, Left, Talk, at_work
+from .talk import Gone, Interrupt, Left, Place, Talk, at_work
 
 INTERRUPT = b"\x03\n"
 READY = "ready"
@@ -65,14 +65,14 @@ class Keeper:
                 self._leave(number)
 
     def _joined(self, number: int, hello: Dict[str, str], connection: socket.socket, lines: BinaryIO) -> None:
-        full_name, document = hello["session"], hello["document"]
-        name = full_name.partition(":")[0]
-        why = self._why_not(number, (int(hello["texmacs"]), document), name)
+        place = Place(hello["session"], hello["document"], hello["process"])
+        name = place.session.partition(":")[0]
+        why = self._why_not(number, (int(hello["texmacs"]), place.document), name)
         if why is None and ensured(self.sheet, name) is None:
             why = none_of(self.sheet, name)
         connection.sendall(json.dumps({"refused": why}).encode() + b"\n")
         if why is None:
-            talk = Talk(self.sheet, full_name, document, self.speech, connection.sendall)
+            talk = Talk(self.sheet, place, self.speech, connection.sendall)
             connection.sendall(talk.banner())
             threading.Thread(target=hear, args=(lines, talk), daemon=True).start()
             answer_lines(talk)

@@ -29,11 +29,11 @@ def marks(fields: Iterable[Field]) -> Dict[int, str]:
     return found
 
 
-def compared(fields: Sequence[Field], shown: Sequence[Shown]) -> List[str]:
-    """What a document shows that isn't as the worksheet's session has it, a line for each kind."""
+def compared(fields: Sequence[Field], shown: Sequence[Shown], left_out: int = 0) -> List[str]:
+    """What a document shows that isn't as the worksheet's session has it, a line for each kind; nothing of the field that is left out."""
     by_id, now = {field.id: field for field in fields}, marks(fields)
     kinds: Dict[str, List[str]] = {}
-    seen = set()
+    seen = {left_out}
     for one in shown:
         field = by_id.get(int(one.id)) if one.id.isdigit() else None
         if field is None:

@@ -53,7 +53,7 @@ class Refusal(Exception):
 def joined(sheet: str, session: str, document: str, texmacs: int) -> socket.socket:
     """A connection to the program that keeps a worksheet, which is started where there is none. One session at a time looks for it, so that none finds it half
     begun."""
-    hello = json.dumps({"session": session, "document": document, "texmacs": str(texmacs)}).encode() + b"\n"
+    hello = json.dumps({"session": session, "document": document, "texmacs": str(texmacs), "process": str(os.getpid())}).encode() + b"\n"
     path, until = socket_of(sheet), time.monotonic() + PATIENCE
     with open(path + ".lock", "w", encoding="ascii") as lock:
         fcntl.flock(lock, fcntl.LOCK_EX)

@@ -57,16 +57,26 @@ class Asked:
     shown: Optional[List[Shown]] = None
 
 
+@dataclasses.dataclass(frozen=True)
+class Place:
+    """Where TeXmacs has a session: the name that it has there, the document in which it is, and the process that TeXmacs has started for it."""
+
+    session: str
+    document: str
+    process: str
+
+
 class Left(Exception):
     """Nobody waits for the answer any more."""
 
 
 class Talk:
-    """`write` sends to TeXmacs, `full_name` is the name that it has for the session, and `document` that in which the session is."""
+    """`write` sends to TeXmacs, and `place` is where it has the session."""
 
-    def __init__(self, sheet: Worksheet, full_name: str, document: str, speech: Speech, write: Callable[[bytes], None]) -> None:
-        self.sheet, self.full_name, self.document, self.speech, self.write = sheet, full_name, document, speech, write
-        self.name = full_name.partition(":")[0]
+    def __init__(self, sheet: Worksheet, place: Place, speech: Speech, write: Callable[[bytes], None]) -> None:
+        self.sheet, self.speech, self.write = sheet, speech, write
+        self.full_name, self.document, self.process = place.session, place.document, place.process
+        self.name = self.full_name.partition(":")[0]
         self.happenings: "queue.SimpleQueue[Happening]" = queue.SimpleQueue()
         self.prompt: Text = next((next_prompt(field.answer.prompt) for field in reversed(self.fields) if field.answer), f"{self.name}> ")
 
@@ -80,7 +90,7 @@ class Talk:
         if fields:
             kept = sum(field.state == "answered" for field in fields)
             text += f"\n{len(fields)} fields are there, {kept} with answers: `%tmhost restore` puts them in, `%tmhost again` evaluates them, since variables are gone"
-        return whole(text, self.prompt)
+        return OPENED + command(scheme.written([Name("tmhost-runs"), self.full_name, self.process])) + escaped(text) + closed(self.prompt)
 
     # ---- lines
 
@@ -119,7 +129,7 @@ class Talk:
             return
         cell = self._cell(asked)
         evaluation = cell.eval()
-        self.write(OPENED + self.accepted(cell) + self._remarks(asked))
+        self.write(OPENED + self.accepted(cell) + self._remarks(asked, cell))
         self.write(self.waited(evaluation) + closed(self.prompt))
 
     def _cell(self, asked: Asked) -> Cell:
@@ -151,9 +161,10 @@ class Talk:
         """Tells the document which field an input is, and the mark of its answer."""
         return command(scheme.written([Name("tmhost-accepted"), self.full_name, str(cell.id), marks(self.fields)[cell.id]]))
 
-    def _remarks(self, asked: Asked) -> bytes:
-        """What a document that was opened again shows otherwise than the worksheet has it."""
-        lines = compared(self.fields, asked.shown) if asked.shown else []
+    def _remarks(self, asked: Asked, cell: Cell) -> bytes:
+        """What a document that was opened again shows otherwise than the worksheet has it, but for the field that is evaluated now."""
+        shown = [one for one in asked.shown or () if one.id != str(cell.id)]
+        lines = compared(self.fields, shown, cell.id) if shown else []
         return escaped("".join(f"[{line}]\n" for line in lines))
 
     # ---- answers

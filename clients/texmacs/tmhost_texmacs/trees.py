@@ -16,7 +16,7 @@ SYMBOLS = {**{name: rf"\<{name}\>" for name in NAMES}, "le": r"\<leq\>", "ge": r
 OPERATORS = frozenset("sin cos tan cot sec csc arcsin arccos arctan sinh cosh tanh exp log ln det gcd lim max min dim ker deg".split())
 SPACES = frozenset([",", ";", ":", "!", " ", "quad", "qquad", "displaystyle", "limits"])
 TOKEN = re.compile(r"\\([A-Za-z]+|.)|([{}^_&])|(\s+)|(.)", re.DOTALL)
-MATRICES = {"matrix": ("", ""), "pmatrix": ("(", ")"), "bmatrix": ("[", "]"), "vmatrix": (r"\|", r"\|"), "array": ("", "")}
+MATRICES = {"matrix": "tabular*", "pmatrix": "matrix", "bmatrix": "bmatrix", "vmatrix": "det", "array": "tabular*"}  # with their brackets
 
 
 def letter(character: str) -> str:
@@ -91,8 +91,8 @@ class Formula:
             return r"\ " if name in (" ", "quad", "qquad") else ""
         if name in ("frac", "sqrt", "binom"):
             return f"<{name}|" + "|".join(self.item() for _ in range(1 if name == "sqrt" else 2)) + ">"
-        if name in ("left", "right"):
-            return self.bracket()
+        if name == "left":
+            return self.around()
         if name in ("mathrm", "mathit", "mathbf", "text", "operatorname"):
             return f"<math-up|{self.item()}>"
         if name == "begin":
@@ -104,7 +104,14 @@ class Formula:
         told = found[4] or (found[1] if found[1] in ("{", "}", "|") else None)
         if told is None:
             raise Unknown
-        return "" if told == "." else letter(told)
+        return r"\<nobracket\>" if told == "." else letter(told)
+
+    def around(self) -> str:
+        """What stands between brackets that grow with it."""
+        left = self.bracket()
+        inner = "".join(self.items(r"\right"))
+        self.take()
+        return f"<around*|{left}|{inner}|{self.bracket()}>"
 
     def word(self) -> str:
         if self.take()[0] != "{":
@@ -135,8 +142,7 @@ class Formula:
         if self.word() != name:
             raise Unknown
         told = "|".join("<row|" + "|".join(f"<cell|{cell}>" for cell in row) + ">" for row in rows if row != [""])
-        left, right = MATRICES[name]
-        return f"{left}<tabular|<tformat|<table|{told}>>>{right}"
+        return f"<{MATRICES[name]}|<tformat|<table|{told}>>>"
 
 
 def formula(text: str) -> Optional[str]:
