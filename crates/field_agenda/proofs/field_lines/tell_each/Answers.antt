@@ -1,0 +1,19 @@
+use Rattle.std.proofs.Common.{◌≡◌, ◌+◌, subst, arith}
+use Rattle.std.specs.Io.KnownBytes.{Appends}
+use Rattle.tellings.proofs.Voices.{one_outcome}
+use Rattle.field_agenda.specs.FieldLines.{by_field_lines, line_of_field}
+use Rattle.field_agenda.proofs.field_lines.tell_each.Goals as goal
+
+pub loop-outcome-preserved : goal.loop-outcome-preserved
+loop-outcome-preserved g c =
+    let a = g.W.Write.contents c.args.writer.now in
+    let b = g.W.Write.contents c.loop-outcome.writer in
+    let e = g.W.Write.contents c.tell_one.new.writer in
+    let sheet = c.args.sheet.now.contents in
+    let on = c.loop-outcome.invariant.0 in
+    let next : c.loop-outcome.field + 1 ≡ c.args.first + (c.loop-outcome.outcome-index + 1) = omega (arith, on) in (
+      next,
+      one_outcome (by_field_lines g.T.Tells.voice) sheet c.args.first c.args.outcomes.now c.loop-outcome.outcome-index c.outcome-item.result a b e
+          c.loop-outcome-test.true c.outcome-item.is c.loop-outcome.invariant.1
+          (subst (λ n. Appends b e (g.T.Tells.voice.reply (line_of_field n) sheet c.outcome-item.result.reply)) on c.in_ok-tell_one.ensures.ok),
+    )

@@ -1,0 +1,73 @@
+//! What is made of what came.
+ghost use Rattle.std.specs.Prelude.{◌≡◌};
+ghost use Rattle.session_engine.specs.World.{World};
+ghost use Rattle.session_engine.specs.Host.{IsHost};
+ghost use Rattle.driver.specs.Reports.{came_of};
+ghost use Rattle.agendas.specs.Heeds.{interrupt_note};
+ghost use Rattle.field_agenda.specs.Heeds as heeds;
+
+use crate::stage::FieldDoing;
+use crate::times::limit_begun;
+use agendas::heeding::interrupt_of;
+use agendas::waits::is_held;
+use child_edge::Interrupted;
+use disk_model::Disk;
+use driver::Came;
+use live::{Hold, RESPITE, go_on, wait_for};
+use session_engine::Host;
+use tellings::Note;
+
+/// What came of the interrupt for this field is noted.
+fn note_over(id: u32, told: Option<Interrupted>) -> Option<Note>
+    ensures { result ≡ interrupt_note (Note.Over id) told }
+{
+    match told {
+        Some(told) => Some(Note::Over(id, told)),
+        None => None,
+    }
+}
+
+/// What is noted of what came, where this was done.
+pub(crate) fn noted_of(doing: FieldDoing, came: &Came) -> Option<Note>
+    ensures { result ≡ heeds.noted_of doing (came_of came.now) }
+{
+    match doing {
+        FieldDoing::Nothing => None,
+        FieldDoing::Ask => None,
+        FieldDoing::Life => None,
+        FieldDoing::Over(id) => note_over(id, interrupt_of(came)),
+        FieldDoing::Stall => None,
+    }
+}
+
+/// The wait that goes on, where this was done.
+pub(crate) fn wait_behind<D: Disk>(
+    host: &Host<D>,
+    limit: Option<u32>,
+    now: u64,
+    doing: FieldDoing,
+    held: Hold,
+) -> Hold
+    ensures { (w : World) → IsHost host.now w → heeds.WaitBehind doing limit w now held result }
+{
+    match doing {
+        FieldDoing::Nothing => held,
+        FieldDoing::Ask => go_on(limit_begun(limit, now), host),
+        FieldDoing::Life => go_on(held, host),
+        FieldDoing::Over(_) => wait_for(now, RESPITE),
+        FieldDoing::Stall => Hold::Free,
+    }
+}
+
+/// Whether no item waited right after the last fields were asked, where this was done and this wait goes on.
+pub(crate) fn at_once_behind(doing: FieldDoing, before: bool, held: Hold) -> bool
+    ensures { result ≡ heeds.at_once_behind doing before held }
+{
+    match doing {
+        FieldDoing::Ask => !is_held(held),
+        FieldDoing::Nothing => before,
+        FieldDoing::Life => before,
+        FieldDoing::Over(_) => before,
+        FieldDoing::Stall => before,
+    }
+}
