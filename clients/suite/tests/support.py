@@ -18,7 +18,7 @@ INTERPRETER = os.path.join(ROOT, "clients/weave/tests/interpreter.py")
 LIMIT = 600.0  # seconds of a run, on a busy machine
 
 sys.path[:0] = [os.path.dirname(HERE), *(os.path.join(ROOT, "clients", name) for name in ("", "python", "fences", "weave"))]
-from tested import PROGRAM, WHY  # noqa: E402
+from tested import PROGRAM as PROGRAM, WHY  # noqa: E402
 
 
 class Outcome(NamedTuple):

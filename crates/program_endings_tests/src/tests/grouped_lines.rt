@@ -1,10 +1,12 @@
 //! Lines of `live` that were there together: what a crash leaves at each moment, and a disk that fails.
 use super::grouped::{FIELDS, created, fields_of, leaves, lines_of, script};
-use arrivals::ScriptedSources;
+use agendas::ByLines;
+use arrivals::{InputLines, ScriptedSources};
 use child_calls::Scripted;
 use disk_model::{Area, Disk, FuseDisk, FuseMode, MemoryDisk};
+use driver::{Over, Voiced, run_over};
 use host_events::HostFault;
-use live::{LiveEnd, Manner, live_by};
+use live::Manner;
 use offline_programs::RunFault;
 use std::alloc::Global;
 use tellings::InWords;
@@ -12,23 +14,48 @@ use tellings::InWords;
 /// How many fields the first group makes. The session before it stands alone, with an empty line after it.
 const FIRST: u32 = 1_024;
 
+// What lines left over a disk, and what was printed of them.
+struct Lived<D> {
+    disk: D,
+    answer: Result<(), RunFault>,
+    printed: Vec<u8>,
+}
+
 // Lines that come first, over a disk.
-fn lived<D: Disk>(alloc: Global, disk: D, script: &[u8], told: &mut Vec<u8>) -> LiveEnd<D> {
+fn lived<D: Disk>(alloc: Global, disk: D, script: &[u8]) -> Option<Lived<D>> {
     let children = Scripted::new(alloc, Vec::new(alloc));
-    let mut sources = ScriptedSources::new(children, Vec::new(alloc));
+    let sources = ScriptedSources::new(children, Vec::new(alloc));
     let manner = Manner {
         lines_first: true,
         limit: None,
         strict: false,
     };
-    live_by(alloc, manner, script, &InWords, told, disk, &mut sources)
+    let agenda = ByLines::new(alloc, manner, InputLines::new(alloc, script).ok()?);
+    let sink = Voiced {
+        tells: InWords,
+        writer: Vec::new(alloc),
+    };
+    let Over {
+        disk,
+        sink,
+        answer,
+        ..
+    } = run_over(alloc, disk, sources, sink, agenda);
+    Some(Lived {
+        disk,
+        answer,
+        printed: sink.writer,
+    })
 }
 
 // The disk after lines that end well, with so many lines of text.
 fn disk_of(alloc: Global, disk: MemoryDisk, script: &[u8], lines: usize) -> Option<MemoryDisk> {
-    let mut told: Vec<u8> = Vec::new(alloc);
-    let LiveEnd { disk, answer } = lived(alloc, disk, script, &mut told);
-    if answer.is_ok() && lines_of(told.as_slice(), b'\n') == lines {
+    let Lived {
+        disk,
+        answer,
+        printed,
+    } = lived(alloc, disk, script)?;
+    if answer.is_ok() && lines_of(printed.as_slice(), b'\n') == lines {
         Some(disk)
     } else {
         None
@@ -92,12 +119,15 @@ fn fails_at(alloc: Global, call: u64) -> Option<bool> {
     let made = created(alloc)?;
     let before = one.calls().saturating_sub(made.calls());
     let disk = FuseDisk::new(made, before.saturating_add(call), FuseMode::From);
-    let mut told: Vec<u8> = Vec::new(alloc);
-    let LiveEnd { disk, answer } = lived(alloc, disk, script(alloc, 3).as_slice(), &mut told);
+    let Lived {
+        disk,
+        answer,
+        printed,
+    } = lived(alloc, disk, script(alloc, 3).as_slice())?;
     let found = fields_of(alloc, disk.into_inner());
     Some(
         answer == Err(RunFault::Host(HostFault::Disk))
-            && told.as_slice() == b"ok\n".as_slice()
+            && printed.as_slice() == b"ok\n".as_slice()
             && (found == Some(0) || found == Some(3)),
     )
 }
