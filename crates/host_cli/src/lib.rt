@@ -8,7 +8,6 @@ mod checks;
 mod finding;
 mod outlet;
 mod outside;
-mod pasts;
 mod plans;
 mod refusing;
 mod runs;
