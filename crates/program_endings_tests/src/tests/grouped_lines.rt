@@ -37,9 +37,10 @@ fn lived<D: Disk>(alloc: Global, disk: D, script: &[u8]) -> Option<Lived<D>> {
     };
     let Over {
         disk,
+        sources: _sources,
         sink,
+        agenda: _agenda,
         answer,
-        ..
     } = run_over(alloc, disk, sources, sink, agenda);
     Some(Lived {
         disk,
