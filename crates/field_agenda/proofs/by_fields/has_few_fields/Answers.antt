@@ -4,7 +4,7 @@ use Rattle.field_agenda.proofs.by_fields.has_few_fields.Goals as goal
 pub loop-field-init : goal.loop-field-init
 loop-field-init c =
     let all = ap length (c.into_iter-field-iterator.ensures.into_iter_gives ∙ c.fields-field-items.ensures) in
-    record { counted = all; few = omega arith }
+    record { counted = omega (arith, all); few = omega arith }
 
 pub loop-field-preserved : goal.loop-field-preserved
 loop-field-preserved c =
