@@ -24,7 +24,6 @@ use Rattle.field_agenda.specs.declared.by_fields.ByFields.{ByFields}
 use Rattle.field_agenda.specs.declared.stage.Stage.{Stage}
 use Rattle.field_agenda.specs.declared.stage.Stage.TheVariants as stage
 use Rattle.field_agenda.specs.FieldsRules.{fields_rules}
-use Rattle.field_agenda.specs.Heeds.{FieldsHeed}
 use Rattle.field_agenda.specs.Looks.{LooksFor, looked, unlooked}
 use Rattle.field_agenda.specs.Says.{AsksFrom, ComesToItsEnd, FieldsSay, FieldsGoOn, GoesUnheard, SaysAt, asked, asks, ends, ends_with, goes_unheard, hears, interrupts, interrupts_of, stalls, too_many_fields, unasked, uncounted, watches}
 use Rattle.field_agenda.specs.Stages.{IsEnded}

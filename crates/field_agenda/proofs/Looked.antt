@@ -1,6 +1,6 @@
 -- Fields and programs are looked for before anything is done.
-use Rattle.std.proofs.Common.{◌≡◌, ◌∙◌, inl, inr, ℕ, ◌+◌, List, [], ◌∷◌, ◌++◌, ap, refl, sym, subst, Ok, Err}
-use Rattle.std.specs.Prelude.{◌⊎◌, Option, None, Some, Result}
+use Rattle.std.proofs.Common.{◌≡◌, ◌∙◌, inl, inr, ℕ, List, [], ◌∷◌, ◌++◌, ap, refl, sym, subst, Ok, Err}
+use Rattle.std.specs.Prelude.{◌⊎◌, Option, Result}
 use Rattle.session_engine.specs.World.{World, sheet_in}
 use Rattle.child_edge.specs.Faithful.{Beat}
 use Rattle.offline_programs.specs.declared.fault.RunFault.{RunFault}
@@ -20,7 +20,7 @@ use Rattle.field_agenda.specs.declared.stage.Stage.TheVariants as stage
 use Rattle.field_agenda.specs.FieldsRules.{fields_rules}
 use Rattle.field_agenda.specs.Looks.{LookFinds, LooksFor, all_there, looked, no_field, no_program, unlooked}
 use Rattle.field_agenda.specs.LooksFirst.{DidNothing, IsUnderWay, LookedFirst, all_found, in_vain, not_looked}
-use Rattle.field_agenda.specs.Says.{AsksFrom, ComesToItsEnd, FieldsSay, FieldsGoOn, GoesUnheard, SaysAt, asked, asks, ends, ends_with, goes_unheard, hears, interrupts, stalls, too_many_fields, unasked, uncounted, watches}
+use Rattle.field_agenda.specs.Says.{AsksFrom, ComesToItsEnd, FieldsGoOn, GoesUnheard, SaysAt, asked, asks, ends, ends_with, goes_unheard, hears, interrupts, stalls, too_many_fields, unasked, uncounted, watches}
 use Rattle.field_agenda.specs.Standing.{found, seen_due}
 use Rattle.field_agenda.proofs.Endings.{none_to_do}
 

@@ -118,15 +118,18 @@ abbrev pub EndsEvaluated : {O E : Type 0} → Voice → Streams O E → Bool →
 EndsEvaluated V s whole ending (Ok end) = LastOfEnd V s ending end
 EndsEvaluated V s whole ending (Err why) = LastOfFault V s whole ending why × (ending.status ≡ 1) × TellsEval s.errors ending.told (Err why)
 
-abbrev streams_from : {O E : Type 0} → Streams O E → O → Streams O E
+-- the same streams, of which this is the output before
+abbrev pub streams_from : {O E : Type 0} → Streams O E → O → Streams O E
 streams_from s first = record s { output = writing s.output.contents first s.output.new }
 
--- What `eval` comes to on a disk, and how it ends.
+-- What `eval` comes to on a disk, and how it ends, once it has greeted: it evaluated, and printed what stands last.
+abbrev pub EvaluationBegun : {D C O P E : Type 0} → EvalSetting C P → GivenDisk D → Calling C → Streams O E → Ending → Type 0
+EvaluationBegun {O = O} o g q s ending = (last : O) × (whole : Bool) × (answer : EvaluationAnswer) × EvaluatesTo o g q (writing s.output.contents s.output.old last) whole answer
+    × EndsEvaluated o.voice (streams_from s last) whole ending answer
+
+-- The same from its greeting on.
 pub data EvaluationEnded {D C O P E : Type 0} (o : EvalSetting C P) (g : GivenDisk D) (q : Calling C) (s : Streams O E) (ending : Ending) : Type 0 where
-  -- it greeted, evaluated, and printed what stands last
-  evaluated : (first last : O) (whole : Bool) (answer : EvaluationAnswer) → Framed o.voice s.output.contents frame.Hello s.output.old first
-      → EvaluatesTo o g q (writing s.output.contents first last) whole answer → EndsEvaluated o.voice (streams_from s last) whole ending answer
-      → EvaluationEnded o g q s ending
+  greeted : (first : O) → Framed o.voice s.output.contents frame.Hello s.output.old first → EvaluationBegun o g q (streams_from s first) ending → EvaluationEnded o g q s ending
   -- it couldn't greet, and nothing was done but to close the disk
   ungreeted : (why : RunFault) (mid : O) → o.voice.takes_memory ≡ true → IsUntold o.voice why → LastTold {T = Bool} o.voice s.output.contents mid s.output.new ending.told (Err why)
       → ending.status ≡ 1 → TellsEval s.errors ending.told (Err (evals.Run why)) → q.new ≡ q.old → g.how.closed g.disk → EvaluationEnded o g q s ending

@@ -3,7 +3,8 @@ ghost use Rattle.std.specs.Prelude.{◌≡◌, Err, IfErr, IfOk, Ok, true};
 ghost use Rattle.evaluation.specs.declared.fault.EvalFault.TheVariants as evals;
 ghost use Rattle.field_agenda.specs.Stages.{IsEnded};
 ghost use Rattle.offline_programs.specs.Saying.{saying};
-ghost use Rattle.program_endings.specs.EvalProgram.{AnswersAfter, EndsEvaluated, EvaluatesTo, EvaluationEnded, FramedLast, LastOfEnd, LastOfFault, TellsEval, are_none_over, counts_status, eval_setting, evaluation_status};
+ghost use Rattle.program_endings.specs.EvalProgram.{AnswersAfter, EndsEvaluated, EvaluatesTo, EvaluationBegun, EvaluationEnded, FramedLast, LastOfEnd, LastOfFault, TellsEval, are_none_over, counts_status, eval_setting, evaluation_status};
+ghost use Rattle.program_endings.specs.Ending.{TellsFault};
 ghost use Rattle.program_endings.specs.LiveProgram.{EndsFaulted, LiveUnopened};
 ghost use Rattle.program_endings.specs.Records.{calling, given_disk, streams, writing};
 ghost use Rattle.sheet_files.specs.Closing.{closable};
@@ -158,6 +159,15 @@ fn tell_run_fault<W: Write, T: Tells>(why: RunFault, whole: bool, tells: &T, out
     tells.fault(why, output)
 }
 
+/// Ends the program by a fault, which is printed on standard error, where what stands last went out or didn't.
+fn end_faulted<E: Says>(why: RunFault, said: bool, errors: &mut E) -> Ending
+    ensures last { result.told ≡ true → said ≡ true }
+    ensures status { result.status ≡ 1 }
+    ensures told { TellsFault (saying E.contents E.tried errors.old errors.new) result.told (Err why) }
+{
+    with_last(end_program(Err(why), errors), said)
+}
+
 /// Ends the program where a run had a fault, of whose last text this is known.
 fn end_broken<W: Write, E: Says, T: Tells>(
     why: RunFault,
@@ -171,7 +181,7 @@ fn end_broken<W: Write, E: Says, T: Tells>(
     ensures told { TellsEval (saying E.contents E.tried errors.old errors.new) result.told (Err (evals.Run why)) }
 {
     let said = tell_run_fault(why, whole, tells, output);
-    with_last(end_program(Err(why), errors), said)
+    end_faulted(why, said, errors)
 }
 
 /// Ends the program where an evaluation had a fault, which goes to both streams where its voice has it.
@@ -247,7 +257,7 @@ fn end_on<W: Write, E: Says, D: Close, S: Sources, T: Tells + Copy, P: Programs 
     disk: D,
     sources: S,
 ) -> LiveEnding<S, W>
-    ensures { EvaluationEnded (eval_setting plan programs P.finds T.voice S.after S.clock S.wakes) (given_disk (closable D.view D.closed) disk) (calling sources result.sources)
+    ensures { EvaluationBegun (eval_setting plan programs P.finds T.voice S.after S.clock S.wakes) (given_disk (closable D.view D.closed) disk) (calling sources result.sources)
         (streams (writing W.contents output result.output) (saying E.contents E.tried errors.old errors.new)) result.ending }
 {
     let Evaluated {
