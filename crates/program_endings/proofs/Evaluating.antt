@@ -25,7 +25,7 @@ use Rattle.tellings.specs.Voice.{Voice}
 use Rattle.program_endings.specs.EvalProgram.{AnswersAfter, EvalSetting, EvaluatesTo, EvaluationAnswer, eval_rules}
 use Rattle.program_endings.specs.Records.{calling, given_disk, writing}
 
-abbrev evaluating : {C P : Type 0} → Voice → SourceRules C → (P → Finds) → Plan → P → EvalSetting C P
+abbrev pub evaluating : {C P : Type 0} → Voice → SourceRules C → (P → Finds) → Plan → P → EvalSetting C P
 evaluating V s finds plan programs = record { plan = plan; programs = programs; finds = finds; voice = V; sources = s }
 
 module _ {P C T W : Type 0} (finds : P → Finds) (V : Voice) (contents : W → Option (List ℕ)) (s : SourceRules C) (plan : Plan) (programs : P) where
@@ -35,15 +35,12 @@ module _ {P C T W : Type 0} (finds : P → Finds) (V : Voice) (contents : W → 
   abbrev field_rules : Rules (ByFields P) C (Noting (Voiced T W))
   field_rules = rules (fields_rules finds) s field_sink
 
-  abbrev setting_of : EvalSetting C P
-  setting_of = evaluating V s finds plan programs
-
   -- what is seen of a program's parts
   abbrev seen_fields : DiskView → C → Noting (Voiced T W) → ByFields P → Bool → ProgramParts (ByFields P) C PrintedSoFar
   seen_fields disk c k a whole = program_parts disk c (printed_so_far (contents k.sink.writer) whole) a
 
   over_fields : (first last : ProgramParts (ByFields P) C (Noting (Voiced T W))) (run : Result (Unit {0}) RunFault) → Over field_rules first last run
-      → Over (eval_rules setting_of) (seen_fields first.disk first.sources first.sink first.agenda first.sink.whole) (seen_fields last.disk last.sources last.sink last.agenda last.sink.whole) run
+      → Over (eval_rules (evaluating V s finds plan programs)) (seen_fields first.disk first.sources first.sink first.agenda first.sink.whole) (seen_fields last.disk last.sources last.sink last.agenda last.sink.whole) run
   over_fields first last run o =
       over_seen field_rules (fields_rules finds) (λ (k : PrintedSoFar). k.text) (λ (k : PrintedSoFar) (disk : DiskView) (text : List ℕ) (whole : Bool) (l : PrintedSoFar). l.whole ≡ whole) (λ (a : ByFields P). a)
       (λ (k : Noting (Voiced T W)). printed_so_far (contents k.sink.writer) k.whole)
@@ -52,7 +49,7 @@ module _ {P C T W : Type 0} (finds : P → Finds) (V : Voice) (contents : W → 
   pub evaluates : {D : Type 0} (k : Closable D) (disk later : D) (c d : C) (start sink : Noting (Voiced T W)) (begun done : ByFields P) (run : Result (Unit {0}) RunFault) (answer : EvaluationAnswer)
       → start.whole ≡ true → begun ≡ first_fields plan programs → Over field_rules (program_parts (k.view disk) c start begun) (program_parts (k.view later) d sink done) run
       → k.closed later → SameDisk (k.view disk) (k.view later) → AnswersAfter run done.stage answer
-      → EvaluatesTo setting_of (given_disk k disk) (calling c d) (writing contents start.sink.writer sink.sink.writer) sink.whole answer
+      → EvaluatesTo (evaluating V s finds plan programs) (given_disk k disk) (calling c d) (writing contents start.sink.writer sink.sink.writer) sink.whole answer
   evaluates k disk later c d start sink begun done run answer fresh at over closed same answers = record {
     later = later;
     closed = closed;
@@ -60,14 +57,14 @@ module _ {P C T W : Type 0} (finds : P → Finds) (V : Voice) (contents : W → 
     fields = done;
     run = run;
     over = over_all;
-    true_of = over_true (eval_rules setting_of) (own_faults finds) (seen_fields (k.view disk) c start (first_fields plan programs) true) (seen_fields (k.view later) d sink done sink.whole) run over_all;
+    true_of = over_true (eval_rules (evaluating V s finds plan programs)) (own_faults finds) (seen_fields (k.view disk) c start (first_fields plan programs) true) (seen_fields (k.view later) d sink done sink.whole) run over_all;
     answers = answers;
   }
     where
-      over_all : Over (eval_rules setting_of) (seen_fields (k.view disk) c start (first_fields plan programs) true) (seen_fields (k.view later) d sink done sink.whole) run
+      over_all : Over (eval_rules (evaluating V s finds plan programs)) (seen_fields (k.view disk) c start (first_fields plan programs) true) (seen_fields (k.view later) d sink done sink.whole) run
       over_all =
-          subst (λ (whole : Bool). Over (eval_rules setting_of) (seen_fields (k.view disk) c start (first_fields plan programs) whole) (seen_fields (k.view later) d sink done sink.whole) run) fresh
-          (subst (λ (a : ByFields P). Over (eval_rules setting_of) (seen_fields (k.view disk) c start a start.whole) (seen_fields (k.view later) d sink done sink.whole) run) at
+          subst (λ (whole : Bool). Over (eval_rules (evaluating V s finds plan programs)) (seen_fields (k.view disk) c start (first_fields plan programs) whole) (seen_fields (k.view later) d sink done sink.whole) run) fresh
+          (subst (λ (a : ByFields P). Over (eval_rules (evaluating V s finds plan programs)) (seen_fields (k.view disk) c start a start.whole) (seen_fields (k.view later) d sink done sink.whole) run) at
           (over_fields (program_parts (k.view disk) c start begun) (program_parts (k.view later) d sink done) run over))
 
   -- where the run wasn't broken off it came to its end
