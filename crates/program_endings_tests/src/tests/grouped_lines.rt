@@ -15,14 +15,14 @@ use tellings::InWords;
 const FIRST: u32 = 1_024;
 
 // What lines left over a disk, and what was printed of them.
-struct Lived<D> {
+struct Left<D> {
     disk: D,
     answer: Result<(), RunFault>,
     printed: Vec<u8>,
 }
 
 // Lines that come first, over a disk.
-fn lived<D: Disk>(alloc: Global, disk: D, script: &[u8]) -> Option<Lived<D>> {
+fn lived<D: Disk>(alloc: Global, disk: D, script: &[u8]) -> Option<Left<D>> {
     let children = Scripted::new(alloc, Vec::new(alloc));
     let sources = ScriptedSources::new(children, Vec::new(alloc));
     let manner = Manner {
@@ -42,7 +42,7 @@ fn lived<D: Disk>(alloc: Global, disk: D, script: &[u8]) -> Option<Lived<D>> {
         agenda: _agenda,
         answer,
     } = run_over(alloc, disk, sources, sink, agenda);
-    Some(Lived {
+    Some(Left {
         disk,
         answer,
         printed: sink.writer,
@@ -51,7 +51,7 @@ fn lived<D: Disk>(alloc: Global, disk: D, script: &[u8]) -> Option<Lived<D>> {
 
 // The disk after lines that end well, with so many lines of text.
 fn disk_of(alloc: Global, disk: MemoryDisk, script: &[u8], lines: usize) -> Option<MemoryDisk> {
-    let Lived {
+    let Left {
         disk,
         answer,
         printed,
@@ -120,7 +120,7 @@ fn fails_at(alloc: Global, call: u64) -> Option<bool> {
     let made = created(alloc)?;
     let before = one.calls().saturating_sub(made.calls());
     let disk = FuseDisk::new(made, before.saturating_add(call), FuseMode::From);
-    let Lived {
+    let Left {
         disk,
         answer,
         printed,
