@@ -84,6 +84,11 @@ pub data TaskView : Type 0 where
   check : Text → CheckView → TaskView
   rescue : Text → Text → TaskView
   export : Text → Text → TaskView
+  history : Text → TaskView
+  show_at : Text → Text → TaskView
+  show_json_at : Text → Text → TaskView
+  export_at : Text → Text → Text → TaskView
+  restore : Text → Text → Text → TaskView
 
 abbrev pub task_view : Task → TaskView
 task_view task.Blocks = blocks
@@ -98,6 +103,11 @@ task_view (task.ShowJson path) = show_json path.now
 task_view (task.Check path words) = check path.now (check_view words)
 task_view (task.Rescue path new) = rescue path.now new.now
 task_view (task.Export format path) = export format.now path.now
+task_view (task.History path) = history path.now
+task_view (task.ShowAt path changes) = show_at path.now changes.now
+task_view (task.ShowJsonAt path changes) = show_json_at path.now changes.now
+task_view (task.ExportAt format path changes) = export_at format.now path.now changes.now
+task_view (task.Restore path changes new) = restore path.now changes.now new.now
 
 -- the one argument of a subcommand that has one
 abbrev pub path_rule : Rule
@@ -130,6 +140,13 @@ with_stream name = with_rule (new_app name) json_rule
 
 abbrev pub with_json : Text → App
 with_json name = with_rule (with_path name) json_rule
+
+-- and of `show`, and of `export`, with the number of a change after the others
+abbrev pub at_rule : Rule
+at_rule = record (new_rule (codes "at")) { long = Some (codes "at"); value_names = 1 }
+
+abbrev pub with_show : Text → App
+with_show name = with_rule (with_json name) at_rule
 
 -- and of the one with as many paths as there are, and with options: whether it writes JSON, the format of its report, the session that it is about, the fields
 -- that aren't compared, those that alone are, the time that a field may take, whether answers that differ are accepted, whether outputs are whole, and how many sessions go side by side
@@ -239,6 +256,19 @@ with_format name = with_rule (new_app name) format_rule
 abbrev pub with_format_and_path : Text → App
 with_format_and_path name = with_rule (with_format name) path_rule
 
+abbrev pub with_export : Text → App
+with_export name = with_rule (with_format_and_path name) at_rule
+
+-- and of the one with the number of a change between its two paths
+abbrev pub changes_rule : Rule
+changes_rule = record (new_rule (codes "N")) { required = true }
+
+abbrev pub with_changes : Text → App
+with_changes name = with_rule (with_path name) changes_rule
+
+abbrev pub with_restore : Text → App
+with_restore name = with_rule (with_changes name) second_rule
+
 -- a subcommand that shows its help alone
 abbrev pub help_alone : Text → App
 help_alone name =
@@ -248,12 +278,13 @@ help_alone name =
 abbrev pub bare_tmhost : App
 bare_tmhost = let a = new_app (codes "tmhost") in record a { top = record a.top { has_version = true } }
 
--- the command line of `tmhost`: subcommands, five of them with a path, `run`, `live` and `show` with flags beside it, `blocks` with a flag alone, `eval` with flags, options and numbers, `check` with as many paths as there are and with options, one with two, and one with a format and a path
+-- the command line of `tmhost`: subcommands, six of them with a path, `run`, `live` and `show` with flags or options beside it, `blocks` with a flag alone, `eval` with flags, options and numbers, `check` with as many paths as there are and with options, two with two, and one with a format and a path
 abbrev pub tmhost : App
-tmhost = with_subcommand (with_subcommand (with_subcommand (with_subcommand (with_subcommand (with_subcommand (with_subcommand (with_subcommand (with_subcommand
+tmhost = with_subcommand (with_subcommand (with_subcommand (with_subcommand (with_subcommand (with_subcommand (with_subcommand (with_subcommand (with_subcommand (with_subcommand (with_subcommand
     (with_subcommand bare_tmhost (with_stream (codes "blocks")).top)
     (with_path (codes "create")).top) (with_run (codes "run")).top) (with_json (codes "live")).top) (with_eval (codes "eval")).top)
-    (with_json (codes "show")).top) (with_check (codes "check")).top) (with_paths (codes "rescue")).top) (with_format_and_path (codes "export")).top) (help_alone (codes "faults")).top
+    (with_show (codes "show")).top) (with_check (codes "check")).top) (with_paths (codes "rescue")).top) (with_export (codes "export")).top)
+    (with_path (codes "history")).top) (with_restore (codes "restore")).top) (help_alone (codes "faults")).top
 
 -- a flag is given where its value is `true`
 abbrev pub is_set : Option Text → Bool
@@ -263,12 +294,14 @@ is_set (Some value) = bytes_eq value (codes "true")
 -- the flags and options, as contracts see them
 pub record FlagsView : Type 0 where
   pub json : Bool
+  pub at : Option Text
+  pub changes : Option Text
   pub run : RunView
   pub eval : EvalView
   pub check : CheckView
 
 abbrev pub flags_view : Flags → FlagsView
-flags_view flags = record { json = flags.json; run = run_view flags.run; eval = eval_view flags.eval; check = check_view flags.check }
+flags_view flags = record { json = flags.json; at = option_map (λ text. text.now) flags.at; changes = option_map (λ text. text.now) flags.changes; run = run_view flags.run; eval = eval_view flags.eval; check = check_view flags.check }
 
 -- what the words of `run` ask for among these words
 abbrev pub run_in : List Row → RunView
@@ -311,7 +344,7 @@ eval_in rows = record {
 }
 
 abbrev pub flags_in : List Row → FlagsView
-flags_in rows = record { json = is_set (first_of (codes "json") rows); run = run_in rows; eval = eval_in rows; check = check_in rows }
+flags_in rows = record { json = is_set (first_of (codes "json") rows); at = first_of (codes "at") rows; changes = first_of (codes "N") rows; run = run_in rows; eval = eval_in rows; check = check_in rows }
 
 abbrev pub blocks_by : Bool → TaskView
 blocks_by true = blocks_json
@@ -321,9 +354,20 @@ abbrev pub live_by : Bool → Text → TaskView
 live_by true path = live_json path
 live_by false path = live path
 
-abbrev pub show_by : Bool → Text → TaskView
-show_by true path = show_json path
-show_by false path = show path
+abbrev pub show_by : Bool → Option Text → Text → TaskView
+show_by true None path = show_json path
+show_by false None path = show path
+show_by true (Some changes) path = show_json_at path changes
+show_by false (Some changes) path = show_at path changes
+
+abbrev pub export_by : Text → Option Text → Text → TaskView
+export_by format None path = export format path
+export_by format (Some changes) path = export_at format path changes
+
+-- without a number, `clap` refuses the words
+abbrev pub restore_by : Text → Option Text → Text → TaskView
+restore_by path None new = blocks
+restore_by path (Some changes) new = restore path changes new
 
 -- the task of a subcommand with a path, by its flags
 abbrev pub by_path : Text → Text → FlagsView → TaskView
@@ -331,14 +375,16 @@ by_path name path flags = if bytes_eq name (codes "create") then create path
     else (if bytes_eq name (codes "run") then run path flags.run
     else (if bytes_eq name (codes "live") then live_by flags.json path
     else (if bytes_eq name (codes "eval") then eval path flags.eval
-    else (if bytes_eq name (codes "show") then show_by flags.json path
-    else (if bytes_eq name (codes "check") then check path flags.check else blocks)))))
+    else (if bytes_eq name (codes "show") then show_by flags.json flags.at path
+    else (if bytes_eq name (codes "check") then check path flags.check
+    else (if bytes_eq name (codes "history") then history path else blocks))))))
 
 -- The task of a subcommand with two paths, or with one path, or with a format and a path.
 abbrev pub by_words : Text → Text → Option Text → Option Text → FlagsView → TaskView
 by_words name path None None flags = by_path name path flags
-by_words name path None (Some format) flags = if bytes_eq name (codes "export") then export format path else blocks
-by_words name path (Some new) format flags = if bytes_eq name (codes "rescue") then rescue path new else blocks
+by_words name path None (Some format) flags = if bytes_eq name (codes "export") then export_by format flags.at path else blocks
+by_words name path (Some new) format flags = if bytes_eq name (codes "rescue") then rescue path new
+    else (if bytes_eq name (codes "restore") then restore_by path flags.changes new else blocks)
 
 -- The task of a subcommand with its words; `blocks` has no path. Where another has none, `clap` refuses
 -- the words.

@@ -49,6 +49,18 @@ const NEW: Word = Word {
     help: "The new worksheet, which will be the files NEW and NEW.alt",
 };
 
+const CHANGES: Word = Word {
+    name: "N",
+    given: Given::Place,
+    help: "After how many of its changes the worksheet is taken; `history` has their numbers",
+};
+
+const AT: Word = Word {
+    name: "at",
+    given: Given::Value("N"),
+    help: "Write the worksheet as it was after its first N changes",
+};
+
 const FORMAT: Word = Word {
     name: "FORMAT",
     given: Given::Place,
@@ -151,7 +163,9 @@ static CREATE: [Word; 1] = [PATH];
 
 static RUN: [Word; 4] = [PATH, STRICT, JSON, WAIT_TIMEOUT];
 
-static SHOW: [Word; 2] = [PATH, JSON];
+static LIVE: [Word; 2] = [PATH, JSON];
+
+static SHOW: [Word; 3] = [PATH, JSON, AT];
 
 static EVAL: [Word; 9] = [
     PATH,
@@ -180,7 +194,9 @@ static CHECK: [Word; 10] = [
 
 static RESCUE: [Word; 2] = [PATH, NEW];
 
-static EXPORT: [Word; 2] = [FORMAT, PATH];
+static EXPORT: [Word; 3] = [FORMAT, PATH, AT];
+
+static RESTORE: [Word; 3] = [PATH, CHANGES, NEW];
 
 /// The words of a subcommand of this shape, in their order. None where its help is all that it has.
 pub(crate) fn words_of(shape: Shape) -> Option<&'static [Word]>
@@ -192,11 +208,13 @@ pub(crate) fn words_of(shape: Shape) -> Option<&'static [Word]>
         Shape::Stream => Some(&STREAM),
         Shape::Path => Some(&CREATE),
         Shape::Run => Some(&RUN),
-        Shape::Json => Some(&SHOW),
+        Shape::Json => Some(&LIVE),
+        Shape::Show => Some(&SHOW),
         Shape::Eval => Some(&EVAL),
         Shape::Check => Some(&CHECK),
         Shape::Paths => Some(&RESCUE),
         Shape::Format => Some(&EXPORT),
+        Shape::Earlier => Some(&RESTORE),
         Shape::Help => None,
     }
 }

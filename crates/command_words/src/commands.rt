@@ -70,7 +70,7 @@ fn command_of<'a>(alloc: Global, row: Row) -> Result<Command<'a>, AllocError>
 
 /// The subcommand of the row with this number.
 fn command_at<'a>(alloc: Global, at: usize) -> Result<Command<'a>, AllocError>
-    requires { at < 10 }
+    requires { at < 12 }
     ensures made { IfOk result (λ command. app_of command ≡ table.app_at at) }
     ensures local { IfOk result (λ command. (fields_of command).has_globals ≡ false) }
 {
@@ -79,7 +79,7 @@ fn command_at<'a>(alloc: Global, at: usize) -> Result<Command<'a>, AllocError>
 
 /// A command line with one subcommand more.
 fn with_one<'a>(alloc: Global, command: Command<'a>, at: usize) -> Result<Command<'a>, AllocError>
-    requires { at < 10 }
+    requires { at < 12 }
     ensures { IfOk result (λ more. app_of more
         ≡ with_subcommand (app_of command.entry) (table.app_at at).top) }
 {
@@ -88,10 +88,10 @@ fn with_one<'a>(alloc: Global, command: Command<'a>, at: usize) -> Result<Comman
 
 /// A command line with the subcommands of all rows, in their order.
 fn with_all<'a>(alloc: Global, command: Command<'a>) -> Result<Command<'a>, AllocError>
-    ensures { IfOk result (λ more. app_of more ≡ table.with_rows (app_of command.entry) 10) }
+    ensures { IfOk result (λ more. app_of more ≡ table.with_rows (app_of command.entry) 12) }
 {
     let mut command = command;
-    for at in 0..10usize {
+    for at in 0..12usize {
         command = with_one(alloc, command, at)?;
     }
     Ok(command)

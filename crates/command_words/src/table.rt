@@ -13,14 +13,18 @@ pub(crate) enum Shape {
     Run,
     /// PATH, and the flag `--json`.
     Json,
+    /// The same, and the number of a change.
+    Show,
     /// PATH and numbers of fields, and the flags and options of an evaluation.
     Eval,
     /// PATHs, the flag `--json`, and the options of a report and of which fields it is about.
     Check,
     /// PATH and NEW.
     Paths,
-    /// FORMAT and PATH.
+    /// FORMAT and PATH, and the number of a change.
     Format,
+    /// PATH, the number of a change, and NEW.
+    Earlier,
     /// None; its help is all that it has.
     Help,
 }
@@ -140,6 +144,8 @@ const SHOW_NOTES: &str =
     "It writes and makes no file. A field without an output shows `?`. Where a program\n\
 runs the worksheet nothing is shown: that is the fault 35 InUse. With --json it\n\
 writes what `export json` does.\n\n\
+With --at N it writes the worksheet after the first N of its changes, which\n\
+`history` lists. It reads no further, so a damage after them is no fault.\n\n\
 Status: 0 where all was written; 1 at a fault; 2 where the words are refused.\n\n\
 Example: tmhost show sheet";
 
@@ -216,9 +222,38 @@ notebook  a notebook of Jupyter: each field as a cell of code, with its output a
 \x20         text, and beside it as the formula where it is one\n\
 json      lines of JSON, which programs read (docs/JSON.md): a line for each field,\n\
 \x20         with its output as a tree of blocks\n\n\
-It reads PATH as `show` does, and writes and makes no file.\n\n\
+It reads PATH as `show` does, with --at N too, and writes and makes no file.\n\n\
 Status: 0 where all was written; 1 at a fault; 2 where the words are refused.\n\n\
 Example: tmhost export html sheet >sheet.html";
+
+const HISTORY_ABOUT: &str = "List the changes that stand in a worksheet's file";
+
+const HISTORY_NOTES: &str =
+    "A line is the number of a change, from 1, and what it was: `session NAME`, `new ID\n\
+NAME`, `set ID`, `remove ID`, `move ID AFTER`, `eval ID`, `answered ID`, `lost ID\n\
+REASON` or `ids N`, after which the next new field has the number N.\n\
+`show --at N`, `export --at N` and `restore` take the worksheet after the first N.\n\n\
+A `checkpoint` ends the past: it writes the worksheet again, as changes that make\n\
+it again, and those before it are gone. They come first then: the sessions, and\n\
+each field by its number, with its answer.\n\n\
+It reads PATH as `show` does, and writes and makes no file. Where PATH is damaged,\n\
+the changes before the damage are listed, and the fault is 30 Damaged.\n\n\
+Status: 0 where all were listed; 1 at a fault; 2 where the words are refused.\n\n\
+Example: tmhost history sheet";
+
+const RESTORE_ABOUT: &str = "Write a worksheet as it was to a new worksheet";
+
+const RESTORE_NOTES: &str =
+    "NEW has the worksheet that PATH was after the first N of its changes, with the\n\
+answers that it had then; `history` has their numbers. It reads PATH alone, and\n\
+makes NEW as `rescue` does: the worksheet is written again, and its past begins\n\
+there. It writes `kept N, whole`.\n\n\
+Where PATH has fewer changes (39), is damaged before that (30), is no worksheet\n\
+(31), can't be read (32), or is run by another program (35), NEW isn't made. Where\n\
+NEW or NEW.alt exists, the fault is 34 NotEmpty.\n\n\
+Status: 0 where NEW is on the disk and that was printed; 1 at a fault; 2 where the\n\
+words are refused.\n\n\
+Example: tmhost restore sheet 12 sheet.before";
 
 const FAULTS_ABOUT: &str = "What each fault means";
 
@@ -245,6 +280,8 @@ const FAULTS_NOTES: &str =
 \x20                evaluated: `show` has the numbers\n\
 38 SecondFile    PATH is the second file of a worksheet; nothing was done: give PATH\n\
 \x20                without .alt\n\
+39 NoChange N    the worksheet has fewer changes than N; nothing was written: `history`\n\
+\x20                has the numbers\n\
 40 Input         standard input can't be read, or interpreters not watched; all\n\
 \x20                that was printed is kept: give the rest again\n\
 41 InputTooLong  more than 67,108,864 bytes; nothing was done: cut it into parts\n\
@@ -272,7 +309,7 @@ fn listed(name: &'static str, shape: Shape, about: &'static str, notes: &'static
 
 /// The row with this number, in the order of the help.
 pub(crate) fn row_at(at: usize) -> Row
-    requires { at < 10 }
+    requires { at < 12 }
     ensures { IsRow at result }
 {
     match at {
@@ -281,11 +318,13 @@ pub(crate) fn row_at(at: usize) -> Row
         2 => listed("run", Shape::Run, RUN_ABOUT, RUN_NOTES),
         3 => listed("live", Shape::Json, LIVE_ABOUT, LIVE_NOTES),
         4 => listed("eval", Shape::Eval, EVAL_ABOUT, EVAL_NOTES),
-        5 => listed("show", Shape::Json, SHOW_ABOUT, SHOW_NOTES),
+        5 => listed("show", Shape::Show, SHOW_ABOUT, SHOW_NOTES),
         6 => listed("check", Shape::Check, CHECK_ABOUT, CHECK_NOTES),
         7 => listed("rescue", Shape::Paths, RESCUE_ABOUT, RESCUE_NOTES),
         8 => listed("export", Shape::Format, EXPORT_ABOUT, EXPORT_NOTES),
-        9 => listed("faults", Shape::Help, FAULTS_ABOUT, FAULTS_NOTES),
+        9 => listed("history", Shape::Path, HISTORY_ABOUT, HISTORY_NOTES),
+        10 => listed("restore", Shape::Earlier, RESTORE_ABOUT, RESTORE_NOTES),
+        11 => listed("faults", Shape::Help, FAULTS_ABOUT, FAULTS_NOTES),
         _ => unreachable!(),
     }
 }

@@ -73,6 +73,16 @@ pub enum Task<'a> {
     Rescue(&'a str, &'a str),
     /// Write the worksheet at the path in the format of this name.
     Export(&'a str, &'a str),
+    /// List the changes that stand in the worksheet at the path.
+    History(&'a str),
+    /// Write the worksheet at the path as it was after the first so many of its changes.
+    ShowAt(&'a str, &'a str),
+    /// The same, as lines of JSON.
+    ShowJsonAt(&'a str, &'a str),
+    /// The same, in the format of this name, which comes first.
+    ExportAt(&'a str, &'a str, &'a str),
+    /// Write it, after so many of its changes, to a new one at the last path.
+    Restore(&'a str, &'a str, &'a str),
 }
 
 /// What the words of `eval` ask for beside its path, as they are.
@@ -100,6 +110,8 @@ pub struct EvalWords<'a> {
 #[derive(Debug, Drop)]
 pub(crate) struct Flags<'a> {
     pub(crate) json: bool,
+    pub(crate) at: Option<&'a str>,
+    pub(crate) changes: Option<&'a str>,
     pub(crate) run: RunWords<'a>,
     pub(crate) eval: EvalWords<'a>,
     pub(crate) check: CheckWords<'a>,
@@ -134,13 +146,47 @@ fn task_of_live<'a>(path: &'a str, json: bool) -> Task<'a>
 }
 
 /// The task of `show`.
-fn task_of_show<'a>(path: &'a str, json: bool) -> Task<'a>
-    ensures { task_view result ≡ asked.show_by json path.entry.now }
+fn task_of_show<'a>(path: &'a str, json: bool, at: Option<&'a str>) -> Task<'a>
+    ensures { task_view result
+        ≡ asked.show_by json (option_map (λ text. text.now) at.entry) path.entry.now }
 {
-    if json {
-        Task::ShowJson(path)
-    } else {
-        Task::Show(path)
+    match at {
+        Some(at) => {
+            if json {
+                Task::ShowJsonAt(path, at)
+            } else {
+                Task::ShowAt(path, at)
+            }
+        }
+        None => {
+            if json {
+                Task::ShowJson(path)
+            } else {
+                Task::Show(path)
+            }
+        }
+    }
+}
+
+/// The task of `export`.
+fn task_of_export<'a>(format: &'a str, path: &'a str, at: Option<&'a str>) -> Task<'a>
+    ensures { task_view result
+        ≡ asked.export_by format.entry.now (option_map (λ text. text.now) at.entry) path.entry.now }
+{
+    match at {
+        Some(at) => Task::ExportAt(format, path, at),
+        None => Task::Export(format, path),
+    }
+}
+
+/// The task of `restore`. `clap` refuses words without a number.
+fn task_of_restore<'a>(path: &'a str, changes: Option<&'a str>, new: &'a str) -> Task<'a>
+    ensures { task_view result
+        ≡ asked.restore_by path.entry.now (option_map (λ text. text.now) changes.entry) new.entry.now }
+{
+    match changes {
+        Some(changes) => Task::Restore(path, changes, new),
+        None => Task::Blocks,
     }
 }
 
@@ -153,30 +199,39 @@ fn task_with_path<'a>(name: &str, path: &'a str, flags: Flags<'a>) -> Task<'a>
         "run" => Task::Run(path, flags.run),
         "live" => task_of_live(path, flags.json),
         "eval" => Task::Eval(path, flags.eval),
-        "show" => task_of_show(path, flags.json),
+        "show" => task_of_show(path, flags.json, flags.at),
+        "history" => Task::History(path),
         "check" => Task::Check(path, flags.check),
         _ => Task::Blocks,
     }
 }
 
 /// The task of a subcommand with two paths.
-fn task_with_paths<'a>(name: &str, path: &'a str, new: &'a str) -> Task<'a>
+fn task_with_paths<'a>(
+    name: &str,
+    path: &'a str,
+    new: &'a str,
+    changes: Option<&'a str>,
+) -> Task<'a>
     ensures { (format : Option Text) (flags : FlagsView)
-        → task_view result ≡ by_words name.now path.entry.now (Some new.entry.now) format flags }
+        → task_view result ≡ by_words name.now path.entry.now (Some new.entry.now) format
+        (record flags { changes = option_map (λ text. text.now) changes.entry }) }
 {
     match name {
         "rescue" => Task::Rescue(path, new),
+        "restore" => task_of_restore(path, changes, new),
         _ => Task::Blocks,
     }
 }
 
 /// The task of a subcommand with a format and a path.
-fn task_with_format<'a>(name: &str, format: &'a str, path: &'a str) -> Task<'a>
+fn task_with_format<'a>(name: &str, format: &'a str, path: &'a str, at: Option<&'a str>) -> Task<'a>
     ensures { (flags : FlagsView)
-        → task_view result ≡ by_words name.now path.entry.now None (Some format.entry.now) flags }
+        → task_view result ≡ by_words name.now path.entry.now None (Some format.entry.now)
+        (record flags { at = option_map (λ text. text.now) at.entry }) }
 {
     match name {
-        "export" => Task::Export(format, path),
+        "export" => task_of_export(format, path, at),
         _ => Task::Blocks,
     }
 }
@@ -270,6 +325,8 @@ fn flags_of<'a>(alloc: Global, matches: &ArgMatches<'a>) -> Result<Flags<'a>, Al
     let check = check_words(alloc, matches)?;
     Ok(Flags {
         json: is_set(matches.get_str("json")),
+        at: matches.get_str("at"),
+        changes: matches.get_str("N"),
         run: run_words(matches),
         eval,
         check,
@@ -287,10 +344,10 @@ fn task_of<'a>(alloc: Global, matches: &ArgMatches<'a>) -> Result<Task<'a>, Allo
         return Ok(task_of_blocks(asks_for_json(inner)));
     };
     if let Some(new) = inner.get_str("NEW") {
-        return Ok(task_with_paths(name, path, new));
+        return Ok(task_with_paths(name, path, new, inner.get_str("N")));
     }
     match inner.get_str("FORMAT") {
-        Some(format) => Ok(task_with_format(name, format, path)),
+        Some(format) => Ok(task_with_format(name, format, path, inner.get_str("at"))),
         None => Ok(task_with_path(name, path, flags_of(alloc, inner)?)),
     }
 }

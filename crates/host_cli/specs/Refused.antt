@@ -23,6 +23,10 @@ ShowsText k = (k ≡ kind.DisplayHelp) ⊎ (k ≡ kind.DisplayVersion)
 abbrev pub no_format_text : List ℕ
 no_format_text = codes "error: there is no such format: FORMAT is script, markdown, html, notebook or json\n\nFor more information, try 'tmhost export --help'.\n"
 
+-- and of words that name no number of changes
+abbrev pub no_changes_text : List ℕ
+no_changes_text = codes "error: this is no number of changes: N is a number, as `tmhost history` lists them\n\nFor more information, try 'tmhost history --help'.\n"
+
 -- what is printed of words that ask for no evaluation: that name no time, or no number of a field, or numbers of fields and one to begin with,
 -- or no number of sessions that go side by side, or one where it is strict
 abbrev pub no_seconds_text : List ℕ

@@ -17,7 +17,7 @@ use Rattle.command_words.specs.Asked.{CheckView, EvalView, RunView, TaskView, as
 use Rattle.command_words.specs.declared.words.Task.{Task}
 use Rattle.command_words.specs.Asked as asked
 use Rattle.host_cli.specs.Plans.{AsksNoPlan, AsksPlan, check_jobs_asked, limit_asked, CheckBounds, CheckPlan, are_several, check_bounds, check_plan, several_refused}
-use Rattle.host_cli.specs.Refused.{RefusesJobs, RefusesPlan, RefusesRequest, RefusesSeveral, RefusesWith, RefusesWords, ShowsHelp, ShowsText, no_check_seconds_text, no_format_text, no_run_seconds_text}
+use Rattle.host_cli.specs.Refused.{RefusesJobs, RefusesPlan, RefusesRequest, RefusesSeveral, RefusesWith, RefusesWords, ShowsHelp, ShowsText, no_changes_text, no_check_seconds_text, no_format_text, no_run_seconds_text}
 use Rattle.host_cli.specs.declared.outside.Outside.{Outside}
 use Rattle.host_cli.specs.Outside.{OutsideView}
 use Rattle.host_cli.specs.declared.plans.JobsFault.{JobsFault}
@@ -36,6 +36,8 @@ use Rattle.program_endings.specs.Ending.{BlocksAnswer, EndsAs, ProgramAnswer}
 use Rattle.program_endings.specs.BlocksProgram.{ObjectsAnswer}
 use Rattle.program_endings.specs.EvalProgram.{EvaluationEnded}
 use Rattle.program_endings.specs.ExportProgram.{ExportEnds}
+use Rattle.program_endings.specs.PastProgram.{EndsPast, FilesArePast, HistoryEnds, PastExported, PastShown}
+use Rattle.past.specs.declared.fault.PastFault.{PastFault}
 use Rattle.program_endings.specs.Faults.{no_place}
 use Rattle.program_endings.specs.Programs.{CreateEnds, EndsUnopened, ShowEnds, TellsMake}
 use Rattle.program_endings.specs.Records.{Calling, Streams, calling, given_disk, streams, writing}
@@ -51,6 +53,7 @@ use Rattle.recovery.specs.declared.rescuing.Rescued.{Rescued}
 use Rattle.sheet_export.specs.Formats.{format_named, last_part}
 use Rattle.sheet_export.specs.declared.formats.Format.{Format}
 use Rattle.sheet_export.specs.declared.formats.Format.TheVariants as formats
+use Rattle.sheet_text.specs.Script.{number_written}
 use Rattle.sheet_files.specs.declared.files_fault.FilesFault.{FilesFault}
 use Rattle.sheet_files.specs.declared.files_fault.HoldFault.{HoldFault}
 use Rattle.sheet_files.specs.declared.files_fault.MakeFault.{MakeFault}
@@ -88,6 +91,11 @@ module _ {Y D P S I W E Q : Type 0} where
   LeavesAlone old new (asked.check path words) = new.input ≡ old.input
   LeavesAlone old new (asked.rescue path new_path) = (new.sources ≡ old.sources) × (new.input ≡ old.input) × (new.progress ≡ old.progress)
   LeavesAlone old new (asked.export format path) = (new.sources ≡ old.sources) × (new.input ≡ old.input) × (new.progress ≡ old.progress)
+  LeavesAlone old new (asked.history path) = (new.sources ≡ old.sources) × (new.input ≡ old.input) × (new.progress ≡ old.progress)
+  LeavesAlone old new (asked.show_at path changes) = (new.sources ≡ old.sources) × (new.input ≡ old.input) × (new.progress ≡ old.progress)
+  LeavesAlone old new (asked.show_json_at path changes) = (new.sources ≡ old.sources) × (new.input ≡ old.input) × (new.progress ≡ old.progress)
+  LeavesAlone old new (asked.export_at format path changes) = (new.sources ≡ old.sources) × (new.input ≡ old.input) × (new.progress ≡ old.progress)
+  LeavesAlone old new (asked.restore path changes new_path) = (new.sources ≡ old.sources) × (new.input ≡ old.input) × (new.progress ≡ old.progress)
 
   -- nothing but the output and the stream of errors was touched
   abbrev pub OnlyWritten : Outside Y D P S I W E Q → Outside Y D P S I W E Q → Type 0
@@ -331,6 +339,53 @@ module _ {Y D P S I W E Q : Type 0} (o : OutsideView D P S I W E) where
   abbrev pub DoesExport : Outside Y D P S I W E Q → Outside Y D P S I W E Q → Ending → Text → Text → Type 0
   DoesExport old new ending name path = MatchOption (format_named name) (RefusesFormat old new ending) (ExportsAs old new ending path)
 
+  -- `history` of what the places open to read at a path
+  abbrev pub DoesHistory : Outside Y D P S I W E Q → Outside Y D P S I W E Q → Ending → Text → Type 0
+  DoesHistory old new ending path =
+      HeldFirst old new (λ why. EndsWith old new ending (Err why)) (λ held. (files : Result D FilesFault) × o.places.reads held path files new.places
+      × HistoryEnds o.disks files (streams_of old new) ending)
+
+  -- What a program does with the worksheet after its first n changes, where the places opened it to read. Else why it can't be had is
+  -- reported, and nothing else is done.
+  abbrev pub ReadsPast : ℕ → Outside Y D P S I W E Q → Outside Y D P S I W E Q → Ending → Text → (P → Rescued D → Type 0) → Type 0
+  ReadsPast n old new ending path with_it =
+      HeldFirst old new (λ why. EndsWith old new ending (Err why)) (λ held. (files : Result D FilesFault) × (opened : P) × o.places.reads held path files opened
+      × ((answer : Result (Rescued D) PastFault) × FilesArePast o.disks n files answer × MatchResult answer
+      (with_it opened) (λ why. (new.places ≡ opened) × (new.output ≡ old.output) × EndsPast (errors_of old new) ending why)))
+
+  -- words that name no number of changes are refused, and nothing is done
+  abbrev pub RefusesChanges : Outside Y D P S I W E Q → Outside Y D P S I W E Q → Ending → Type 0
+  RefusesChanges old new ending = (new.places ≡ old.places) × (new.output ≡ old.output) × RefusesWith no_changes_text (errors_of old new) ending
+
+  -- `show --at`
+  abbrev pub ShowsAfter : Outside Y D P S I W E Q → Outside Y D P S I W E Q → Ending → Text → ℕ → Type 0
+  ShowsAfter old new ending path n = ReadsPast n old new ending path (λ opened found. (new.places ≡ opened) × PastShown o.disks.closed found (streams_of old new) ending)
+
+  abbrev pub DoesShowAt : Outside Y D P S I W E Q → Outside Y D P S I W E Q → Ending → Text → Text → Type 0
+  DoesShowAt old new ending path changes = MatchOption (number_written changes) (RefusesChanges old new ending) (ShowsAfter old new ending path)
+
+  -- `export --at`, in a format
+  abbrev pub ExportsAfter : Outside Y D P S I W E Q → Outside Y D P S I W E Q → Ending → Text → Format → ℕ → Type 0
+  ExportsAfter old new ending path format n =
+      ReadsPast n old new ending path (λ opened found. (new.places ≡ opened) × PastExported o.disks.closed found format (last_part path) (streams_of old new) ending)
+
+  abbrev pub ExportsPast : Outside Y D P S I W E Q → Outside Y D P S I W E Q → Ending → Text → Text → Format → Type 0
+  ExportsPast old new ending path changes format = MatchOption (number_written changes) (RefusesChanges old new ending) (ExportsAfter old new ending path format)
+
+  abbrev pub DoesExportAt : Outside Y D P S I W E Q → Outside Y D P S I W E Q → Ending → Text → Text → Text → Type 0
+  DoesExportAt old new ending name path changes = MatchOption (format_named name) (RefusesFormat old new ending) (ExportsPast old new ending path changes)
+
+  -- `restore`, to what the places make at a new path
+  abbrev pub RestoresTo : P → Rescued D → Outside Y D P S I W E Q → Outside Y D P S I W E Q → Ending → Text → Type 0
+  RestoresTo opened found old new ending to = (made : Result D MakeFault) × o.places.creates opened to made new.places
+      × RescueEnds o.disks.closed o.disks made found (said_streams (output_of old new) (errors_of old new)) ending
+
+  abbrev pub RestoresAfter : Outside Y D P S I W E Q → Outside Y D P S I W E Q → Ending → Text → Text → ℕ → Type 0
+  RestoresAfter old new ending path to n = ReadsPast n old new ending path (λ opened found. RestoresTo opened found old new ending to)
+
+  abbrev pub DoesRestore : Outside Y D P S I W E Q → Outside Y D P S I W E Q → Ending → Text → Text → Text → Type 0
+  DoesRestore old new ending path changes to = MatchOption (number_written changes) (RefusesChanges old new ending) (RestoresAfter old new ending path to)
+
   -- what is done, by the task
   abbrev pub DoesTask : Outside Y D P S I W E Q → Outside Y D P S I W E Q → Ending → TaskView → Type 0
   DoesTask old new ending asked.blocks = DoesBlocks old new ending
@@ -345,6 +400,11 @@ module _ {Y D P S I W E Q : Type 0} (o : OutsideView D P S I W E) where
   DoesTask old new ending (asked.check path words) = DoesCheck old new ending path words
   DoesTask old new ending (asked.rescue path new_path) = DoesRescue old new ending path new_path
   DoesTask old new ending (asked.export format path) = DoesExport old new ending format path
+  DoesTask old new ending (asked.history path) = DoesHistory old new ending path
+  DoesTask old new ending (asked.show_at path changes) = DoesShowAt old new ending path changes
+  DoesTask old new ending (asked.show_json_at path changes) = ExportsPast old new ending path changes formats.Json
+  DoesTask old new ending (asked.export_at format path changes) = DoesExportAt old new ending format path changes
+  DoesTask old new ending (asked.restore path changes new_path) = DoesRestore old new ending path changes new_path
 
   -- How the program ends where `clap` gave no task, by the kind of its error.
   pub record Refuses (old new : Outside Y D P S I W E Q) (ending : Ending) (k : ErrorKind) : Type 0 where

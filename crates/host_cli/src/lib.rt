@@ -8,6 +8,7 @@ mod checks;
 mod finding;
 mod outlet;
 mod outside;
+mod pasts;
 mod plans;
 mod refusing;
 mod runs;

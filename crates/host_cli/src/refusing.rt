@@ -3,7 +3,7 @@ ghost use Rattle.std.specs.Prelude.{◌≡◌, ◌≢◌, Err, None, Some};
 ghost use Rattle.std.specs.declared.io.ErrorKind.TheVariants as io_kind;
 ghost use Rattle.clap.specs.Words.{kind_of};
 ghost use Rattle.clap.specs.declared.error.kind.ErrorKind.TheVariants as kind;
-ghost use Rattle.host_cli.specs.Refused.{RefusesJobs, RefusesPlan, RefusesRequest, RefusesSeveral, RefusesWith, RefusesWords, ShowsHelp, ShowsText, no_check_seconds_text, no_format_text, no_run_seconds_text};
+ghost use Rattle.host_cli.specs.Refused.{RefusesJobs, RefusesPlan, RefusesRequest, RefusesSeveral, RefusesWith, RefusesWords, ShowsHelp, ShowsText, no_check_seconds_text, no_changes_text, no_format_text, no_run_seconds_text};
 ghost use Rattle.program_endings.specs.Ending.{TellsFault};
 ghost use Rattle.offline_programs.specs.Saying.{saying};
 ghost use Rattle.offline_programs.specs.declared.fault.RunFault.TheVariants as fault;
@@ -110,6 +110,17 @@ pub(crate) fn refuse_format<E: Says>(errors: &mut E) -> Ending
     refuse_with(
         b"error: there is no such format: FORMAT is script, markdown, html, notebook or json\n\n\
         For more information, try 'tmhost export --help'.\n",
+        errors,
+    )
+}
+
+/// Refuses words that name no number of changes.
+pub(crate) fn refuse_changes<E: Says>(errors: &mut E) -> Ending
+    ensures { RefusesWith no_changes_text (saying E.contents E.tried errors.old errors.new) result }
+{
+    refuse_with(
+        b"error: this is no number of changes: N is a number, as `tmhost history` lists them\n\n\
+        For more information, try 'tmhost history --help'.\n",
         errors,
     )
 }

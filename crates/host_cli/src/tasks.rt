@@ -14,6 +14,7 @@ use crate::checks::check_at;
 use crate::finding::FoundIn;
 use crate::outlet::Outlet;
 use crate::outside::{Outside, Performed, System};
+use crate::pasts::{export_as_past, export_past_at, history_at, restore_at, show_past_at};
 use crate::plans::read_plan;
 use crate::refusing::{refuse_format, refuse_plan};
 use crate::runs::{live_at, live_json_at, run_at};
@@ -186,8 +187,8 @@ fn export_at<Y: System>(alloc: Global, outside: &mut Outside<Y>, name: &str, pat
 }
 
 /// Does a task: `blocks` reads the input, `run` its script and `live` its lines from it; `create`,
-/// `run`, `live`, `eval`, `show`, `check`, `rescue` and `export` work on the worksheet at the path, once the
-/// places of closed streams are held. What they give goes to the output, and the line of a fault to the
+/// `run`, `live`, `eval`, `show`, `check`, `rescue`, `export`, `history` and `restore` work on the worksheet at
+/// the path, once the places of closed streams are held. What they give goes to the output, and the line of a fault to the
 /// errors. `check` alone has `progress` show something.
 pub fn do_task<Y: System>(alloc: Global, task: Task<'_>, mut outside: Outside<Y>) -> Performed<Y>
     ensures does { DoesTask (outer Y.Places.Places (disks_seen Y.Disk.Disk Y.Disk.closed) (sources_seen Y.Sources.after Y.Sources.clock Y.Sources.wakes)
@@ -232,6 +233,26 @@ pub fn do_task<Y: System>(alloc: Global, task: Task<'_>, mut outside: Outside<Y>
         },
         Task::Export(format, path) => Performed {
             ending: export_at(alloc, &mut outside, format, path),
+            outside,
+        },
+        Task::History(path) => Performed {
+            ending: history_at(alloc, &mut outside, path),
+            outside,
+        },
+        Task::ShowAt(path, changes) => Performed {
+            ending: show_past_at(alloc, &mut outside, path, changes),
+            outside,
+        },
+        Task::ShowJsonAt(path, changes) => Performed {
+            ending: export_as_past(alloc, &mut outside, Format::Json, path, changes),
+            outside,
+        },
+        Task::ExportAt(format, path, changes) => Performed {
+            ending: export_past_at(alloc, &mut outside, format, path, changes),
+            outside,
+        },
+        Task::Restore(path, changes, new) => Performed {
+            ending: restore_at(alloc, &mut outside, path, changes, new),
             outside,
         },
     }

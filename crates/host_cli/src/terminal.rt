@@ -16,7 +16,7 @@ enum Use {
     Writes,
 }
 
-/// What the task does with which paths: the first one, and of `rescue` the second.
+/// What the task does with which paths: the first one, and of `rescue` and `restore` the new one.
 fn paths_of<'a>(task: &Task<'a>) -> [Option<(&'a str, Use)>; 2] {
     match task {
         Task::Blocks | Task::BlocksJson => [None, None],
@@ -32,10 +32,16 @@ fn paths_of<'a>(task: &Task<'a>) -> [Option<(&'a str, Use)>; 2] {
             };
             [Some((*path, use_of)), None]
         }
-        Task::Show(path) | Task::ShowJson(path) | Task::Export(path, _) => {
-            [Some((*path, Use::Reads)), None]
+        Task::Show(path)
+        | Task::ShowJson(path)
+        | Task::ShowAt(path, _)
+        | Task::ShowJsonAt(path, _)
+        | Task::Export(_, path)
+        | Task::ExportAt(_, path, _)
+        | Task::History(path) => [Some((*path, Use::Reads)), None],
+        Task::Rescue(path, new) | Task::Restore(path, _, new) => {
+            [Some((*path, Use::Reads)), Some((*new, Use::Makes))]
         }
-        Task::Rescue(path, new) => [Some((*path, Use::Reads)), Some((*new, Use::Makes))],
     }
 }
 

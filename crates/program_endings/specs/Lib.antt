@@ -9,6 +9,7 @@ pub mod CheckProgram
 pub mod AcceptProgram
 pub mod TogetherProgram
 pub mod ExportProgram
+pub mod PastProgram
 pub mod StrictProgram
 pub mod LiveProgram
 pub mod ScriptProgram

@@ -31,7 +31,7 @@ fn export_disk<D: Close, W: Write>(
 }
 
 /// Ends the program by what an export answered.
-fn end_export<E: Says>(answer: Result<(), ExportFault>, errors: &mut E) -> Ending
+pub(crate) fn end_export<E: Says>(answer: Result<(), ExportFault>, errors: &mut E) -> Ending
     ensures { (result.status ≡ export_status answer)
         × TellsExported (saying E.contents E.tried errors.old errors.new) result.told answer }
 {

@@ -1,6 +1,7 @@
 //! The lines that programs say on their stream of errors, beside that of a `RunFault`.
 ghost use Rattle.std.specs.Prelude.{Some};
 ghost use Rattle.evaluation.specs.Faults as evaluated;
+ghost use Rattle.past.specs.Faults as gone;
 ghost use Rattle.program_endings.specs.Faults as printed;
 ghost use Rattle.program_endings.specs.StrictProgram.{stopped_text};
 ghost use Rattle.sheet_export.specs.Formats as exported;
@@ -8,6 +9,7 @@ ghost use Rattle.sheet_export.specs.Formats as exported;
 use crate::create_fault_text;
 use evaluation::{EvalFault, eval_fault_text};
 use offline_programs::Message;
+use past::{PastFault, past_fault_text};
 use sheet_export::{ExportFault, export_fault_text};
 use sheet_files::MakeFault;
 use sheet_text::WriteFault;
@@ -53,6 +55,20 @@ impl Message for NotExported {
 
     fn write<W: Write>(&self, out: &mut W) -> Result<(), WriteFault> {
         export_fault_text(self.why, out)
+    }
+}
+
+/// Why an earlier worksheet can't be had.
+#[derive(Clone, Copy)]
+pub(crate) struct NoPast {
+    pub why: PastFault,
+}
+
+impl Message for NoPast {
+    ghost text = { λ past. Some (gone.past_fault_text past.why) };
+
+    fn write<W: Write>(&self, out: &mut W) -> Result<(), WriteFault> {
+        past_fault_text(self.why, out)
     }
 }
 

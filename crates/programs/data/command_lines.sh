@@ -75,7 +75,9 @@ helps show 'Write a worksheet' "Usage: ${tmhost##*/} show [OPTIONS] <PATH>" 'Exa
 helps check 'Evaluate a worksheet again, and write what differs' "Usage: ${tmhost##*/} check [OPTIONS] <PATH>..." 'Example: tmhost check --format junit sheet >report.xml' 1
 helps rescue 'Write what stands before a damage to a new worksheet' "Usage: ${tmhost##*/} rescue <PATH> <NEW>" 'Example: tmhost rescue sheet new' 1
 
-helps export 'Write a worksheet as a script, Markdown, a page, a notebook or JSON' "Usage: ${tmhost##*/} export <FORMAT> <PATH>" 'Example: tmhost export html sheet >sheet.html' 1
+helps export 'Write a worksheet as a script, Markdown, a page, a notebook or JSON' "Usage: ${tmhost##*/} export [OPTIONS] <FORMAT> <PATH>" 'Example: tmhost export html sheet >sheet.html' 1
+helps history "List the changes that stand in a worksheet's file" "Usage: ${tmhost##*/} history <PATH>" 'Example: tmhost history sheet' 1
+helps restore 'Write a worksheet as it was to a new worksheet' "Usage: ${tmhost##*/} restore <PATH> <N> <NEW>" 'Example: tmhost restore sheet 12 sheet.before' 1
 
 # Each help whole, as the file `help_texts` has it: NAME WORDS.
 whole_help() {
@@ -85,7 +87,7 @@ whole_help() {
         "$(sed -n "/^== $name\$/,/^== /p" help_texts | sed '/^== /d')"
 }
 whole_help 'the program'
-for task in blocks create run live eval show check rescue export faults; do
+for task in blocks create run live eval show check rescue export history restore faults; do
     whole_help "$task" "$task"
 done
 
@@ -103,7 +105,7 @@ compare 'a version over a full output' "$? $(cat errors)" '1 fault 42 Output'
 # What `help faults` has of each fault that a program tells: its number and its name.
 "$tmhost" help faults >text 2>errors
 compare 'the help of faults' "$? $(wc -c <errors) $(head -n 1 text)|$(grep '^Usage' text)" "0 0 What each fault means|Usage: ${tmhost##*/} faults"
-compare 'the faults' "$(grep -o '^[0-9][0-9] [A-Za-z]*' text | tr '\n' ' ')" '21 Disk 22 OutOfMemory 23 JournalFull 30 Damaged 31 NotASheet 32 Disk 33 OutOfMemory 34 NotEmpty 35 InUse 36 NoScript 37 NoField 38 SecondFile 40 Input 41 InputTooLong 42 Output 43 OutOfMemory 44 NoProgram '
+compare 'the faults' "$(grep -o '^[0-9][0-9] [A-Za-z]*' text | tr '\n' ' ')" '21 Disk 22 OutOfMemory 23 JournalFull 30 Damaged 31 NotASheet 32 Disk 33 OutOfMemory 34 NotEmpty 35 InUse 36 NoScript 37 NoField 38 SecondFile 39 NoChange 40 Input 41 InputTooLong 42 Output 43 OutOfMemory 44 NoProgram '
 "$tmhost" faults --help >same 2>errors
 compare 'the same by a flag' "$? $(wc -c <errors) $(bytes same)" "0 0 $(bytes text)"
 "$tmhost" faults >same 2>errors

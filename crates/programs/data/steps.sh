@@ -384,7 +384,7 @@ chain() {
 }
 
 case $tmhost in /*) ;; *) tmhost=$PWD/$tmhost ;; esac
-chain areas blocks rescues exports command_lines pairs
+chain areas blocks rescues past exports command_lines pairs
 chain children completions replies limits strict live json
 chain eval
 chain check accepts progress

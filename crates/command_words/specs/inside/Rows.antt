@@ -12,10 +12,12 @@ rows =
     ∷ (codes "run", shape.Run)
     ∷ (codes "live", shape.Json)
     ∷ (codes "eval", shape.Eval)
-    ∷ (codes "show", shape.Json)
+    ∷ (codes "show", shape.Show)
     ∷ (codes "check", shape.Check)
     ∷ (codes "rescue", shape.Paths)
     ∷ (codes "export", shape.Format)
+    ∷ (codes "history", shape.Path)
+    ∷ (codes "restore", shape.Earlier)
     ∷ (codes "faults", shape.Help)
     ∷ []
 

@@ -8,9 +8,9 @@ pub loop-at-preserved : goal.loop-at-preserved
 loop-at-preserved c =
     simp unary_clauses (c.in_ok-command.ensures ∙ ap (λ (a : App). with_subcommand a (asked.app_at c.loop-at.at).top) c.loop-at.invariant)
 
-ten : (n : ℕ) → n ≤ 10 → 10 ≤ n → n ≡ 10
-ten n a b = omega arith
+twelve : (n : ℕ) → n ≤ 12 → 12 ≤ n → n ≡ 12
+twelve n a b = omega arith
 
 pub returns : goal.returns
 returns c =
-    subst (λ (n : ℕ). app_of c.loop-at.command ≡ asked.with_rows (app_of c.args.command) n) (ten c.loop-at.at c.loop-at.auto.at-end c.loop-at-test.false) c.loop-at.invariant
+    subst (λ (n : ℕ). app_of c.loop-at.command ≡ asked.with_rows (app_of c.args.command) n) (twelve c.loop-at.at c.loop-at.auto.at-end c.loop-at-test.false) c.loop-at.invariant
