@@ -1,19 +1,26 @@
 //! The worksheet at a path as it was, and the list of its changes.
 ghost use Rattle.std.specs.Prelude.{◌≡◌, []};
 ghost use Rattle.command_words.specs.Asked as asked;
+ghost use Rattle.offline_programs.specs.Saying.{saying};
+ghost use Rattle.program_endings.specs.PastProgram.{PastExported};
+ghost use Rattle.program_endings.specs.Records.{streams, writing};
+ghost use Rattle.sheet_export.specs.Formats.{last_part};
 ghost use Rattle.host_cli.specs.Outside.{disks_seen, outer, sources_seen, streams_seen};
 ghost use Rattle.host_cli.specs.Tasks.{DoesExportAt, DoesHistory, DoesRestore, DoesShowAt, ExportsAfter, ExportsPast, LeavesAlone, RestoresAfter, ShowsAfter};
 
 use crate::outside::{Outside, System};
 use crate::refusing::{refuse_changes, refuse_format};
+use offline_programs::Says;
 use program_endings::{
     Ending, end_past, end_unheld, read_past, run_export_past, run_history, run_rescue,
     run_show_past,
 };
+use recovery::Rescued;
 use sheet_export::{Format, format_named, last_part};
-use sheet_files::Places;
+use sheet_files::{Close, Places};
 use sheet_text::read_number;
 use std::alloc::Global;
+use std::io::Write;
 
 /// `history` of the worksheet at a path.
 pub(crate) fn history_at<Y: System>(alloc: Global, outside: &mut Outside<Y>, path: &str) -> Ending
@@ -69,8 +76,23 @@ pub(crate) fn show_past_at<Y: System>(
     }
 }
 
-/// `export` of the worksheet at a path after its first so many changes, with the last part of the path as the
-/// title.
+/// Exports what was found at a path, with the last part of the path as the title.
+fn export_found<D: Close, W: Write, E: Says>(
+    alloc: Global,
+    format: Format,
+    found: Rescued<D>,
+    path: &str,
+    output: &mut W,
+    errors: &mut E,
+) -> Ending
+    ensures { PastExported D.closed found format (last_part path.now)
+        (streams (writing W.contents output.old output.new) (saying E.contents E.tried errors.old errors.new)) result }
+{
+    let title = last_part(path.as_bytes());
+    run_export_past(alloc, format, found, title, output, errors)
+}
+
+/// `export` of the worksheet at a path after its first so many changes.
 fn export_after<Y: System>(
     alloc: Global,
     outside: &mut Outside<Y>,
@@ -86,14 +108,9 @@ fn export_after<Y: System>(
         return end_unheld(why, &mut outside.errors);
     }
     match read_past(alloc, outside.places.open_to_read(path), u64::from(changes)) {
-        Ok(found) => run_export_past(
-            alloc,
-            format,
-            found,
-            last_part(path.as_bytes()),
-            &mut outside.output,
-            &mut outside.errors,
-        ),
+        Ok(found) => {
+            export_found(alloc, format, found, path, &mut outside.output, &mut outside.errors)
+        }
         Err(why) => end_past(why, &mut outside.errors),
     }
 }
