@@ -5,7 +5,8 @@
 # printed. Then it prints how many times as many evaluations `live` does with eight interpreters that take 50 ms a line each as with one, and
 # with 8 and 64 that answer at once (the best of as many runs), and the processor time that it takes while nothing comes; and how long `check` and `eval` take with eight of them beside one.
 # Last it prints how many times the processor time of 1,000 fields of one session `eval` takes for a field of 10,000, and how many times that
-# without a limit of time with one; its interpreter's isn't counted. The files lie in FOLDER, or where none is given in the current one.
+# without a limit of time with one; its interpreter's isn't counted; and how often `eval` asks for a sync for a field, by `strace`, with 1, 8 and 64
+# interpreters that answer at once. The files lie in FOLDER, or where none is given in the current one.
 set -euo pipefail
 folder=$(readlink -f "${1:-.}")
 root=$(dirname "$(dirname "$(readlink -f "${BASH_SOURCE[0]}")")")
@@ -132,4 +133,15 @@ def a_field(fields, *flags):
 plain, limited = [[a_field(fields, *flags) for fields in (1000, 10000)] for flags in ((), ("--timeout", "100"))]
 print(f"eval, processor time of a field of one session: {plain[0] / 1000:.1f} us of 1,000, {plain[1] / plain[0]:.2f} times of 10,000; "
       f"with --timeout {limited[0] / plain[0]:.2f} and {limited[1] / plain[1]:.2f} times without")
+
+def syncs(sessions, lines=40):
+    """How often `eval` asks for a sync for each field of so many sessions of so many fields, whose interpreters answer at once."""
+    sheet, counts = f"{work}/{sessions}.syncs", f"{work}/counts"
+    subprocess.run([program, "create", sheet], check=True)
+    run(sheet, "".join(f"session s{n} plain python3 {quick}\n" for n in range(sessions)) + "".join(f"new 0 s{n} {i}\n" for n in range(sessions) for i in range(lines)))
+    subprocess.run(["strace", "-f", "-c", "-e", "trace=fdatasync", "-o", counts, program, "eval", sheet], stdout=subprocess.DEVNULL, check=True)
+    row = next(line.split() for line in open(counts) if line.rstrip().endswith("fdatasync"))
+    return int(row[3]) / (sessions * lines)
+
+print("eval, syncs a field, interpreters that answer at once: " + ", ".join(f"{sessions} of them {syncs(sessions):.2f}" for sessions in (1, 8, 64)))
 PYTHON

@@ -34,7 +34,7 @@ use Rattle.program_endings.specs.SeveralProgram.{TotalEnds, ending_of, is_unwrit
 use Rattle.program_endings.specs.TogetherProgram.{TogetherEnds}
 use Rattle.program_endings.specs.Ending.{BlocksAnswer, EndsAs, ProgramAnswer}
 use Rattle.program_endings.specs.BlocksProgram.{ObjectsAnswer}
-use Rattle.program_endings.specs.EvalProgram.{EvaluationEnded}
+use Rattle.program_endings.specs.EvalProgram.{EvaluationEnded, eval_setting}
 use Rattle.program_endings.specs.ExportProgram.{ExportEnds}
 use Rattle.program_endings.specs.PastProgram.{EndsPast, FilesArePast, HistoryEnds, PastExported, PastShown}
 use Rattle.past.specs.declared.fault.PastFault.{PastFault}
@@ -60,7 +60,6 @@ use Rattle.sheet_files.specs.declared.files_fault.MakeFault.{MakeFault}
 use Rattle.sheet_check.specs.Accept.{to_accept}
 use Rattle.sheet_check.specs.Evaluated.{one_by_one, way}
 use Rattle.sheet_check.specs.Together.{side_by_side}
-use Rattle.evaluation.specs.Steps.{setting}
 use Rattle.evaluation.specs.declared.plan.Plan.{Plan}
 
 abbrev pub voice_by : Bool → Voice
@@ -265,7 +264,7 @@ module _ {Y D P S I W E Q : Type 0} (o : OutsideView D P S I W E) where
   -- `eval` on a disk, printed in a voice
   abbrev pub EvaluatesOn : Voice → Plan → Outside Y D P S I W E Q → Outside Y D P S I W E Q → Ending → D → Type 0
   EvaluatesOn V plan old new ending disk =
-      EvaluationEnded (o.places.finds new.places) (setting V o.sources.after o.sources.clock o.sources.wakes plan []) (given_disk o.disks disk) (calling_of old new) (streams_of old new) ending
+      EvaluationEnded (eval_setting plan new.places o.places.finds V o.sources.after o.sources.clock o.sources.wakes) (given_disk o.disks disk) (calling_of old new) (streams_of old new) ending
 
   -- `eval` over what the places open at a path, by a plan
   abbrev pub EvaluatesAs : Voice → Plan → Outside Y D P S I W E Q → Outside Y D P S I W E Q → Ending → Text → Type 0

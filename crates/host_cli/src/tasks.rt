@@ -23,8 +23,8 @@ use command_words::{EvalWords, Task, read_words};
 use evaluation::Plan;
 use offline_programs::{RunFault, Says};
 use program_endings::{
-    Ending, end_program, end_unheld, read_rescued, run_create, run_evaluation, run_export,
-    run_rescue, run_show,
+    Ending, LiveEnding, end_program, end_unheld, read_rescued, run_create, run_evaluation,
+    run_export, run_rescue, run_show,
 };
 use sheet_export::{Format, format_named, last_part};
 use sheet_files::Places;
@@ -62,70 +62,94 @@ fn show_at<Y: System>(alloc: Global, outside: &mut Outside<Y>, path: &str) -> En
 }
 
 /// `eval` of the fields of the worksheet at a path, by a plan, printed in this voice.
-fn eval_as<Y: System, T: Tells>(
+fn eval_as<Y: System, T: Tells + Copy>(
     alloc: Global,
-    outside: &mut Outside<Y>,
-    plan: &Plan,
-    tells: &T,
+    mut outside: Outside<Y>,
+    plan: Plan,
+    tells: T,
     path: &str,
-) -> Ending
+) -> Performed<Y>
     ensures does { EvaluatesAs (outer Y.Places.Places (disks_seen Y.Disk.Disk Y.Disk.closed) (sources_seen Y.Sources.after Y.Sources.clock Y.Sources.wakes)
-        (streams_seen Y.Input.Read Y.Output.Write Y.Output.brought Y.Output.tried Y.Errors.Write Y.Errors.tried)) T.voice plan.now outside.old outside.new result path.now }
-    ensures leaves { (outside.new.input ≡ outside.old.input)
-        × (outside.new.progress ≡ outside.old.progress) }
+        (streams_seen Y.Input.Read Y.Output.Write Y.Output.brought Y.Output.tried Y.Errors.Write Y.Errors.tried)) T.voice plan outside result.outside result.ending path.now }
+    ensures leaves { (result.outside.input ≡ outside.input) × (result.outside.progress ≡ outside.progress) }
 {
     if let Err(why) = outside.places.hold() {
-        return end_unheld(why, &mut outside.errors);
+        let ending = end_unheld(why, &mut outside.errors);
+        return Performed { ending, outside };
     }
     let files = outside.places.open(path);
-    run_evaluation(
+    let Outside {
+        places,
+        sources,
+        input,
+        output,
+        mut errors,
+        progress,
+    } = outside;
+    let programs = FoundIn::<Y>::new(&places);
+    let LiveEnding {
+        ending,
+        sources,
+        output,
+    } = run_evaluation(
         alloc,
         plan,
-        &FoundIn::<Y> {
-            places: &outside.places,
-        },
+        programs,
         tells,
-        &mut outside.output,
-        &mut outside.errors,
+        output,
+        &mut errors,
         files,
-        &mut outside.sources,
-    )
+        sources,
+    );
+    Performed {
+        ending,
+        outside: Outside {
+            places,
+            sources,
+            input,
+            output,
+            errors,
+            progress,
+        },
+    }
 }
 
 /// `eval` of the fields of the worksheet at a path, by a plan, in words or in lines of JSON.
 fn eval_told<Y: System>(
     alloc: Global,
-    outside: &mut Outside<Y>,
-    plan: &Plan,
+    outside: Outside<Y>,
+    plan: Plan,
     json: bool,
     path: &str,
-) -> Ending
+) -> Performed<Y>
     ensures does { EvaluatesAs (outer Y.Places.Places (disks_seen Y.Disk.Disk Y.Disk.closed) (sources_seen Y.Sources.after Y.Sources.clock Y.Sources.wakes)
-        (streams_seen Y.Input.Read Y.Output.Write Y.Output.brought Y.Output.tried Y.Errors.Write Y.Errors.tried)) (voice_by json) plan.now outside.old outside.new result path.now }
-    ensures leaves { (outside.new.input ≡ outside.old.input)
-        × (outside.new.progress ≡ outside.old.progress) }
+        (streams_seen Y.Input.Read Y.Output.Write Y.Output.brought Y.Output.tried Y.Errors.Write Y.Errors.tried)) (voice_by json) plan outside result.outside result.ending path.now }
+    ensures leaves { (result.outside.input ≡ outside.input) × (result.outside.progress ≡ outside.progress) }
 {
     if json {
-        eval_as(alloc, outside, plan, &InJson { alloc }, path)
+        eval_as(alloc, outside, plan, InJson { alloc }, path)
     } else {
-        eval_as(alloc, outside, plan, &InWords, path)
+        eval_as(alloc, outside, plan, InWords, path)
     }
 }
 
 /// `eval` of the fields of the worksheet at a path, as its words ask for it.
 fn eval_at<Y: System>(
     alloc: Global,
-    outside: &mut Outside<Y>,
+    mut outside: Outside<Y>,
     path: &str,
     words: EvalWords<'_>,
-) -> Ending
+) -> Performed<Y>
     ensures does { DoesEval (outer Y.Places.Places (disks_seen Y.Disk.Disk Y.Disk.closed) (sources_seen Y.Sources.after Y.Sources.clock Y.Sources.wakes)
-        (streams_seen Y.Input.Read Y.Output.Write Y.Output.brought Y.Output.tried Y.Errors.Write Y.Errors.tried)) outside.old outside.new result path.now (eval_view words.entry) }
-    ensures leaves { LeavesAlone outside.old outside.new (asked.eval path.now (eval_view words.entry)) }
+        (streams_seen Y.Input.Read Y.Output.Write Y.Output.brought Y.Output.tried Y.Errors.Write Y.Errors.tried)) outside result.outside result.ending path.now (eval_view words.entry) }
+    ensures leaves { LeavesAlone outside result.outside (asked.eval path.now (eval_view words.entry)) }
 {
     match read_plan(alloc, &words) {
-        Ok(plan) => eval_told(alloc, outside, &plan, words.json, path),
-        Err(why) => refuse_plan(why, &mut outside.errors),
+        Ok(plan) => eval_told(alloc, outside, plan, words.json, path),
+        Err(why) => {
+            let ending = refuse_plan(why, &mut outside.errors);
+            Performed { ending, outside }
+        }
     }
 }
 
@@ -211,10 +235,7 @@ pub fn do_task<Y: System>(alloc: Global, task: Task<'_>, mut outside: Outside<Y>
         Task::Run(path, words) => run_at(alloc, outside, path, words),
         Task::Live(path) => live_at(alloc, outside, path),
         Task::LiveJson(path) => live_json_at(alloc, outside, path),
-        Task::Eval(path, words) => Performed {
-            ending: eval_at(alloc, &mut outside, path, words),
-            outside,
-        },
+        Task::Eval(path, words) => eval_at(alloc, outside, path, words),
         Task::Show(path) => Performed {
             ending: show_at(alloc, &mut outside, path),
             outside,

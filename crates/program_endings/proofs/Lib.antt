@@ -4,3 +4,4 @@ pub mod Lines
 pub mod Living
 pub mod Streams
 pub mod Totals
+pub mod Evaluating

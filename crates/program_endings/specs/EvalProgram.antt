@@ -1,28 +1,35 @@
 -- How the program `eval` ends: what it evaluates and writes, what it says on which stream, and the exit status.
 use Rattle.std.specs.Io.KnownBytes.{Appends}
-use Rattle.std.specs.Prelude.{◌≡◌, ◌==◌, ◌&&◌, ℕ, Bool, true, false, List, Option, Some, None, Result, Ok, Err, IfOk, IfErr, IsErrOf, if◌then◌else◌}
-use Rattle.disk_model.specs.Disk.{Rises, SameDisk}
-use Rattle.journal.specs.declared.opening.OpenCause.TheVariants as opens
-use Rattle.host_events.specs.declared.outcome.HostFault.TheVariants as hosts
-use Rattle.offline_programs.specs.Faults.{Untouched}
+use Rattle.std.specs.Prelude.{◌≡◌, ◌⊎◌, ◌==◌, ◌&&◌, ℕ, Bool, true, false, List, Option, Some, None, Result, Ok, Err, IfErr, if◌then◌else◌}
+use Rattle.disk_model.specs.Disk.{SameDisk}
+use Rattle.child_edge.specs.Faithful.{Relation}
 use Rattle.offline_programs.specs.Saying.{IsSaid, Saying}
 use Rattle.offline_programs.specs.declared.fault.RunFault.{RunFault}
-use Rattle.offline_programs.specs.declared.fault.RunFault.TheVariants as fault
 use Rattle.tellings.specs.Voice.{IsUntold, Voice}
 use Rattle.tellings.specs.declared.note.Counts.{Counts}
 use Rattle.tellings.specs.declared.note.Frame.{Frame}
 use Rattle.tellings.specs.declared.note.Frame.TheVariants as frame
 use Rattle.tellings.specs.declared.note.Overs.{Overs}
-use Rattle.evaluation.specs.Steps.{Setting}
-use Rattle.evaluation.specs.Evaluation.{EvaluationDone, LooksFirst, TellsEvalFault}
+use Rattle.live.specs.Records.{Clock, Watch}
+use Rattle.driver.specs.Noted.{PrintedSoFar, noting_rules, printed_so_far}
+use Rattle.driver.specs.Over.{Over, program_parts}
+use Rattle.driver.specs.Place.{Rules, SourceRules, rules, source_rules}
+use Rattle.driver.specs.TrueFaults.{IsTrueOf}
 use Rattle.evaluation.specs.Faults.{eval_fault_text}
 use Rattle.evaluation.specs.Programs.{Finds}
 use Rattle.evaluation.specs.declared.evaluating.EvalEnd.{EvalEnd}
 use Rattle.evaluation.specs.declared.fault.EvalFault.{EvalFault}
 use Rattle.evaluation.specs.declared.fault.EvalFault.TheVariants as evals
-use Rattle.program_endings.specs.LiveProgram.{Framed, LastTold}
+use Rattle.evaluation.specs.declared.plan.Plan.{Plan}
+use Rattle.field_agenda.specs.FieldLines.{by_field_lines}
+use Rattle.field_agenda.specs.FieldsRules.{fields_rules}
+use Rattle.field_agenda.specs.Standing.{first_fields}
+use Rattle.field_agenda.specs.declared.by_fields.ByFields.{ByFields}
+use Rattle.field_agenda.specs.declared.stage.Stage.{Stage}
+use Rattle.field_agenda.specs.declared.stage.Stage.TheVariants as stage
+use Rattle.program_endings.specs.LiveProgram.{EndsFaulted, FaultTold, Framed, LastTold}
 use Rattle.program_endings.specs.StrictProgram.{TellsStop}
-use Rattle.program_endings.specs.Records.{Calling, DoesNothing, GivenDisk, Streams, Writing, outside_after, outside_before, view_given, writing}
+use Rattle.program_endings.specs.Records.{Calling, GivenDisk, Streams, Writing, text_after, text_before, view_given, writing}
 use Rattle.program_endings.specs.declared.ending.Ending.{Ending}
 
 -- what the program answers: where the evaluation stopped, if it did, and what it came to; or its fault
@@ -51,52 +58,78 @@ abbrev pub TellsEval : {E : Type 0} → Saying E → Bool → EvaluationAnswer �
 TellsEval errors told (Ok end) = TellsStop errors told (Ok end.stopped_at)
 TellsEval errors told (Err why) = IsSaid errors (eval_fault_text why) told
 
+-- How fields are evaluated: by which plan, with which programs and how a look for one may be answered, the voice of what is printed, and what the sources
+-- may do.
+pub record EvalSetting (C P : Type 0) : Type 1 where
+  pub plan : Plan
+  pub programs : P
+  pub finds : P → Finds
+  pub voice : Voice
+  pub sources : SourceRules C
+
+abbrev pub eval_setting : {C P : Type 0} → Plan → P → (P → Finds) → Voice → Relation C → Clock C → Watch C → EvalSetting C P
+eval_setting plan programs finds V after clock wakes = record { plan = plan; programs = programs; finds = finds; voice = V; sources = source_rules after wakes clock }
+
+-- A driver of fields: what is printed of a line is printed of that of a field. Of its sink is known what was printed, and whether all of the last text
+-- went out.
+abbrev pub eval_rules : {C P : Type 0} → EvalSetting C P → Rules (ByFields P) C PrintedSoFar
+eval_rules o = rules (fields_rules o.finds) o.sources (noting_rules (by_field_lines o.voice))
+
+-- What the program answers after a run, by how far it came: what the evaluation came to, or what isn't there; or the fault of the run.
+pub data AnswersAfter : Result (Unit {0}) RunFault → Stage → EvaluationAnswer → Type 0 where
+  came_to_its_end : (done : Unit {0}) (end : EvalEnd) → AnswersAfter (Ok done) (stage.Counted end) (Ok end)
+  without_field : (done : Unit {0}) (id : ℕ) → AnswersAfter (Ok done) (stage.NoField id) (Err (evals.NoField id))
+  without_program : (done : Unit {0}) (name : List ℕ) → AnswersAfter (Ok done) (stage.NoProgram name) (Err (evals.NoProgram name))
+  broke_off : (why : RunFault) (how : Stage) → AnswersAfter (Err why) how (Err (evals.Run why))
+
+-- What `eval` does on a disk, which is closed then, between what stands first and last: the driver ran over it, by the plan, from before it looked for
+-- the fields and the programs on. A fault is true of the disk: that it failed is reported only where it did.
+pub record EvaluatesTo {D C O P : Type 0} (o : EvalSetting C P) (g : GivenDisk D) (q : Calling C) (w : Writing O) (whole : Bool) (answer : EvaluationAnswer) : Type 0 where
+  pub later : D
+  pub closed : g.how.closed later
+  pub same : SameDisk (view_given g) (g.how.view later)
+  -- where the agenda stands at the end, and how the run was answered
+  pub fields : ByFields P
+  pub run : Result (Unit {0}) RunFault
+  pub over : Over (eval_rules o) (program_parts (view_given g) q.old (printed_so_far (text_before w) true) (first_fields o.plan o.programs))
+      (program_parts (g.how.view later) q.new (printed_so_far (text_after w) whole) fields) run
+  pub true_of : IfErr run (λ why. IsTrueOf why (view_given g) (g.how.view later))
+  pub answers : AnswersAfter run fields.stage answer
+
 -- what stands last is written whole where both streams took what they had to, and it is nothing where the voice takes no memory
 abbrev pub FramedLast : {O : Type 0} → Voice → (O → Option (List ℕ)) → O → O → Bool → Frame → Type 0
 FramedLast V contents old new told last = (V.takes_memory ≡ false → new ≡ old) × (told ≡ true → Appends (contents old) (contents new) (V.frame last))
 
--- A fault is reported last of all, where the voice has it and the output takes it.
-abbrev pub LastOfEval : {O : Type 0} → Voice → (O → Option (List ℕ)) → O → O → Bool → EvaluationAnswer → Type 0
-LastOfEval V contents old new told (Ok end) = new ≡ old
-LastOfEval V contents old new told (Err (evals.NoField id)) = FramedLast V contents old new told (frame.NoField id)
-LastOfEval V contents old new told (Err (evals.NoProgram name)) = FramedLast V contents old new told (frame.NoProgram name)
-LastOfEval V contents old new told (Err (evals.Run why)) = LastTold {T = Bool} V contents old new told (Err why)
+-- That the evaluation came to its end is printed last; or it couldn't be, and that is the fault, which is printed last.
+pub data LastOfEnd {O E : Type 0} (V : Voice) (s : Streams O E) (ending : Ending) (end : EvalEnd) : Type 0 where
+  ended : Framed V s.output.contents frame.End s.output.old s.output.new → ending.status ≡ evaluation_status (Ok end) → TellsEval s.errors ending.told (Ok end)
+      → LastOfEnd V s ending end
+  unended : (why : RunFault) (mid : O) → V.takes_memory ≡ true → IsUntold V why → LastTold {T = Bool} V s.output.contents mid s.output.new ending.told (Err why)
+      → ending.status ≡ 1 → TellsEval s.errors ending.told (Err (evals.Run why)) → LastOfEnd V s ending end
 
--- What `eval` answers on a disk between what stands first and last, and what it has written and done then.
-pub record EvaluatesTo {D C O : Type 0} (finds : Finds) (o : Setting C) (g : GivenDisk D) (q : Calling C) (w : Writing O) (answer : EvaluationAnswer) : Type 0 where
-  -- the disk after the evaluation, as it was closed
-  pub later : D
-  pub closed : g.how.closed later
-  pub same : SameDisk (view_given g) (g.how.view later)
-  pub evaluated : IfOk answer (λ end. EvaluationDone o (outside_before g q w) (outside_after g later q w) end.stopped_at end.counts)
-  -- each program was found before anything was done
-  pub looked : LooksFirst finds o.plan (view_given g) (DoesNothing q w × Untouched (view_given g) (g.how.view later)) answer
-  -- that the disk failed, at the opening or later, is reported only where it did
-  pub unopened : IsErrOf answer (evals.Run (fault.Open opens.Disk)) → Rises (view_given g).faults (g.how.view later).faults
-  pub failed : IsErrOf answer (evals.Run (fault.Host hosts.Disk)) → Rises (view_given g).faults (g.how.view later).faults
-  -- lack of memory at the opening is reported only where no call of the disk failed
-  pub memory : IsErrOf answer (evals.Run (fault.Open opens.OutOfMemory)) → (g.how.view later).faults ≡ (view_given g).faults
-  pub fault : IfErr answer (TellsEvalFault finds o (outside_before g q w) (outside_after g later q w) (DoesNothing q w × Untouched (view_given g) (g.how.view later)))
+-- A fault is printed last, where the voice has it and the run didn't print it, and is a line on the stream of errors.
+abbrev pub LastOfFault : {O E : Type 0} → Voice → Streams O E → Bool → Ending → EvalFault → Type 0
+LastOfFault V s whole ending (evals.NoField id) = FramedLast V s.output.contents s.output.old s.output.new ending.told (frame.NoField id)
+LastOfFault V s whole ending (evals.NoProgram name) = FramedLast V s.output.contents s.output.old s.output.new ending.told (frame.NoProgram name)
+LastOfFault V s whole ending (evals.Run why) = (said : Bool) × (ending.told ≡ true → said ≡ true) × EndsFaulted V s.output whole said why
 
--- What `eval` answers on a disk, and what it has written and done then.
-pub data EvalAnswer {D C O : Type 0} (finds : Finds) (o : Setting C) (g : GivenDisk D) (q : Calling C) (w : Writing O) (answer : EvaluationAnswer) : Type 0 where
-  -- it greeted, and evaluated; where it came to its end that was reported last
-  evaluated : (first last : O) → Framed o.voice w.contents frame.Hello w.old first
-      → EvaluatesTo finds o g q (writing w.contents first last) answer
-      → IfOk answer (λ end. Framed o.voice w.contents frame.End last w.new) → IfErr answer (λ why. w.new ≡ last)
-      → EvalAnswer finds o g q w answer
-  -- what stands first couldn't be written, and nothing was done but to close the disk
-  ungreeted : (why : RunFault) → answer ≡ Err (evals.Run why) → o.voice.takes_memory ≡ true → IsUntold o.voice why → q.new ≡ q.old → g.how.closed g.disk → EvalAnswer finds o g q w answer
-  -- what stands last couldn't be written
-  unended : (why : RunFault) (first last : O) (end : EvalEnd) → answer ≡ Err (evals.Run why) → o.voice.takes_memory ≡ true → IsUntold o.voice why → Framed o.voice w.contents frame.Hello w.old first
-      → EvaluatesTo finds o g q (writing w.contents first last) (Ok end)
-      → EvalAnswer finds o g q w answer
+-- What stands last after an evaluation that was answered so, of whose last text this is known, and how the program ends then.
+abbrev pub EndsEvaluated : {O E : Type 0} → Voice → Streams O E → Bool → Ending → EvaluationAnswer → Type 0
+EndsEvaluated V s whole ending (Ok end) = LastOfEnd V s ending end
+EndsEvaluated V s whole ending (Err why) = LastOfFault V s whole ending why × (ending.status ≡ 1) × TellsEval s.errors ending.told (Err why)
 
--- What `eval` comes to on a disk, and how it ends.
-pub record EvaluationEnded {D C O E : Type 0} (finds : Finds) (o : Setting C) (g : GivenDisk D) (q : Calling C) (s : Streams O E) (ending : Ending) : Type 0 where
-  pub answer : EvaluationAnswer
-  pub mid : O
-  pub answered : EvalAnswer finds o g q (writing s.output.contents s.output.old mid) answer
-  pub last_told : LastOfEval o.voice s.output.contents mid s.output.new ending.told answer
-  pub status : ending.status ≡ evaluation_status answer
-  pub told : TellsEval s.errors ending.told answer
+-- the same streams, of which this is the output before
+abbrev pub streams_from : {O E : Type 0} → Streams O E → O → Streams O E
+streams_from s first = record s { output = writing s.output.contents first s.output.new }
+
+-- What `eval` comes to on a disk, and how it ends, once it has greeted: it evaluated, and printed what stands last.
+abbrev pub EvaluationBegun : {D C O P E : Type 0} → EvalSetting C P → GivenDisk D → Calling C → Streams O E → Ending → Type 0
+EvaluationBegun {O = O} o g q s ending = (last : O) × (whole : Bool) × (answer : EvaluationAnswer) × EvaluatesTo o g q (writing s.output.contents s.output.old last) whole answer
+    × EndsEvaluated o.voice (streams_from s last) whole ending answer
+
+-- The same from its greeting on.
+pub data EvaluationEnded {D C O P E : Type 0} (o : EvalSetting C P) (g : GivenDisk D) (q : Calling C) (s : Streams O E) (ending : Ending) : Type 0 where
+  greeted : (first : O) → Framed o.voice s.output.contents frame.Hello s.output.old first → EvaluationBegun o g q (streams_from s first) ending → EvaluationEnded o g q s ending
+  -- it couldn't greet, and nothing was done but to close the disk
+  ungreeted : (why : RunFault) (mid : O) → o.voice.takes_memory ≡ true → IsUntold o.voice why → LastTold {T = Bool} o.voice s.output.contents mid s.output.new ending.told (Err why)
+      → ending.status ≡ 1 → TellsEval s.errors ending.told (Err (evals.Run why)) → q.new ≡ q.old → g.how.closed g.disk → EvaluationEnded o g q s ending

@@ -1,21 +1,24 @@
 //! The program `eval` over a worksheet's files, from its files on.
-ghost use Rattle.std.specs.Prelude.{◌≡◌, Err, IfErr, IfOk, []};
-ghost use Rattle.evaluation.specs.Steps.{setting};
+ghost use Rattle.std.specs.Prelude.{◌≡◌, Err, IfErr, IfOk, Ok, true};
 ghost use Rattle.evaluation.specs.declared.fault.EvalFault.TheVariants as evals;
+ghost use Rattle.field_agenda.specs.Stages.{IsEnded};
 ghost use Rattle.offline_programs.specs.Saying.{saying};
-ghost use Rattle.program_endings.specs.EvalProgram.{EvalAnswer, EvaluatesTo, EvaluationEnded, FramedLast, LastOfEval, TellsEval, are_none_over, counts_status, evaluation_status};
-ghost use Rattle.program_endings.specs.LiveProgram.{LiveUnopened};
+ghost use Rattle.program_endings.specs.EvalProgram.{AnswersAfter, EndsEvaluated, EvaluatesTo, EvaluationBegun, EvaluationEnded, FramedLast, LastOfEnd, LastOfFault, TellsEval, are_none_over, counts_status, eval_setting, evaluation_status};
+ghost use Rattle.program_endings.specs.Ending.{TellsFault};
+ghost use Rattle.program_endings.specs.LiveProgram.{EndsFaulted, LiveUnopened};
 ghost use Rattle.program_endings.specs.Records.{calling, given_disk, streams, writing};
 ghost use Rattle.sheet_files.specs.Closing.{closable};
 
-use crate::Ending;
 use crate::ending::ended;
-use crate::live_program::end_told;
+use crate::live_program::{LiveEnding, end_told, is_printed, with_last};
 use crate::messages::{NotEvaluated, StoppedAt};
 use crate::telling::no_files;
+use crate::{Ending, end_program};
 use arrivals::Sources;
-use evaluation::{EvalEnd, EvalFault, Evaluated, Plan, Programs, evaluate};
-use offline_programs::Says;
+use driver::{Noting, Over, Voiced, run_over};
+use evaluation::{EvalEnd, EvalFault, Plan, Programs};
+use field_agenda::{ByFields, FieldLines, Stage};
+use offline_programs::{RunFault, Says};
 use sheet_files::{Close, FilesFault};
 use std::alloc::Global;
 use std::io::Write;
@@ -42,47 +45,78 @@ fn status_by(counts: Counts) -> u8
     }
 }
 
-/// Evaluates the fields of the worksheet on a disk, and closes the disk at the end.
-fn evaluate_on<W: Write, D: Close, S: Sources, T: Tells, P: Programs>(
-    alloc: Global,
-    plan: &Plan,
-    programs: &P,
-    tells: &T,
-    output: &mut W,
-    disk: D,
-    sources: &mut S,
-) -> Result<EvalEnd, EvalFault>
-    ensures { EvaluatesTo (P.finds programs.now) (setting T.voice S.after S.clock S.wakes plan.now []) (given_disk (closable D.view D.closed) disk)
-        (calling sources.old sources.new) (writing W.contents output.old output.new) result }
-{
-    let Evaluated { disk, answer } = evaluate(alloc, plan, programs, tells, output, disk, sources);
-    disk.close();
-    answer
+/// What a program answered, whether its last text went out, and what it was given back.
+struct Evaluated<S, W> {
+    answer: Result<EvalEnd, EvalFault>,
+    whole: bool,
+    sources: S,
+    output: W,
 }
 
-/// Writes the voice's first message, evaluates, and writes its last.
-fn evaluate_framed<W: Write, D: Close, S: Sources, T: Tells, P: Programs>(
-    alloc: Global,
-    plan: &Plan,
-    programs: &P,
-    tells: &T,
-    output: &mut W,
-    disk: D,
-    sources: &mut S,
-) -> Result<EvalEnd, EvalFault>
-    ensures { EvalAnswer (P.finds programs.now) (setting T.voice S.after S.clock S.wakes plan.now []) (given_disk (closable D.view D.closed) disk)
-        (calling sources.old sources.new) (writing W.contents output.old output.new) result }
+/// What the program answers after a run that came to its end so.
+fn answer_at(stage: Stage) -> Result<EvalEnd, EvalFault>
+    requires { IsEnded stage }
+    ensures { (done : Unit {0}) → AnswersAfter (Ok done) stage result }
 {
-    if let Err(fault) = tells.frame(Frame::Hello, output) {
-        disk.close();
-        return Err(EvalFault::Run(fault));
+    match stage {
+        Stage::Counted(end) => Ok(end),
+        Stage::NoField(id) => Err(EvalFault::NoField(id)),
+        Stage::NoProgram(name) => Err(EvalFault::NoProgram(name)),
+        Stage::New => unreachable!(),
+        Stage::Going => unreachable!(),
     }
-    match evaluate_on(alloc, plan, programs, tells, output, disk, sources) {
-        Ok(end) => match tells.frame(Frame::End, output) {
-            Ok(()) => Ok(end),
-            Err(fault) => Err(EvalFault::Run(fault)),
+}
+
+/// What the program answers after a run that came so far.
+fn answer_after(run: Result<(), RunFault>, stage: Stage) -> Result<EvalEnd, EvalFault>
+    requires { IfOk run (λ done. IsEnded stage) }
+    ensures { AnswersAfter run stage result }
+{
+    match run {
+        Ok(()) => answer_at(stage),
+        Err(why) => Err(EvalFault::Run(why)),
+    }
+}
+
+/// Evaluates the fields of the worksheet on a disk, and closes the disk at the end.
+fn evaluate_on<W: Write, D: Close, S: Sources, T: Tells + Copy, P: Programs + Drop>(
+    alloc: Global,
+    plan: Plan,
+    programs: P,
+    tells: T,
+    output: W,
+    disk: D,
+    sources: S,
+) -> Evaluated<S, W>
+    ensures { EvaluatesTo (eval_setting plan programs P.finds T.voice S.after S.clock S.wakes) (given_disk (closable D.view D.closed) disk)
+        (calling sources result.sources) (writing W.contents output result.output) result.whole result.answer }
+{
+    let sink = Noting {
+        sink: Voiced {
+            tells: FieldLines { tells },
+            writer: output,
         },
-        Err(fault) => Err(fault),
+        whole: true,
+    };
+    let agenda = ByFields::new(alloc, plan, programs);
+    let Over {
+        disk,
+        sources,
+        sink,
+        agenda,
+        answer,
+    } = run_over(alloc, disk, sources, sink, agenda);
+    disk.close();
+    let stage = agenda.stage();
+    let Noting {
+        sink: Voiced { tells: _, writer },
+        whole,
+    } = sink;
+    Evaluated {
+        answer: answer_after(answer, stage),
+        whole,
+        sources,
+        output: writer,
     }
 }
 
@@ -115,14 +149,50 @@ fn end_without<W: Write, E: Says, T: Tells>(
     ended(1, told && said)
 }
 
-/// Ends the program where an evaluation had a fault, which goes to both streams where its voice has it.
-fn end_faulty<W: Write, E: Says, T: Tells>(
-    fault: EvalFault,
+/// Whether a fault goes to the output, where its voice has it: a run prints its own, but where its output failed.
+fn tell_run_fault<W: Write, T: Tells>(why: RunFault, whole: bool, tells: &T, output: &mut W) -> bool
+    ensures { EndsFaulted T.voice (writing W.contents output.old output.new) whole result why }
+{
+    if is_printed(why) {
+        return whole;
+    }
+    tells.fault(why, output)
+}
+
+/// Ends the program by a fault, which is printed on standard error, where what stands last went out or didn't.
+fn end_faulted<E: Says>(why: RunFault, said: bool, errors: &mut E) -> Ending
+    ensures last { result.told ≡ true → said ≡ true }
+    ensures status { result.status ≡ 1 }
+    ensures told { TellsFault (saying E.contents E.tried errors.old errors.new) result.told (Err why) }
+{
+    with_last(end_program(Err(why), errors), said)
+}
+
+/// Ends the program where a run had a fault, of whose last text this is known.
+fn end_broken<W: Write, E: Says, T: Tells>(
+    why: RunFault,
+    whole: bool,
     tells: &T,
     output: &mut W,
     errors: &mut E,
 ) -> Ending
-    ensures last { LastOfEval T.voice W.contents output.old output.new result.told (Err fault) }
+    ensures last { LastOfFault T.voice (streams (writing W.contents output.old output.new) (saying E.contents E.tried errors.old errors.new)) whole result (evals.Run why) }
+    ensures status { result.status ≡ 1 }
+    ensures told { TellsEval (saying E.contents E.tried errors.old errors.new) result.told (Err (evals.Run why)) }
+{
+    let said = tell_run_fault(why, whole, tells, output);
+    end_faulted(why, said, errors)
+}
+
+/// Ends the program where an evaluation had a fault, which goes to both streams where its voice has it.
+fn end_faulty<W: Write, E: Says, T: Tells>(
+    fault: EvalFault,
+    whole: bool,
+    tells: &T,
+    output: &mut W,
+    errors: &mut E,
+) -> Ending
+    ensures last { LastOfFault T.voice (streams (writing W.contents output.old output.new) (saying E.contents E.tried errors.old errors.new)) whole result fault }
     ensures status { result.status ≡ 1 }
     ensures told { TellsEval (saying E.contents E.tried errors.old errors.new) result.told (Err fault) }
 {
@@ -141,67 +211,121 @@ fn end_faulty<W: Write, E: Says, T: Tells>(
             output,
             errors,
         ),
-        EvalFault::Run(why) => end_told(Err(why), tells, output, errors),
+        EvalFault::Run(why) => end_broken(why, whole, tells, output, errors),
     }
 }
 
-/// Ends the program by what it answered.
-fn end_evaluation<W: Write, E: Says, T: Tells>(
-    answer: Result<EvalEnd, EvalFault>,
+/// Ends the program where the evaluation came to its end: the voice's last message is printed.
+fn end_framed<W: Write, E: Says, T: Tells>(
+    end: EvalEnd,
     tells: &T,
     output: &mut W,
     errors: &mut E,
 ) -> Ending
-    ensures last { LastOfEval T.voice W.contents output.old output.new result.told answer }
-    ensures status { result.status ≡ evaluation_status answer }
-    ensures told { TellsEval (saying E.contents E.tried errors.old errors.new) result.told answer }
+    ensures { LastOfEnd T.voice (streams (writing W.contents output.old output.new) (saying E.contents E.tried errors.old errors.new)) result end }
+{
+    match tells.frame(Frame::End, output) {
+        Ok(()) => end_evaluated(end, errors),
+        Err(why) => end_told(Err(why), tells, output, errors),
+    }
+}
+
+/// Ends the program by what the run answered, of whose last text this is known.
+fn end_evaluation<W: Write, E: Says, T: Tells>(
+    answer: Result<EvalEnd, EvalFault>,
+    whole: bool,
+    tells: &T,
+    output: &mut W,
+    errors: &mut E,
+) -> Ending
+    ensures { EndsEvaluated T.voice (streams (writing W.contents output.old output.new) (saying E.contents E.tried errors.old errors.new)) whole result answer }
 {
     match answer {
-        Ok(end) => end_evaluated(end, errors),
-        Err(fault) => end_faulty(fault, tells, output, errors),
+        Ok(end) => end_framed(end, tells, output, errors),
+        Err(fault) => end_faulty(fault, whole, tells, output, errors),
     }
 }
 
 /// Evaluates the fields of the worksheet on a disk, and reports how that ended.
-fn end_on<W: Write, E: Says, D: Close, S: Sources, T: Tells, P: Programs>(
+fn end_on<W: Write, E: Says, D: Close, S: Sources, T: Tells + Copy, P: Programs + Drop>(
     alloc: Global,
-    plan: &Plan,
-    programs: &P,
-    tells: &T,
-    output: &mut W,
+    plan: Plan,
+    programs: P,
+    tells: T,
+    output: W,
     errors: &mut E,
     disk: D,
-    sources: &mut S,
-) -> Ending
-    ensures { EvaluationEnded (P.finds programs.now) (setting T.voice S.after S.clock S.wakes plan.now []) (given_disk (closable D.view D.closed) disk) (calling sources.old sources.new)
-        (streams (writing W.contents output.old output.new) (saying E.contents E.tried errors.old errors.new)) result }
+    sources: S,
+) -> LiveEnding<S, W>
+    ensures { EvaluationBegun (eval_setting plan programs P.finds T.voice S.after S.clock S.wakes) (given_disk (closable D.view D.closed) disk) (calling sources result.sources)
+        (streams (writing W.contents output result.output) (saying E.contents E.tried errors.old errors.new)) result.ending }
 {
-    let answer = evaluate_framed(alloc, plan, programs, tells, output, disk, sources);
-    end_evaluation(answer, tells, output, errors)
+    let Evaluated {
+        answer,
+        whole,
+        sources,
+        mut output,
+    } = evaluate_on(alloc, plan, programs, tells, output, disk, sources);
+    LiveEnding {
+        ending: end_evaluation(answer, whole, &tells, &mut output, errors),
+        sources,
+        output,
+    }
+}
+
+/// Writes the voice's first message, evaluates, and reports how that ended.
+fn end_greeted<W: Write, E: Says, D: Close, S: Sources, T: Tells + Copy, P: Programs + Drop>(
+    alloc: Global,
+    plan: Plan,
+    programs: P,
+    tells: T,
+    mut output: W,
+    errors: &mut E,
+    disk: D,
+    sources: S,
+) -> LiveEnding<S, W>
+    ensures { EvaluationEnded (eval_setting plan programs P.finds T.voice S.after S.clock S.wakes) (given_disk (closable D.view D.closed) disk) (calling sources result.sources)
+        (streams (writing W.contents output result.output) (saying E.contents E.tried errors.old errors.new)) result.ending }
+{
+    match tells.frame(Frame::Hello, &mut output) {
+        Ok(()) => end_on(alloc, plan, programs, tells, output, errors, disk, sources),
+        Err(why) => {
+            disk.close();
+            LiveEnding {
+                ending: end_told(Err(why), &tells, &mut output, errors),
+                sources,
+                output,
+            }
+        }
+    }
 }
 
 /// The whole program `eval` on its files, or on why they weren't opened. Each program that it needs is looked for
 /// first. What comes of each field goes to
 /// `output`, flushed at once, and the counts at the end. The line of a fault goes to `errors`, and so does
-/// that of the place where a strict evaluation stopped.
-pub fn run_evaluation<W: Write, E: Says, D: Close, S: Sources, T: Tells, P: Programs>(
+/// that of the place where a strict evaluation stopped. Sources and output are given back.
+pub fn run_evaluation<W: Write, E: Says, D: Close, S: Sources, T: Tells + Copy, P: Programs + Drop>(
     alloc: Global,
-    plan: &Plan,
-    programs: &P,
-    tells: &T,
-    output: &mut W,
+    plan: Plan,
+    programs: P,
+    tells: T,
+    mut output: W,
     errors: &mut E,
     files: Result<D, FilesFault>,
-    sources: &mut S,
-) -> Ending
-    ensures unopened { IfErr files (LiveUnopened T.voice (calling sources.old sources.new)
-        (streams (writing W.contents output.old output.new) (saying E.contents E.tried errors.old errors.new)) result) }
+    sources: S,
+) -> LiveEnding<S, W>
+    ensures unopened { IfErr files (LiveUnopened T.voice (calling sources result.sources)
+        (streams (writing W.contents output result.output) (saying E.contents E.tried errors.old errors.new)) result.ending) }
 
-    ensures files { IfOk files (λ disk. EvaluationEnded (P.finds programs.now) (setting T.voice S.after S.clock S.wakes plan.now []) (given_disk (closable D.view D.closed) disk) (calling sources.old sources.new)
-        (streams (writing W.contents output.old output.new) (saying E.contents E.tried errors.old errors.new)) result) }
+    ensures files { IfOk files (λ disk. EvaluationEnded (eval_setting plan programs P.finds T.voice S.after S.clock S.wakes) (given_disk (closable D.view D.closed) disk) (calling sources result.sources)
+        (streams (writing W.contents output result.output) (saying E.contents E.tried errors.old errors.new)) result.ending) }
 {
     match files {
-        Ok(disk) => end_on(alloc, plan, programs, tells, output, errors, disk, sources),
-        Err(why) => end_told(Err(no_files(why)), tells, output, errors),
+        Ok(disk) => end_greeted(alloc, plan, programs, tells, output, errors, disk, sources),
+        Err(why) => LiveEnding {
+            ending: end_told(Err(no_files(why)), &tells, &mut output, errors),
+            sources,
+            output,
+        },
     }
 }

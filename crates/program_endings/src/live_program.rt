@@ -68,7 +68,7 @@ fn with_fault<S, W: Write, T: Tells + Copy>(
 }
 
 /// Whether a run prints a fault itself.
-fn is_printed(why: RunFault) -> bool
+pub(crate) fn is_printed(why: RunFault) -> bool
     ensures { result ≡ meant.is_printed why }
 {
     match why {
@@ -282,7 +282,7 @@ fn tell_last<A: Copy, W: Write, T: Tells>(
 }
 
 /// The same ending, where what stands last went out or didn't.
-fn with_last(ending: Ending, said: bool) -> Ending
+pub(crate) fn with_last(ending: Ending, said: bool) -> Ending
     ensures { result ≡ record { status = ending.status; told = ending.told && said } }
 {
     Ending {

@@ -254,8 +254,9 @@ compare 'a slow one holds no other session back' "$(sorted 2 --jobs 2 --timeout 
 compare 'the third is asked when one of two has answered' "$(grep -A 1 '^answered 1$' text)" "$(printf 'answered 1\nasked')"
 made 'session a plain sh count.sh\nsession b plain sh count.sh\nnew 0 a x\nnew 1 a y\nnew 2 b z\n'
 "$tmhost" eval --jobs 4 sheet >text 2>errors </dev/null
-compare 'a field waits for the one before it in its session' "$(sed -n 1,2p text; grep -A 1 '^answered 1$' text; LC_ALL=C sort text; cat errors)" \
-    "$(printf 'asked\nasked\nanswered 1\nasked\nanswered 1\nanswered 2\nanswered 3\nanswered 3 unanswered 0\nasked\nasked\nasked\nbanner a\nbanner b')"
+# The answer of the other session may be taken together with the first one's.
+compare 'a field waits for the one before it in its session' "$(sed -n 1,2p text; sed '1,/^answered 1$/d' text | grep -c '^asked$'; LC_ALL=C sort text; cat errors)" \
+    "$(printf 'asked\nasked\n1\nanswered 1\nanswered 2\nanswered 3\nanswered 3 unanswered 0\nasked\nasked\nasked\nbanner a\nbanner b')"
 for words in '--jobs 1' --strict; do
     printf 'clear 1\nclear 2\nclear 3\n' >given
     "$tmhost" run sheet <given >text

@@ -1,0 +1,9 @@
+use Rattle.std.proofs.Common.{refl}
+use Rattle.program_endings.specs.EvalProgram.{greeted, ungreeted}
+use Rattle.program_endings.proofs.eval_program.end_greeted.Goals as goal
+
+pub returns-in-Ok : goal.returns-in-Ok
+returns-in-Ok g c = greeted c.frame.new.writer (c.in-Ok.ensures.ok, c.in-Ok.ensures.still) c.end_on.ensures
+
+pub returns-in-Err : goal.returns-in-Err
+returns-in-Err g c = ungreeted c.in-Err.why c.frame.new.writer c.in-Err.ensures.err.0 c.in-Err.ensures.err.1 c.end_told.ensures.last c.end_told.ensures.status c.end_told.ensures.told refl c.close.ensures
