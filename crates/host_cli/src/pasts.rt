@@ -109,7 +109,14 @@ fn export_after<Y: System>(
     }
     match read_past(alloc, outside.places.open_to_read(path), u64::from(changes)) {
         Ok(found) => {
-            export_found(alloc, format, found, path, &mut outside.output, &mut outside.errors)
+            export_found(
+                alloc,
+                format,
+                found,
+                path,
+                &mut outside.output,
+                &mut outside.errors,
+            )
         }
         Err(why) => end_past(why, &mut outside.errors),
     }
