@@ -1,5 +1,5 @@
 // Asks a child for answers over pipes, and writes for each the two records that `tmhost` writes, with the same four syncs: the one of
-// the field without an answer when its line is sent, and the one of the answer when it came (docs/FORMAT.md, "Append").
+// the field without an answer when its line is sent, and the one of the answer when it came (docs/trust/FORMAT.md, "Append").
 #include <errno.h>
 #include <fcntl.h>
 #include <stdio.h>

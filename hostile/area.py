@@ -1,4 +1,4 @@
-"""What stands in a worksheet's file, by docs/FORMAT.md and docs/SCRIPT.md: a reader of records, payloads and ops apart from the program's
+"""What stands in a worksheet's file, by docs/trust/FORMAT.md and docs/use/SCRIPT.md: a reader of records, payloads and ops apart from the program's
 own text, and a worksheet that takes ops as long as they are allowed."""
 
 import struct

@@ -1,4 +1,4 @@
-"""Blocks as interpreters may write them, and what is read of them, by docs/PROTOCOL.md and docs/SCRIPT.md: apart from the program's own text."""
+"""Blocks as interpreters may write them, and what is read of them, by docs/use/PROTOCOL.md and docs/use/SCRIPT.md: apart from the program's own text."""
 
 import random
 import re

@@ -1,4 +1,4 @@
-"""A client that follows lines of JSON (docs/JSON.md): which line each object is about, which lines and requests wait in which life, and what the
+"""A client that follows lines of JSON (docs/use/JSON.md): which line each object is about, which lines and requests wait in which life, and what the
 worksheet must be by that. Each banner and answer must be what the play of its interpreter has there."""
 
 from collections import Counter

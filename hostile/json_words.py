@@ -1,4 +1,4 @@
-"""Lines of JSON that `live --json` tells (docs/JSON.md), read strictly, and put into the words that `live` tells of the same (docs/SCRIPT.md)."""
+"""Lines of JSON that `live --json` tells (docs/use/JSON.md), read strictly, and put into the words that `live` tells of the same (docs/use/SCRIPT.md)."""
 
 import base64
 import json

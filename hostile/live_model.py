@@ -1,4 +1,4 @@
-"""What a live worksheet may tell and leave, by docs/SCRIPT.md: the model of scripts, taken event by event in the order of what was told."""
+"""What a live worksheet may tell and leave, by docs/use/SCRIPT.md: the model of scripts, taken event by event in the order of what was told."""
 
 import copy
 import itertools

@@ -1,4 +1,4 @@
-"""What a script over a worksheet may tell and leave, by docs/SCRIPT.md: a model apart from the program's own text.
+"""What a script over a worksheet may tell and leave, by docs/use/SCRIPT.md: a model apart from the program's own text.
 
 A `Model` follows what a run of a script wrote, line by line, and then knows which worksheets may be on the disk: that
 behind all that was told, and those to which the line that was being done may have led.

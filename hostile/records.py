@@ -1,4 +1,4 @@
-"""Records of a worksheet's file, by docs/FORMAT.md, as they are written."""
+"""Records of a worksheet's file, by docs/trust/FORMAT.md, as they are written."""
 
 import struct
 from collections.abc import Iterable

@@ -1,13 +1,14 @@
 #!/usr/bin/env python3
-"""Writes docs/THEOREM.md: the theorem, and under it each definition and type that it needs, in the order in which a reader meets them.
+"""Writes docs/trust/THEOREM.md, the theorem, and DEFINITIONS.md beside it: each definition and type that it needs, in the order in which a
+reader meets them.
 
-    theorem/page.py           writes the page, and prints how many definitions and lines it has
-    theorem/page.py --check   says whether the page is the one that would be written; status 1 where it isn't
+    theorem/page.py           writes both pages, and prints how many definitions and lines there are
+    theorem/page.py --check   says whether the pages are those that would be written; status 1 where they aren't
 
-The first part of the page is theorem/head.md. In it {crate.Module.name} and {crate::Type} are links to what the page then has, and
+The first page is theorem/head.md, the second begins with theorem/definitions.md. In it {crate.Module.name} and {crate::Type} are links to what the second page then has, and
 {file crate.Module.name} is one to the file. {clause F N} is the clause N of the host's function F, {law F} a link to the function whose
 contract is a law, {mutant N} one to an edit that the proofs refuse, and {worked} the run of theorem/worked.py. Both forms of the command
-fail where a word of the page's code is of the repository and isn't linked.
+fail where a word of the pages' code is of the repository and isn't linked.
 """
 from __future__ import annotations
 
@@ -22,7 +23,9 @@ import worked  # noqa: E402
 from sources import ROOT, Definition, Key, Sources, files, line_of, read  # noqa: E402
 
 HEAD = "theorem/head.md"
-PAGE = "docs/THEOREM.md"
+FOOT = "theorem/definitions.md"
+PAGE = "docs/trust/THEOREM.md"
+BEHIND = "docs/trust/DEFINITIONS.md"
 HOST = "crates/session_engine/src/host.rt"
 CALLS = ("crates/host_laws/src/made.rt", "crates/theorem/src/lib.rt")  # laws that make the call that they speak of
 PLACE = re.compile(r"\{(?:(?P<kind>clause \w+|law|mutant) (?P<word>\w+)|(?P<file>file )?(?P<module>\w+::|\w+(?:\.\w+)*\.)(?P<name>[\w']+))\}")
@@ -168,7 +171,7 @@ class Page:
             told.append(sentence.replace("LAW", f"[{law[1]}](#{anchor(law)})"))
         if key in self.sources.laws:
             function, file, line = self.sources.laws[key]
-            told.append(f"Proved: the contract of [`{function}`](../{file}#L{line}).")
+            told.append(f"Proved: the contract of [`{function}`](../../{file}#L{line}).")
         return " ".join(sentence if sentence.endswith(".") else sentence + "." for sentence in filter(None, told))
 
     def entry(self, definition: Definition) -> str:
@@ -226,7 +229,7 @@ class Page:
             found = self.laws() if match["kind"] == "law" else edits()
             if match["word"] not in found:
                 sys.exit(f"theorem/head.md names {match[0]}, and there is none")
-            return f"[`{match['word']}`](../{found[match['word']]})"
+            return f"[`{match['word']}`](../../{found[match['word']]})"
         key = self.key_of(match)
         return f"[`{key[1]}`]({self.sources.definitions[key].place if match['file'] else self.link(key)})"
 
@@ -282,7 +285,7 @@ def main(words: list[str]) -> int:
         return 1
     if words == ["--check"]:
         same = read(PAGE) == text
-        print("docs/THEOREM.md is " + ("as the definitions are" if same else "another than the definitions: run theorem/page.py"))
+        print("docs/trust/THEOREM.md is " + ("as the definitions are" if same else "another than the definitions: run theorem/page.py"))
         return 0 if same else 1
     with open(os.path.join(ROOT, PAGE), "w", encoding="utf-8") as file:
         file.write(text)

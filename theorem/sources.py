@@ -68,7 +68,7 @@ class Definition:
 
     @property
     def place(self) -> str:
-        return f"../{self.file}#L{self.line}"
+        return f"../../{self.file}#L{self.line}"
 
     def code(self) -> list[str]:
         return [line for line in self.lines if not is_comment(line)]

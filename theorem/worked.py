@@ -1,5 +1,5 @@
 #!/usr/bin/env python3
-"""A run of six events with a crash in the fourth, for docs/THEOREM.md: its replies, the bytes on the disk, what a crash may leave of them,
+"""A run of six events with a crash in the fourth, for docs/trust/THEOREM.md: its replies, the bytes on the disk, what a crash may leave of them,
 and what opens.
 
     theorem/worked.py            prints the tables

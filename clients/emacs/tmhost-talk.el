@@ -2,7 +2,7 @@
 
 ;;; Commentary:
 
-;; The program takes lines and writes objects, a line each (docs/JSON.md).  An
+;; The program takes lines and writes objects, a line each (docs/use/JSON.md).  An
 ;; object with a `line' is about the line with this number; others are told of
 ;; interpreters.  A talk belongs to the buffer in which it was started.
 

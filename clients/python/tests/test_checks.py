@@ -12,7 +12,7 @@ from support import PROGRAM, ROOT, WORDS, Case, needs_program
 
 from tmhost import Block, Checked, Compared, Died, InUse, NoWorksheet, check
 
-SCHEMA = os.path.join(ROOT, "docs/json.schema.json")
+SCHEMA = os.path.join(ROOT, "docs/use/json.schema.json")
 TWICE = """import os, sys
 write = lambda text: (sys.stdout.buffer.write(text), sys.stdout.flush())
 write(b"\\x02verbatim:\\x05")

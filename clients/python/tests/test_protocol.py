@@ -1,4 +1,4 @@
-"""The protocol without a program: the talk of docs/JSON.md, and lines that are not of it."""
+"""The protocol without a program: the talk of docs/use/JSON.md, and lines that are not of it."""
 
 import concurrent.futures
 import json
@@ -14,7 +14,7 @@ from tmhost import commands
 from tmhost.protocol import Lines, Taken
 from tmhost.reading import read
 
-PAGE = os.path.join(ROOT, "docs/JSON.md")
+PAGE = os.path.join(ROOT, "docs/use/JSON.md")
 HELLO: Dict[str, Any] = {"format": 1, "program": "tmhost", "protocol": 2, "type": "hello", "version": "0"}
 BLOCK: Dict[str, Any] = {"items": [], "kind": "format", "tag": "verbatim"}
 BANNER: Dict[str, Any] = {"life": 1, "output": BLOCK, "session": "a", "shown": "", "type": "banner"}

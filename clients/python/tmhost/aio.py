@@ -267,7 +267,7 @@ class AsyncWorksheet:
         await self._do(commands.Checkpoint())
 
     async def export(self, format: str) -> Text:
-        """The worksheet in a format (docs/EXPORT.md): "script", "markdown", "html", "notebook" or "json". Raises NoScript where it has no script,
+        """The worksheet in a format (docs/use/EXPORT.md): "script", "markdown", "html", "notebook" or "json". Raises NoScript where it has no script,
         and BadLine where there is no such format."""
         told = await self._do(commands.Export(format))
         if told is None:

@@ -295,7 +295,7 @@ class Worksheet:
         self._do(commands.Checkpoint())
 
     def export(self, format: str) -> Text:
-        """The worksheet in a format (docs/EXPORT.md): "script", "markdown", "html", "notebook" or "json". Raises NoScript where it has no script,
+        """The worksheet in a format (docs/use/EXPORT.md): "script", "markdown", "html", "notebook" or "json". Raises NoScript where it has no script,
         and BadLine where there is no such format."""
         told = self._do(commands.Export(format))
         if told is None:

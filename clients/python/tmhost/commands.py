@@ -1,4 +1,4 @@
-"""The lines that are sent (docs/SCRIPT.md), and what each changes when its reply has come."""
+"""The lines that are sent (docs/use/SCRIPT.md), and what each changes when its reply has come."""
 
 import dataclasses
 import re

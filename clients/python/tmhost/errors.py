@@ -13,7 +13,7 @@ class TmhostError(Exception):
 
 
 class Refused(TmhostError):
-    """A command was refused, and nothing was changed. docs/SCRIPT.md, "Refusals", has the names and numbers."""
+    """A command was refused, and nothing was changed. docs/use/SCRIPT.md, "Refusals", has the names and numbers."""
 
     def __init__(self, name: str, number: int) -> None:
         super().__init__(name, number)
@@ -42,7 +42,7 @@ class NoScript(TmhostError):
 
 
 class Lost(TmhostError):
-    """The interpreter ended before it answered. `reason` is one of the nine names of docs/SCRIPT.md, as "Ended" or "Stopped"."""
+    """The interpreter ended before it answered. `reason` is one of the nine names of docs/use/SCRIPT.md, as "Ended" or "Stopped"."""
 
     def __init__(self, reason: str) -> None:
         super().__init__(reason)
@@ -81,7 +81,7 @@ class ProtocolError(TmhostError):
 class Died(TmhostError):
     """The program ended by itself. What was told before is on the disk; a call that raises this may be done or not.
 
-    `fault`, `number` and `offset` are those of the fault that it told (docs/FAULTS.md), None where it told none. `told` is what stands on
+    `fault`, `number` and `offset` are those of the fault that it told (docs/use/FAULTS.md), None where it told none. `told` is what stands on
     its standard error. `status` is its exit status, below zero where a signal ended it, None where it isn't known.
     """
 

@@ -1,4 +1,4 @@
-"""The protocol of docs/JSON.md without input or output: lines come in, and what is to be told and sent goes out."""
+"""The protocol of docs/use/JSON.md without input or output: lines come in, and what is to be told and sent goes out."""
 
 import collections
 import copy
@@ -162,7 +162,7 @@ class Protocol:
 
     def _lose(self, session: str, reason: str, lost: Tuple[LostItem, ...], taken: Taken) -> None:
         """The first line keeps the reason, but where the same piece of output had an answer too, or where the journal has no room for it
-        (docs/HOST.md, "What an event does"). Neither can be seen from here, so the cell is looked at."""
+        (docs/dev/HOST.md, "What an event does"). Neither can be seen from here, so the cell is looked at."""
         items = self.mirror.ended(session, reason, lost)
         for item in items:
             taken.fail(item.waiter, Lost(reason))

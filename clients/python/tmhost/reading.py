@@ -1,4 +1,4 @@
-"""Lines of JSON as the program writes them (docs/JSON.md), read strictly.
+"""Lines of JSON as the program writes them (docs/use/JSON.md), read strictly.
 
 Members that aren't known are passed over, and so are objects without `line` of a type that isn't known. All else that isn't of the
 protocol is a ProtocolError.

@@ -23,7 +23,7 @@ def run(
     timeout: Optional[int] = None,
     program: Program = None,
 ) -> "Generator[Union[Reply, Event], None, None]":
-    """Does the lines of a script (docs/SCRIPT.md) on a worksheet, with interpreters of its own, which are stopped at its end.
+    """Does the lines of a script (docs/use/SCRIPT.md) on a worksheet, with interpreters of its own, which are stopped at its end.
 
     Gives a `Reply` for each line, in their order and as soon as it is done, and an `Event` for what comes of an interpreter during a
     `wait`; what they say is on the disk. A `wait` may take `timeout` seconds; then interpreters are interrupted (each is a `Warned`), and

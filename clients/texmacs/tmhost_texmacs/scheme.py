@@ -6,7 +6,7 @@ from typing import List, Sequence, Tuple, Union
 Form = Union[str, "Name", List["Form"]]  # a string, a name or a number as it stands there, a list
 
 TOKEN = re.compile(r'\s*(?:(?P<open>[(\[])|(?P<close>[)\]])|"(?P<text>(?:[^"\\]|\\.)*)"|(?P<name>[^\s()"\[\]]+))', re.DOTALL)
-# A backslash before another letter stands for itself, as in a request of completions (docs/PROTOCOL.md).
+# A backslash before another letter stands for itself, as in a request of completions (docs/use/PROTOCOL.md).
 ESCAPED = re.compile(r'\\(["\\])')
 
 

@@ -1,4 +1,4 @@
-"""Which outputs are a formula that stands in Markdown as it is: the rule of docs/EXPORT.md (crates/sheet_notebook/specs/Formulas.antt)."""
+"""Which outputs are a formula that stands in Markdown as it is: the rule of docs/use/EXPORT.md (crates/sheet_notebook/specs/Formulas.antt)."""
 import re
 from typing import List, Optional, Tuple, Union
 

@@ -1,4 +1,4 @@
--- What a line asks for by itself. (docs/SCRIPT.md, "Live".)
+-- What a line asks for by itself. (docs/use/SCRIPT.md, "Live".)
 use Rattle.std.specs.Prelude.{◌≡◌, ◌≢◌, ◌⊎◌, ℕ, true, false, List, [], ◌∷◌, Option, Some, None}
 use Rattle.std.specs.declared.alloc.Global.{Global}
 use Rattle.std.specs.declared.vec.Vec.{Vec}

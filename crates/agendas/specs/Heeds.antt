@@ -1,4 +1,4 @@
--- What an agenda of lines makes of what came. (docs/SCRIPT.md, "Live".)
+-- What an agenda of lines makes of what came. (docs/use/SCRIPT.md, "Live".)
 use Rattle.std.specs.Prelude.{◌≡◌, ◌≢◌, ◌⊎◌, ℕ, ◌&&◌, ◌||◌, not, Bool, true, false, List, [], ◌∷◌, Option, Some, None}
 use Rattle.std.specs.List.{list_any}
 use Rattle.session_engine.specs.World.{World}

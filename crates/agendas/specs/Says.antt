@@ -1,4 +1,4 @@
--- What an agenda of lines says is next. (docs/SCRIPT.md, "Live".)
+-- What an agenda of lines says is next. (docs/use/SCRIPT.md, "Live".)
 use Rattle.std.specs.Prelude.{◌≡◌, ℕ, ◌+◌, ◌^◌, ◌≤◌, ◌&&◌, Bool, true, List, [], ◌∷◌, Some, Result, Ok, Err}
 use Rattle.session_engine.specs.World.{World}
 use Rattle.child_calls.specs.declared.seat.Seat.{Seat}

@@ -26,7 +26,7 @@ use tellings::Note;
 /// The most lines after which those of another group can be counted.
 const MOST_COUNTED: u64 = u64::MAX - 1_025;
 
-/// Lines that are taken as they come, or one after the other, in a manner (docs/SCRIPT.md, "Live").
+/// Lines that are taken as they come, or one after the other, in a manner (docs/use/SCRIPT.md, "Live").
 ///
 /// It reads its input, and says for each line what a driver does. A wait holds back the lines after it; a strict input stops after
 /// the first line that goes wrong.

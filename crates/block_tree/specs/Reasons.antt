@@ -1,4 +1,4 @@
--- Reasons by number, as a disk keeps them. (docs/FORMAT.md, "Payloads".)
+-- Reasons by number, as a disk keeps them. (docs/trust/FORMAT.md, "Payloads".)
 use Rattle.std.specs.Prelude.{ℕ}
 use Rattle.block_tree.specs.declared.reason.Reason.{Reason}
 use Rattle.block_tree.specs.declared.reason.Reason.TheVariants as reason

@@ -13,7 +13,7 @@ use std::marker::Model;
 /// no empty text and no two texts side by side, and at most 32 blocks in one another.
 ///
 /// Contracts see it as its tree. (TeXmacs manual, interfacing: formatted output. What a tag is, and the
-/// limits: docs/PROTOCOL.md, "Spelling of blocks".)
+/// limits: docs/use/PROTOCOL.md, "Spelling of blocks".)
 #[derive(Debug, Drop)]
 pub struct Block {
     pub(crate) node: Node,

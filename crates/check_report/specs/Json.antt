@@ -1,4 +1,4 @@
--- A report as lines of JSON. (docs/JSON.md.)
+-- A report as lines of JSON. (docs/use/JSON.md.)
 use Rattle.std.specs.Prelude.{ℕ, List, ◌++◌, Option}
 use Rattle.block_tree.specs.declared.reason.Reason.{Reason}
 use Rattle.worksheet.specs.declared.field.Answer.{Answer}

@@ -1,4 +1,4 @@
--- A report in words. (docs/CHECK.md has the same in words.)
+-- A report in words. (docs/use/CHECK.md has the same in words.)
 use Rattle.std.specs.Prelude.{ℕ, List, [], ◌∷◌, ◌++◌, Option, None, codes, nat_eq, if◌then◌else◌}
 use Rattle.std.specs.Fmt.{decimal}
 use Rattle.std.specs.List.{flat_map}

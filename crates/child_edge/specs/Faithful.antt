@@ -1,4 +1,4 @@
--- Faithful runs: every effect is one call, and every answer one event. (docs/EDGE.md, "A faithful run".)
+-- Faithful runs: every effect is one call, and every answer one event. (docs/dev/EDGE.md, "A faithful run".)
 use Rattle.std.specs.Prelude.{◌≡◌, ℕ, ◌≤◌, zero, suc, Bool, true, false, List, [], ◌∷◌, ◌++◌, Option, Some, None, length, slice_get, ◌⊎◌, nat_lt}
 use Rattle.host_events.specs.declared.event.ChildEvent.{ChildEvent}
 use Rattle.host_events.specs.declared.event.ChildEvent.TheVariants as child

@@ -1,4 +1,4 @@
--- What a crash leaves at every moment of a run. (docs/EDGE.md, "A crash".)
+-- What a crash leaves at every moment of a run. (docs/dev/EDGE.md, "A crash".)
 use Rattle.std.specs.Prelude.{List, [], ◌∷◌, ◌++◌, map}
 use Rattle.disk_model.specs.Disk.{DiskView}
 use Rattle.host_events.specs.declared.event.Event.{Event}

@@ -1,4 +1,4 @@
--- A wait that is taken life by life. (docs/EDGE.md, "A faithful run".)
+-- A wait that is taken life by life. (docs/dev/EDGE.md, "A faithful run".)
 use Rattle.std.specs.Prelude.{◌≡◌, ℕ, ◌≤◌, ◌+◌, ◌-◌, ◌*◌, ◌^◌, Bool, true, false, List, ◌++◌, None, length, nat_lt}
 use Rattle.host_events.specs.declared.reply.Reply.{Reply}
 use Rattle.session_engine.specs.World.{World}

@@ -1,4 +1,4 @@
--- Events that are taken together: what they give is durable before a child is called for one of them. (docs/EDGE.md, "A group".)
+-- Events that are taken together: what they give is durable before a child is called for one of them. (docs/dev/EDGE.md, "A group".)
 use Rattle.std.specs.Prelude.{◌≡◌, ◌⊎◌, ℕ, List, [], ◌∷◌, ◌++◌, Option, Some, None, option_map, slice_get, true}
 use Rattle.disk_model.specs.Disk.{DiskView, InModel, LeavesOnly, Rises, SameDisk}
 use Rattle.recovery.specs.Sheets.{IsSheetOf}

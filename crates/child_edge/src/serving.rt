@@ -176,7 +176,7 @@ pub(crate) fn follow<D: Disk, C: Children>(
 /// Takes a command, carries its effect out, and takes the fault that the effect meets likewise.
 ///
 /// The run is faithful: each effect is one call on the children and each fault of such a call the
-/// next event, and nothing else happens (docs/EDGE.md, "A faithful run"). The replies are those of
+/// next event, and nothing else happens (docs/dev/EDGE.md, "A faithful run"). The replies are those of
 /// its events but `Nothing`: at most three. At every moment each image of the disk is one of the
 /// worksheet after some of the first events; after `Ok` it is the one after all of them.
 ///

@@ -53,7 +53,7 @@ const BLOCKS_ABOUT: &str = "Write the blocks of the stream on standard input, a 
 const BLOCKS_NOTES: &str =
     "A line is the offset of the block's first byte, the offset after its last one,\n\
 and the block with its tags. With --json each line is one object, which programs\n\
-read (docs/JSON.md).\n\n\
+read (docs/use/JSON.md).\n\n\
 Status: 0 where the stream is whole; 1 where it has a fault or an open block, or\n\
 at a fault of the program; 2 where the words are refused.\n\n\
 Example: printf '\\002verbatim:Hi\\005' | tmhost blocks";
@@ -78,7 +78,7 @@ done: that is the fault 35 InUse.\n\n\
 With --strict it stops after the first line that is bad or refused, or by which\n\
 lines were lost since an interpreter ended: what that line gives is written, what\n\
 was reported is on the disk, and standard error has `stopped at line N`.\n\n\
-With --json each line is one object, which programs read (docs/JSON.md). With\n\
+With --json each line is one object, which programs read (docs/use/JSON.md). With\n\
 --timeout SECONDS (1 to 1,000,000) the interpreters that are at something are sent\n\
 SIGINT where a line takes longer in a `wait`, reported as of `interrupt NAME`, and\n\
 are stopped where they haven't answered two seconds later. With either, and where\n\
@@ -101,7 +101,7 @@ bytes at most, and `print ID`, `wait SECONDS`, `export FORMAT`, which writes wha
 `export` does, and `interrupt NAME`, which sends SIGINT to an interpreter that is\n\
 at something. A `wait` holds back the lines after it until no answer is awaited,\n\
 or its time is over. At the end of the input each interpreter is stopped.\n\n\
-With --json each line is one object, which programs read (docs/JSON.md).\n\n\
+With --json each line is one object, which programs read (docs/use/JSON.md).\n\n\
 Status: 0 where the input came to its end, also where it had bad lines and refused\n\
 commands; 1 at a fault; 2 where the words are refused.\n\n\
 Example: printf 'print\\n' | tmhost live sheet";
@@ -127,7 +127,7 @@ longer is sent SIGINT, which is reported as `over ID`, and is stopped where it\n
 hasn't answered two seconds later. Fields after one of their session that shows no\n\
 answer are passed over then, and keep what they show, but with --keep-going. A\n\
 line `over 1 passed 12` has these counts. With --json each line is one object\n\
-(docs/JSON.md).\n\n\
+(docs/use/JSON.md).\n\n\
 Fields of up to 64 sessions wait at a time, of each session one: first the first\n\
 field of each session is asked, then the second of each, and so on. With --strict,\n\
 and with --timeout, one field goes after another, in the worksheet's order. With\n\
@@ -161,7 +161,7 @@ without --accept, both outputs are written whole. Prompts aren't compared. The l
 line has the counts, as `same 4 differ 1 unanswered 0`.\n\n\
 With --format it reports each field as a test: as a point of TAP 13, or as a case\n\
 in JUnit's XML. With --json, which is --format json, each is one object, which\n\
-programs read (docs/JSON.md). --only names the one session whose fields are\n\
+programs read (docs/use/JSON.md). --only names the one session whose fields are\n\
 evaluated. The outputs of the fields that --leave-out names aren't compared, as of\n\
 3, 7, 8 and 9 by --leave-out 3,7-9, and with --compare 3,7-9 theirs alone are; all\n\
 are evaluated all the same, and counted as left out.\n\n\
@@ -220,7 +220,7 @@ html      one page that stands alone, without scripts: prompts, inputs and outpu
 \x20         all of them as texts\n\
 notebook  a notebook of Jupyter: each field as a cell of code, with its output as\n\
 \x20         text, and beside it as the formula where it is one\n\
-json      lines of JSON, which programs read (docs/JSON.md): a line for each field,\n\
+json      lines of JSON, which programs read (docs/use/JSON.md): a line for each field,\n\
 \x20         with its output as a tree of blocks\n\n\
 It reads PATH as `show` does, with --at N too, and writes and makes no file.\n\n\
 Status: 0 where all was written; 1 at a fault; 2 where the words are refused.\n\n\
@@ -292,7 +292,7 @@ const FAULTS_NOTES: &str =
 \x20                again\n\
 44 NoProgram     the program of the session that is named isn't there; nothing was\n\
 \x20                evaluated: install it, or put its folder into PATH\n\n\
-docs/FAULTS.md has more of each.";
+docs/use/FAULTS.md has more of each.";
 
 /// A row.
 fn listed(name: &'static str, shape: Shape, about: &'static str, notes: &'static str) -> Row

@@ -1,4 +1,4 @@
--- The image that a choice names (docs/FORMAT.md, "Crashes in tests").
+-- The image that a choice names (docs/trust/FORMAT.md, "Crashes in tests").
 use Rattle.std.specs.Prelude.{◌≡◌, ℕ, ◌+◌, ◌-◌, Bool, if◌then◌else◌, List, [], ◌∷◌, ◌++◌, length, take, replicate}
 use Rattle.disk_model.specs.Disk.{AreaState, AtMoment, DiskState, DiskView, Image, IsImage, IsRestarted, Written, overwritten, bytes_on}
 use Rattle.disk_model.specs.Calls.{fresh}

@@ -1,4 +1,4 @@
--- A disk of two areas: what its calls do, and what a crash at any moment may leave (docs/FORMAT.md,
+-- A disk of two areas: what its calls do, and what a crash at any moment may leave (docs/trust/FORMAT.md,
 -- "What a crash may leave").
 use Rattle.std.specs.Prelude.{◌≡◌, ℕ, ◌+◌, ◌-◌, ◌≤◌, ◌^◌, max, min, Bool, false, IsTrue, List, [], ◌∷◌, ◌++◌, length, take, drop, Result, MatchResult}
 use Rattle.std.specs.List.{AllByRecursion}

@@ -21,7 +21,7 @@ pub enum Fill {
     Byte(u8),
 }
 
-/// A crash after the first `moment` calls (docs/FORMAT.md, "Crashes in tests").
+/// A crash after the first `moment` calls (docs/trust/FORMAT.md, "Crashes in tests").
 ///
 /// In each area, on what its last sync left, its later writes stand in the order of their calls,
 /// each with its range filled by `fill`; bytes that never were are 0. An area has the length that

@@ -18,7 +18,7 @@ pub enum Area {
 #[derive(Clone, Copy, Debug, PartialEq, Eq)]
 pub struct DiskFault;
 
-/// Two areas of bytes, each of which can grow up to the disk's room (docs/FORMAT.md, "What a crash
+/// Two areas of bytes, each of which can grow up to the disk's room (docs/trust/FORMAT.md, "What a crash
 /// may leave").
 ///
 /// A disk counts its failures, and its contract speaks of them always. A disk that keeps the model

@@ -1,4 +1,4 @@
--- What lives have that are received from one after another. (docs/EDGE.md, "A group".)
+-- What lives have that are received from one after another. (docs/dev/EDGE.md, "A group".)
 use Rattle.std.specs.Prelude.{◌≡◌, ◌⊎◌, ◌≤◌, ℕ, List, [], ◌∷◌, ◌++◌, Option, Some, None, length}
 use Rattle.host_events.specs.declared.event.Event.{Event}
 use Rattle.child_calls.specs.declared.seat.Seat.{Seat}

@@ -1,4 +1,4 @@
--- Sessions side by side: which field is asked while others wait, and which of those that wait is interrupted next. (docs/SCRIPT.md,
+-- Sessions side by side: which field is asked while others wait, and which of those that wait is interrupted next. (docs/use/SCRIPT.md,
 -- "Evaluating a worksheet".)
 use Rattle.std.specs.Prelude.{◌≡◌, ◌≢◌, ◌⊎◌, ◌==◌, ◌<◌, ◌≤◌, ◌+◌, ◌-◌, ◌&&◌, ℕ, Bool, true, false, not, List, Option, Some, None, length, nat_lt, option_map, slice_get}
 use Rattle.worksheet.specs.Checks.{field_in}

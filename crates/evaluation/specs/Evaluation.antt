@@ -1,4 +1,4 @@
--- The evaluation of a worksheet's fields: what it leaves at its end, and what a fault of it leaves. (docs/SCRIPT.md, "Evaluating a worksheet".)
+-- The evaluation of a worksheet's fields: what it leaves at its end, and what a fault of it leaves. (docs/use/SCRIPT.md, "Evaluating a worksheet".)
 use Rattle.std.specs.Prelude.{◌≡◌, ◌⊎◌, ℕ, false, true, List, [], ◌++◌, Option, Some, None, Result, Ok, Err, length}
 use Rattle.std.specs.Io.KnownBytes.{Appends}
 use Rattle.disk_model.specs.Disk.{DiskView, InModel, bytes_on}

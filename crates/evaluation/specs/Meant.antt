@@ -1,4 +1,4 @@
--- Which fields are evaluated, which of them are passed over, and what an evaluation comes to. (docs/SCRIPT.md, "Evaluating a worksheet".)
+-- Which fields are evaluated, which of them are passed over, and what an evaluation comes to. (docs/use/SCRIPT.md, "Evaluating a worksheet".)
 use Rattle.std.specs.Prelude.{◌≡◌, ◌==◌, ◌<◌, ◌≤◌, ◌-◌, ◌*◌, ◌&&◌, ℕ, Bool, true, false, not, List, [], ◌∷◌, Option, Some, None, count_by, filter, find, if◌then◌else◌, is_some, length, map, slice_get}
 use Rattle.std.specs.List.{list_any}
 use Rattle.worksheet.specs.Checks.{field_in}

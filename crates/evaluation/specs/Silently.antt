@@ -1,4 +1,4 @@
--- An evaluation that tells nothing: what it leaves, and which fields had no time left. (docs/CHECK.md.)
+-- An evaluation that tells nothing: what it leaves, and which fields had no time left. (docs/use/CHECK.md.)
 use Rattle.std.specs.Prelude.{◌≡◌, ℕ, List, [], ◌∷◌, ◌++◌, Option}
 use Rattle.host_events.specs.declared.event.Event.{Event}
 use Rattle.host_events.specs.declared.outcome.HostFault.{HostFault}

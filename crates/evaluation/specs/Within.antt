@@ -1,5 +1,5 @@
 -- The wait for the answer to one field within a limit of time: the steps of an evaluation that asks for nothing more, and tells nothing.
--- (docs/CHECK.md.)
+-- (docs/use/CHECK.md.)
 use Rattle.std.specs.Prelude.{◌≡◌, ◌==◌, ℕ, Bool, false, List, [], Some}
 use Rattle.disk_model.specs.Disk.{DiskView}
 use Rattle.host_events.specs.declared.event.Event.{Event}

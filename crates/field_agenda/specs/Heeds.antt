@@ -1,4 +1,4 @@
--- What an agenda of fields makes of what came. (docs/SCRIPT.md, "Evaluating a worksheet".)
+-- What an agenda of fields makes of what came. (docs/use/SCRIPT.md, "Evaluating a worksheet".)
 use Rattle.std.specs.Prelude.{◌≡◌, ℕ, Bool, not, Option, None}
 use Rattle.session_engine.specs.World.{World}
 use Rattle.tellings.specs.declared.note.Note.{Note}

@@ -47,7 +47,7 @@ const MOST_COUNTED: u64 = u64::MAX - 1_025;
 /// The most fields that are counted. A worksheet has fewer.
 const MOST_FIELDS: usize = (1 << 31) - 1;
 
-/// The fields of a worksheet that are evaluated by a plan (docs/SCRIPT.md, "Evaluating a worksheet").
+/// The fields of a worksheet that are evaluated by a plan (docs/use/SCRIPT.md, "Evaluating a worksheet").
 ///
 /// It looks first whether each field and each program is there that is needed. Then fields that may wait side by side are asked
 /// together, and what lives have that are ready is taken together.

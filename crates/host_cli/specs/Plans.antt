@@ -1,4 +1,4 @@
--- What the words of `eval` ask for (docs/SCRIPT.md, "Evaluating a worksheet"), and what those of `check` do beside its request.
+-- What the words of `eval` ask for (docs/use/SCRIPT.md, "Evaluating a worksheet"), and what those of `check` do beside its request.
 use Rattle.std.specs.Prelude.{◌≡◌, ◌&&◌, ℕ, Bool, true, false, List, [], ◌∷◌, Option, Some, None, length, nat_le, nat_lt, Result, Ok, Err}
 use Rattle.std.specs.Option.{option_map}
 use Rattle.clap.specs.Words.{Text}

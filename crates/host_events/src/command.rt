@@ -1,4 +1,4 @@
-//! What a user asks of the host (docs/HOST.md, "Events").
+//! What a user asks of the host (docs/dev/HOST.md, "Events").
 ghost use Rattle.std.specs.Prelude.{◌≡◌};
 
 use block_tree::{Octets, Sequence};

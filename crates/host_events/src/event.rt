@@ -1,4 +1,4 @@
-//! What happens to a host (docs/HOST.md, "Events").
+//! What happens to a host (docs/dev/HOST.md, "Events").
 use crate::Command;
 use bytes::Bytes;
 use worksheet::Name;

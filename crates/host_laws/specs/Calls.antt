@@ -1,4 +1,4 @@
--- One host that is given events by steps and by groups, as programs give them: what the contracts of its calls say together. (docs/HOST.md.)
+-- One host that is given events by steps and by groups, as programs give them: what the contracts of its calls say together. (docs/dev/HOST.md.)
 use Rattle.std.specs.Prelude.{◌≡◌, List, [], ◌∷◌, ◌++◌, length, ℕ, Result, Ok}
 use Rattle.std.specs.declared.alloc.Global.{Global}
 use Rattle.std.specs.declared.vec.Vec.{Vec}

@@ -1,4 +1,4 @@
--- Laws that make the table of events believable: what it always gives, and what it never does. (docs/HOST.md, "Laws".)
+-- Laws that make the table of events believable: what it always gives, and what it never does. (docs/dev/HOST.md, "Laws".)
 use Rattle.std.specs.Prelude.{◌≡◌, ◌⊎◌, ◌<◌, ◌≤◌, ◌+◌, ◌==◌, ℕ, zero, suc, List, [], ◌∷◌, ◌++◌, length, Bool, true, false, Option, Some, None, if◌then◌else◌}
 use Rattle.std.specs.List.{AllByRecursion}
 use Rattle.worksheet.specs.declared.op.Op.{Op}

@@ -1,4 +1,4 @@
--- One host, from its opening to a crash: what the contracts of its calls say together. (docs/HOST.md.)
+-- One host, from its opening to a crash: what the contracts of its calls say together. (docs/dev/HOST.md.)
 use Rattle.std.specs.Prelude.{List, [], ◌∷◌, ◌++◌, ℕ, Result, Ok, IfOk, IfErr}
 use Rattle.disk_model.specs.Disk.{Image}
 use Rattle.worksheet.specs.declared.op.Op.{Op}

@@ -1,4 +1,4 @@
--- Groups of events that one gate commits, as parts of turns: what a crash within such a play, or after it, leaves. (docs/HOST.md.)
+-- Groups of events that one gate commits, as parts of turns: what a crash within such a play, or after it, leaves. (docs/dev/HOST.md.)
 use Rattle.std.specs.Prelude.{◌≡◌, ℕ, List, [], ◌++◌, length, Result, Ok, Err, IfOk, IfErr}
 use Rattle.std.specs.declared.alloc.Global.{Global}
 use Rattle.std.specs.declared.vec.Vec.{Vec}

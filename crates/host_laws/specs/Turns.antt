@@ -1,4 +1,4 @@
--- Hosts one after another on one disk, each from its opening to a crash, and what their worksheets show. (docs/HOST.md.)
+-- Hosts one after another on one disk, each from its opening to a crash, and what their worksheets show. (docs/dev/HOST.md.)
 use Rattle.std.specs.Prelude.{◌≡◌, ◌⊎◌, ℕ, suc, List, [], ◌∷◌, ◌++◌, length, Option, Some, drop, slice_get, Result, IfOk, IfErr}
 use Rattle.std.specs.List.{AllByRecursion}
 use Rattle.block_tree.specs.Output.{output}

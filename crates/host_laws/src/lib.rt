@@ -1,4 +1,4 @@
-//! Laws of the definitions that the contracts of `session_engine` cite (docs/HOST.md, "Laws"). Each function does nothing: its contract is
+//! Laws of the definitions that the contracts of `session_engine` cite (docs/dev/HOST.md, "Laws"). Each function does nothing: its contract is
 //! the law. `hosts_in_turn` is the theorem of many hosts on one disk. Those of `made` make the call that they speak of.
 #![tactic(auto)]
 

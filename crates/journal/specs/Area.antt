@@ -1,4 +1,4 @@
--- The bytes of a journal's areas (docs/FORMAT.md, "The journal").
+-- The bytes of a journal's areas (docs/trust/FORMAT.md, "The journal").
 use Rattle.std.specs.Prelude.{◌≡◌, ◌≢◌, ◌==◌, ℕ, ◌+◌, ◌<◌, ◌≤◌, List, [], ◌∷◌, ◌++◌, drop, length, if◌then◌else◌}
 use Rattle.std.specs.Int.{to_be_bytes, w32}
 use Rattle.disk_model.specs.Disk.{overwritten}

@@ -1,4 +1,4 @@
--- The damage of an area (docs/FORMAT.md, "Opening").
+-- The damage of an area (docs/trust/FORMAT.md, "Opening").
 use Rattle.std.specs.Prelude.{◌≡◌, ◌⊎◌, ℕ, ◌<◌, ◌≤◌, List, [], ◌∷◌, ◌++◌, length}
 use Rattle.std.specs.Int.{from_be_bytes, w32}
 use Rattle.journal.specs.Area.{HeaderOf, records, ArePayloads, end_of, open_gate}

@@ -1,5 +1,5 @@
 -- The front of a journal: its whole records, up to the first gate that is closed or damaged
--- (docs/FORMAT.md, "Rescue").
+-- (docs/trust/FORMAT.md, "Rescue").
 use Rattle.std.specs.Prelude.{◌≡◌, ℕ, Bool, true, false, List, ◌∷◌, ◌++◌, Option, Some, None}
 use Rattle.disk_model.specs.Disk.{DiskView, Image, bytes_on}
 use Rattle.journal.specs.Area.{HasHeader, StandsFor, end_of, open_gate}

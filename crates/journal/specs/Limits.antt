@@ -1,4 +1,4 @@
--- The limit of a journal (docs/FORMAT.md, "The journal").
+-- The limit of a journal (docs/trust/FORMAT.md, "The journal").
 use Rattle.std.specs.Prelude.{ℕ}
 
 -- the most bytes of a payload

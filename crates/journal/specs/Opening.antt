@@ -1,4 +1,4 @@
--- An opening that gives the payloads of a journal one after another (docs/FORMAT.md, "Opening").
+-- An opening that gives the payloads of a journal one after another (docs/trust/FORMAT.md, "Opening").
 use Rattle.std.specs.Prelude.{◌≡◌, ℕ, List, ◌++◌}
 use Rattle.disk_model.specs.Disk.{DiskView}
 use Rattle.journal.specs.Area.{end_of}

@@ -36,7 +36,7 @@ impl<D: Disk> Journal<D> {
 
     /// Adds the payloads of a group, which one gate commits: they are durable at `Ok`, all of them, and
     /// a crash leaves all or none. Of a group without a payload no call is made. It takes no memory
-    /// (docs/FORMAT.md, "Append").
+    /// (docs/trust/FORMAT.md, "Append").
     ///
     /// Payloads that don't fit, as [`Journal::fits_all`] says, are refused with `JournalFull`; a call
     /// on the disk that fails, with `Disk`.

@@ -31,7 +31,7 @@ impl Model for Frame {
 
 impl Frame {
     /// Makes the bytes that an append of this payload of 1 to 33,554,432 bytes writes
-    /// (docs/FORMAT.md, "Append").
+    /// (docs/trust/FORMAT.md, "Append").
     pub fn new(alloc: Global, payload: &[u8]) -> Result<Frame, OutOfMemory>
         requires { IsPayload longest_payload payload.now }
         ensures { IfOk result (λ frame. frame ≡ payload.now) }

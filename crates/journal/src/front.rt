@@ -17,7 +17,7 @@ use std::marker::Model;
 
 /// The whole records at the front of a journal, up to the first gate that is closed or damaged. It
 /// gives their payloads one after another, also where an [`Opening`](crate::Opening) is refused as
-/// damaged, and has none of them in memory (docs/FORMAT.md, "Rescue"). It writes nothing.
+/// damaged, and has none of them in memory (docs/trust/FORMAT.md, "Rescue"). It writes nothing.
 ///
 /// Contracts see its disk, the offset of the gate whose payload comes next, that of the gate after
 /// all whole records, and whether that one is damaged. Which payloads it has given is said by

@@ -20,7 +20,7 @@ use disk_model::{Area, Disk, DiskFault};
 use std::alloc::Global;
 use std::marker::Model;
 
-/// Records on a disk, each after a gate (docs/FORMAT.md, "The journal").
+/// Records on a disk, each after a gate (docs/trust/FORMAT.md, "The journal").
 ///
 /// Contracts see its disk and the offset of its closed gate. What it keeps there is said by
 /// `Keeps`: `create` and `open` give it, `append` carries it on.
@@ -68,7 +68,7 @@ impl<D: Disk> Journal<D> {
     ghost use Rattle.journal.specs.Journal.{disk_created, opened, disk_after, GivesPayloads, HandsBack, IsFull, IsFaulty};
 
     /// Opens a disk that a crash may have left, and gives the payloads that it stands for, in
-    /// order, each with the offset of its gate. It writes nothing (docs/FORMAT.md, "Opening").
+    /// order, each with the offset of its gate. It writes nothing (docs/trust/FORMAT.md, "Opening").
     pub fn open(alloc: Global, disk: D) -> Result<(Journal<D>, Vec<Payload>), OpenFault<D>>
         ensures same { SameDisk (D.view disk) (opened D.view result) }
 
@@ -188,7 +188,7 @@ impl<D: Disk> Journal<D> {
         payload_len <= LONGEST_PAYLOAD && self.end + 5 + payload_len < self.disk.room()
     }
 
-    /// Adds a payload, which is durable at `Ok`. It takes no memory (docs/FORMAT.md, "Append").
+    /// Adds a payload, which is durable at `Ok`. It takes no memory (docs/trust/FORMAT.md, "Append").
     ///
     /// A payload that doesn't fit, as [`Journal::fits`] tells, is refused with `JournalFull`; a call
     /// on the disk that fails, with `Disk`.
@@ -244,7 +244,7 @@ impl<D: Disk> Journal<D> {
 
     /// Writes these payloads in place of the journal's own. They are laid into the area that isn't active;
     /// once they are durable there, that area becomes the active one, and that is durable at `Ok`. It
-    /// takes no memory (docs/FORMAT.md, "Rewrite").
+    /// takes no memory (docs/trust/FORMAT.md, "Rewrite").
     ///
     /// Payloads for which an area has no room are refused with `JournalFull`; a call on the disk that
     /// fails, with `Disk`.

@@ -1,4 +1,4 @@
-//! The bytes of an area that aren't records (docs/FORMAT.md, "The journal").
+//! The bytes of an area that aren't records (docs/trust/FORMAT.md, "The journal").
 
 /// The offset of the selector, in bytes: it ends the header.
 pub(crate) const SELECTOR: u64 = 9;

@@ -84,7 +84,7 @@ impl<T: Drop> From<AllocFailed<T>> for OpenCause {
 }
 
 /// Lays an empty journal on an empty disk of at least 11 bytes of room, and takes no memory
-/// (docs/FORMAT.md, "Create"). A disk of which an area has a byte is refused with `NotEmpty`. A
+/// (docs/trust/FORMAT.md, "Create"). A disk of which an area has a byte is refused with `NotEmpty`. A
 /// crash within the call may leave what doesn't open.
 pub fn create<D: Disk>(disk: D) -> Result<D, CreateFault<D>>
     requires { 11 ≤ (D.view disk).room }

@@ -17,7 +17,7 @@ use std::alloc::Global;
 use std::marker::Model;
 
 /// A journal that is being opened: it gives its payloads one after another, and has none of them in
-/// memory (docs/FORMAT.md, "Opening"). No read that it asks of its disk is longer than 65,536 bytes.
+/// memory (docs/trust/FORMAT.md, "Opening"). No read that it asks of its disk is longer than 65,536 bytes.
 ///
 /// Contracts see its disk, the offset of the gate whose payload comes next, and that of the closed
 /// gate after all of them. Which payloads it has given is said by `HasGiven`: `begin` gives it, `next`
@@ -62,7 +62,7 @@ impl<D: Disk> Opening<D> {
 
     /// Begins to open a disk that a crash may have left: it makes area First and the active one
     /// durable, and walks over the gates by their length fields alone. It writes nothing. A disk that stands for no payloads
-    /// is refused here (docs/FORMAT.md, "Opening").
+    /// is refused here (docs/trust/FORMAT.md, "Opening").
     pub fn begin(alloc: Global, disk: D) -> Result<Opening<D>, OpenFault<D>>
         ensures same { SameDisk (D.view disk) (disk_begun D.view result) }
 

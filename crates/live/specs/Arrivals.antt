@@ -1,4 +1,4 @@
--- Whose turn it may be: what a watch is asked while a wait holds lines back, and what it returns. (docs/EDGE.md, "Live".)
+-- Whose turn it may be: what a watch is asked while a wait holds lines back, and what it returns. (docs/dev/EDGE.md, "Live".)
 use Rattle.std.specs.Prelude.{◌≡◌, ◌⊎◌, ℕ, ◌-◌, ◌≤◌, Bool, false, true, Option, Some, None, IsSomeAnd}
 use Rattle.arrivals.specs.Lines.{InputLine, whole, too_long}
 use Rattle.arrivals.specs.Watching.{asked}

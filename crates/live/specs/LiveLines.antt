@@ -1,4 +1,4 @@
--- What a line says that comes while interpreters work: a line of a script, or one of four forms more. (docs/SCRIPT.md, "Live".)
+-- What a line says that comes while interpreters work: a line of a script, or one of four forms more. (docs/use/SCRIPT.md, "Live".)
 use Rattle.std.specs.Prelude.{ℕ, ◌&&◌, List, Option, Some, None, nat_le, codes, if◌then◌else◌}
 use Rattle.std.specs.Option.{option_map}
 use Rattle.std.specs.Str.{bytes_eq}

@@ -1,4 +1,4 @@
--- What comes of one line of a live input. (docs/SCRIPT.md, "Live".)
+-- What comes of one line of a live input. (docs/use/SCRIPT.md, "Live".)
 use Rattle.std.specs.Prelude.{◌≡◌, ◌≢◌, ◌⊎◌, ℕ, ◌+◌, ◌-◌, ◌*◌, ◌^◌, not, min, Bool, true, false, List, [], Option, Some, None, IsSome, is_some}
 use Rattle.host_events.specs.declared.command.Command.{Command}
 use Rattle.host_events.specs.declared.event.Event.{Event}

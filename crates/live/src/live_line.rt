@@ -108,7 +108,7 @@ fn read_other(line: &[u8]) -> Result<LiveLine, LineFault>
 }
 
 /// What a line says that comes while interpreters work: a line of a script as `read_line` has it,
-/// `print ID`, `wait SECONDS`, `interrupt NAME` or `export FORMAT` (docs/SCRIPT.md, "Live"). The line comes without its end.
+/// `print ID`, `wait SECONDS`, `interrupt NAME` or `export FORMAT` (docs/use/SCRIPT.md, "Live"). The line comes without its end.
 ///
 /// `BadLine` exactly where no form fits. `OutOfMemory` only where the line is a command with bytes of
 /// its own.

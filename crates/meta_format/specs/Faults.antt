@@ -1,4 +1,4 @@
--- Where a stream has a fault. (docs/PROTOCOL.md, faults of a stream.)
+-- Where a stream has a fault. (docs/use/PROTOCOL.md, faults of a stream.)
 use Rattle.std.specs.Prelude.{◌≡◌, ℕ, suc, ◌-◌, ◌<◌, ◌≤◌, ◌⊎◌, true, false, List, [], ◌∷◌, ◌++◌, length}
 use Rattle.std.specs.List.{list_all}
 use Rattle.block_tree.specs.Tree.{Tree}

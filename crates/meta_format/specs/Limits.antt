@@ -1,4 +1,4 @@
--- How much a stream of blocks may hold. (docs/PROTOCOL.md, limits.)
+-- How much a stream of blocks may hold. (docs/use/PROTOCOL.md, limits.)
 use Rattle.std.specs.Prelude.{ℕ, ◌^◌, ◌<◌}
 
 -- how much a stream may hold

@@ -1,6 +1,6 @@
 -- Which bytes spell a block.
 -- (TeXmacs manual, interfacing: formatted output; channels, prompts and default input. What 27 means before other bytes,
--- and what a tag is, is said in docs/PROTOCOL.md.)
+-- and what a tag is, is said in docs/use/PROTOCOL.md.)
 use Rattle.std.specs.Prelude.{◌≡◌, ℕ, Bool, true, false, ◌||◌, nat_eq, List, [], ◌∷◌, ◌++◌}
 use Rattle.block_tree.specs.Tree.{Items, Tree, end, text, block}
 use Rattle.block_tree.specs.Shape.{is_block_within}

@@ -1,4 +1,4 @@
--- The blocks of a stream. (docs/PROTOCOL.md, streams.)
+-- The blocks of a stream. (docs/use/PROTOCOL.md, streams.)
 use Rattle.std.specs.Prelude.{◌≡◌, ℕ, ◌+◌, ◌≤◌, ◌⊎◌, List, [], ◌∷◌, ◌++◌, length, true, not, nat_eq}
 use Rattle.std.specs.List.{list_all}
 use Rattle.block_tree.specs.Tree.{Tree}

@@ -55,7 +55,7 @@ fn filling_block(mut found: Vec<Found>, size: u64) -> Option<Block>
 
 /// Reads the block that the bytes spell, with nothing before it and nothing after it. Any spelling is
 /// read, and it may have any length.
-/// (docs/PROTOCOL.md, spelling of blocks.)
+/// (docs/use/PROTOCOL.md, spelling of blocks.)
 #[tactic(auto, using(crate::proofs::Readings::read_rules))]
 pub fn read_block(alloc: Global, bytes: &[u8]) -> Result<Block, ReadFault>
     ensures ok { IfOk result (λ block. Spells limits block bytes.now) }

@@ -16,7 +16,7 @@ use std::alloc::Global;
 use std::marker::Model;
 
 /// Why a piece was refused. Offsets are those of the byte at fault in the whole stream, from 0, and
-/// `found` has the blocks that the piece closes before it. (docs/PROTOCOL.md, faults of a stream.)
+/// `found` has the blocks that the piece closes before it. (docs/use/PROTOCOL.md, faults of a stream.)
 #[derive(Drop)]
 pub enum FeedFault {
     /// A byte below 32 in a tag, a separator without a name before it, or a 65th byte of a name.

@@ -49,7 +49,7 @@ fn write_node(node: &Node, out: &mut Vec<u8>) -> Result<(), OutOfMemory>
 
 /// Writes a block after the other bytes, in its canonical spelling: 27 stands before each 2, 5 and 27
 /// of a text, and nowhere else. Where memory is refused, the bytes are as before.
-/// (docs/PROTOCOL.md, spelling of blocks.)
+/// (docs/use/PROTOCOL.md, spelling of blocks.)
 pub fn write_block(block: &Block, out: &mut Vec<u8>) -> Result<(), OutOfMemory>
     ensures ok { OnOk result (out.new.items ≡ out.old.items ++ canonical block.now) }
     ensures err { OnErr result (out.new.items ≡ out.old.items) }

@@ -116,7 +116,7 @@ fn do_lines<W: Write>(
 
 /// Runs a script over an empty worksheet, and writes what its lines give: the reply to a command, the
 /// worksheet at `print`, `bad line N` where a line isn't known. Lines are numbered from 1. What needs an
-/// interpreter or a disk (`eval`, `complete`, `stop`, `wait`, `checkpoint`) is a bad line too. (docs/SCRIPT.md
+/// interpreter or a disk (`eval`, `complete`, `stop`, `wait`, `checkpoint`) is a bad line too. (docs/use/SCRIPT.md
 /// has the lines.)
 ///
 /// A command for which memory is refused gets that refusal and changes nothing, and the script goes on.

@@ -1,4 +1,4 @@
--- Which block of a stream answers which item. (docs/PROTOCOL.md, ask points.)
+-- Which block of a stream answers which item. (docs/use/PROTOCOL.md, ask points.)
 use Rattle.std.specs.Prelude.{ℕ, max, nat_le, List, [], ◌∷◌, Option, Some, None, if◌then◌else◌}
 use Rattle.meta_format.specs.Stream.{Outer}
 use Rattle.plugin_core.specs.Past.{Event, places_from, ends_from}

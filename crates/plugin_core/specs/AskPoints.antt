@@ -1,4 +1,4 @@
--- Ask points and answers by the events of a past, in the words of docs/PROTOCOL.md, ask points: what `answers_of` lists.
+-- Ask points and answers by the events of a past, in the words of docs/use/PROTOCOL.md, ask points: what `answers_of` lists.
 use Rattle.std.specs.Prelude.{◌≡◌, ◌<◌, ◌≤◌, ◌↔◌, ℕ, suc, max, List, [], ◌∷◌, ◌++◌, length, take, Option, Some, None, slice_get}
 use Rattle.meta_format.specs.Stream.{Outer}
 use Rattle.meta_format.specs.Faults.{Kind}

@@ -1,4 +1,4 @@
--- What an answer's block says of the lines after it. (docs/PROTOCOL.md, prompts and default input.)
+-- What an answer's block says of the lines after it. (docs/use/PROTOCOL.md, prompts and default input.)
 use Rattle.std.specs.Prelude.{ℕ, List, [], ◌∷◌, take, codes, option_map, unwrap_or}
 use Rattle.block_tree.specs.Output.{text_on_channel}
 use Rattle.meta_format.specs.Stream.{Outer}

@@ -1,4 +1,4 @@
--- The items of a life: which wait, which are asked, and what is sent for them. (docs/PROTOCOL.md, one life.)
+-- The items of a life: which wait, which are asked, and what is sent for them. (docs/use/PROTOCOL.md, one life.)
 use Rattle.std.specs.Prelude.{ℕ, nat_eq, Bool, false, List, [], ◌∷◌, ◌++◌, length, take, drop, Option, Some, None, option_map, slice_get, codes}
 use Rattle.std.specs.Str.{IsCharBoundary}
 use Rattle.block_tree.specs.Tree.{Tree}

@@ -1,4 +1,4 @@
--- How much a life may hold. (docs/PROTOCOL.md, one life; prompts and default input.)
+-- How much a life may hold. (docs/use/PROTOCOL.md, one life; prompts and default input.)
 use Rattle.std.specs.Prelude.{ℕ}
 
 -- the most bytes of a prompt: a longer one is cut there

@@ -1,4 +1,4 @@
--- What happens to one life of an interpreter, and its stream. (docs/PROTOCOL.md, one life.)
+-- What happens to one life of an interpreter, and its stream. (docs/use/PROTOCOL.md, one life.)
 use Rattle.std.specs.Prelude.{ℕ, ◌+◌, List, [], ◌∷◌, ◌++◌, length}
 use Rattle.plugin_core.specs.declared.item.Item.{Item}
 

@@ -1,4 +1,4 @@
--- What the calls on a life give, after each past of it. (docs/PROTOCOL.md, one life.)
+-- What the calls on a life give, after each past of it. (docs/use/PROTOCOL.md, one life.)
 use Rattle.std.specs.Prelude.{ℕ, List, [], ◌∷◌, ◌++◌, length, codes, Option, Some, None, option_map, option_and_then, slice_get}
 use Rattle.block_tree.specs.Output.{text_on_channel}
 use Rattle.meta_format.specs.Limits.{limits}

@@ -14,7 +14,7 @@ pub enum Item {
     Line { id: u32, text: Octets },
     /// A request of completions for the field with this number. The cursor is the number of bytes of
     /// the text before it, and stands in front of a character or at the end.
-    /// (docs/PROTOCOL.md, completion.)
+    /// (docs/use/PROTOCOL.md, completion.)
     Complete { id: u32, text: Text, cursor: usize },
 }
 

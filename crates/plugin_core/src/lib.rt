@@ -1,6 +1,6 @@
 //! One life of an interpreter: the items that it is asked, and which blocks of its stream answer them.
 //!
-//! (TeXmacs manual, interfacing: input and output using pipes; docs/PROTOCOL.md, one life.)
+//! (TeXmacs manual, interfacing: input and output using pipes; docs/use/PROTOCOL.md, one life.)
 #![tactic(auto)]
 
 mod item;

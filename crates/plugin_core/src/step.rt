@@ -24,7 +24,7 @@ pub enum Answered {
     },
 }
 
-/// The end of a life. (docs/PROTOCOL.md, how a life ends.)
+/// The end of a life. (docs/use/PROTOCOL.md, how a life ends.)
 #[derive(Drop)]
 pub struct Ended {
     /// The fault of its stream, or the reason that `finish` was given.

@@ -90,7 +90,7 @@ fn write_stream<W: Write>(stream: &[u8], out: &mut W) -> Result<bool, RunFault>
 
 /// Writes the outer blocks of the stream that a reader gives, a line each: where it starts, where the
 /// next byte stands, and its tree. Then a line for the first fault of the stream, or for the block that
-/// is open at its end. It returns whether there is neither. (docs/PROTOCOL.md has the lines.)
+/// is open at its end. It returns whether there is neither. (docs/use/PROTOCOL.md has the lines.)
 ///
 /// The input is read whole before anything is written, and no memory is taken after that. `Input` where the reader
 /// fails, an interruption included, `InputTooLong` where it gives more than `LONGEST_STANDARD_INPUT` bytes, and

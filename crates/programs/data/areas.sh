@@ -9,7 +9,7 @@ clear='R\000\000\000\005\006\000\000\000\001'
 answered='R\000\000\000\025\007\000\000\000\001\000\002> \002verbatim:A\005'
 front=$header$session$new$clear
 
-# The worked example of docs/FORMAT.md and each of its fronts. Its gates are at 10, 24, 39, 49 and 75.
+# The worked example of docs/trust/FORMAT.md and each of its fronts. Its gates are at 10, 24, 39, 49 and 75.
 area 'the worked example' "$front$answered"'\000' 0 '#1 a\n> x\nA\n'
 area 'the worked example without its answer' "$front"'\000' 0 '#1 a\n> x\n?\n'
 area 'the worked example without its clearing' "$header$session$new"'\000' 0 '#1 a\n> x\n?\n'

@@ -91,7 +91,7 @@ then_runs 'a removal' 'remove 2\n' 'ok\n' '#1 a\n> x\n?\n'
 compare 'its length' "$(wc -c <sheet)" 102
 compare 'the second file' "$(wc -c <sheet.alt)" 0
 
-# The worked example of docs/FORMAT.md, by its events. Its interpreter is called `sh`, so one of that name is found first.
+# The worked example of docs/trust/FORMAT.md, by its events. Its interpreter is called `sh`, so one of that name is found first.
 printf '#!/bin/sh\nexec /bin/sh p.sh\n' >sh
 chmod +x sh
 path=$PATH

@@ -32,7 +32,7 @@ lost() {
     compare "$1, made" "$(ls saved saved.alt 2>/dev/null)" ''
 }
 
-# The worked example of docs/FORMAT.md, and each of its fronts. Its gates are at 10, 24, 39, 49 and 75.
+# The worked example of docs/trust/FORMAT.md, and each of its fronts. Its gates are at 10, 24, 39, 49 and 75.
 rescued 'the worked example' "$front$answered"'\000' 'kept 4, whole\n' '#1 a\n> x\nA\n'
 compare 'its first file' "$(bytes saved)" 544d575348454554014200
 compare 'its second file' "$(bytes saved.alt)" 544d57534845455401005200000009010161000100027368520000000a020000000001610001785200000015070000000100023e2002766572626174696d3a410500

@@ -1,4 +1,4 @@
--- The payload of an op (docs/FORMAT.md, "Payloads").
+-- The payload of an op (docs/trust/FORMAT.md, "Payloads").
 use Rattle.std.specs.Prelude.{◌≡◌, ℕ, ◌<◌, ◌^◌, Bool, true, false, List, [], ◌∷◌, ◌++◌, length}
 use Rattle.std.specs.Int.{to_be_bytes, w16, w32}
 use Rattle.std.specs.List.{flat_map, AllByRecursion}

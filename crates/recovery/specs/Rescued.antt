@@ -1,4 +1,4 @@
--- What a rescue finds at the front of a disk (docs/FORMAT.md, "Rescue").
+-- What a rescue finds at the front of a disk (docs/trust/FORMAT.md, "Rescue").
 use Rattle.std.specs.Prelude.{◌≡◌, ℕ, Bool, List, [], ◌∷◌, ◌++◌, Option, Some, None, Result, Ok, Err}
 use Rattle.disk_model.specs.Disk.{DiskView, Image}
 use Rattle.journal.specs.Area.{end_of}

@@ -1,4 +1,4 @@
--- The worksheet that a disk stands for (docs/FORMAT.md, "Payloads").
+-- The worksheet that a disk stands for (docs/trust/FORMAT.md, "Payloads").
 use Rattle.std.specs.Prelude.{◌≡◌, ◌⊎◌, ◌+◌, ◌≤◌, ℕ, Bool, true, false, List, [], ◌∷◌, ◌++◌, length, map, None}
 use Rattle.std.specs.List.{AllByRecursion}
 use Rattle.disk_model.specs.Disk.{DiskView, Image, InModel, Leaves}

@@ -188,7 +188,7 @@ fn as_written(alloc: Global, read: Result<Op, DecodeFault>, bytes: &[u8]) -> Res
     Ok(op)
 }
 
-/// The op of a payload (docs/FORMAT.md, "Payloads"). An op has one payload: other bytes are
+/// The op of a payload (docs/trust/FORMAT.md, "Payloads"). An op has one payload: other bytes are
 /// `Unreadable`, also where bytes are left over, or an output is a block in another spelling.
 pub fn decode(alloc: Global, bytes: &[u8]) -> Result<Op, DecodeFault>
     ensures op { IfOk result (λ op. IsPayloadOf op bytes.now) }

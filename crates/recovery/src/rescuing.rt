@@ -102,7 +102,7 @@ fn stop<D: Disk>(
 /// that opens they are all. Of one that [`Store::open`](crate::Store::open) refuses as damaged they are
 /// those in front of the first bad gate. That gate is damaged, or its payload is no op's, or its op is
 /// refused by the worksheet so far. Nothing after that gate is read as an op. It writes nothing
-/// (docs/FORMAT.md, "Rescue").
+/// (docs/trust/FORMAT.md, "Rescue").
 ///
 /// A disk without a header is refused as `NotASheet`; damage is no refusal here.
 pub fn rescue<D: Disk>(alloc: Global, disk: D) -> Result<Rescued<D>, OpenFault<D>>

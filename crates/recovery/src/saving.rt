@@ -91,7 +91,7 @@ fn lay_anew<D: Disk, S: Source>(disk: D, source: &S, batch: &mut Vec<u8>) -> Res
 }
 
 /// Writes a worksheet to an empty disk of at least 11 bytes of room. It lays an empty worksheet there,
-/// as [`journal::create`] does, and writes this one in its place, as a checkpoint does (docs/FORMAT.md,
+/// as [`journal::create`] does, and writes this one in its place, as a checkpoint does (docs/trust/FORMAT.md,
 /// "Rescue"). It is durable at `Ok`. Before its first write it has all the memory that it takes.
 ///
 /// Allowed ops must have made the worksheet, as those of [`rescue`](crate::rescue) have.

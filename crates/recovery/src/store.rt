@@ -25,7 +25,7 @@ use std::marker::Model;
 use worksheet::{Op, Sheet};
 
 /// A worksheet in memory and in a journal on a disk that it owns. Each op is durable there before the
-/// worksheet has it (docs/FORMAT.md, "Payloads").
+/// worksheet has it (docs/trust/FORMAT.md, "Payloads").
 ///
 /// After a failure of the disk it is closed: it changes nothing any more, and is to be opened again.
 #[derive(Drop)]
@@ -58,7 +58,7 @@ impl<D: Disk> Store<D> {
 
     /// Opens a disk that a crash may have left, and gives the worksheet that it stands for. It writes
     /// nothing. A disk that stands for none is refused with its first damage: that of the gates
-    /// (docs/FORMAT.md, "Opening") before a payload that is no op's, or whose op the worksheet so far
+    /// (docs/trust/FORMAT.md, "Opening") before a payload that is no op's, or whose op the worksheet so far
     /// refuses.
     pub fn open(alloc: Global, disk: D) -> Result<Store<D>, OpenFault<D>>
         ensures same { SameDisk (D.view disk) (disk_left D.view result) }
@@ -274,7 +274,7 @@ impl<D: Disk> Store<D> {
 
     /// Writes the worksheet again, in place of the ops that have made it. Those of fields that are
     /// gone, of answers that were removed and of inputs that were changed take no room any more. It
-    /// changes neither the worksheet nor the number of its next new field. (docs/FORMAT.md,
+    /// changes neither the worksheet nor the number of its next new field. (docs/trust/FORMAT.md,
     /// "Payloads".)
     ///
     /// `Full` and `OutOfMemory` change nothing and touch no disk. After `Disk` the store is closed. It is

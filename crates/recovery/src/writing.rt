@@ -242,7 +242,7 @@ fn put_op(op: &Op, out: &mut Vec<u8>) -> Result<(), OutOfMemory>
     }
 }
 
-/// The payload of an op (docs/FORMAT.md, "Payloads").
+/// The payload of an op (docs/trust/FORMAT.md, "Payloads").
 ///
 /// Each length in it must fit its field: those of a session's name and of its list of words one byte,
 /// those of a word, an input and a prompt two. So it is with each op that the worksheet allows, by the

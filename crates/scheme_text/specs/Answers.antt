@@ -1,4 +1,4 @@
--- What the answer to a request of completions says. (TeXmacs manual, interfacing: tab-completion. Its grammar: docs/PROTOCOL.md,
+-- What the answer to a request of completions says. (TeXmacs manual, interfacing: tab-completion. Its grammar: docs/use/PROTOCOL.md,
 -- completion.)
 use Rattle.std.specs.Prelude.{◌≡◌, ℕ, true, List, [], ◌∷◌, ◌++◌, codes, Some}
 use Rattle.std.specs.List.{list_all}

@@ -1,4 +1,4 @@
--- Which outputs hold an answer to a request of completions, and the text that is read in them. (docs/PROTOCOL.md, completion.)
+-- Which outputs hold an answer to a request of completions, and the text that is read in them. (docs/use/PROTOCOL.md, completion.)
 use Rattle.std.specs.Prelude.{ℕ, ◌==◌, ◌&&◌, ◌||◌, not, Bool, true, false, List, [], Option, Some, None, codes, if◌then◌else◌}
 use Rattle.std.specs.List.{list_all}
 use Rattle.std.specs.Str.{bytes_eq}

@@ -1,5 +1,5 @@
 -- Strings between quotes. (R5RS 6.3.5, which leaves open what a backslash before a byte other than a quote and a backslash means:
--- docs/PROTOCOL.md, completion, has what is chosen.)
+-- docs/use/PROTOCOL.md, completion, has what is chosen.)
 use Rattle.std.specs.Prelude.{◌≡◌, ℕ, ◌==◌, ◌||◌, Bool, false, cond, List, [], ◌∷◌, ◌++◌}
 use Rattle.std.specs.List.{flat_map}
 

@@ -51,7 +51,7 @@ fn with_root(alloc: Global, mut strings: Vec<Octets>) -> Completions
 /// The completions that an answer with this output tells: a tuple of strings, the root the first of
 /// them, or that there are none. Any other output is bad.
 ///
-/// (GNU TeXmacs manual, interfacing: tab-completion; strings of R5RS 6.3.5. docs/PROTOCOL.md,
+/// (GNU TeXmacs manual, interfacing: tab-completion; strings of R5RS 6.3.5. docs/use/PROTOCOL.md,
 /// completion.)
 #[tactic(auto, using(crate::proofs::Telling::answer_rules))]
 pub fn read_answer(alloc: Global, output: &Block) -> Result<Completions, AnswerFault>

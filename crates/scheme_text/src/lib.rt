@@ -2,7 +2,7 @@
 //! tells.
 //!
 //! (GNU TeXmacs manual, interfacing: tab-completion. Strings are those of R5RS 6.3.5.
-//! docs/PROTOCOL.md, completion.)
+//! docs/use/PROTOCOL.md, completion.)
 #![tactic(auto)]
 
 mod answer;

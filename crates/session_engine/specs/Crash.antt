@@ -1,4 +1,4 @@
--- What a play of events promises at its end, and what a crash leaves at every moment of it. (docs/HOST.md, "A crash".)
+-- What a play of events promises at its end, and what a crash leaves at every moment of it. (docs/dev/HOST.md, "A crash".)
 use Rattle.std.specs.Prelude.{◌≡◌, List, [], ◌∷◌, ◌++◌, true, Result, Ok, Err}
 use Rattle.std.specs.declared.vec.Vec.{Vec}
 use Rattle.disk_model.specs.Disk.{DiskView, Image, InModel, LeavesOnly, SameDisk}

@@ -1,4 +1,4 @@
--- What an accepted command and an event of a child do: one row for each. (docs/HOST.md, "What an event does".)
+-- What an accepted command and an event of a child do: one row for each. (docs/dev/HOST.md, "What an event does".)
 use Rattle.std.specs.Prelude.{◌≡◌, ◌⊎◌, ℕ, ◌+◌, List, [], ◌∷◌, ◌++◌, Bool, true, false, Option, Some, None, option_map, option_and_then, if◌then◌else◌}
 use Rattle.std.specs.Option.{option_map_or}
 use Rattle.meta_format.specs.Stream.{Outer}

@@ -1,4 +1,4 @@
--- Which events can have which fault, and what it leaves. (docs/HOST.md, "Faults".)
+-- Which events can have which fault, and what it leaves. (docs/dev/HOST.md, "Faults".)
 use Rattle.std.specs.Prelude.{◌≡◌, ℕ, List, Bool, true, false, Some, is_some, option_map, ◌||◌}
 use Rattle.block_tree.specs.declared.reason.Reason.TheVariants as reason
 use Rattle.disk_model.specs.Disk.{DiskView, Rises}

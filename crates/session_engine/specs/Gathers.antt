@@ -1,4 +1,4 @@
--- What an event leaves of the disk as it stands while records are owed. (docs/HOST.md, "Many events, one gate".)
+-- What an event leaves of the disk as it stands while records are owed. (docs/dev/HOST.md, "Many events, one gate".)
 use Rattle.std.specs.Prelude.{◌≡◌, Bool, List, [], true, false}
 use Rattle.std.specs.List.{AllByRecursion}
 use Rattle.disk_model.specs.Disk.{InModel, Leaves, LeavesOnly}

@@ -1,4 +1,4 @@
--- What a play of a group promises: all that its events give is durable at once, or nothing of it is. (docs/HOST.md, "Many events, one gate".)
+-- What a play of a group promises: all that its events give is durable at once, or nothing of it is. (docs/dev/HOST.md, "Many events, one gate".)
 use Rattle.std.specs.Prelude.{◌≡◌, ◌≤◌, ℕ, Bool, List, [], ◌∷◌, ◌++◌, true, false, length, option_map, Result, Ok, Err}
 use Rattle.std.specs.List.{list_any}
 use Rattle.std.specs.declared.vec.Vec.{Vec}

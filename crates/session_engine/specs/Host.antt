@@ -1,4 +1,4 @@
--- Which host stands for a world, and what a step of it and its opening give. (docs/HOST.md, "The calls".)
+-- Which host stands for a world, and what a step of it and its opening give. (docs/dev/HOST.md, "The calls".)
 use Rattle.std.specs.Prelude.{◌≡◌, ◌≤◌, ◌⊎◌, ℕ, List, [], ◌∷◌, ◌++◌, Bool, true, false, Option, Some, None, option_map, Result, Ok, Err}
 use Rattle.std.specs.List.{AllByRecursion}
 use Rattle.disk_model.specs.Disk.{DiskView, Image, InModel, Leaves, LeavesOnly}

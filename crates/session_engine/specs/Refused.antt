@@ -1,5 +1,5 @@
 -- Which commands are refused, and why: for each command its refusals in their order, each beside whether it applies. The first
--- that applies is answered. (docs/HOST.md, "Refusals".)
+-- that applies is answered. (docs/dev/HOST.md, "Refusals".)
 use Rattle.std.specs.Prelude.{ℕ, ◌+◌, ◌&&◌, not, Bool, true, false, List, [], ◌∷◌, ◌++◌, length, drop, nat_le, nat_lt, Option, is_none, is_some}
 use Rattle.std.specs.Option.{option_map_or}
 use Rattle.block_tree.specs.declared.reason.Reason.TheVariants as reason

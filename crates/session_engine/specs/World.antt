@@ -1,4 +1,4 @@
--- Where a list of events leads a host that was opened on a worksheet. (docs/HOST.md, "The world".)
+-- Where a list of events leads a host that was opened on a worksheet. (docs/dev/HOST.md, "The world".)
 use Rattle.std.specs.Prelude.{ℕ, ◌+◌, ◌==◌, ◌&&◌, nat_le, List, [], ◌∷◌, ◌++◌, length, map, Bool, true, false, Option, Some, None, option_and_then, if◌then◌else◌}
 use Rattle.std.specs.List.{list_any}
 use Rattle.std.specs.Option.{option_map_or}

@@ -24,7 +24,7 @@ use std::alloc::Global;
 use std::marker::Model;
 use worksheet::{Name, Sheet};
 
-/// A host that may hold records back (docs/HOST.md, "Many events, one gate"). After `gather` an event that
+/// A host that may hold records back (docs/dev/HOST.md, "Many events, one gate"). After `gather` an event that
 /// gives an op writes and syncs nothing; `flush` makes all that is owed durable, and one gate commits it.
 /// Each call is that of [`Host`](crate::Host) with its name.
 ///

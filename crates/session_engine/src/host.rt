@@ -20,7 +20,7 @@ use std::alloc::Global;
 use std::marker::Model;
 use worksheet::{Name, Sheet};
 
-/// A worksheet on a disk, and the interpreters of its sessions (docs/HOST.md).
+/// A worksheet on a disk, and the interpreters of its sessions (docs/dev/HOST.md).
 ///
 /// It takes commands and what comes of calls on child processes, one event at a time, and returns what
 /// is to be done with those processes. It starts none itself. Each change of the worksheet is on the
@@ -57,7 +57,7 @@ impl<D: Disk> Host<D> {
 
     /// Opens a disk that a crash may have left, with the worksheet that it stands for. No session has a
     /// life, and none has a number. It writes nothing. A disk that stands for no worksheet is refused
-    /// with its first damage (docs/FORMAT.md, "Opening").
+    /// with its first damage (docs/trust/FORMAT.md, "Opening").
     pub fn open(alloc: Global, disk: D) -> Result<Host<D>, OpenFault<D>>
         ensures same { SameDisk (D.view disk) (disk_of_opening D.view result) }
 
@@ -95,7 +95,7 @@ impl<D: Disk> Host<D> {
         }
     }
 
-    /// Takes one event. What it does is described in docs/HOST.md, "What an event does", and which
+    /// Takes one event. What it does is described in docs/dev/HOST.md, "What an event does", and which
     /// fault it can have in "Faults" there.
     ///
     /// A refused command changes nothing and writes nothing. At `Ok` what the event did is durable. At
@@ -115,7 +115,7 @@ impl<D: Disk> Host<D> {
     }
 
     /// Rewrites the journal into the area that isn't active, with the ops that make the same worksheet
-    /// (docs/HOST.md, "A checkpoint"). It is the step of a `Command::Checkpoint`: the reply is `Done`,
+    /// (docs/dev/HOST.md, "A checkpoint"). It is the step of a `Command::Checkpoint`: the reply is `Done`,
     /// or `Refused` with `JournalFull` where those ops have no room, or with `OutOfMemory`. There is no
     /// effect, and lives go on. `HostFault::Closed` and `HostFault::Disk` are its faults.
     pub fn checkpoint(&mut self) -> Result<Outcome, HostFault>

@@ -1,5 +1,5 @@
 -- What a check leaves whose fields are evaluated side by side: an evaluation in silence of those fields on a copy, and then their report in
--- the worksheet's order. One whose fields are all of one session goes one after another. (docs/CHECK.md, "Side by side".)
+-- the worksheet's order. One whose fields are all of one session goes one after another. (docs/use/CHECK.md, "Side by side".)
 use Rattle.std.specs.Prelude.{◌≡◌, ◌==◌, ◌&&◌, ℕ, Bool, false, true, not, List, [], ◌∷◌, ◌++◌, Option, Some, None, find, is_some, Result, Ok, Err}
 use Rattle.std.specs.Bool.{MatchBool}
 use Rattle.std.specs.List.{list_any}

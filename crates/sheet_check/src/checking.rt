@@ -299,7 +299,7 @@ pub struct Checked<D: Disk> {
 /// copy of the worksheet in memory and with interpreters of its own, each `eval` with a `wait` after
 /// it, and compares the output that came with the one that the field shows. The prompt is no part of
 /// it. Each difference is written and flushed when it is known, and the counts at the end
-/// (docs/CHECK.md). A field whose evaluation gave no answer is counted as unanswered, and the next one
+/// (docs/use/CHECK.md). A field whose evaluation gave no answer is counted as unanswered, and the next one
 /// is checked with a new interpreter.
 ///
 /// With a limit, a field may take so many seconds from when its line was sent. Then its interpreter is

@@ -1,4 +1,4 @@
--- What is printed, as JSON: the members of each object in the order of their names. (docs/JSON.md.)
+-- What is printed, as JSON: the members of each object in the order of their names. (docs/use/JSON.md.)
 use Rattle.std.specs.Prelude.{ℕ, true, false, List, Option, Some, None, codes, map}
 use Rattle.block_tree.specs.Tree.{Tree}
 use Rattle.block_tree.specs.declared.reason.Reason.{Reason}

@@ -1,4 +1,4 @@
--- What is printed, apart from its format. (docs/JSON.md.)
+-- What is printed, apart from its format. (docs/use/JSON.md.)
 use Rattle.std.specs.Prelude.{ℕ, Bool, List, Option}
 use Rattle.block_tree.specs.Tree.{Tree}
 use Rattle.block_tree.specs.declared.reason.Reason.{Reason}

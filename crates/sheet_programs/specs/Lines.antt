@@ -1,4 +1,4 @@
--- Lines of a script over a worksheet on a disk and its interpreters. (docs/SCRIPT.md; docs/EDGE.md, "A faithful run".)
+-- Lines of a script over a worksheet on a disk and its interpreters. (docs/use/SCRIPT.md; docs/dev/EDGE.md, "A faithful run".)
 use Rattle.std.specs.Prelude.{◌≡◌, ◌+◌, ℕ, List, [], ◌∷◌, ◌++◌, Option, Some, None, length}
 use Rattle.host_events.specs.declared.command.Command.{Command}
 use Rattle.host_events.specs.declared.event.Event.{Event}

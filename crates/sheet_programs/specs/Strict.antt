@@ -1,4 +1,4 @@
--- How a script is run, strictly or not: a strict run stops after the first line that goes wrong. (docs/SCRIPT.md, "Strict runs".)
+-- How a script is run, strictly or not: a strict run stops after the first line that goes wrong. (docs/use/SCRIPT.md, "Strict runs".)
 use Rattle.std.specs.Prelude.{◌≡◌, ◌+◌, ◌==◌, ◌≤◌, ◌<◌, ◌⊎◌, ℕ, Bool, true, false, not, List, [], ◌∷◌, ◌++◌, Option, Some, None, IfSome, is_some, length}
 use Rattle.std.specs.List.{list_any}
 use Rattle.std.specs.Io.KnownBytes.{Appends}

@@ -1,4 +1,4 @@
--- Commands of a script that are taken together, as one group. (docs/SCRIPT.md.)
+-- Commands of a script that are taken together, as one group. (docs/use/SCRIPT.md.)
 use Rattle.std.specs.Prelude.{◌≡◌, ◌≤◌, ℕ, Bool, true, false, List, [], ◌∷◌, ◌++◌, Option, Some, None, is_some, length, option_map}
 use Rattle.std.specs.List.{AllByRecursion}
 use Rattle.disk_model.specs.Disk.{DiskView, Rises, SameDisk}

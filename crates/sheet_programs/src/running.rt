@@ -81,8 +81,8 @@ pub fn run_read<W: Write, D: Disk, C: Children>(
 
 /// Runs a script over the worksheet on a disk, with its interpreters as children, and writes what its
 /// lines give: the replies to a command and to all that comes of it, those of a `wait`, the worksheet
-/// at `print`, and `bad line N` where a line isn't known. Lines are numbered from 1. (docs/SCRIPT.md has
-/// the lines, docs/EDGE.md what comes of a command and of a wait.) It gives the disk back.
+/// at `print`, and `bad line N` where a line isn't known. Lines are numbered from 1. (docs/use/SCRIPT.md has
+/// the lines, docs/dev/EDGE.md what comes of a command and of a wait.) It gives the disk back.
 ///
 /// The script is read whole before the disk is opened. Commands one after another that only change the
 /// worksheet are taken together, up to 1,024 of them or 1 MiB of lines: all that they give is durable at

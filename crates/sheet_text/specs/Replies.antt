@@ -1,4 +1,4 @@
--- What is printed of a life. (docs/SCRIPT.md, "What is written".)
+-- What is printed of a life. (docs/use/SCRIPT.md, "What is written".)
 use Rattle.std.specs.Prelude.{ℕ, List, [], ◌∷◌, ◌++◌, length, Option, Some, None, Result, Ok, Err, codes}
 use Rattle.std.specs.List.{flat_map}
 use Rattle.std.specs.Fmt.{decimal}

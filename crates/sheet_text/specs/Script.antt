@@ -1,4 +1,4 @@
--- What a line of a script says, by docs/SCRIPT.md. Parts of a line are separated by exactly one space.
+-- What a line of a script says, by docs/use/SCRIPT.md. Parts of a line are separated by exactly one space.
 use Rattle.std.specs.Prelude.{ℕ, ◌+◌, ◌==◌, ◌&&◌, ◌||◌, not, Bool, true, false, List, [], ◌∷◌, Option, Some, None, length, drop, nat_le, codes, if◌then◌else◌}
 use Rattle.std.specs.List.{before_first, position, slice_split, list_all}
 use Rattle.std.specs.Option.{option_map}

@@ -285,7 +285,7 @@ fn is_skipped(line: &[u8]) -> bool
     }
 }
 
-/// What a line of a script says. The line comes without its end (docs/SCRIPT.md has its forms); a
+/// What a line of a script says. The line comes without its end (docs/use/SCRIPT.md has its forms); a
 /// carriage return in it is a byte as any other. Whether the names, words and inputs of a command are
 /// what they should be is for the worksheet to say.
 ///

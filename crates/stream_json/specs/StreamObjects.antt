@@ -1,4 +1,4 @@
--- What `blocks --json` writes of a stream. (docs/JSON.md.)
+-- What `blocks --json` writes of a stream. (docs/use/JSON.md.)
 use Rattle.std.specs.Prelude.{◌≡◌, ◌⊎◌, ℕ, Bool, List, [], ◌∷◌, ◌++◌, Option, Some, None, codes, map}
 use Rattle.std.specs.Io.KnownBytes.{Appends}
 use Rattle.std.specs.List.{flat_map}

@@ -1,4 +1,4 @@
--- What a stream has, as a whole: its outer blocks, and how it ends. (docs/PROTOCOL.md, streams.)
+-- What a stream has, as a whole: its outer blocks, and how it ends. (docs/use/PROTOCOL.md, streams.)
 use Rattle.std.specs.Prelude.{◌≡◌, ◌+◌, ◌<◌, ℕ, Bool, true, false, List, [], ◌++◌, length}
 use Rattle.meta_format.specs.Limits.{Limits}
 use Rattle.meta_format.specs.Stream.{Outer, Stream}

@@ -142,7 +142,7 @@ fn write_stream<W: Write>(alloc: Global, stream: &[u8], out: &mut W) -> Result<b
 
 /// Writes the objects of the stream that a reader gives: first `hello`, then one for each outer block, and last
 /// `end`, or the first fault of the stream; before `end` one for the block that is open there, if any. It returns whether
-/// there is neither that nor a fault. (docs/JSON.md has the objects.)
+/// there is neither that nor a fault. (docs/use/JSON.md has the objects.)
 ///
 /// The input is read whole before anything is written. `Input` where the reader fails, an interruption included,
 /// and `InputTooLong` where it gives more than `LONGEST_STANDARD_INPUT` bytes: nothing was written then. `OutOfMemory`,

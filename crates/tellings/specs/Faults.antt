@@ -1,4 +1,4 @@
--- The number and the name of a fault, and the offset of a damage. (docs/FAULTS.md.)
+-- The number and the name of a fault, and the offset of a damage. (docs/use/FAULTS.md.)
 use Rattle.std.specs.Prelude.{ℕ, List, Option, Some, None, codes}
 use Rattle.journal.specs.declared.opening.OpenCause.{OpenCause}
 use Rattle.journal.specs.declared.opening.OpenCause.TheVariants as opens

@@ -1,4 +1,4 @@
--- What is printed, as lines of JSON. (docs/JSON.md.)
+-- What is printed, as lines of JSON. (docs/use/JSON.md.)
 use Rattle.std.specs.Prelude.{ℕ, true, List, [], ◌++◌, Option, Some, None, map, option_map, option_and_then, length, codes, cond}
 use Rattle.std.specs.List.{flat_map}
 use Rattle.worksheet.specs.Checks.{field_in}

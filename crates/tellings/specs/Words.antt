@@ -1,4 +1,4 @@
--- What is printed, in words. (docs/SCRIPT.md, "Live".)
+-- What is printed, in words. (docs/use/SCRIPT.md, "Live".)
 use Rattle.std.specs.Fmt.{decimal}
 use Rattle.std.specs.Prelude.{ℕ, false, List, [], ◌∷◌, ◌++◌, Option, Some, None, codes, cond}
 use Rattle.worksheet.specs.Checks.{field_in}

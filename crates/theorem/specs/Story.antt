@@ -1,5 +1,5 @@
 -- What may become of a disk before it is opened: hosts one after another, each ended by a crash at any moment, and what is opened then.
--- (docs/THEOREM.md.) Premises have names here: A1 to A6 (README.md, "Premises").
+-- (docs/trust/THEOREM.md.) Premises have names here: A1 to A6 (README.md, "Premises").
 use Rattle.std.specs.Prelude.{◌≤◌, ◌⊎◌, ℕ, IsTrue, List, [], ◌∷◌, ◌++◌, length, Result}
 use Rattle.std.specs.declared.alloc.Global.{Global}
 use Rattle.std.specs.declared.vec.Vec.{Vec}

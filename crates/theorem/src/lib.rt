@@ -1,4 +1,4 @@
-//! The theorem of docs/THEOREM.md as the contract of one function: what opens, after whatever was there before.
+//! The theorem of docs/trust/THEOREM.md as the contract of one function: what opens, after whatever was there before.
 #![tactic(auto)]
 
 ghost use Rattle.std.specs.Prelude.{◌∷◌, [], IfOk, List};
