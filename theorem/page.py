@@ -1,11 +1,11 @@
 #!/usr/bin/env python3
-"""Writes docs/trust/THEOREM.md, the theorem, and DEFINITIONS.md beside it: each definition and type that it needs, in the order in which a
-reader meets them.
+"""Writes docs/trust/THEOREM.md, the theorem, and two pages behind it: WORKED_RUN.md, an example, and DEFINITIONS.md, each definition and
+type that the theorem needs, in the order in which a reader meets them.
 
-    theorem/page.py           writes both pages, and prints how many definitions and lines there are
+    theorem/page.py           writes the pages, and prints how many definitions and lines there are
     theorem/page.py --check   says whether the pages are those that would be written; status 1 where they aren't
 
-The first page is theorem/head.md, the second begins with theorem/definitions.md. In it {crate.Module.name} and {crate::Type} are links to what the second page then has, and
+They are made of head.md, worked.md and definitions.md of this folder. In these {crate.Module.name} and {crate::Type} are links to what DEFINITIONS.md then has, and
 {file crate.Module.name} is one to the file. {clause F N} is the clause N of the host's function F, {law F} a link to the function whose
 contract is a law, {mutant N} one to an edit that the proofs refuse, and {worked} the run of theorem/worked.py. Both forms of the command
 fail where a word of the pages' code is of the repository and isn't linked.
@@ -22,10 +22,13 @@ sys.dont_write_bytecode = True
 import worked  # noqa: E402
 from sources import ROOT, Definition, Key, Sources, files, line_of, read  # noqa: E402
 
-HEAD = "theorem/head.md"
-FOOT = "theorem/definitions.md"
-PAGE = "docs/trust/THEOREM.md"
-BEHIND = "docs/trust/DEFINITIONS.md"
+# What each page is made of. The definitions follow the text of the last one.
+PAGES = {
+    "docs/trust/THEOREM.md": "theorem/head.md",
+    "docs/trust/WORKED_RUN.md": "theorem/worked.md",
+    "docs/trust/DEFINITIONS.md": "theorem/definitions.md",
+}
+DEFINITIONS = "DEFINITIONS.md"
 HOST = "crates/session_engine/src/host.rt"
 CALLS = ("crates/host_laws/src/made.rt", "crates/theorem/src/lib.rt")  # laws that make the call that they speak of
 PLACE = re.compile(r"\{(?:(?P<kind>clause \w+|law|mutant) (?P<word>\w+)|(?P<file>file )?(?P<module>\w+::|\w+(?:\.\w+)*\.)(?P<name>[\w']+))\}")
@@ -77,10 +80,10 @@ REMARKS: dict[Key, str] = {
     ("disk_model.Disk", "area_of"): "the bytes of an area",
     ("session_engine.Groups", "is_refusal"): "the reply of an outcome is a refusal",
     ("journal.Area", "closed_gate"): "as which a closed gate is written",
-    ("session_engine.Host", "IsHost"): "Any invariant with these contracts would do in its place: `open` establishes it ([stands](#open.stands)), `step` and `play` "
+    ("session_engine.Host", "IsHost"): "Any invariant with these contracts would do in its place: `open` establishes it ([stands](THEOREM.md#open.stands)), `step` and `play` "
     "need it and keep it for the world after the events, and other clauses say what is claimed of replies, worksheet and disk.",
     ("recovery.Sheets", "IsSheetImage"): "Any relation with these contracts would do in its place: each call that writes establishes it of all that a crash may "
-    "leave, and `open` turns it into a host with this worksheet ([exact](#open.exact)).",
+    "leave, and `open` turns it into a host with this worksheet ([exact](THEOREM.md#open.exact)).",
     ("session_engine.Host", "EndsAt"): "`open` gives it of the disk that it has read (clause `ends`), and the laws take it: so the end of the "
     "journal in the world is that of the bytes.",
     ("host_events::", "HostFault"): "[CauseOf](#session_engine.Faults.CauseOf) says which events can have which of them: OutOfMemory also an "
@@ -145,17 +148,18 @@ class Page:
 
     # Text.
 
-    def link(self, key: Key) -> str:
-        return f"#{anchor(key)}" if key in self.printed else self.sources.definitions[key].place
+    def link(self, key: Key, page: str = "") -> str:
+        """Where a definition is: on this page, beside the others where none is named, or in its file."""
+        return f"{page}#{anchor(key)}" if key in self.printed else self.sources.definitions[key].place
 
-    def code(self, definition: Definition) -> str:
-        """The lines of a definition as HTML, each of its words a link to what it names."""
+    def code(self, definition: Definition, page: str = "") -> str:
+        """The lines of a definition as HTML, each of its words a link to what it names, on this page."""
         lines = []
         for line, tokens in zip(definition.lines, self.sources.tokens(definition)):
             done, text = 0, ""
             for token in tokens:
                 if token.key and token.key != definition.key:
-                    text += f'{html.escape(line[done : token.start], quote=False)}<a href="{self.link(token.key)}">{html.escape(token.word)}</a>'
+                    text += f'{html.escape(line[done : token.start], quote=False)}<a href="{self.link(token.key, page)}">{html.escape(token.word)}</a>'
                     done = token.end
             lines.append(text + html.escape(line[done:], quote=False))
         return "<pre>" + "\n".join(lines) + "</pre>"
@@ -206,7 +210,7 @@ class Page:
     def key_of(self, match: re.Match[str]) -> Key:
         key = (match["module"].removesuffix(".") if "." in match["module"] else match["module"], match["name"])
         if key not in self.sources.definitions:
-            sys.exit(f"theorem/head.md names {match[0]}, and there is no such definition")
+            sys.exit(f"theorem/*.md name {match[0]}, and there is no such definition")
         return key
 
     def take(self, match: re.Match[str]) -> str:
@@ -224,14 +228,14 @@ class Page:
         if match[0] in self.clauses:
             clause, function = self.clauses[match[0]], match["kind"].removeprefix("clause ")
             head = f'<a id="{function}.{match["word"]}"></a>\n**{match["word"]}** ([{function}]({clause.place}))'
-            return f"{head}\n{self.code(clause)}"
+            return f"{head}\n{self.code(clause, DEFINITIONS)}"
         if match["kind"]:
             found = self.laws() if match["kind"] == "law" else edits()
             if match["word"] not in found:
-                sys.exit(f"theorem/head.md names {match[0]}, and there is none")
+                sys.exit(f"theorem/*.md name {match[0]}, and there is none")
             return f"[`{match['word']}`](../../{found[match['word']]})"
         key = self.key_of(match)
-        return f"[`{key[1]}`]({self.sources.definitions[key].place if match['file'] else self.link(key)})"
+        return f"[`{key[1]}`]({self.sources.definitions[key].place if match['file'] else self.link(key, DEFINITIONS)})"
 
     def laws(self) -> dict[str, str]:
         """The functions that carry laws, those that make a call among them, with their places."""
@@ -253,15 +257,19 @@ class Page:
             sys.exit(f"no section has {others[0].key[0]}")
         return [*parts, f"## Appendix: types of the code ({len(left)})\n", self.values() + "\n", *map(self.entry, left)]
 
-    def text(self) -> tuple[str, str]:
-        """The page, and what it counts."""
-        head = read(HEAD).replace("{worked}", worked.text())
-        PLACE.sub(self.take, head)
+    def texts(self) -> tuple[dict[str, str], str]:
+        """The pages, and what they count."""
+        parts = {page: read(part).replace("{worked}", worked.text()) for page, part in PAGES.items()}
+        for part in parts.values():
+            PLACE.sub(self.take, part)
         self.gather()
         definitions = [d for d in self.printed.values() if not d.is_type]
         lines = sum(len(d.lines) for d in definitions)
         counts = f"{len(definitions)} definitions of {lines:,} lines, and {len(self.printed) - len(definitions)} types of the code"
-        return "\n".join([PLACE.sub(self.put, head).replace("{counts}", counts), *self.sections()]), counts
+        pages = {page: PLACE.sub(self.put, part).replace("{counts}", counts) for page, part in parts.items()}
+        last = list(pages)[-1]
+        pages[last] = "\n".join([pages[last], *self.sections()])
+        return pages, counts
 
 
 def spoken(sentence: str) -> str:
@@ -279,16 +287,17 @@ def edits() -> dict[str, str]:
 
 def main(words: list[str]) -> int:
     page = Page(Sources())
-    text, counts = page.text()
+    pages, counts = page.texts()
     if strange := page.strange():
         print("\n".join(strange))
         return 1
     if words == ["--check"]:
-        same = read(PAGE) == text
-        print("docs/trust/THEOREM.md is " + ("as the definitions are" if same else "another than the definitions: run theorem/page.py"))
-        return 0 if same else 1
-    with open(os.path.join(ROOT, PAGE), "w", encoding="utf-8") as file:
-        file.write(text)
+        others = [name for name, text in pages.items() if not os.path.exists(os.path.join(ROOT, name)) or read(name) != text]
+        print("\n".join(f"{name} is another than the definitions: run theorem/page.py" for name in others) or "docs/trust is as the definitions are")
+        return 1 if others else 0
+    for name, text in pages.items():
+        with open(os.path.join(ROOT, name), "w", encoding="utf-8") as file:
+            file.write(text)
     print(counts)
     return 0
 
