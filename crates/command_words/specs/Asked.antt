@@ -53,6 +53,7 @@ pub record EvalView : Type 0 where
   pub unanswered : Bool
   pub json : Bool
   pub keep_going : Bool
+  pub stop_at_error : Bool
   pub timeout : Option Text
   pub from : Option Text
   pub jobs : Option Text
@@ -64,6 +65,7 @@ eval_view words = record {
   unanswered = words.unanswered;
   json = words.json;
   keep_going = words.keep_going;
+  stop_at_error = words.stop_at_error;
   timeout = option_map (λ text. text.now) words.timeout;
   from = option_map (λ text. text.now) words.from;
   jobs = option_map (λ text. text.now) words.jobs;
@@ -224,11 +226,17 @@ keep_going_rule = record (new_rule (codes "keep-going")) { long = Some (codes "k
 abbrev pub with_keep_going : Text → App
 with_keep_going name = with_rule (with_timeout name) keep_going_rule
 
+abbrev pub stop_at_error_rule : Rule
+stop_at_error_rule = record (new_rule (codes "stop-at-error")) { long = Some (codes "stop-at-error"); action = Some SetTrue }
+
+abbrev pub with_stop_at_error : Text → App
+with_stop_at_error name = with_rule (with_keep_going name) stop_at_error_rule
+
 abbrev pub from_rule : Rule
 from_rule = record (new_rule (codes "from")) { long = Some (codes "from"); value_names = 1 }
 
 abbrev pub with_from : Text → App
-with_from name = with_rule (with_keep_going name) from_rule
+with_from name = with_rule (with_stop_at_error name) from_rule
 
 abbrev pub with_jobs : Text → App
 with_jobs name = with_rule (with_from name) jobs_rule
@@ -337,6 +345,7 @@ eval_in rows = record {
   unanswered = is_set (first_of (codes "unanswered") rows);
   json = is_set (first_of (codes "json") rows);
   keep_going = is_set (first_of (codes "keep-going") rows);
+  stop_at_error = is_set (first_of (codes "stop-at-error") rows);
   timeout = first_of (codes "timeout") rows;
   from = first_of (codes "from") rows;
   jobs = first_of (codes "jobs") rows;

@@ -97,6 +97,12 @@ const KEEP_GOING: Word = Word {
     help: "With --timeout, pass over no field",
 };
 
+const STOP_AT_ERROR: Word = Word {
+    name: "stop-at-error",
+    given: Given::Flag,
+    help: "Stop as --strict does, and after an answer that is an error",
+};
+
 const ACCEPT: Word = Word {
     name: "accept",
     given: Given::Flag,
@@ -167,13 +173,14 @@ static LIVE: [Word; 2] = [PATH, JSON];
 
 static SHOW: [Word; 3] = [PATH, JSON, AT];
 
-static EVAL: [Word; 9] = [
+static EVAL: [Word; 10] = [
     PATH,
     STRICT,
     UNANSWERED,
     JSON,
     FIELD_TIMEOUT,
     KEEP_GOING,
+    STOP_AT_ERROR,
     FROM,
     JOBS,
     IDS,

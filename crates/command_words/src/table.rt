@@ -121,7 +121,8 @@ program of a session isn't there: 44 NoProgram. With --unanswered only those of\
 all, of the IDs or from the ID on that show no answer are evaluated.\n\n\
 With --strict it stops after the first field that is lost or refused: the fields\n\
 after it keep what they show, and standard error has `stopped at line N`, where the\n\
-Nth field that is evaluated has the lines 2N - 1 and 2N.\n\n\
+Nth field that is evaluated has the lines 2N - 1 and 2N. With --stop-at-error it\n\
+does so, and also after a field whose answer its interpreter marks as an error.\n\n\
 With --timeout SECONDS (1 to 1,000,000) the interpreter of a field that takes\n\
 longer is sent SIGINT, which is reported as `over ID`, and is stopped where it\n\
 hasn't answered two seconds later. Fields after one of their session that shows no\n\
@@ -130,12 +131,13 @@ line `over 1 passed 12` has these counts. With --json each line is one object\n\
 (docs/use/JSON.md).\n\n\
 Fields of up to 64 sessions wait at a time, of each session one: first the first\n\
 field of each session is asked, then the second of each, and so on. With --strict,\n\
-and with --timeout, one field goes after another, in the worksheet's order. With\n\
---jobs N (1 to 64) fields of up to N sessions wait at a time, and with --timeout the\n\
-time of those begins when the last of them was asked. It goes with no --strict.\n\n\
+--stop-at-error and --timeout one field goes after another, in the worksheet's\n\
+order. With --jobs N (1 to 64) fields of up to N sessions wait at a time, and with\n\
+--timeout the time of those begins when the last of them was asked. It goes with no\n\
+--strict and no --stop-at-error.\n\n\
 Status: 0 where each field of the worksheet shows an answer, and none was over or\n\
 passed over; 1 where that isn't so, or at a fault; 2 where the words are refused; 3\n\
-where --strict stopped it.\n\n\
+where --strict or --stop-at-error stopped it.\n\n\
 Example: tmhost eval --timeout 10 sheet 3 7";
 
 const SHOW_ABOUT: &str = "Write a worksheet";

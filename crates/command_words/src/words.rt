@@ -96,6 +96,8 @@ pub struct EvalWords<'a> {
     pub json: bool,
     /// It passes over no field.
     pub keep_going: bool,
+    /// It stops as a strict one does, and after an answer that is an error.
+    pub stop_at_error: bool,
     /// How many seconds a field may take.
     pub timeout: Option<&'a str>,
     /// The number of the first field that is evaluated.
@@ -310,6 +312,7 @@ fn eval_words<'a>(alloc: Global, matches: &ArgMatches<'a>) -> Result<EvalWords<'
         unanswered: is_set(matches.get_str("unanswered")),
         json: is_set(matches.get_str("json")),
         keep_going: is_set(matches.get_str("keep-going")),
+        stop_at_error: is_set(matches.get_str("stop-at-error")),
         timeout: matches.get_str("timeout"),
         from: matches.get_str("from"),
         jobs: matches.get_str("jobs"),

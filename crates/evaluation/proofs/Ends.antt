@@ -164,7 +164,7 @@ module _ {C : Type 0} (o : Setting C) (disk now : DiskView) (c d : C) (a b : Opt
   evaluation_failed back same nothing f (inside.unwritten t) = ends.unwritten (inl (led-of back same t))
 
   module _ (stand : Stand) (t : ThroughAnd (meaning o start) (stands (at start c now) not_begun) (StoppedBehind o.after d) (left h d a b) stand) where
-    pub evaluation_done : (e : Option (List ℕ)) (back : DiskView) (stopped : Option ℕ) (counts : Counts) → back ≡ h.store.disk → stopped ≡ stop_line o.plan.strict (sheet_in t.3.world).fields stand
+    pub evaluation_done : (e : Option (List ℕ)) (back : DiskView) (stopped : Option ℕ) (counts : Counts) → back ≡ h.store.disk → stopped ≡ stop_line o.plan (sheet_in t.3.world).fields stand
         → counts ≡ evaluation_counts o.plan (length (meaning o start).meant) (sheet_in t.3.world).fields stand → Appends b e (o.voice.note (note.Counted counts)) → EvaluationDone o (outside disk c a) (outside back d e) stopped counts
     evaluation_done e back stopped counts same is counted told = record {
       start = start;

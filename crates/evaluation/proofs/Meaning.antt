@@ -120,7 +120,7 @@ next_here plan fields lasts meant from = (omega arith, λ k low high. absurd (om
 pub ruleset next_steps = (next_one, next_here)
 
 -- where it stops no field is the next
-pub stopped_asks_none : (plan : Plan) (fields : List Field) (meant : List ℕ) (stand : Stand) → is_some (stop_line plan.strict fields stand) ≡ true → AsksNone plan fields meant stand
+pub stopped_asks_none : (plan : Plan) (fields : List Field) (meant : List ℕ) (stand : Stand) → is_some (stop_line plan fields stand) ≡ true → AsksNone plan fields meant stand
 stopped_asks_none plan fields meant stand stops = record {
   each = λ k id asked. let wrong : false ≡ true = ap is_some (sym asked.goes_on) ∙ stops in absurd cc;
 }

@@ -2,7 +2,9 @@
 use Rattle.std.specs.Prelude.{◌≡◌, ◌==◌, ◌<◌, ◌≤◌, ◌-◌, ◌*◌, ◌&&◌, ℕ, Bool, true, false, not, List, [], ◌∷◌, Option, Some, None, count_by, filter, find, if◌then◌else◌, is_some, length, map, slice_get}
 use Rattle.std.specs.List.{list_any}
 use Rattle.worksheet.specs.Checks.{field_in}
+use Rattle.worksheet.specs.declared.field.Answer.{Answer}
 use Rattle.worksheet.specs.declared.field.Field.{Field}
+use Rattle.sheet_notebook.specs.Errors.{tells_error}
 use Rattle.tellings.specs.declared.note.Counts.{Counts}
 use Rattle.tellings.specs.declared.note.Overs.{Overs}
 use Rattle.evaluation.specs.Lasts.{last_asked}
@@ -87,9 +89,18 @@ IsNext plan fields lasts meant from at = (from ≤ at) × ((k : ℕ) → from �
 abbrev pub line_behind : ℕ → ℕ
 line_behind taken = 2 * taken - 1
 
--- The line of the last field, where that went wrong: no item waited after its `eval`, or it shows no answer.
-abbrev pub wrong_line : List Field → Stand → Option ℕ
-wrong_line fields stand = wrong_by stand.at_once (is_unanswered fields stand.field) stand.taken
+-- Whether a field went wrong: it shows no answer, or one that is an error where that is wrong too.
+abbrev pub tells_wrong : Bool → Option Answer → Bool
+tells_wrong at_errors None = true
+tells_wrong at_errors (Some answer) = at_errors && tells_error answer.output
+
+abbrev pub went_wrong : Bool → Option Field → Bool
+went_wrong at_errors None = false
+went_wrong at_errors (Some field) = tells_wrong at_errors field.answer
+
+-- The line of the last field, where that went wrong: no item waited after its `eval`, or it shows no answer, or an error that is asked for.
+abbrev pub wrong_line : Bool → List Field → Stand → Option ℕ
+wrong_line at_errors fields stand = wrong_by stand.at_once (went_wrong at_errors (field_in fields stand.field)) stand.taken
   where
     wrong_by : Bool → Bool → ℕ → Option ℕ
     wrong_by true lost taken = Some (line_behind taken)
@@ -97,21 +108,24 @@ wrong_line fields stand = wrong_by stand.at_once (is_unanswered fields stand.fie
     wrong_by false false taken = None
 
 -- the line after which a strict evaluation stops here, if it does
-abbrev pub stop_line : Bool → List Field → Stand → Option ℕ
-stop_line false fields stand = None
-stop_line true fields stand = wrong_line fields stand
+abbrev pub line_if : Bool → Option ℕ → Option ℕ
+line_if false line = None
+line_if true line = line
+
+abbrev pub stop_line : Plan → List Field → Stand → Option ℕ
+stop_line plan fields stand = line_if plan.strict (wrong_line plan.at_errors fields stand)
 
 -- The field at this place, which has this number, is asked next: it isn't passed over, all from the last one on are, and a strict evaluation
 -- doesn't stop here.
 pub record IsAsked (plan : Plan) (fields : List Field) (meant : List ℕ) (stand : Stand) (k id : ℕ) : Type 0 where
-  pub goes_on : stop_line plan.strict fields stand ≡ None
+  pub goes_on : stop_line plan fields stand ≡ None
   pub next : IsNext plan fields stand.lasts meant stand.taken k
   pub there : slice_get meant k ≡ Some id
   pub asked : is_passed plan fields stand.lasts meant k ≡ false
 
 -- It comes to its end here: a strict one stops after this line, or all fields that are to come are passed over.
 pub record EndsHere (plan : Plan) (fields : List Field) (meant : List ℕ) (stand : Stand) (stopped : Option ℕ) : Type 0 where
-  pub is : stopped ≡ stop_line plan.strict fields stand
+  pub is : stopped ≡ stop_line plan fields stand
   pub all : stopped ≡ None → IsNext plan fields stand.lasts meant stand.taken (length meant)
 
 -- what a limit of time came to where so many fields were to be evaluated

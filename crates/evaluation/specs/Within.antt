@@ -28,7 +28,7 @@ silent = record { frame = λ f. []; note = λ n. []; reply = λ line sheet r. []
 
 -- no field is asked, and the one that was asked may take so many seconds
 abbrev pub waiting_plan : ℕ → Plan
-waiting_plan seconds = record { which = which.All; unanswered = false; strict = false; limit = Some seconds; keep_going = false; jobs = 1 }
+waiting_plan seconds = record { which = which.All; unanswered = false; strict = false; at_errors = false; limit = Some seconds; keep_going = false; jobs = 1 }
 
 abbrev pub waiting : {C : Type 0} → Relation C → Clock C → Watch C → ℕ → Setting C
 waiting R K W seconds = setting silent R K W (waiting_plan seconds) []

@@ -7,6 +7,7 @@ ghost use Rattle.evaluation.specs.inside.Beside as inside;
 use crate::choosing::is_answered;
 use crate::lasts::{Last, last_asked};
 use crate::plan::{Plan, Stand};
+use sheet_notebook::tells_error;
 use worksheet::{Field, Sheet};
 
 /// Whether this field shows no answer.
@@ -16,6 +17,19 @@ fn shows_none(field: Option<&Field>) -> bool
     match field {
         None => false,
         Some(field) => !is_answered(field),
+    }
+}
+
+/// Whether this field shows no answer, or one that is an error where that is wrong too.
+fn went_wrong(at_errors: bool, field: Option<&Field>) -> bool
+    ensures { result ≡ meant.went_wrong at_errors (option_copied field.entry) }
+{
+    match field {
+        None => false,
+        Some(field) => match &field.answer {
+            None => true,
+            Some(answer) => at_errors && tells_error(&answer.output),
+        },
     }
 }
 
@@ -75,13 +89,13 @@ pub(crate) fn line_behind(taken: usize) -> u64
 }
 
 /// The line of the field that was asked last, where that went wrong.
-fn wrong_line(sheet: &Sheet, stand: &Stand) -> Option<u64>
+fn wrong_line(at_errors: bool, sheet: &Sheet, stand: &Stand) -> Option<u64>
     requires { stand.now.taken < 2 ^ 32 }
-    ensures { result ≡ meant.wrong_line sheet.now.contents.fields stand.now }
+    ensures { result ≡ meant.wrong_line at_errors sheet.now.contents.fields stand.now }
 {
     if stand.at_once {
         Some(line_behind(stand.taken))
-    } else if shows_none(sheet.field(stand.field)) {
+    } else if went_wrong(at_errors, sheet.field(stand.field)) {
         Some(stand.taken as u64 * 2)
     } else {
         None
@@ -91,10 +105,10 @@ fn wrong_line(sheet: &Sheet, stand: &Stand) -> Option<u64>
 /// The line after which a strict evaluation stops here, if it does.
 pub fn stop_line(plan: &Plan, sheet: &Sheet, stand: &Stand) -> Option<u64>
     requires { stand.now.taken < 2 ^ 32 }
-    ensures { result ≡ meant.stop_line plan.now.strict sheet.now.contents.fields stand.now }
+    ensures { result ≡ meant.stop_line plan.now sheet.now.contents.fields stand.now }
 {
     if plan.strict {
-        wrong_line(sheet, stand)
+        wrong_line(plan.at_errors, sheet, stand)
     } else {
         None
     }

@@ -30,6 +30,8 @@ pub struct Plan {
     pub unanswered: bool,
     /// Whether it stops after the first field that is lost or refused.
     pub strict: bool,
+    /// Whether a strict one also stops after a field whose answer is an error.
+    pub at_errors: bool,
     /// How many seconds a field may take from when it was asked, or the last of those that wait with it,
     /// where there is a limit.
     pub limit: Option<u32>,

@@ -27,6 +27,7 @@ fn waiting_plan(seconds: u32) -> Plan
         which: Which::All,
         unanswered: false,
         strict: false,
+        at_errors: false,
         limit: Some(seconds),
         keep_going: false,
         jobs: 1,

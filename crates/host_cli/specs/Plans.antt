@@ -1,5 +1,5 @@
 -- What the words of `eval` ask for (docs/use/SCRIPT.md, "Evaluating a worksheet"), and what those of `check` do beside its request.
-use Rattle.std.specs.Prelude.{◌≡◌, ◌&&◌, ℕ, Bool, true, false, List, [], ◌∷◌, Option, Some, None, length, nat_le, nat_lt, Result, Ok, Err}
+use Rattle.std.specs.Prelude.{◌≡◌, ◌&&◌, ◌||◌, ℕ, Bool, true, false, List, [], ◌∷◌, Option, Some, None, length, nat_le, nat_lt, Result, Ok, Err}
 use Rattle.std.specs.Option.{option_map}
 use Rattle.clap.specs.Words.{Text}
 use Rattle.check_report.specs.declared.report.Format.{Format}
@@ -134,14 +134,19 @@ abbrev pub which_asked : Option Text → List Text → Result Which PlanFault
 which_asked None words = named_asked words
 which_asked (Some from) words = from_asked from words
 
+-- whether it stops where something goes wrong
+abbrev pub stops_early : EvalView → Bool
+stops_early words = words.strict || words.stop_at_error
+
 -- The words of `eval` ask for this.
 pub record AsksPlan (words : EvalView) (plan : Plan) : Type 0 where
   pub which : which_asked words.from words.ids ≡ Ok plan.which
   pub unanswered : plan.unanswered ≡ words.unanswered
-  pub strict : plan.strict ≡ words.strict
+  pub strict : plan.strict ≡ stops_early words
+  pub at_errors : plan.at_errors ≡ words.stop_at_error
   pub limit : limit_asked words.timeout ≡ Some plan.limit
   pub keep_going : plan.keep_going ≡ words.keep_going
-  pub jobs : jobs_asked words.jobs words.strict words.timeout ≡ Ok plan.jobs
+  pub jobs : jobs_asked words.jobs (stops_early words) words.timeout ≡ Ok plan.jobs
 
 -- they name a time that a field may take, or none
 abbrev pub NamesTime : EvalView → Type 0
@@ -149,13 +154,13 @@ NamesTime words = (limit : Option ℕ) × (limit_asked words.timeout ≡ Some li
 
 -- and a number of sessions with it, or none
 abbrev pub NamesJobs : EvalView → Type 0
-NamesJobs words = NamesTime words × ((jobs : ℕ) × (jobs_asked words.jobs words.strict words.timeout ≡ Ok jobs))
+NamesJobs words = NamesTime words × ((jobs : ℕ) × (jobs_asked words.jobs (stops_early words) words.timeout ≡ Ok jobs))
 
 -- They ask for nothing that there is, for this reason, of which the time is the first, and how many sessions the next; or there was no memory.
 abbrev pub AsksNoPlan : EvalView → PlanFault → Type 0
 AsksNoPlan words plans.Seconds = limit_asked words.timeout ≡ None
-AsksNoPlan words plans.Jobs = NamesTime words × (jobs_asked words.jobs words.strict words.timeout ≡ Err plans.Jobs)
-AsksNoPlan words plans.Strict = NamesTime words × (jobs_asked words.jobs words.strict words.timeout ≡ Err plans.Strict)
+AsksNoPlan words plans.Jobs = NamesTime words × (jobs_asked words.jobs (stops_early words) words.timeout ≡ Err plans.Jobs)
+AsksNoPlan words plans.Strict = NamesTime words × (jobs_asked words.jobs (stops_early words) words.timeout ≡ Err plans.Strict)
 AsksNoPlan words plans.Id = NamesJobs words × (which_asked words.from words.ids ≡ Err plans.Id)
 AsksNoPlan words plans.Both = NamesJobs words × (which_asked words.from words.ids ≡ Err plans.Both)
 AsksNoPlan words plans.OutOfMemory = Unit {0}

@@ -42,7 +42,7 @@ abbrev pub no_jobs_text : List ℕ
 no_jobs_text = codes "error: this is no number of jobs: N is a number from 1 to 64\n\nFor more information, try 'tmhost eval --help'.\n"
 
 abbrev pub strict_jobs_text : List ℕ
-strict_jobs_text = codes "error: --jobs goes with no --strict\n\nFor more information, try 'tmhost eval --help'.\n"
+strict_jobs_text = codes "error: --jobs goes with no --strict and no --stop-at-error\n\nFor more information, try 'tmhost eval --help'.\n"
 
 -- what is printed of words that ask for no run, since they name no time
 abbrev pub no_run_seconds_text : List ℕ

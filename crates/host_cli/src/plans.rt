@@ -256,7 +256,8 @@ pub(crate) fn read_plan(alloc: Global, words: &EvalWords<'_>) -> Result<Plan, Pl
     let Some(limit) = read_limit(words.timeout) else {
         return Err(PlanFault::Seconds);
     };
-    let jobs = match read_jobs(words.jobs, words.strict, words.timeout) {
+    let strict = words.strict || words.stop_at_error;
+    let jobs = match read_jobs(words.jobs, strict, words.timeout) {
         Ok(jobs) => jobs,
         Err(why) => return Err(why),
     };
@@ -264,7 +265,8 @@ pub(crate) fn read_plan(alloc: Global, words: &EvalWords<'_>) -> Result<Plan, Pl
         Ok(which) => Ok(Plan {
             which,
             unanswered: words.unanswered,
-            strict: words.strict,
+            strict,
+            at_errors: words.stop_at_error,
             limit,
             keep_going: words.keep_going,
             jobs,

@@ -151,7 +151,7 @@ pub(crate) fn refuse_plan<E: Says>(why: PlanFault, errors: &mut E) -> Ending
             errors,
         ),
         PlanFault::Strict => refuse_with(
-            b"error: --jobs goes with no --strict\n\n\
+            b"error: --jobs goes with no --strict and no --stop-at-error\n\n\
             For more information, try 'tmhost eval --help'.\n",
             errors,
         ),

@@ -128,6 +128,29 @@ printf 'remove 2\nremove 4\n' >given
 "$tmhost" run sheet <given >text
 evaluates 'strictly, where none is lost' 0 'asked\nbanner a\nanswered 1\nasked\nanswered 3\nanswered 2 unanswered 0\n' '#1 a\n> x\nx 1\n#3 a\n> z\nz 2\n' --strict
 
+# Answers that are errors: blocks of the channel `output` in another one, and of the channel `error`. They stop an evaluation only where that is
+# asked for, each by itself, and whatever was shown before; a text with such a word is none.
+cat >wrong.sh <<'END'
+printf '\002verbatim:\005'
+while IFS= read -r l; do
+    case $l in
+    bad) printf '\002output#\002output#oops\005\005' ;;
+    deep) printf '\002output#1\002verbatim:\002error#oops\005\005\005' ;;
+    *) printf '\002output#error %s\005' "$l" ;;
+    esac
+done
+END
+made 'session a plain sh wrong.sh\nnew 0 a x\nnew 1 a bad\nnew 2 a y\nnew 3 a deep\n'
+wrong='#1 a\n> x\nerror x\n#2 a\n> bad\noops\n#3 a\n> y\n'
+evaluates 'it stops at an answer that is an error' 3 'asked\nbanner a\nanswered 1\nasked\nanswered 2\nanswered 2 unanswered 2\nstopped at line 4\n' \
+    "$wrong"'?\n#4 a\n> deep\n?\n' --stop-at-error
+evaluates 'and at one in which there is an error' 3 'asked\nbanner a\nanswered 3\nasked\nanswered 4\nanswered 4 unanswered 0\nstopped at line 4\n' \
+    "$wrong"'error y\n#4 a\n> deep\n1{oops}error#\n' --stop-at-error 3 4
+evaluates 'strictly it is an answer' 0 'asked\nbanner a\nanswered 1\nasked\nanswered 2\nasked\nanswered 3\nasked\nanswered 4\nanswered 4 unanswered 0\n' \
+    "$wrong"'error y\n#4 a\n> deep\n1{oops}error#\n' --strict
+evaluates 'where none is one it goes on' 0 'asked\nbanner a\nanswered 1\nasked\nanswered 3\nanswered 4 unanswered 0\n' \
+    "$wrong"'error y\n#4 a\n> deep\n1{oops}error#\n' --stop-at-error 1 3
+
 # It writes what `run` writes of that script, and the counts.
 printf 'eval 1\nwait\neval 3\nwait\n' >given
 "$tmhost" run sheet <given >text
@@ -279,7 +302,8 @@ compare 'both are interrupted before anything else is taken' "$(grep -A 1 '^over
 for jobs in 0 65 x '' 1.5; do
     words "no number of jobs: $jobs" 2 "error: this is no number of jobs: N is a number from 1 to 64\n\nFor more information, try 'tmhost eval --help'.\n" eval --jobs "$jobs" sheet
 done
-words 'side by side, and strictly' 2 "error: --jobs goes with no --strict\n\nFor more information, try 'tmhost eval --help'.\n" eval --strict --jobs 2 sheet
+words 'side by side, and strictly' 2 "error: --jobs goes with no --strict and no --stop-at-error\n\nFor more information, try 'tmhost eval --help'.\n" eval --strict --jobs 2 sheet
+words 'side by side, up to an error' 2 "error: --jobs goes with no --strict and no --stop-at-error\n\nFor more information, try 'tmhost eval --help'.\n" eval --stop-at-error --jobs 2 sheet
 
 # In lines of JSON.
 made 'session a plain sh count.sh\nnew 0 a x\n'

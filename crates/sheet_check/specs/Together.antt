@@ -77,7 +77,7 @@ cleared chosen (field ∷ fields) sheet = cleared chosen fields (cleared_at (sho
 
 -- all of these fields, up to the end: a field after one that shows no answer is asked, too
 abbrev pub checking_plan : List ℕ → Option ℕ → ℕ → Plan
-checking_plan ids limit jobs = record { which = which.Named ids; unanswered = false; strict = false; limit = limit; keep_going = true; jobs = jobs }
+checking_plan ids limit jobs = record { which = which.Named ids; unanswered = false; strict = false; at_errors = false; limit = limit; keep_going = true; jobs = jobs }
 
 -- how the fields of a worksheet are evaluated that are checked, on a copy that stands so
 abbrev pub checking : {C : Type 0} → SideBySide C → List Field → World → Setting C

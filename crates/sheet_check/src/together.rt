@@ -43,6 +43,7 @@ fn checking_plan(ids: Vec<u32>, limit: Option<u32>, jobs: u32) -> Plan
         which: Which::Named(Sequence::from_vec(ids)),
         unanswered: false,
         strict: false,
+        at_errors: false,
         limit,
         keep_going: true,
         jobs,

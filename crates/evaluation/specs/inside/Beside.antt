@@ -16,7 +16,7 @@ pub record AsksNone (plan : Plan) (fields : List Field) (meant : List ℕ) (stan
 
 -- the first field that was neither asked nor passed over isn't passed over here, and a strict evaluation doesn't stop before it
 abbrev pub is_due : Plan → List Field → List ℕ → Stand → Bool
-is_due plan fields meant stand = not (is_some (stop_line plan.strict fields stand)) && not (is_passed plan fields stand.lasts meant stand.taken)
+is_due plan fields meant stand = not (is_some (stop_line plan fields stand)) && not (is_passed plan fields stand.lasts meant stand.taken)
 
 -- this field is the next, and no item waits or it joins those that wait
 abbrev pub IsDueAt : Plan → World → List ℕ → Stand → ℕ → ℕ → Type 0

@@ -33,7 +33,7 @@ returns-in-Ok-note-clause-evaluated g c =
     evaluation_done (setting g.T.Tells.voice g.S.Children.after g.S.Sources.clock g.S.Sources.wakes c.args.plan.now []) disk c.in-Ok.host.store.disk c.args.sources.now c.evaluate_and_stop-done.new.sources (g.W.Write.contents c.args.writer.now) (g.W.Write.contents c.evaluate_and_stop-done.new.writer) start c.evaluate_and_stop-done.new.host
     ((opened_on disk c.in-Ok.host o.0 o.1 c.in-Ok.ensures.found c.in-Ok.ensures.ends c.in-Ok.ensures.looks), found.0) o.1.stands.images c.in-Ok-done.stand t
     (g.W.Write.contents c.note.new.writer) (g.D.Disk.view c.close-disk.result) c.stop_line-stopped_at.result c.counts_in-counts.result c.close-disk.ensures
-    (c.stop_line-stopped_at.ensures ∙ ap (λ (s : Contents). stop_line c.args.plan.now.strict s.fields c.in-Ok-done.stand) (c.sheet.ensures.stands t.3.world t.5))
+    (c.stop_line-stopped_at.ensures ∙ ap (λ (s : Contents). stop_line c.args.plan.now s.fields c.in-Ok-done.stand) (c.sheet.ensures.stands t.3.world t.5))
     (subst (λ n. c.counts_in-counts.result ≡ evaluation_counts c.args.plan.now n (sheet_in t.3.world).fields c.in-Ok-done.stand) (c.len.ensures ∙ sym c.as_slice-asked.ensures.len ∙ ap length is) (c.counts_in-counts.ensures t.3.world t.5))
     c.in-Ok-note.ensures.ok
 

@@ -15,7 +15,7 @@ pub returns : goal.returns
 returns g c = λ w stopped h here.
     let a = c.args.self.now in
     let s = c.sheet-sheet.ensures.stands w h in
-    let at = c.stop_line-stopped_at.ensures ∙ ap (λ (x : Contents). stop_line a.plan.strict x.fields a.stand) s ∙ sym here.is in
+    let at = c.stop_line-stopped_at.ensures ∙ ap (λ (x : Contents). stop_line a.plan x.fields a.stand) s ∙ sym here.is in
     ends_with c.counts_of-counts.result
     (c.counts_of-counts.ensures ∙ ap (λ (l : List ℕ). evaluation_counts a.plan (length l) c.sheet-sheet.result.now.contents.fields a.stand) c.as_slice-all.ensures
     ∙ ap (λ (x : Contents). evaluation_counts a.plan (length a.ids) x.fields a.stand) s) refl
