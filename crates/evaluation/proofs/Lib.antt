@@ -1,11 +1,9 @@
 pub mod Meaning
 pub mod InRounds
 pub mod Together
-pub mod InVain
 pub mod Looking
 pub mod Taking
 pub mod Goings
-pub mod Ends
 pub mod Unsaid
 pub mod Waits
 pub mod LateOnes

@@ -17,7 +17,7 @@ mod stepping;
 mod timing;
 mod within;
 
-pub use evaluating::{EvalEnd, Evaluated, evaluate};
+pub use evaluating::EvalEnd;
 pub use fault::{EvalFault, eval_fault_text};
 pub use laws::rounds_leave_none_out;
 pub use plan::{Plan, Which};

@@ -102,12 +102,6 @@ Through o p left stand =
     (steps : List Step) × (beats : List Beat) × (text : List ℕ) × (w : World) × StepsTaken o p steps beats text (stands (at w left.sources left.host.store.disk) stand)
     × IsHost left.host w × Appends left.out left.now text × ((stopped : Option ℕ) × Ends o (stands (at w left.sources left.host.store.disk) stand) stopped)
 
--- The same; the children are so after where it stands.
-abbrev pub ThroughAnd : {C : Type 0} → Setting C → EvalPlace C → (At C → Type 0) → Left C → Stand → Type 0
-ThroughAnd {C = C} o p Behind left stand =
-    (steps : List Step) × (beats : List Beat) × (text : List ℕ) × (t : At C) × StepsTaken o p steps beats text (stands t stand)
-    × IsHost left.host t.world × (t.disk ≡ left.host.store.disk) × Appends left.out left.now text × ((stopped : Option ℕ) × Ends o (stands t stand) stopped) × Behind t
-
 -- So far it came, and what was reported is written.
 abbrev pub CameSoFar : {C : Type 0} → (List Beat → List ℕ → At C → Type 0) → (At C → Type 0) → HostView → Option (List ℕ) → Option (List ℕ) → Type 0
 CameSoFar {C = C} Came Behind h a b = (beats : List Beat) × (text : List ℕ) × (t : At C) × Came beats text t × IsHost h t.world × (t.disk ≡ h.store.disk) × Behind t × Appends a b text
