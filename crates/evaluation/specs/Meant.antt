@@ -90,17 +90,17 @@ abbrev pub line_behind : ℕ → ℕ
 line_behind taken = 2 * taken - 1
 
 -- Whether a field went wrong: it shows no answer, or one that is an error where that is wrong too.
-abbrev pub tells_wrong : Bool → Option Answer → Bool
-tells_wrong at_errors None = true
-tells_wrong at_errors (Some answer) = at_errors && tells_error answer.output
+abbrev pub is_wrong_answer : Bool → Option Answer → Bool
+is_wrong_answer at_errors None = true
+is_wrong_answer at_errors (Some answer) = at_errors && tells_error answer.output
 
-abbrev pub went_wrong : Bool → Option Field → Bool
-went_wrong at_errors None = false
-went_wrong at_errors (Some field) = tells_wrong at_errors field.answer
+abbrev pub is_wrong_field : Bool → Option Field → Bool
+is_wrong_field at_errors None = false
+is_wrong_field at_errors (Some field) = is_wrong_answer at_errors field.answer
 
 -- The line of the last field, where that went wrong: no item waited after its `eval`, or it shows no answer, or an error that is asked for.
 abbrev pub wrong_line : Bool → List Field → Stand → Option ℕ
-wrong_line at_errors fields stand = wrong_by stand.at_once (went_wrong at_errors (field_in fields stand.field)) stand.taken
+wrong_line at_errors fields stand = wrong_by stand.at_once (is_wrong_field at_errors (field_in fields stand.field)) stand.taken
   where
     wrong_by : Bool → Bool → ℕ → Option ℕ
     wrong_by true lost taken = Some (line_behind taken)

@@ -21,8 +21,8 @@ fn shows_none(field: Option<&Field>) -> bool
 }
 
 /// Whether this field shows no answer, or one that is an error where that is wrong too.
-fn went_wrong(at_errors: bool, field: Option<&Field>) -> bool
-    ensures { result ≡ meant.went_wrong at_errors (option_copied field.entry) }
+fn is_wrong_field(at_errors: bool, field: Option<&Field>) -> bool
+    ensures { result ≡ meant.is_wrong_field at_errors (option_copied field.entry) }
 {
     match field {
         None => false,
@@ -95,7 +95,7 @@ fn wrong_line(at_errors: bool, sheet: &Sheet, stand: &Stand) -> Option<u64>
 {
     if stand.at_once {
         Some(line_behind(stand.taken))
-    } else if went_wrong(at_errors, sheet.field(stand.field)) {
+    } else if is_wrong_field(at_errors, sheet.field(stand.field)) {
         Some(stand.taken as u64 * 2)
     } else {
         None
