@@ -1,4 +1,5 @@
 pub mod Lasts
+pub mod Errors
 pub mod Meant
 pub mod Rounds
 pub mod Programs

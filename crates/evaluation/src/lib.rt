@@ -4,6 +4,7 @@
 pub mod asking;
 pub mod beside;
 pub mod choosing;
+mod errors;
 mod evaluating;
 mod fault;
 pub mod lasts;

@@ -1,7 +1,6 @@
 pub mod inside
 pub mod Formulas
 pub mod Pictures
-pub mod Errors
 pub mod Laws
 pub mod Strings
 pub mod Notebook

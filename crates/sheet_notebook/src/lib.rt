@@ -1,7 +1,6 @@
 //! A worksheet as a notebook, and which of its outputs are formulas.
 #![tactic(auto)]
 
-mod errors;
 mod formulas;
 pub mod laws;
 mod notebook;
@@ -9,7 +8,6 @@ mod outputs;
 mod pictures;
 mod strings;
 
-pub use errors::tells_error;
 pub use formulas::{formula_behind, formula_of};
 pub use notebook::notebook_bytes;
 pub use pictures::{PictureKind, is_error_tag, is_output_tag, picture_kind, picture_text};

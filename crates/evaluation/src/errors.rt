@@ -1,10 +1,10 @@
 //! Whether an output is an error, or has one in it.
 ghost use Rattle.std.specs.Prelude.{◌≡◌};
 ghost use Rattle.block_tree.specs.View.{tree_of};
-ghost use Rattle.sheet_notebook.specs.Errors as errors;
+ghost use Rattle.evaluation.specs.Errors as errors;
 
-use crate::pictures::{is_error_tag, is_output_tag};
 use block_tree::{Block, Item, Node};
+use sheet_notebook::{is_error_tag, is_output_tag};
 
 /// Whether an error stands in the node, at any depth, which is one of the channel of answers or not.
 fn has_error(node: &Node, in_output: bool) -> bool
@@ -21,7 +21,7 @@ fn has_error(node: &Node, in_output: bool) -> bool
 }
 
 /// Whether an output is an error, or has one in it (docs/use/PROTOCOL.md, "Errors").
-pub fn tells_error(output: &Block) -> bool
+pub(crate) fn tells_error(output: &Block) -> bool
     ensures { result ≡ errors.tells_error output.now }
 {
     let node = output.node();
