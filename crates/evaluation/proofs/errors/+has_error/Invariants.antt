@@ -5,4 +5,4 @@ use Rattle.evaluation.specs.Errors.{has_error}
 use Rattle.evaluation.proofs.errors.+has_error.Given as goal
 
 abbrev pub invariant-loop-item : goal.invariant-loop-item
-invariant-loop-item l = has_error l.args.in_output (items_from (map piece_of (drop l.item-index l.item-items))) ≡ has_error l.args.in_output (items_from (map piece_of l.item-items))
+invariant-loop-item l = has_error l.in_output (items_from (map piece_of (drop l.item-index l.item-items))) ≡ has_error l.in_output (items_from (map piece_of l.item-items))
