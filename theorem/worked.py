@@ -162,7 +162,7 @@ def text() -> str:
             "",
             f"Events 1 to 3 are acknowledged. The record of event 4 begins at the gate at {GATE}, by the four calls of an append"
             ' ([FORMAT](FORMAT.md), "Append"). A crash after',
-            "each of them, or within the next, leaves an image of these in the first area (the second is empty, and stays so), and it",
+            "each of them, or within the next, leaves an image of these in the first area. (The second is empty, and stays so.) It",
             "opens so:",
             "",
             "| Last call | What may be left | Each such image opens to the worksheet | Of these a reader opened |",
