@@ -5,9 +5,11 @@ import { toggleNumbers } from "./layer.js";
 import { INDENT, comment, indent, insert, newLine } from "./typing.js";
 
 /** @typedef {import("./actions").Actions} Actions */
+/** @typedef {import("./before").Before} Before */
 /** @typedef {import("./cell").CellView} CellView */
 /** @typedef {import("./cells").Cells} Cells */
 /** @typedef {import("./completions").Completions} Completions */
+/** @typedef {import("./earlier").Earlier} Earlier */
 /** @typedef {import("./find").Find} Find */
 /** @typedef {import("./folds").Folds} Folds */
 /** @typedef {import("./help").Help} Help */
@@ -50,6 +52,8 @@ export const TABLE = [
   ["O", "fold the answer, or the section of a heading"],
   ["Shift-O", "fold the text"],
   ["L", "show the numbers of lines, or not"],
+  ["E", "what the cell had before: texts and answers"],
+  ["Shift-E", "what the worksheet was"],
   ["Control-S", "save now"],
   ["H", "these keys"],
 ];
@@ -61,16 +65,18 @@ export class Keys {
   /**
    * @param {Cells} cells
    * @param {Actions} actions
-   * @param {{several: Several, completions: Completions, help: Help, find: Find, folds: Folds}} parts
+   * @param {{several: Several, completions: Completions, help: Help, find: Find, folds: Folds, earlier: Earlier, before: Before}} parts
    * @param {() => void} showKeys
    */
-  constructor(cells, actions, { several, completions, help, find, folds }, showKeys) {
+  constructor(cells, actions, { several, completions, help, find, folds, earlier, before }, showKeys) {
     this.cells = cells;
     this.actions = actions;
     this.several = several;
     this.help = help;
     this.find = find;
     this.folds = folds;
+    this.earlier = earlier;
+    this.before = before;
     this.completions = completions;
     this.showKeys = showKeys;
     this.last = { key: "", time: 0 };
@@ -84,7 +90,7 @@ export class Keys {
 
   /** @returns {Record<string, (view: CellView) => unknown>} */
   commandsOf() {
-    const { cells, actions, several, find, folds } = this;
+    const { cells, actions, several, find, folds, earlier, before } = this;
     /** @type {(by: number) => (view: CellView) => void} */
     const step = (by) => (view) => {
       cells.choice.drop();
@@ -104,6 +110,7 @@ export class Keys {
       m: (view) => several.change(view, null), y: (view) => view.isProse && several.change(view, actions.defaultSession()),
       ii: (view) => actions.interrupt(view), "00": (view) => actions.restart(view),
       o: (view) => folds.toggle(several.of(view), "answer"), "Shift+o": (view) => folds.toggle(several.of(view), "input"), f: () => find.open(),
+      e: (view) => before.open(view), "Shift+e": () => earlier.open(),
       t: (view) => actions.toggleText(view), l: toggleNumbers, h: () => this.showKeys(),
     };
   }
@@ -111,7 +118,8 @@ export class Keys {
   /** @param {KeyboardEvent} event */
   press(event) {
     if (this.isUndo(event)) return;
-    const isNowhere = event.target === document.body; // where nothing has the focus the selected cell takes keys
+    // Where nothing has the focus the selected cell takes keys, but not behind a dialog.
+    const isNowhere = event.target === document.body && !document.querySelector("dialog[open]");
     const view = isNowhere ? this.cells.selected : this.cells.of(event.target);
     if (!view || event.isComposing) return;
     const isText = event.target === view.text;

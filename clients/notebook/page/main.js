@@ -2,10 +2,12 @@
 
 import { Actions } from "./actions.js";
 import * as bars from "./bars.js";
+import { Before } from "./before.js";
 import { Cells, emptyLine } from "./cells.js";
 import { Completions } from "./completions.js";
 import { keysDialog, sessionDialog, wordsDialog } from "./dialogs.js";
 import { byId } from "./dom.js";
+import { Earlier } from "./earlier.js";
 import { beginStopBox } from "./errors.js";
 import { listen } from "./feed.js";
 import { Keys } from "./keys.js";
@@ -33,13 +35,20 @@ const help = new Help();
 const find = new Find(cells, several);
 const folds = new Folds(cells);
 const showKeys = keysDialog();
+/** @type {import("./then").Does["takeBack"]} */
+const takeBack = (cell, at) => {
+  for (const dialog of document.querySelectorAll("dialog.past")) /** @type {HTMLDialogElement} */ (dialog).close();
+  return several.takeBack(cell, at);
+};
+const earlier = new Earlier(takeBack, () => document.title);
+const before = new Before(takeBack, (at) => earlier.open(at));
 let isForCell = false; // whether a session is made for a new cell
 const askSession = sessionDialog(async (name, words, tab) => {
   const told = await actions.ask("session", { name, words, tab });
   if (!told.refused && isForCell) await actions.make(cells.order.at(-1) ?? 0, name, true);
 }, (name) => page.sessions.has(name));
 const askWords = wordsDialog((session, words) => actions.ask("words", { session, words }));
-new Keys(cells, actions, { several, completions, help, find, folds }, showKeys);
+new Keys(cells, actions, { several, completions, help, find, folds, earlier, before }, showKeys);
 showNumbers();
 fitOnPaper();
 document.body.insertBefore(emptyLine(), cells.place.nextSibling);
@@ -94,6 +103,7 @@ const DOES = {
   },
   showKeys,
   showRemoved: () => byId("removed-dialog", HTMLDialogElement).showModal(),
+  showEarlier: () => earlier.open(),
   showExport: async () => {
     if (await actions.saveIdle()) byId("export-dialog", HTMLDialogElement).showModal();
   },
@@ -139,6 +149,7 @@ const DOES_TO_CELL = {
   merge: (view) => several.merge(view),
   duplicate: (view) => several.duplicate(view),
   toggleText: (view) => actions.toggleText(view),
+  showBefore: (view) => before.open(view),
   clear: (view) => actions.clear(view),
   remove: (view) => several.remove("removal", view),
   showMore: (view) => actions.showMore(view),

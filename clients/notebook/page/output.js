@@ -105,9 +105,10 @@ export class OutputView {
   /**
    * @param {number} id
    * @param {HTMLElement} box as `outputShape` makes it
+   * @param {(start: number) => Promise<import("./types").Reply>} piece fetches a further piece of the answer
    */
-  constructor(id, box) {
-    this.id = id;
+  constructor(id, box, piece = (start) => ask("output", { id, start })) {
+    this.piece = piece;
     this.box = box;
     this.body = /** @type {HTMLElement} */ (box.querySelector("pre"));
     this.isText = false;
@@ -167,7 +168,7 @@ export class OutputView {
   /** Fetches a further piece of a long answer. */
   async showMore() {
     const { shown } = this;
-    const told = await ask("output", { id: this.id, start: this.end });
+    const told = await this.piece(this.end);
     if (told.refused || shown !== this.shown || told.text === undefined) return;
     this.body.append(visible(told.text));
     this.end += [...told.text].length;

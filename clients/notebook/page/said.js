@@ -3,7 +3,7 @@
 /** @typedef {import("./types").Cell} Cell */
 
 /** @type {Record<string, string>} */
-const REASONS = {
+export const REASONS = {
   StartRefused: "its interpreter can't be started",
   Ended: "its interpreter ended",
   ReadFault: "its interpreter can't be read",

@@ -164,6 +164,23 @@ export class Several {
     return isAsked;
   }
 
+  /**
+   * Gives a cell the text that it had after a change, or makes a new one of it where it isn't there any more. The answer of then is shown in grey.
+   * @type {(cell: import("./types").Then, at: number) => Promise<boolean>}
+   */
+  takeBack(cell, at) {
+    const view = this.cells.views.get(cell.id), then = { at, id: cell.id }, text = cell.input;
+    if (!view) {
+      const session = cell.isProse ? null : cell.session;
+      return this.step("an earlier cell", [], () => ({ new: [{ after: cell.after, session, text, then }] }));
+    }
+    if (view.text.value === text) {
+      this.actions.note(`cell ${cell.id} has this text: nothing was changed`);
+      return Promise.resolve(false);
+    }
+    return this.step("an earlier text", [view], () => ({ set: [{ id: view.id, base: view.text.value, text, then }] }));
+  }
+
   // ---- taken back, and done again
 
   /** @param {boolean} isBack */

@@ -18,6 +18,7 @@ const BUTTONS = /** @type {const} */ ([
   ["moveUp", "↑", "Move up (Alt-Up)"],
   ["moveDown", "↓", "Move down (Alt-Down)"],
   ["toggleText", "TeX", "Show the answer as text (T)"],
+  ["showBefore", "Before", "What the cell had before: texts and answers (E)"],
   ["clear", "Clear", "Take the answer away"],
   ["remove", "✕", "Remove the cell (D D)"],
 ]);

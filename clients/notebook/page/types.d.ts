@@ -38,10 +38,27 @@ export interface Session {
 
 /** A step: new cells, then texts, then places, then cells that go. */
 export interface Change {
-  new: { after: number; session: string | null; text: string; of?: number }[];
-  set: { id: number; base: string; text: string }[];
+  new: { after: number; session: string | null; text: string; of?: number; then?: Kept }[];
+  set: { id: number; base: string; text: string; then?: Kept }[];
   move: { id: number; after: number }[];
   remove: { id: number }[];
+}
+
+/** A cell after so many changes, whose answer is to be shown in grey. */
+export interface Kept { at: number; id: number }
+
+/** A cell as it was. */
+export interface Then {
+  id: number;
+  session: string;
+  isProse: boolean;
+  input: string;
+  state: "empty" | "answered" | "lost";
+  reason: string | null;
+  prompt: string | null;
+  output: Output | null;
+  isThere: boolean; // whether the worksheet has it yet
+  after: number; // the cell of today behind which it stood, 0 at the front
 }
 
 export interface Removed { number: number; session: string; input: string }
@@ -87,6 +104,11 @@ export interface Reply {
   folder?: string;
   sheets?: Sheet[];
   part?: Part;
+  opening?: string; // of the worksheet: while it is the same, changes have the same numbers
+  changes?: string[];
+  versions?: [number, string][];
+  then?: Then[];
+  name?: string;
 }
 
 /** A worksheet in the list of a folder: its size in bytes, when it was changed last, and how many cells wait for answers. */

@@ -108,10 +108,12 @@ class ThePage(PageCase):
         tab.size(1000, 2400)
         tab.until("document.querySelectorAll('.set').length", 2)
         tab.click("#cell-2 .number")
-        for opener in (None, "askSession", "showKeys", "showRemoved", "showExport"):
+        for opener in (None, "askSession", "showKeys", "showRemoved", "showExport", "showEarlier", "showBefore"):
             if opener:
                 tab.value(f"document.querySelector('[data-do={opener}]').click()")
                 tab.until("document.querySelector('dialog[open]') !== null")
+            if opener in ("showEarlier", "showBefore"):
+                tab.until("document.querySelector('dialog[open] .then') !== null")
             for media, scheme in (("screen", "light"), ("screen", "dark"), ("print", "dark")):
                 tab.ask("Emulation.setEmulatedMedia", {"media": media, "features": [{"name": "prefers-color-scheme", "value": scheme}]})
                 found = tab.value(CONTRAST)

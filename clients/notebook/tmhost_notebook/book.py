@@ -13,6 +13,7 @@ from .drafts import Draft, Drafts, NotKept
 from .feed import Feed
 from .helping import Helper
 from .notes import Notes
+from .past import Past
 from .places import Places
 from .sayings import SAYINGS
 from .steps import Steps
@@ -63,7 +64,7 @@ class Book:
         sheet = opened(self.path, self.program, create)
         with self.lock:
             self.sheet = sheet
-            self.notes, self.places, self.feed = Notes(), Places(sheet.fields), Feed()
+            self.notes, self.places, self.feed, self.past = Notes(), Places(sheet.fields), Feed(), Past(self.path, self.program)
             self.in_doubt: Set[int] = set()  # the cells that a call changes, until it is known that it did or didn't
             self.ended = None
         self._read_drafts()

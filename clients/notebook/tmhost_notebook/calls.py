@@ -2,54 +2,23 @@
 
 import contextlib
 import os
-from typing import Any, Callable, Dict, List, Optional, Sequence, TypeVar
+from typing import Any, Callable, Dict, List, Optional, Sequence
 
 from tmhost import BadLine, Closed, Completions, Died, Field, Gone, Lost, ProtocolError, Refused, TimedOut, readable
 
-from . import in_prose, shown, startable
+from . import in_prose, past_calls, shown, startable
+from .asked import Facts, NotDone, member, members, number, text, text_or_none
 from .book import Book
 from .drafts import Draft, NotKept
 from .helping import NoHelp
+from .past_calls import answer_of_then
 from .prose import session_of_prose
 from .sayings import SAYINGS
 from .steps import Given, Made, NotFit, Step
 from .telling import text_of
 
-Facts = Dict[str, Any]
-T = TypeVar("T")
-
 COMPLETED_WITHIN = 10.0  # seconds that an interpreter has for completions
 MOST_COMPLETIONS = 500
-
-class NotDone(Exception):
-    """A call that did nothing, or of which it isn't known. `name` is for the page, `says` for people."""
-
-    def __init__(self, name: str, says: str) -> None:
-        super().__init__(name, says)
-        self.name, self.says = name, says
-
-
-def member(asked: Facts, name: str, kind: Callable[[Any], T], what: type) -> T:
-    """A member of what was asked, of the kind that it must have."""
-    value = asked.get(name)
-    if type(value) is not what:
-        raise NotDone("NotUnderstood", f"{name} is missing, or of another kind")
-    return kind(value)
-
-
-def number(asked: Facts, name: str) -> int:
-    found = member(asked, name, int, int)
-    if not 0 <= found < 2**32:
-        raise NotDone("NotUnderstood", f"{name} is no number of a cell")
-    return found
-
-
-def text(asked: Facts, name: str) -> str:
-    return member(asked, name, str, str)
-
-
-def text_or_none(asked: Facts, name: str) -> Optional[str]:
-    return None if asked.get(name) is None else text(asked, name)
 
 
 def field_of(book: Book, id: int) -> Field:
@@ -111,13 +80,6 @@ def call_remove(book: Book, asked: Facts) -> Facts:
     return {}
 
 
-def members(asked: Facts, name: str) -> List[Facts]:
-    found: List[Any] = member(asked, name, list, list)
-    if not all(isinstance(one, dict) for one in found):
-        raise NotDone("NotUnderstood", f"{name} has something of another kind")
-    return found
-
-
 def made(book: Book, asked: Facts) -> Made:
     """A cell that is to be made; where it is said of which one it is a copy, it shows the answer of that in grey."""
     session = session_of_prose(book.sheet) if asked.get("session") is None else text(asked, "session")
@@ -125,13 +87,13 @@ def made(book: Book, asked: Facts) -> Made:
     note = book.notes.of.get(of)
     old = next((one["old"] for one in book.removed if one["field"].id == of), note.old if note else None)
     field = book.field(of)
-    return Made(number(asked, "after"), session, text(asked, "text"), old=field.answer or old if field else old)
+    return Made(number(asked, "after"), session, text(asked, "text"), old=answer_of_then(book, asked) or (field.answer or old if field else old))
 
 
 def call_step(book: Book, asked: Facts) -> Facts:
     """Changes several cells in one step: new ones, then texts, then places, then removals. Gives the cells that were made or changed."""
     with book.order:
-        given = [Given(number(one, "id"), text(one, "base"), text(one, "text")) for one in members(asked, "set")]
+        given = [Given(number(one, "id"), text(one, "base"), text(one, "text"), answer_of_then(book, one)) for one in members(asked, "set")]
         moved = [(number(one, "id"), number(one, "after")) for one in members(asked, "move")]
         removed = [number(one, "id") for one in members(asked, "remove")]
         ids = book.steps.do(Step(text(asked, "what")[:40], [made(book, one) for one in members(asked, "new")], given, moved, removed))
@@ -360,7 +322,7 @@ def call_reopen(book: Book, asked: Facts) -> Facts:
 
 
 CALLS: Dict[str, Callable[[Book, Facts], Facts]] = {
-    name[len("call_") :]: call for name, call in list(globals().items()) if name.startswith("call_")
+    name[len("call_") :]: call for name, call in [*globals().items(), *vars(past_calls).items()] if name.startswith("call_")
 }
 
 WITHOUT_PROGRAM = (call_output, call_picture, call_reopen)

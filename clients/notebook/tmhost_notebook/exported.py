@@ -60,14 +60,14 @@ def copy_of(sheet: str, folder: str) -> str:
     raise NotExported("the worksheet is changing all the time: try again when less is evaluated")
 
 
-def written_by(words: List[str], given: bytes = b"") -> bytes:
-    """What a command writes."""
+def written_by(words: List[str], given: bytes = b"", within: float = WITHIN) -> bytes:
+    """What a command writes, within so many seconds."""
     try:
-        done = subprocess.run(words, input=given, stdout=subprocess.PIPE, stderr=subprocess.PIPE, timeout=WITHIN)
+        done = subprocess.run(words, input=given, stdout=subprocess.PIPE, stderr=subprocess.PIPE, timeout=within)
     except subprocess.TimeoutExpired:
-        raise NotExported("the export takes too long") from None
+        raise NotExported("it takes too long") from None
     if done.returncode:
-        raise NotExported(f"the export was refused: {done.stderr.decode('utf-8', 'backslashreplace').strip()}")
+        raise NotExported(f"it was refused: {done.stderr.decode('utf-8', 'backslashreplace').strip()}")
     return done.stdout
 
 

@@ -17,7 +17,7 @@ import sys
 import urllib.parse
 from typing import Any, Dict, Optional, Tuple, Union
 
-from . import address, calls
+from . import address, asked, calls
 from .address import Address
 from .book import Book
 from .exported import FORMATS, NotExported, exported
@@ -212,15 +212,15 @@ class Handler(http.server.BaseHTTPRequestHandler):
         status, told = self.done(sheet, self.rfile.read(int(length)))
         self.answer(status, json.dumps(told).encode(), JSON)
 
-    def done(self, sheet: Optional[str], asked: bytes) -> Tuple[int, Dict[str, Any]]:
+    def done(self, sheet: Optional[str], body: bytes) -> Tuple[int, Dict[str, Any]]:
         """Does a call of a worksheet's page, or, where there is none, of the list's."""
         place = self.server.place
         try:
-            told = json.loads(asked)
+            told = json.loads(body)
             return 200, place.do(told) if sheet is None else calls.do(place.opened(sheet, is_asked=False), told)
         except NotDone as error:
             return 200, {"refused": "NotDone", "says": str(error)}
-        except calls.NotDone as error:
+        except asked.NotDone as error:
             return 400 if error.name == "NotUnderstood" else 200, {"refused": error.name, "says": error.says}
         except (ValueError, RecursionError):
             return 400, {"refused": "NotUnderstood", "says": "that is no JSON"}

@@ -1,0 +1,225 @@
+// What the worksheet was: the list of its changes, and a look at it after any number of them. Looking writes nothing; "Restore" makes another worksheet.
+
+import { changeOf } from "./changes.js";
+import { byId, make, visible } from "./dom.js";
+import { ask } from "./talk.js";
+import { ThenView } from "./then.js";
+
+/** @typedef {import("./types").Reply} Reply */
+
+const dialog = () => byId("earlier-dialog", HTMLDialogElement);
+const press = (/** @type {string} */ id, /** @type {() => unknown} */ does) => byId(id, HTMLButtonElement).addEventListener("click", does);
+const enable = (/** @type {string} */ id, /** @type {boolean} */ isFit) => { byId(id, HTMLButtonElement).disabled = !isFit; };
+
+export class Earlier {
+  /**
+   * @param {import("./then").Does["takeBack"]} takeBack
+   * @param {() => string} nameOf the worksheet
+   */
+  constructor(takeBack, nameOf) {
+    this.takeBack = takeBack;
+    this.nameOf = nameOf;
+    this.opening = "";
+    this.count = 0; // of all changes
+    /** @type {import("./changes").Change[]} */
+    this.listed = [];
+    this.at = 0; // after which change the worksheet is shown
+    this.goal = 0; // after which one it is to be shown: a key that is held down asks faster than looks come
+    this.start = 0; // the place of the first cell that is shown
+    /** @type {{at: number, place: number} | undefined} */
+    this.wanted = undefined; // what is to be looked at when the look before has come
+    this.isLooking = false;
+    this.list = byId("earlier-list", HTMLElement);
+    this.cells = byId("earlier-cells", HTMLElement);
+    this.begin();
+  }
+
+  begin() {
+    const at = byId("earlier-at", HTMLInputElement);
+    press("earlier-close", () => dialog().close());
+    press("earlier-newer", () => this.page(this.listed[0].at + 200));
+    press("earlier-older", () => this.page(this.listed[this.listed.length - 1].at - 1));
+    press("earlier-before", () => this.look(this.goal - 1));
+    press("earlier-behind", () => this.look(this.goal + 1));
+    press("earlier-above", () => this.look(this.at, this.start - 1));
+    press("earlier-below", () => this.look(this.at, this.start + this.cells.childElementCount));
+    press("earlier-restore", () => this.restore());
+    at.addEventListener("change", () => this.look(Number(at.value)));
+    byId("earlier-name", HTMLInputElement).addEventListener("keydown", (event) => event.key === "Enter" && this.restore());
+    this.list.addEventListener("keydown", (event) => this.key(event));
+    this.list.addEventListener("click", (event) => {
+      const item = event.target instanceof Element ? event.target.closest("li") : null;
+      if (item) this.look(Number(item.dataset.at));
+    });
+    this.cells.addEventListener("click", (event) => this.follow(event));
+  }
+
+  /** @param {string} text */
+  say(text) {
+    byId("earlier-says", HTMLElement).textContent = visible(text);
+  }
+
+  /**
+   * Asks, and tells why it was refused.
+   * @type {(call: string, members: Record<string, unknown>) => Promise<Reply>}
+   */
+  async ask(call, members) {
+    const told = await ask(call, { opening: this.opening, ...members });
+    this.say(told.refused ? told.says ?? told.refused : "");
+    return told;
+  }
+
+  /**
+   * Shows the list, and the worksheet after a change; after the last one where none is said.
+   * @param {number} [at]
+   */
+  async open(at) {
+    this.list.replaceChildren();
+    this.cells.replaceChildren();
+    this.listed = [];
+    byId("earlier-made", HTMLElement).replaceChildren();
+    dialog().showModal();
+    this.say("the changes are read");
+    if (!this.take(await this.ask("past", {}))) return;
+    this.list.focus();
+    await this.look(at ?? this.count);
+  }
+
+  // ---- the list
+
+  /** @type {(told: Reply) => boolean} */
+  take(told) {
+    if (!told.changes) return false;
+    this.opening = told.opening ?? "";
+    this.count = told.count ?? 0;
+    this.listed = told.changes.map(changeOf).reverse();
+    this.list.replaceChildren(...this.listed.map(({ at, words }) => {
+      const item = make("li");
+      item.id = `change-${at}`;
+      item.dataset.at = String(at);
+      item.setAttribute("role", "option");
+      item.setAttribute("aria-selected", "false");
+      item.setAttribute("aria-posinset", String(this.count - at + 1));
+      item.setAttribute("aria-setsize", String(this.count));
+      item.append(make("b", "", String(at)), " ", words);
+      return item;
+    }));
+    const [first, last] = [this.listed[0]?.at ?? 0, this.listed.at(-1)?.at ?? 0];
+    byId("earlier-shown", HTMLElement).textContent = `Changes ${last} to ${first} of ${this.count}, the newest first`;
+    enable("earlier-newer", first < this.count);
+    enable("earlier-older", last > 1);
+    return true;
+  }
+
+  /**
+   * Lists the changes up to this one.
+   * @param {number} upTo
+   */
+  async page(upTo) {
+    this.take(await this.ask("past", { upTo: Math.max(1, Math.min(upTo, this.count)) }));
+    this.choose();
+  }
+
+  /** @param {KeyboardEvent} event */
+  key(event) {
+    const { goal, count } = this;
+    const to = { ArrowDown: goal - 1, ArrowUp: goal + 1, PageDown: goal - 10, PageUp: goal + 10, Home: count, End: 1 }[event.key];
+    if (to === undefined || event.ctrlKey || event.altKey || event.metaKey) return;
+    event.preventDefault();
+    this.look(to);
+  }
+
+  /** Marks the change that is looked at, where it is in the list. */
+  choose() {
+    this.list.querySelector("[aria-selected=true]")?.setAttribute("aria-selected", "false");
+    const item = this.list.querySelector(`#change-${this.at}`);
+    item?.setAttribute("aria-selected", "true");
+    item?.scrollIntoView({ block: "nearest" });
+    this.list.setAttribute("aria-activedescendant", item?.id ?? "");
+  }
+
+  // ---- the look
+
+  /**
+   * Looks at the worksheet after so many changes: at the cells around the one that was changed, or at those from a place on. While a look is on its
+   * way the last one that is wanted waits for it.
+   * @type {(at: number, place?: number) => Promise<void>}
+   */
+  async look(at, place = -1) {
+    this.goal = Math.max(0, Math.min(Math.floor(at) || 0, this.count));
+    this.wanted = { at: this.goal, place };
+    if (this.isLooking) return;
+    this.isLooking = true;
+    while (this.wanted) await this.lookOnce();
+    this.isLooking = false;
+  }
+
+  async lookOnce() {
+    const { at, place } = this.wanted ?? { at: 0, place: 0 };
+    this.wanted = undefined;
+    if (at > 0 && !this.listed.some((one) => one.at === at)) await this.page(at + 100);
+    const about = place < 0 ? this.listed.find((one) => one.at === at)?.id ?? 0 : 0;
+    const told = await this.ask("past_sheet", { at, about, place: Math.max(0, place) });
+    if (told.then && !this.wanted && dialog().open) this.show(at, told, about);
+  }
+
+  /** @type {(at: number, told: Reply, about: number) => void} */
+  show(at, told, about) {
+    const does = { say: (/** @type {string} */ text) => this.say(text), takeBack: this.takeBack };
+    this.at = at;
+    this.start = told.start ?? 0;
+    const views = (told.then ?? []).map((cell) => new ThenView(cell, { at, opening: this.opening }, does));
+    this.cells.replaceChildren(...views.map((view) => view.box));
+    const changed = this.cells.querySelector(`[data-of="${about}"]`);
+    changed?.classList.add("changed");
+    changed?.querySelector("header")?.append(make("strong", "", "this change"));
+    this.cells.scrollTop = 0;
+    changed?.scrollIntoView({ block: "nearest" });
+    this.mark(views.length, told.count ?? 0);
+    this.choose();
+  }
+
+  /** @type {(shown: number, count: number) => void} */
+  mark(shown, count) {
+    const { at, start } = this, words = this.listed.find((one) => one.at === at)?.words;
+    const isNow = at === this.count;
+    byId("earlier-mark", HTMLElement).replaceChildren(make("strong", "", isNow ? "The worksheet as it was when this list was made" : "The past"),
+      `: after change ${at} of ${this.count}${words ? `, ${words}` : ""}. Nothing here can be changed.`);
+    byId("earlier-at", HTMLInputElement).value = String(at);
+    byId("earlier-at", HTMLInputElement).max = String(this.count);
+    byId("earlier-name", HTMLInputElement).value = `${this.nameOf()}-${at}`;
+    const parts = byId("earlier-parts", HTMLElement);
+    parts.hidden = shown === count;
+    parts.querySelector("span")?.replaceChildren(`cells ${start + 1} to ${start + shown} of ${count} are shown`);
+    if (count === 0) this.cells.replaceChildren(make("p", "", "There was no cell."));
+    enable("earlier-before", at > 0);
+    enable("earlier-behind", !isNow);
+    enable("earlier-above", start > 0);
+    enable("earlier-below", start + shown < count);
+  }
+
+  /**
+   * A link to a cell leads to that of then.
+   * @param {MouseEvent} event
+   */
+  follow(event) {
+    const link = event.target instanceof Element ? event.target.closest("a[href^='#cell-']") : null;
+    if (!link) return;
+    event.preventDefault();
+    event.stopPropagation();
+    const id = link.getAttribute("href")?.slice("#cell-".length);
+    this.cells.querySelector(`[data-of="${Number(id)}"]`)?.scrollIntoView({ block: "start" });
+  }
+
+  // ---- as a worksheet of its own
+
+  async restore() {
+    const made = byId("earlier-made", HTMLElement), name = byId("earlier-name", HTMLInputElement).value;
+    const { at } = this, told = await this.ask("past_restore", { at, name });
+    if (told.name === undefined) return;
+    this.say(`${told.name} was made: it is the worksheet after change ${at}`);
+    const link = make("a", "", `Open ${visible(told.name)}`);
+    link.href = `../${encodeURIComponent(told.name)}/`;
+    made.replaceChildren(byId("list", HTMLAnchorElement).hidden ? `open it by tmhost-notebook ${visible(told.name)}` : link);
+  }
+}
