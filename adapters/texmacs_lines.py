@@ -36,6 +36,13 @@ EUKLEIDES = ["A B C triangle; draw (A.B.C)", "nonsense", "draw(", "", "% a remar
 PLANTUML = ["A -> B: hi", "nonsense", "@startuml\u2028A --> B\u2028@enduml", "@startuml", "", "' a remark", "@startuml\u2028class A\u2028@enduml"]
 GRAPHVIZ = ["digraph { a -> b }", "graph { a -- b }", "nonsense", "digraph {", "}", "", "%dot", "help", "digraph { a -> b -> c }", "%neato\u2028graph { a -- b }"]
 
+GRAPH = ["gnuplot", "plot sin(x)", "foo", "plot [0:", "plot x**2", "dot", "graph { a -- b }", "digraph {", "}", "", "%gnuplot\u2028plot x", "%gnuplot -output png\u2028plot x", "%dot\u2028digraph { a -> b }", "%neato\u2028graph { a -- b }", "%nonsense", "%mermaid", "%latex\u2028text",
+         "%pdflatex\u2028text", "%", "circo", "graph { a -- b -- c -- a }", "twopi", "digraph { a -> b -> c }", "fdp", "graph { a }", "sfdp", "osage", "patchwork", "digraph { subgraph cluster_a { a } }", "dot", "help", "# a remark", "quit", "exit", "digraph { a [label=\"two\\nlines\"] }", "digraph { \u00e9 -> \u4e2d }"]
+SCILAB = [
+    "x = [1 2; 3 4]", "inv(x)", "x'", "det(x)", "1:5", "y = 5;", "y", "nothing(3)", "f(", "(1 +", ")", "'open", "// a remark", "if %t then", "disp(1)\u2028disp(2)", "function z = g(w)\u2028z = w + 1\u2028endfunction", "g(3)", "for i = 1:3, disp(i), end", "for i = 1:3", "%pi", "sqrt(-1)", "%t",
+    "string(5)", "p = poly([1 2], 'p')", "1/p", "list(1, 'a')", "input('a')", "error('boo')", "zeros(20, 20)", "mprintf('%s', ascii(2))", "mprintf('two\\nlines\\n')", "unix('echo a')", "1;2", "ans", "[]",
+]
+
 LINES: Dict[str, Lines] = {
     "python": Lines(
         [("1 + 1", "2"), ("print('a')", "a"), ("x = 5", ""), ("x", "5"), ("for i in range(2):\u2028    print(i)", "0\n1"), ("1/0", "..ZeroDivisionError"), ("", ""), ("input()", "..")],
@@ -70,6 +77,10 @@ LINES: Dict[str, Lines] = {
     "gnuplot": Lines(
         [("plot sin(x)", "..{image/")], "set title \"n%d\"; plot x", "..n%d", "while (1) { x = 1 }", "", "", ["plot x", "plot x**2", "foo", "plot [0:", "print 1", "%gnuplot -output png\u2028plot x", "splot x*y", "reset", "# a remark", "plot 'nothing'"]),
     "graphviz": Lines([("digraph { a -> b }", "..{image/")], "digraph { n%d }", "", "", "", "", GRAPHVIZ),
+    "graph": Lines([("digraph { a -> b }", "..{image/"), ("nonsense", "..syntax error"), ("%nothing", "..No such Graphs backend")], "%%dot\u2028digraph { n%d }", "", "", "", "", GRAPH),
+    "scilab": Lines(
+        [("1 + 1", "..2."), ("error(\"boo\")", "..boo"), ("nothing", "..Undefined variable: nothing"), ("x = poly(0, \"x\"); 1/(1 + x)", "..{latex:$\\frac{1}{1+x}$}"), ("", "")],
+        "mprintf(\"n%d\\n\")", "n%d", "while %t, end", "exit", "", SCILAB),
     "tikz": Lines([(r"\draw (0,0) -- (1,1);", "..{image/"), (r"\nonsense", "..Undefined control sequence")], r"\node at (0,0) {n%d};", "", "", "", "", TIKZ),
     "xypic": Lines([(r"\xymatrix{ A \ar[r] & B }", "..{image/"), (r"\nonsense", "..Undefined control sequence")], r"\xymatrix{ n%d \ar[r] & B }", "", "", "", "", XYPIC),
     "dratex": Lines([(r"\Draw \LineTo(30,30) \EndDraw", "..{image/"), (r"\nonsense", "..Undefined control sequence")], r"\Draw \LineTo(30,%d) \EndDraw", "", "", "", "", DRATEX),

@@ -11,6 +11,7 @@ from typing import Callable, Dict, List, Tuple
 BIN = "BIN"  # in words stands for the folder of TeXmacs' own programs
 PLUGINS = "PLUGINS"  # for that of its plugins
 MARK, SIZE = b"MARK", b"SIZE"  # in a request stand for a name that is nowhere else, and its length
+ASKED_OF_SCILAB = b"mprintf('%sverbatim:MARK%s', ascii(2), ascii(5))\n"
 COMPLETES = b'\x10(complete "MARK" SIZE)\n'
 BEHIND = 0.2  # seconds behind the end of an answer in which more of it may come
 SETTLED = 1.0  # seconds behind its greeting
@@ -26,6 +27,10 @@ def framed(line: bytes) -> bytes:
 
 def in_one(line: bytes) -> bytes:
     return line.replace(b"\n", b" ") + b"\n"
+
+
+def as_it_is(line: bytes) -> bytes:
+    return line + b"\n"
 
 
 def closed(line: bytes) -> bytes:
@@ -60,6 +65,7 @@ def tmpy(name: str, needs: str, request: bytes = b"") -> Plugin:
     return Plugin(words, framed, "request" if request else "block", "prompt", True, needs, request)
 
 
+SCILAB = f"exec('{PLUGINS}/scilab/scilab/init-scilab.sce', 'errcatch', -1); mprintf('%sverbatim:Scilab%s', ascii(2), ascii(5))"
 KNOWN: Dict[str, Plugin] = {
     "python": tmpy("python", "python3", COMPLETES),
     "sympy": tmpy("sympy", "python3", COMPLETES),
@@ -68,6 +74,7 @@ KNOWN: Dict[str, Plugin] = {
     "asymptote": tmpy("asy", "asy"),
     **{name: tmpy(name, "latex") for name in ("dratex", "tikz", "xypic")},
     "plantuml": tmpy("plantuml", "plantuml"),
+    "graph": tmpy("graph", "dot"),
     "eukleides": Plugin((sys.executable, "-X", "utf8", f"{PLUGINS}/eukleides/python/tm_eukleides.py"), framed, "block", "prompt", True, "eukleides"),
     "octave": Plugin(("octave", "--no-gui", "-qi", f"{PLUGINS}/octave/octave/tmstart.m"), framed, "prompt", skips=True, needs="octave"),
     "maxima": Plugin((f"{BIN}/tm_maxima", "VERSION", "LISP"), closed, "prompt", needs="maxima", ready=rb"\(%i\d+\) "),
@@ -78,6 +85,7 @@ KNOWN: Dict[str, Plugin] = {
     "fricas": Plugin(("fricas", "-texmacs"), in_one, "prompt", needs="fricas"),
     "axiom": Plugin((f"{BIN}/tm_axiom",), in_one, "prompt", needs="axiom"),
     "lisp": Plugin((f"{BIN}/tm_lisp", "Clisp"), in_one, "prompt", skips=True, needs="clisp"),
+    "scilab": Plugin(("stdbuf", "-o0", "scilab-cli", "-nb", "-e", SCILAB), as_it_is, "request", "block", needs="scilab-cli", request=ASKED_OF_SCILAB, heeds=False),
     "giac": Plugin(("giac", "--texmacs"), in_one, "prompt", needs="giac"),
     "macaulay2": Plugin(("M2", "--texmacs"), in_one, "request", "block", needs="M2", request=b'<< "MARK" << endl;\n'),
 }

@@ -91,6 +91,8 @@ def prepared_home() -> str:
             with open(document, "w", encoding="ascii") as file:
                 file.write(FONTS)
             texmacs = RealTeXmacs(folder, 0, document, home)
+            texmacs.does("1")
+            texmacs.does(f'(begin (load-buffer (system->url "{document}")) "loaded")')  # its first start shows a greeting, before or after it
             texmacs.shows(document)
             texmacs.ends()
     return home

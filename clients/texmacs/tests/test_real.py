@@ -95,6 +95,9 @@ class Systems(Real):
         self.assertEqual([str(field.id) for field in fields], list(noted))
         self.assertNotIn(None, [field.answer for field in fields])
         self.assertIn("42", str(fields[-1].answer))
+        errors = {str(field.id) for field in fields if field.answer and field.answer.errors}
+        self.assertEqual({id for id, told in shown.items() if "errput" in told.output}, errors)
+        self.assertGreater(len(errors), 2)
 
     def test_gp(self) -> None:
         self.system("gp")
@@ -144,7 +147,7 @@ class Documents(Real):
         self.assertEqual(list(texmacs.fields()), ["1", "3", "5", "2", "4"])
         self.assertNotIn("in use", text)
         self.assertIn("<frac|1|3>", text)
-        self.assertIn("impossible inverse", text)
+        self.assertRegex(text, r"(?s)<\\errput>(?:(?!</errput>).)*impossible inverse")
         self.assertIn("\xe9 5", text)
         self.assertEqual(text.count("<\\session|tmhost|"), 2)
 

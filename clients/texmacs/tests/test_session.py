@@ -5,7 +5,9 @@ import threading
 import time
 import unittest
 
-from .support import PROGRAM, Case, TeXmacs, Worksheet
+from .support import PROGRAM, Case, TeXmacs, Worksheet, read_blocks
+from tmhost import Block
+from tmhost_texmacs.speech import Speech
 
 
 class Lines(Case):
@@ -65,6 +67,18 @@ class Lines(Case):
         texmacs = self.texmacs()
         self.assertEqual(texmacs.evaluate("die").text, "? Ended")
         self.assertEqual(texmacs.evaluate("say again").text, "again")
+
+    def test_errors(self) -> None:
+        """They are marked as TeXmacs marks those of its own sessions, with letters of its encoding."""
+        self.make()
+        told = self.texmacs().evaluate('error a <b> "c" \\ \u4e2d').text
+        self.assertEqual(told, r'{scheme:(errput (document "a <less>b<gtr> \"c\" \\ <#4E2D>"))}')
+
+    def test_both_forms_of_an_error(self) -> None:
+        """docs/PROTOCOL.md has two; a channel `output` that stands in no other one is text."""
+        for error in (Block("error", "channel", ("no\n\tway",)), Block("output", "channel", ("yes ", Block("output", "channel", ("no\n\tway",))))):
+            told = read_blocks(Speech(self.folder).part(Block("verbatim", "format", ("ok\n", error))))
+            self.assertEqual(told.text.replace("yes ", ""), 'ok\n{scheme:(errput (document "no" "        way"))}')
 
     def test_completions(self) -> None:
         self.make()
@@ -191,8 +205,8 @@ class Documents(Case):
         texmacs = self.texmacs()
         told = texmacs.evaluate("%tmhost restore", shown=(("2", "x", "say two"),))
         self.assertEqual(told.commands, [["tmhost-restore", "t:x", "1", "say one", "", "3", "formula", "2"]])
-        kept = texmacs.asks('(kept "3")')
-        self.assertEqual((kept.text, kept.id), ("{latex:$x$}", "3"))
+        kept = texmacs.asks('(kept "1" "3" "7")')
+        self.assertRegex(kept.text, r'^\{scheme:\(tmhost-kept "1" "\w+" "1\] "\)\}\none\n\{scheme:\(tmhost-kept "3" "\w+" "3\] "\)\}\n\{latex:\$x\$\}\n$')
 
     def test_history_and_all_again(self) -> None:
         self.make(True, "say one", "count")

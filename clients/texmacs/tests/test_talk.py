@@ -1,7 +1,7 @@
 """A talk that was recorded between GNU TeXmacs 2.1.4 and tmhost-texmacs, byte for byte: `talk.txt`.
 
 `=` are the session, worksheet and document, `>` the bytes that TeXmacs wrote, `<` those that it read, `!` its signal. PROCESS stands for the number of the
-program's process. Python's tracebacks show the place of an error since 3.13 only, so lines of marks below an error aren't compared.
+program's process. Python's tracebacks show the place of an error since 3.13 only, so the lines of marks in an error aren't compared.
 """
 import ast
 import os
@@ -11,7 +11,7 @@ from typing import List, Tuple
 
 from .support import HERE, SECONDS, Case
 
-PLACES = re.compile(rb"\n +[~^]+(?=\n)")
+PLACES = re.compile(rb' " +[~^]+"')
 
 
 def talk() -> List[Tuple[str, bytes]]:

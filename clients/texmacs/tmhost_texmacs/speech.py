@@ -5,9 +5,13 @@ import base64
 import hashlib
 import os
 import re
-from typing import Optional, Union
+from typing import List, Optional, Union
 
-from tmhost import Block
+from tmhost import Block, readable
+
+from . import scheme
+from .scheme import Form, Name
+from .trees import tree_text
 
 Text = Union[str, bytes]
 
@@ -39,6 +43,17 @@ def command(form: str) -> bytes:
     return BEGIN + b"command:" + escaped(form) + END
 
 
+def tree(form: List[Form]) -> bytes:
+    """A tree of TeXmacs in an answer. Its texts have letters of the Cork encoding."""
+    return BEGIN + b"scheme:" + escaped(scheme.written(form).encode("latin-1")) + END
+
+
+def error(text: Text) -> bytes:
+    """What an interpreter says of an error, as TeXmacs shows those of its own sessions."""
+    lines = readable(text).strip("\n").expandtabs().split("\n")
+    return tree([Name("errput"), [Name("document"), *map(tree_text, lines)]])
+
+
 class Speech:
     """How blocks of a worksheet are written. `folder` gets the files of pictures, by their names alone known to TeXmacs."""
 
@@ -50,12 +65,15 @@ class Speech:
         return self._inside(block) if block.kind == "format" and data_of(block.tag) in (b"verbatim", b"utf8") else self._block(block)
 
     def _inside(self, block: Block) -> bytes:
-        return b"".join(self._block(item) if isinstance(item, Block) else escaped(item) for item in block.items)
+        return b"".join(self._block(item, block.is_output) if isinstance(item, Block) else escaped(item) for item in block.items)
 
-    def _block(self, block: Block) -> bytes:
+    def _block(self, block: Block, is_in_output: bool = False) -> bytes:
+        """A block, which is an error where it has that channel, or is one of `output` in another one."""
         tag = data_of(block.tag)
         if block.kind != "format":
-            if tag == b"output":  # the mark of an error: TeXmacs shows its text as any other
+            if tag == b"error" or block.is_output and is_in_output:
+                return error(block.plain)
+            if block.is_output:
                 return self._inside(block)
             return BEGIN + tag + b"#" + self._inside(block) + END
         picture = self._picture(block)

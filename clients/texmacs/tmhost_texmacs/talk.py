@@ -4,7 +4,7 @@ A line is an input, or begins with the byte 16 and is a list of Scheme:
 
     (evaluate INPUT ID BEFORE BEHIND DOCUMENT SHOWN ..)   ID is the field that the document has for the input, BEFORE and BEHIND those beside it;
                                                           a SHOWN is (ID MARK INPUT), and is there where the document is to be compared
-    (kept ID)                                             the answer that the worksheet has, of a field that is put into the document
+    (kept ID ..)                                          the answers that the worksheet has, of fields that are put into the document
     (complete INPUT CURSOR)                               TeXmacs' own
 
 Or it is `%tmhost ..` (`commands.py`). An answer begins when its line is taken on, by an order to TeXmacs that gives the document the number of the field.
@@ -19,7 +19,8 @@ from tmhost import Answer, BadLine, Cell, Evaluation, Field, Lost, Refused, Tmho
 from . import scheme
 from .marks import LINE_END, Shown, compared, marks
 from .scheme import Name, NoForm
-from .speech import BEGIN, END, OPENED, Speech, Text, closed, command, escaped, next_prompt, whole
+from .speech import BEGIN, END, OPENED, Speech, Text, closed, command, escaped, next_prompt, tree, whole
+from .trees import tree_text
 
 COMMAND = "%tmhost"
 NO_COMPLETIONS = BEGIN + b"scheme:(tuple)" + END
@@ -112,7 +113,7 @@ class Talk:
         if word == "evaluate":
             self._evaluate(asked_by(form))
         elif word == "kept":
-            self._show_kept("".join(scheme.strings(form[1:])))
+            self._show_kept(scheme.strings(form[1:]))
         elif word == "complete" and len(form) == 3:
             self.write(self._completed(str(form[1]), str(form[2])))
         else:
@@ -201,14 +202,17 @@ class Talk:
     def shown(self, answer: Answer) -> bytes:
         return self.speech.part(answer.output)
 
-    def _show_kept(self, id: str) -> None:
-        cell = self.found(id)
-        if cell is None:
-            self.write(whole("the worksheet has no such field any more", self.prompt))
-            return
-        field = cell.field
+    def _show_kept(self, ids: List[str]) -> None:
+        """Of each of these fields a tree with its number, its mark and its prompt, and the answer that the worksheet has."""
+        fields = self.fields
+        by_id, now = {str(field.id): field for field in fields}, marks(fields)
+        found = [by_id[id] for id in ids if id in by_id]
+        self.write(OPENED + b"".join(self._kept(field, now[field.id]) for field in found) + closed(self.prompt))
+
+    def _kept(self, field: Field, mark: str) -> bytes:
         told = self.shown(field.answer) if field.answer else escaped(f"? {field.reason or 'it was not evaluated'}")
-        self.write(OPENED + self.accepted(cell) + told + closed(self.prompt))
+        prompt = field.answer.prompt if field.answer else self.prompt
+        return tree([Name("tmhost-kept"), str(field.id), mark, tree_text(readable(prompt))]) + b"\n" + told + b"\n"
 
     # ---- completions
 

@@ -26,6 +26,11 @@ def letter(character: str) -> str:
     return character if " " <= character < "\x7f" else rf"\<#{ord(character):X}\>"
 
 
+def tree_text(text: str) -> str:
+    """A text as the string of a tree, which has no backslash of a document."""
+    return re.sub(r"\\(.)", r"\1", "".join(map(letter, text)))
+
+
 def line(text: str) -> str:
     """A line of an input or of an answer. Blanks at its ends, and the second one of two, stand with a backslash, since others may be joined."""
     told = re.sub(r"^ | $|(?<= ) ", "\x00", text)
