@@ -75,7 +75,7 @@ class Lines(Case):
         self.assertEqual(told, r'{scheme:(errput (document "a <less>b<gtr> \"c\" \\ <#4E2D>"))}')
 
     def test_both_forms_of_an_error(self) -> None:
-        """docs/PROTOCOL.md has two; a channel `output` that stands in no other one is text."""
+        """docs/use/PROTOCOL.md has two; a channel `output` that stands in no other one is text."""
         for error in (Block("error", "channel", ("no\n\tway",)), Block("output", "channel", ("yes ", Block("output", "channel", ("no\n\tway",))))):
             told = read_blocks(Speech(self.folder).part(Block("verbatim", "format", ("ok\n", error))))
             self.assertEqual(told.text.replace("yes ", ""), 'ok\n{scheme:(errput (document "no" "        way"))}')
