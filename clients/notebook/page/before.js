@@ -7,9 +7,11 @@ import { ThenView } from "./then.js";
 /** @typedef {import("./cell").CellView} CellView */
 
 const AT_ONCE = 10; // that are shown
+const ASKED_AT_ONCE = 50;
 /** @type {Record<string, string>} */
 const WORDS = { new: "it was made with this text", set: "it got this text", answered: "it got this answer", lost: "it got no answer to this text" };
 const dialog = () => byId("before-dialog", HTMLDialogElement);
+const more = () => byId("before-more", HTMLButtonElement);
 
 export class Before {
   /**
@@ -23,10 +25,11 @@ export class Before {
     this.opening = "";
     /** @type {[number, string][]} */
     this.left = []; // versions that aren't shown yet
+    this.newer = ""; // the text behind those that are left
     this.turn = 0; // of which one the list is: another one may be opened while its parts come
     this.list = byId("before-list", HTMLElement);
     byId("before-close", HTMLButtonElement).addEventListener("click", () => dialog().close());
-    byId("before-more", HTMLButtonElement).addEventListener("click", () => this.more());
+    more().addEventListener("click", () => this.more());
     dialog().addEventListener("close", () => (this.turn += 1));
   }
 
@@ -40,7 +43,7 @@ export class Before {
     const turn = (this.turn += 1), of = view.isProse ? "prose" : "cell";
     this.list.replaceChildren();
     this.left = [];
-    byId("before-more", HTMLButtonElement).hidden = true;
+    more().hidden = true;
     byId("before-title", HTMLElement).textContent = `Before: ${of} ${view.id}`;
     byId("before-mark", HTMLElement).textContent = "";
     dialog().showModal();
@@ -53,38 +56,38 @@ export class Before {
     this.id = view.id;
     this.opening = told.opening ?? "";
     this.left = told.versions;
-    this.mark(of, told.count ?? 0);
+    this.newer = view.base;
+    const many = (told.count ?? 0) > this.left.length ? ` Of ${told.count} texts and answers the newest ${this.left.length} are looked at.` : "";
+    byId("before-mark", HTMLElement).replaceChildren(make("strong", "", "The past"),
+      `: what this ${of} had, the newest first; of a text that was typed on, its end.${many} Nothing here can be changed.`);
     await this.more();
+    if (this.list.childElementCount === 0 && more().hidden) this.say(`this ${of} had no other text and no other answer since the last checkpoint`);
   }
 
-  /** @type {(of: string, count: number) => void} */
-  mark(of, count) {
-    const many = count > this.left.length ? `, the newest ${this.left.length} of them` : "";
-    byId("before-mark", HTMLElement).replaceChildren(make("strong", "", "The past"), count === 0
-      ? `: this ${of} had no other text and no other answer since the last checkpoint.`
-      : `: ${count === 1 ? "one text or answer" : `${count} texts and answers`} that this ${of} had${many}, the newest first. Nothing here can be changed.`);
-  }
-
-  /** Shows some more, one after the other. */
+  /** Shows some more, one after the other. A text that the next one begins with was typed on: it isn't shown. */
   async more() {
-    const { turn } = this, more = byId("before-more", HTMLButtonElement), some = this.left.splice(0, AT_ONCE);
-    const hadFocus = document.activeElement === more;
-    more.hidden = true;
-    for (const [place, [at, what]] of some.entries()) {
-      const box = await this.versionOf(at, what);
+    const { turn, id, opening } = this, hadFocus = document.activeElement === more();
+    more().hidden = true;
+    for (let asked = 0, shown = 0; shown < AT_ONCE && asked < ASKED_AT_ONCE && this.left.length > 0; asked += 1) {
+      const [[at, what]] = this.left.splice(0, 1);
+      const told = await ask("past_field", { opening, at, id });
       if (turn !== this.turn) return;
+      const [cell] = told.then ?? [];
+      const isTypedOn = cell && cell.state === "empty" && this.newer.startsWith(cell.input);
+      this.newer = cell?.input ?? "";
+      if (isTypedOn) continue;
+      const box = this.versionOf(at, what, told);
       this.list.append(box);
-      if (place === 0 && hadFocus) /** @type {HTMLElement | null} */ (box.querySelector("button"))?.focus();
+      if (shown === 0 && hadFocus) /** @type {HTMLElement | null} */ (box.querySelector("button"))?.focus();
+      shown += 1;
     }
-    more.hidden = this.left.length === 0;
-    more.textContent = `Show earlier ones (${this.left.length})`;
+    more().hidden = this.left.length === 0;
   }
 
-  /** @type {(at: number, what: string) => Promise<HTMLElement>} */
-  async versionOf(at, what) {
-    const { id, opening } = this, part = make("section");
+  /** @type {(at: number, what: string, told: import("./types").Reply) => HTMLElement} */
+  versionOf(at, what, told) {
+    const { opening } = this, part = make("section");
     const head = make("h3", "then-when", `After change ${at}: ${WORDS[what] ?? what}`);
-    const told = await ask("past_field", { opening, at, id });
     const [cell] = told.then ?? [];
     const look = button("lookThen", "The worksheet of then", `Show the worksheet after change ${at}`);
     look.addEventListener("click", () => {

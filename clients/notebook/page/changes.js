@@ -3,8 +3,8 @@
 import { REASONS } from "./said.js";
 
 /**
- * A change: its number, what it was, and which cell it was of, 0 where it was of none.
- * @typedef {{at: number, words: string, id: number}} Change
+ * A change: its number, what it was, and which cell it was of, 0 where it was of none. Of several, `first` is the number of the first one.
+ * @typedef {{first: number, at: number, what: string, words: string, id: number}} Change
  */
 
 /** @type {Record<string, (rest: string[]) => string>} */
@@ -25,5 +25,20 @@ const OF_NONE = ["session", "ids"];
 export function changeOf(line) {
   const [at, what, ...rest] = line.split(" ");
   const words = Object.hasOwn(WORDS, what) ? WORDS[what](rest) : [what, ...rest].join(" ");
-  return { at: Number(at), words, id: OF_NONE.includes(what) ? 0 : Number(rest[0]) || 0 };
+  return { first: Number(at), at: Number(at), what, words, id: OF_NONE.includes(what) ? 0 : Number(rest[0]) || 0 };
+}
+
+/**
+ * Changes of a cell's text that follow one another, as while it is typed, are one.
+ * @type {(changes: Change[]) => Change[]}
+ */
+export function grouped(changes) {
+  /** @type {Change[]} */
+  const found = [];
+  for (const one of changes) {
+    const last = found.at(-1), isTyped = last?.what === "set" && one.what === "set" && last.id === one.id;
+    if (isTyped) found.pop();
+    found.push(isTyped ? { ...one, first: last.first } : one);
+  }
+  return found;
 }

@@ -1,5 +1,7 @@
 // Which cells are chosen: the selected one, and all up to the one where the choice was begun.
 
+import { byId } from "./dom.js";
+
 /** @typedef {import("./cell").CellView} CellView */
 /** @typedef {import("./cells").Cells} Cells */
 
@@ -60,7 +62,7 @@ export class Choice {
     for (const view of this.shown) if (!staying.has(view)) view.box.classList.remove("chosen");
     for (const view of views) view.box.classList.add("chosen");
     if (views.length > 0 && views.length !== this.shown.length) this.cells.page.note(`${views.length} cells are chosen`);
-    if (views.length === 0) this.cells.page.note("");
+    if (views.length === 0 && byId("note", HTMLElement).textContent === `${this.shown.length} cells are chosen`) this.cells.page.note("");
     this.shown = views;
   }
 }

@@ -1,6 +1,6 @@
 // What the worksheet was: the list of its changes, and a look at it after any number of them. Looking writes nothing; "Restore" makes another worksheet.
 
-import { changeOf } from "./changes.js";
+import { changeOf, grouped } from "./changes.js";
 import { byId, make, visible } from "./dom.js";
 import { ask } from "./talk.js";
 import { ThenView } from "./then.js";
@@ -22,7 +22,7 @@ export class Earlier {
     this.opening = "";
     this.count = 0; // of all changes
     /** @type {import("./changes").Change[]} */
-    this.listed = [];
+    this.listed = []; // the newest first
     this.at = 0; // after which change the worksheet is shown
     this.goal = 0; // after which one it is to be shown: a key that is held down asks faster than looks come
     this.start = 0; // the place of the first cell that is shown
@@ -38,7 +38,7 @@ export class Earlier {
     const at = byId("earlier-at", HTMLInputElement);
     press("earlier-close", () => dialog().close());
     press("earlier-newer", () => this.page(this.listed[0].at + 200));
-    press("earlier-older", () => this.page(this.listed[this.listed.length - 1].at - 1));
+    press("earlier-older", () => this.page(this.listed[this.listed.length - 1].first - 1));
     press("earlier-before", () => this.look(this.goal - 1));
     press("earlier-behind", () => this.look(this.goal + 1));
     press("earlier-above", () => this.look(this.at, this.start - 1));
@@ -92,19 +92,17 @@ export class Earlier {
     if (!told.changes) return false;
     this.opening = told.opening ?? "";
     this.count = told.count ?? 0;
-    this.listed = told.changes.map(changeOf).reverse();
-    this.list.replaceChildren(...this.listed.map(({ at, words }) => {
+    this.listed = grouped(told.changes.map(changeOf)).reverse();
+    this.list.replaceChildren(...this.listed.map(({ first, at, words }) => {
       const item = make("li");
       item.id = `change-${at}`;
       item.dataset.at = String(at);
       item.setAttribute("role", "option");
       item.setAttribute("aria-selected", "false");
-      item.setAttribute("aria-posinset", String(this.count - at + 1));
-      item.setAttribute("aria-setsize", String(this.count));
-      item.append(make("b", "", String(at)), " ", words);
+      item.append(make("b", "", String(at)), " ", words, first < at ? `, ${at - first + 1} times from ${first} on` : "");
       return item;
     }));
-    const [first, last] = [this.listed[0]?.at ?? 0, this.listed.at(-1)?.at ?? 0];
+    const [first, last] = [this.listed[0]?.at ?? 0, this.listed.at(-1)?.first ?? 0];
     byId("earlier-shown", HTMLElement).textContent = `Changes ${last} to ${first} of ${this.count}, the newest first`;
     enable("earlier-newer", first < this.count);
     enable("earlier-older", last > 1);
@@ -122,17 +120,32 @@ export class Earlier {
 
   /** @param {KeyboardEvent} event */
   key(event) {
-    const { goal, count } = this;
-    const to = { ArrowDown: goal - 1, ArrowUp: goal + 1, PageDown: goal - 10, PageUp: goal + 10, Home: count, End: 1 }[event.key];
-    if (to === undefined || event.ctrlKey || event.altKey || event.metaKey) return;
+    const by = { ArrowDown: 1, ArrowUp: -1, PageDown: 10, PageUp: -10, Home: 0, End: 0 }[event.key];
+    if (by === undefined || event.ctrlKey || event.altKey || event.metaKey) return;
     event.preventDefault();
-    this.look(to);
+    this.look(by === 0 ? (event.key === "Home" ? this.count : 1) : this.beside(by));
+  }
+
+  /**
+   * The change that stands so many lines below that which is looked at, or behind the end of the list.
+   * @type {(by: number) => number}
+   */
+  beside(by) {
+    const { listed } = this, place = listed.findIndex((one) => this.has(one, this.goal));
+    const [first, last] = [listed[0], listed.at(-1)];
+    if (!first || !last || place < 0) return this.goal - by;
+    return listed[place + by]?.at ?? (by > 0 ? Math.max(1, last.first - 1) : first.at + 1);
+  }
+
+  /** @type {(one: import("./changes").Change, at: number) => boolean} */
+  has(one, at) {
+    return one.first <= at && at <= one.at;
   }
 
   /** Marks the change that is looked at, where it is in the list. */
   choose() {
     this.list.querySelector("[aria-selected=true]")?.setAttribute("aria-selected", "false");
-    const item = this.list.querySelector(`#change-${this.at}`);
+    const item = this.list.querySelector(`#change-${this.listed.find((one) => this.has(one, this.at))?.at ?? 0}`);
     item?.setAttribute("aria-selected", "true");
     item?.scrollIntoView({ block: "nearest" });
     this.list.setAttribute("aria-activedescendant", item?.id ?? "");
@@ -157,8 +170,8 @@ export class Earlier {
   async lookOnce() {
     const { at, place } = this.wanted ?? { at: 0, place: 0 };
     this.wanted = undefined;
-    if (at > 0 && !this.listed.some((one) => one.at === at)) await this.page(at + 100);
-    const about = place < 0 ? this.listed.find((one) => one.at === at)?.id ?? 0 : 0;
+    if (at > 0 && !this.listed.some((one) => this.has(one, at))) await this.page(at + 100);
+    const about = place < 0 ? this.listed.find((one) => this.has(one, at))?.id ?? 0 : 0;
     const told = await this.ask("past_sheet", { at, about, place: Math.max(0, place) });
     if (told.then && !this.wanted && dialog().open) this.show(at, told, about);
   }
@@ -181,7 +194,7 @@ export class Earlier {
 
   /** @type {(shown: number, count: number) => void} */
   mark(shown, count) {
-    const { at, start } = this, words = this.listed.find((one) => one.at === at)?.words;
+    const { at, start } = this, words = this.listed.find((one) => this.has(one, at))?.words;
     const isNow = at === this.count;
     byId("earlier-mark", HTMLElement).replaceChildren(make("strong", "", isNow ? "The worksheet as it was when this list was made" : "The past"),
       `: after change ${at} of ${this.count}${words ? `, ${words}` : ""}. Nothing here can be changed.`);

@@ -184,6 +184,30 @@ document.addEventListener("click", (event) => {
 let isPressed = false;
 document.addEventListener("mouseup", () => (isPressed = false));
 
+// While a button beside the cells is pressed, a text that is left by that is closed when the button is let go: prose has another height then, and the button
+// would lie elsewhere.
+let isPressedBeside = false;
+/** @type {import("./cell").CellView | undefined} */
+let left;
+document.addEventListener("mousedown", (event) => {
+  const node = event.target instanceof Element ? event.target.closest("button") : null;
+  isPressedBeside = node !== null && node.closest("#cells, dialog") === null;
+});
+document.addEventListener("mouseup", () => setTimeout(() => { // behind the click
+  isPressedBeside = false;
+  if (left && document.activeElement !== left.text) leave(left);
+  left = undefined;
+}));
+
+/** @param {import("./cell").CellView} view */
+function leave(view) {
+  view.box.classList.remove("editing");
+  view.layer?.showBrackets();
+  completions.close();
+  help.close();
+  view.showProse();
+}
+
 cells.place.addEventListener("mousedown", (event) => {
   const view = cells.of(event.target);
   isPressed = event.target instanceof Element && event.target.closest("button, select") !== null;
@@ -213,11 +237,8 @@ cells.place.addEventListener("focusin", (event) => {
 cells.place.addEventListener("focusout", (event) => {
   const view = cells.of(event.target);
   if (!view || event.target !== view.text) return;
-  view.box.classList.remove("editing");
-  view.layer?.showBrackets();
-  completions.close();
-  help.close();
-  view.showProse();
+  if (isPressedBeside) left = view;
+  else leave(view);
   view.saveIfFit();
 });
 

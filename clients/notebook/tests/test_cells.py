@@ -228,6 +228,19 @@ class Cells(SharedCase):
         tab.key("Enter", "Control")
         tab.until("[...document.querySelectorAll('.output pre')].map((one) => one.textContent)", ["kept", "1", "nothing"])
 
+    def test_a_click_beside_prose(self) -> None:
+        """Prose that is left is lower than its text, so what lies below it moves; the button that is pressed is pressed all the same."""
+        self.begin()
+        self.page.call("new", session=None, text="# A" + "\n" * 20 + "b", after=0)
+        tab = self.open()
+        tab.until("document.querySelectorAll('.reading.set').length", 1)
+        tab.click("#cell-1 .number")
+        tab.key("Enter")
+        tab.until(IN_TEXT, "cell-1")
+        tab.click("footer [data-do=addCell]")
+        tab.until(IN_TEXT, "cell-2")
+        self.assertEqual(tab.value("[...document.querySelectorAll('.cell')].map((cell) => cell.classList.contains('editing'))"), [False, True])
+
     def test_keys_in_texts_are_letters(self) -> None:
         tab = self.start("")
         tab.click("#cell-1 .number")

@@ -18,7 +18,7 @@ KILLS = int(os.environ.get("TMHOST_KILLS", "20"))
 WORDS = [f"word{number}." for number in range(12)]
 MOST_CELLS = 24
 
-# What is cut is pasted then, or both are taken back; and a cell is removed only where another one has its word. So no word is to go.
+# What is cut is pasted then, or both are taken back; and a cell is removed only where another one has its word. So no word is to go. Who is told that nothing is done any more does nothing.
 WORK = """
 (() => {
   let count = %d;
@@ -94,7 +94,7 @@ WORK = """
   window.isOver = window.isMended = false;
   const work = async () => {
     await mend();
-    while (!window.isOver) {
+    while (!window.isOver && !/can't be reached|ended by/.test(document.querySelector("#note").textContent)) {
       const all = boxes(), box = any(all), kind = any(kinds);
       count += 1;
       if (box) await does[kind](box, all);

@@ -89,7 +89,7 @@ class InThePage(PageCase):
         self.browser.ask("Browser.grantPermissions", {"permissions": ["clipboardReadWrite", "clipboardSanitizedWrite"]})
         tab.key("e")
         tab.until(THEN, [["1", "say 1"]])
-        self.assertIn("one text or answer that this cell had", tab.value("document.querySelector('#before-mark').textContent"))
+        self.assertIn("Nothing here can be changed", tab.value("document.querySelector('#before-mark').textContent"))
         self.assertEqual(tab.value("document.querySelector('.then .output pre').textContent"), "1")
         for what, text in (("copyText", "say 1"), ("copyAnswer", "1")):
             tab.click(f".then [data-do={what}]")
@@ -106,6 +106,30 @@ class InThePage(PageCase):
         tab.until("document.activeElement.id", "cell-1")
         tab.key("z")
         tab.until(TEXTS, ["# Head\n\n<b>x</b> [to the cell](#cell-1)", "say 3"])
+
+    def test_what_was_typed_on(self) -> None:
+        """Texts that were saved while somebody typed are one line of the list, and of what a cell had the last of them is shown."""
+        self.begin()
+        self.page.call("new", session="s", text="", after=0)
+        texts = ["a", "ab", "abc", "x", "xy"]
+        for before, text in zip(["", *texts], texts):
+            self.page.call("set", id=1, base=before, text=text)
+        self.page.call("new", session="s", text="", after=0)
+        tab = opened(self.browser, self.server)
+        tab.click("#cell-1 .number")
+        tab.key("e")
+        tab.until(THEN, [["1", "abc"]])
+        tab.key("Escape")
+        tab.key("e", "Shift")
+        self.look(tab, 8)
+        self.assertEqual(tab.value(LISTED), ["8 cell 2 was made, of session s", "7 cell 1 got another text, 5 times from 3 on",
+            "2 cell 1 was made, of session s", "1 session s was made"])
+        for key, at in (("ArrowDown", 7), ("ArrowDown", 2), ("ArrowUp", 7)):
+            tab.key(key)
+            self.look(tab, at)
+        tab.click("#earlier-before")
+        self.look(tab, 6)
+        tab.until(THEN, [["1", "x"]])
 
     def test_a_cell_that_is_gone(self) -> None:
         """It comes back as a new one, where it stood."""
