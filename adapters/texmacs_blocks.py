@@ -119,8 +119,6 @@ class Group:
         for item in node.items:
             if isinstance(item, Node):
                 self._node(item)
-            elif self.is_prompt_next:
-                self.prompt, self.is_prompt_next = plain_prompt(item), False
             else:
                 self._text(item.replace(b"\r\n", b"\n"))
 

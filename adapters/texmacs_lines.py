@@ -36,7 +36,6 @@ EUKLEIDES = ["A B C triangle; draw (A.B.C)", "nonsense", "draw(", "", "% a remar
 PLANTUML = ["A -> B: hi", "nonsense", "@startuml\u2028A --> B\u2028@enduml", "@startuml", "", "' a remark", "@startuml\u2028class A\u2028@enduml"]
 GRAPHVIZ = ["digraph { a -> b }", "graph { a -- b }", "nonsense", "digraph {", "}", "", "%dot", "help", "digraph { a -> b -> c }", "%neato\u2028graph { a -- b }"]
 
-FEYNMF = ["nonsense", r"\nonsense", "(1,1)", "(1,1)\u2028\\fmfleft{a,b}\u2028\\fmfright{c}\u2028\\fmf{photon}{a,v}\u2028\\fmf{plain}{b,v,c}", "", "% a remark"]
 GRAPH = ["gnuplot", "plot sin(x)", "foo", "plot [0:", "plot x**2", "dot", "graph { a -- b }", "digraph {", "}", "", "%gnuplot\u2028plot x", "%gnuplot -output png\u2028plot x", "%dot\u2028digraph { a -> b }", "%neato\u2028graph { a -- b }", "%nonsense", "%mermaid", "%latex\u2028text",
          "%pdflatex\u2028text", "%", "circo", "graph { a -- b -- c -- a }", "twopi", "digraph { a -> b -> c }", "fdp", "graph { a }", "sfdp", "osage", "patchwork", "digraph { subgraph cluster_a { a } }", "dot", "help", "# a remark", "quit", "exit", "digraph { a [label=\"two\\nlines\"] }", "digraph { \u00e9 -> \u4e2d }"]
 SCILAB = [
@@ -78,7 +77,6 @@ LINES: Dict[str, Lines] = {
     "gnuplot": Lines(
         [("plot sin(x)", "..{image/")], "set title \"n%d\"; plot x", "..n%d", "while (1) { x = 1 }", "", "", ["plot x", "plot x**2", "foo", "plot [0:", "print 1", "%gnuplot -output png\u2028plot x", "splot x*y", "reset", "# a remark", "plot 'nothing'"]),
     "graphviz": Lines([("digraph { a -> b }", "..{image/")], "digraph { n%d }", "", "", "", "", GRAPHVIZ),
-    "feynmf": Lines([(r"(1,1)~\fmfleft{i}~\fmfright{o}~\fmf{plain}{i,o}", "..{image/")], r"(1,%d)~\fmfleft{i}~\fmfright{o}~\fmf{plain}{i,o}", "", "", "", "", FEYNMF),
     "graph": Lines([("digraph { a -> b }", "..{image/"), ("nonsense", "..syntax error"), ("%nothing", "..No such Graphs backend")], "%%dot\u2028digraph { n%d }", "", "", "", "", GRAPH),
     "scilab": Lines(
         [("1 + 1", "..2."), ("error(\"boo\")", "..boo"), ("nothing", "..Undefined variable: nothing"), ("x = poly(0, \"x\"); 1/(1 + x)", "..{latex:$\\frac{1}{1+x}$}"), ("", "")],

@@ -29,11 +29,6 @@ def in_one(line: bytes) -> bytes:
     return line.replace(b"\n", b" ") + b"\n"
 
 
-def by_tildes(line: bytes) -> bytes:
-    """As the plugin of Feynman diagrams takes several lines."""
-    return line.replace(b"\n", b"~") + b"\n"
-
-
 def as_it_is(line: bytes) -> bytes:
     return line + b"\n"
 
@@ -91,7 +86,6 @@ KNOWN: Dict[str, Plugin] = {
     "axiom": Plugin((f"{BIN}/tm_axiom",), in_one, "prompt", needs="axiom"),
     "lisp": Plugin((f"{BIN}/tm_lisp", "Clisp"), in_one, "prompt", skips=True, needs="clisp"),
     "scilab": Plugin(("stdbuf", "-o0", "scilab-cli", "-nb", "-e", SCILAB), as_it_is, "request", "block", needs="scilab-cli", request=ASKED_OF_SCILAB, heeds=False),
-    "feynmf": Plugin((f"{BIN}/tm_feynmf", "--texmacs"), by_tildes, "block", "prompt", needs="mf", heeds=False),
     "giac": Plugin(("giac", "--texmacs"), in_one, "prompt", needs="giac"),
     "macaulay2": Plugin(("M2", "--texmacs"), in_one, "request", "block", needs="M2", request=b'<< "MARK" << endl;\n'),
 }
@@ -124,9 +118,7 @@ def environment() -> Dict[str, str]:
     """What TeXmacs tells its plugins, with a folder that they put files into."""
     home = os.environ.get("TEXMACS_HOME_PATH") or os.path.expanduser("~/.TeXmacs")
     os.makedirs(os.path.join(home, "system", "tmp"), exist_ok=True)
-    root = root_folder()
-    path = os.environ.get("PATH", os.defpath) + ":" + bin_folder(root)
-    return {**os.environ, "TEXMACS_PATH": root, "TEXMACS_HOME_PATH": home, "PATH": path}
+    return {**os.environ, "TEXMACS_PATH": root_folder(), "TEXMACS_HOME_PATH": home}
 
 
 def lacking(name: str) -> str:
