@@ -14,10 +14,10 @@ PYTHON: List[Tuple[str, str]] = [
 ERRORS: Dict[str, List[Tuple[str, str]]] = {
     "gp": [
         ("1/0", "  ***   at top-level: 1/0\n  ***                  ^--\n  *** _/_: impossible inverse in gdiv: 0."), ('print("so"); error("a\\nb")', "..  ***   user error: a\nb"),
-        ("1 + ", "..syntax error"), ('"open', "..run-away string"), ('warning("careful"); 2', ""), ('print("  *** no")', ""), ('print("  ***   at top-level: 1/0"); 3', ""),
+        ("1 + ", "..syntax error"), ("factor(x^2", "..syntax error"), ('"open', "..run-away string"), ('warning("careful"); 2', ""), ('print("  *** no")', ""), ('print("  ***   at top-level: 1/0"); 3', ""),
         ("/* open", ""), ("iferr(1/0, E, print(E))", ""), ("4\u20281/0\u20285", "..impossible inverse"), ("input()", ".." + NO_INPUT), ("6", ""),
     ],
-    "gp --text": [("1/0", "..impossible inverse"), ('print("so"); error("boo")', "..  ***   user error: boo"), ('warning("careful"); 2', ""), ("while(", "..while(")],
+    "gp --text": [("1/0", "..impossible inverse"), ('print("so"); error("boo")', "..  ***   user error: boo"), ('warning("careful"); 2', ""), ("while(", "..syntax error")],
     "python": [*PYTHON, ("exit()", "..SystemExit"), ("'\\x1b[31m'", ""), ("raise ValueError('\\x1b[31mred\\x1b[0m')", "..ValueError: red")],
     "jupyter python3": [
         *PYTHON, ("%nothing", "UsageError: Line magic function `%nothing` not found."), ("print('so')\u2028%nothing", "UsageError: Line magic function `%nothing` not found."), ("input()", "..StdinNotImplementedError"),

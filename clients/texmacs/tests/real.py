@@ -84,17 +84,23 @@ def prepared_home() -> str:
     if not home:
         home = os.path.join(tempfile.mkdtemp(prefix="tmhost-texmacs-home."), "home")
         atexit.register(shutil.rmtree, os.path.dirname(home), True)
-    if not os.path.isdir(os.path.join(home, ".TeXmacs")):
+    done = os.path.join(home, "prepared")
+    if not os.path.exists(done):
         os.makedirs(home, exist_ok=True)
         with tempfile.TemporaryDirectory(prefix="tmhost-texmacs-test.") as folder:
             document = os.path.join(folder, "fonts.tm")
             with open(document, "w", encoding="ascii") as file:
                 file.write(FONTS)
             texmacs = RealTeXmacs(folder, 0, document, home)
-            texmacs.does("1")
-            texmacs.does(f'(begin (load-buffer (system->url "{document}")) "loaded")')  # its first start shows a greeting, before or after it
-            texmacs.shows(document)
-            texmacs.ends()
+            try:
+                texmacs.does("1")
+                texmacs.does(f'(begin (load-buffer (system->url "{document}")) "loaded")')  # its first start shows a greeting, before or after it
+                texmacs.shows(document)
+                texmacs.ends()
+            finally:
+                texmacs.end()
+        with open(done, "wb"):
+            pass
     return home
 
 

@@ -178,6 +178,26 @@ class Documents(Real):
         texmacs.end()
         self.assertEqual([field.input for field in self.fields()], ["x = 5; x", "x + 1", "'last'"])
 
+    def test_what_is_lacking_is_put_in(self) -> None:
+        """Fields that were taken out of the document, the first one, two in a row and one that has no answer, stand in their places again."""
+        texmacs = self.texmacs_of()
+        session = self.begins(texmacs, "python")
+        for line in ("'a'", "'b'", "1/0", "'d'", "x = 5", "'f'"):
+            self.says(texmacs, session, line)
+        shown = texmacs.answers()
+        for at in (4, 2, 1, 0):
+            self.enters(texmacs, session, at)
+            texmacs.does("(with-innermost t field-context? (tree-remove! (tree-ref t :up) (tree-index t) 1) \"removed\")")
+        self.assertEqual(list(texmacs.fields()), ["4", "6"])
+        self.enters(texmacs, session)
+        self.says(texmacs, session, "%tmhost restore")
+        texmacs.shoots("put-in")
+        self.assertEqual(list(texmacs.fields()), ["1", "2", "3", "4", "5", "6"])
+        self.assertEqual(texmacs.answers(), shown)
+        self.enters(texmacs, session)
+        self.says(texmacs, session, "%tmhost check")
+        self.assertIn("this document shows what the worksheet has", " ".join(texmacs.saves(os.path.join(self.folder, "seen.tm")).split()))
+
     def test_lines_that_wait_for_their_turns(self) -> None:
         """They stand in the worksheet as they do in the document, though none of them had a field when they were given."""
         texmacs = self.texmacs_of()
