@@ -260,7 +260,7 @@ reports 'one that is not left out' 1 '#3 b\nb] hangs\n- hangs\n+ ?\nsame 2 diffe
 # A number that no field has: nothing is evaluated, and nothing written. Of a range its first and its last are looked for.
 rm -f sent lives
 reports 'a number that no field has' 1 'fault 37 NoField 7\n' --leave-out 2-3,7,4294967295
-reports 'a range that ends behind the fields' 1 'fault 37 NoField 5\n' --leave-out 1,4-5
+reports 'a range that ends after the fields' 1 'fault 37 NoField 5\n' --leave-out 1,4-5
 reports 'a range that begins before them' 1 'fault 37 NoField 0\n' --leave-out 0-4
 reports 'a range of none' 1 'fault 37 NoField 8\n' --compare 1,8-9
 reports 'one to compare that no field has' 1 'fault 37 NoField 9\n' --compare 9 --format junit

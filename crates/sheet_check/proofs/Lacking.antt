@@ -30,7 +30,7 @@ use Rattle.sheet_check.proofs.Kept.{was_opened}
 
 -- A field that isn't there is no fault of a run.
 
-is_missing_field : Result Counts CheckFault → Bool
+abbrev is_missing_field : Result Counts CheckFault → Bool
 is_missing_field (Ok counts) = false
 is_missing_field (Err (checks.NoField id)) = true
 is_missing_field (Err (checks.Run why)) = false
@@ -38,12 +38,12 @@ is_missing_field (Err (checks.Run why)) = false
 no_run : (answer : Result Counts CheckFault) (id : ℕ) (why : RunFault) → answer ≡ Err (checks.NoField id) → answer ≡ Err (checks.Run why) → ⊥
 no_run answer id why e f = let no : true ≡ false = sym (ap is_missing_field e) ∙ ap is_missing_field f in cc
 
-run_in : RunFault → Result Counts CheckFault → RunFault
+abbrev run_in : RunFault → Result Counts CheckFault → RunFault
 run_in other (Ok counts) = other
 run_in other (Err (checks.NoField id)) = other
 run_in other (Err (checks.Run why)) = why
 
-is_count : Result Counts CheckFault → Bool
+abbrev is_count : Result Counts CheckFault → Bool
 is_count (Ok counts) = true
 is_count (Err why) = false
 

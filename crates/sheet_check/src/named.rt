@@ -1,5 +1,5 @@
 //! The fields that a check names by their numbers, where a worksheet has them.
-ghost use Rattle.std.specs.Prelude.{◌≡◌, [], List, false};
+ghost use Rattle.std.specs.Prelude.{◌≡◌, [], List, false, find};
 ghost use Rattle.disk_model.specs.Disk.{DiskView};
 ghost use Rattle.worksheet.specs.declared.op.Op.{Op};
 ghost use Rattle.recovery.specs.Sheets.{Makes};
@@ -73,11 +73,18 @@ fn missing_end(sheet: &Sheet, ids: Ids) -> u32
     }
 }
 
+/// The first of these that lack a field.
+fn first_lacking(sheet: &Sheet, ids: &[Ids]) -> Option<Ids>
+    ensures { result ≡ find (named.lacks_end sheet.now.contents.fields) ids.now }
+{
+    ids.iter().copied().find(|one| lacks_end(sheet, *one))
+}
+
 /// The first number of these that no field has.
 fn missing_of(sheet: &Sheet, ids: &[Ids]) -> Option<u32>
     ensures { result ≡ named.missing_of sheet.now.contents.fields ids.now }
 {
-    match ids.iter().copied().find(|one| lacks_end(sheet, *one)) {
+    match first_lacking(sheet, ids) {
         None => None,
         Some(one) => Some(missing_end(sheet, one)),
     }
