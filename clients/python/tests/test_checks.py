@@ -76,6 +76,12 @@ class Checks(Case):
         self.assertRaises(InUse, list, check(self.path, program=PROGRAM))
         sheet.close()
 
+    def test_a_number_that_no_field_has(self) -> None:
+        self.made()
+        with self.assertRaises(Died) as told:
+            list(check(self.path, leave_out=[2, 9], program=PROGRAM))
+        self.assertEqual((told.exception.fault, told.exception.number, told.exception.status), ("NoField", 37, 1))
+
     def test_it_is_closed_early(self) -> None:
         sheet = self.open()
         sheet.session("a", WORDS)
@@ -96,11 +102,12 @@ class Checks(Case):
             schema = jsonschema.Draft202012Validator(json.load(file))
         self.made()
         told = [json.loads(line) for line in [*lines("check", "--json", self.path), *lines("check", "--json", "--leave-out=2", self.path),
-                                              *lines("eval", "--json", self.path, "9"), *lines("check", "--json", self.folder)]]
+                                              *lines("eval", "--json", self.path, "9"), *lines("check", "--json", "--leave-out=9", self.path),
+                                              *lines("check", "--json", self.folder)]]
         for one in told:
             schema.validate(one)
-        self.assertEqual([one["type"] for one in told], ["hello", *4 * ["checked"], "compared", "end", "hello", *4 * ["checked"], "compared", "end", "hello", "fault", "fault"])
-        self.assertEqual(told[-2], {"id": 9, "name": "NoField", "number": 37, "type": "fault"})
+        self.assertEqual([one["type"] for one in told], ["hello", *4 * ["checked"], "compared", "end", "hello", *4 * ["checked"], "compared", "end", "hello", "fault", "fault", "fault"])
+        self.assertEqual(told[-3:-1], 2 * [{"id": 9, "name": "NoField", "number": 37, "type": "fault"}])
 
         with self.open() as sheet:
             sheet.session("gone", ["./no-program"])

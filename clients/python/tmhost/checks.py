@@ -91,7 +91,7 @@ def check(
     Gives a `Checked` for each field, in order and as soon as it is known, and at last a `Compared`. `only` names the one session whose
     fields are evaluated; those of `leave_out` aren't compared; a field may take `timeout` seconds. Fields of up to `jobs` sessions (at most
     64) are evaluated side by side; with more than one, all are given when the last is known. Raises InUse, NoWorksheet (a FileNotFoundError), or Died
-    for another fault or a death of the program. To stop early, close the iterator: the program is ended then.
+    for another fault, also where no field has a number of `leave_out`, or a death of the program. To stop early, close the iterator: the program is ended then.
     """
     child = Child(words_of_check(program, path_word(path), only, leave_out, timeout, jobs))
     told: "Iterator[Union[Checked, Compared]]" = told_by(child, read)

@@ -166,7 +166,9 @@ in JUnit's XML. With --json, which is --format json, each is one object, which\n
 programs read (docs/use/JSON.md). --only names the one session whose fields are\n\
 evaluated. The outputs of the fields that --leave-out names aren't compared, as of\n\
 3, 7, 8 and 9 by --leave-out 3,7-9, and with --compare 3,7-9 theirs alone are; all\n\
-are evaluated all the same, and counted as left out.\n\n\
+are evaluated all the same, and counted as left out. Where no field has one of these\n\
+numbers (of a range its first or its last) nothing is evaluated: that is the fault\n\
+37 NoField.\n\n\
 With --timeout SECONDS (1 to 1,000,000) the interpreter of a field that takes\n\
 longer is sent SIGINT, and is stopped where it hasn't answered two seconds later.\n\
 No answer came then, whatever came after SIGINT, and the next field is checked.\n\
@@ -278,8 +280,8 @@ const FAULTS_NOTES: &str =
 35 InUse         another program has the worksheet; nothing was done: wait for its end\n\
 36 NoScript      a session has a word with a space, which no line of a script makes;\n\
 \x20                nothing was written: export it in another format\n\
-37 NoField ID    no field has this number, which was given to `eval`; nothing was\n\
-\x20                evaluated: `show` has the numbers\n\
+37 NoField ID    no field has this number, which was given to `eval` or `check`;\n\
+\x20                nothing was evaluated: `show` has the numbers\n\
 38 SecondFile    PATH is the second file of a worksheet; nothing was done: give PATH\n\
 \x20                without .alt\n\
 39 NoChange N    the worksheet has fewer changes than N; nothing was written: `history`\n\

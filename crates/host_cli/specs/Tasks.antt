@@ -60,6 +60,7 @@ use Rattle.sheet_files.specs.declared.files_fault.MakeFault.{MakeFault}
 use Rattle.sheet_check.specs.Accept.{to_accept}
 use Rattle.sheet_check.specs.Evaluated.{one_by_one, way}
 use Rattle.sheet_check.specs.Together.{side_by_side}
+use Rattle.sheet_check.specs.declared.named.CheckFault.TheVariants as checks
 use Rattle.evaluation.specs.declared.plan.Plan.{Plan}
 
 abbrev pub voice_by : Bool → Voice
@@ -190,7 +191,7 @@ module _ {Y D P S I W E Q : Type 0} (o : OutsideView D P S I W E) where
   abbrev pub ComparesNext : Outside Y D P S I W E Q → Outside Y D P S I W E Q → CheckEnding → Text → CheckPlan → Type 0
   ComparesNext old new end path c =
       ((headed : W) × Appends (o.streams.written old.output) (o.streams.written headed) (worksheet_line path) × Compares (record old { output = headed }) new end path c)
-      ⊎ (OnlyWritten old new × (end.answer ≡ Err fault.Output) × EndsWith old new end.ending (Err fault.Output))
+      ⊎ (OnlyWritten old new × (end.answer ≡ Err (checks.Run fault.Output)) × EndsWith old new end.ending (Err fault.Output))
 
   -- Worksheets are checked one after another, each over what the one before it left, after others that ended so; then the total of all is
   -- written. Where the output fails at one of them nothing comes after it.

@@ -7,7 +7,7 @@ use Rattle.std.proofs.lemmas.List.{length-append}
 use Rattle.std.proofs.lemmas.List.Folds.{list_all-append}
 use Rattle.std.proofs.lemmas.List.Sums.{sum_by-append}
 use Rattle.check_report.specs.declared.verdict.Counts.{Counts}
-use Rattle.offline_programs.specs.declared.fault.RunFault.{RunFault}
+use Rattle.sheet_check.specs.declared.named.CheckFault.{CheckFault}
 use Rattle.program_endings.specs.SeveralProgram.{counted_by, counted_in, faults_by, faults_in, went_out, is_well, total_of}
 use Rattle.program_endings.specs.inside.Totals.{with_counts, with_fault}
 use Rattle.program_endings.specs.declared.check_program.CheckEnding.{CheckEnding}
@@ -47,7 +47,7 @@ counts_more ends end counts e =
     (all_more is_well ends end) (all_more went_out ends end)
 
 -- with one whose check met a fault
-fault_more : (ends : List CheckEnding) (end : CheckEnding) (why : RunFault) → end.answer ≡ Err why → with_fault end.ending (total_of ends) ≡ total_of (ends ++ end ∷ [])
+fault_more : (ends : List CheckEnding) (end : CheckEnding) (why : CheckFault) → end.answer ≡ Err why → with_fault end.ending (total_of ends) ≡ total_of (ends ++ end ∷ [])
 fault_more ends end why e =
     same_total _ _ _ _ _ _ _ _ _ _ _ _ _ _ (length_more ends end)
     (same_sum (counted_in (λ c. c.same)) ends end (ap (counted_by (λ c. c.same)) e))
@@ -60,7 +60,7 @@ pub more_counts : (ends : List CheckEnding) (total result : Total) (end : CheckE
     → result ≡ total_of (ends ++ end ∷ [])
 more_counts ends total result end counts e is t = is ∙ ap (with_counts counts end.ending) t ∙ counts_more ends end counts e
 
-pub more_fault : (ends : List CheckEnding) (total result : Total) (end : CheckEnding) (why : RunFault) → end.answer ≡ Err why → result ≡ with_fault end.ending total → total ≡ total_of ends
+pub more_fault : (ends : List CheckEnding) (total result : Total) (end : CheckEnding) (why : CheckFault) → end.answer ≡ Err why → result ≡ with_fault end.ending total → total ≡ total_of ends
     → result ≡ total_of (ends ++ end ∷ [])
 more_fault ends total result end why e is t = is ∙ ap (with_fault end.ending) t ∙ fault_more ends end why e
 

@@ -7,10 +7,10 @@ use Rattle.sheet_check.specs.Check.{passage}
 use Rattle.sheet_check.specs.Evaluated.{OneByOne}
 use Rattle.check_report.specs.declared.chosen.Chosen.{Chosen}
 use Rattle.check_report.specs.declared.verdict.Counts.{Counts}
-use Rattle.offline_programs.specs.declared.fault.RunFault.{RunFault}
 use Rattle.offline_programs.specs.declared.fault.RunFault.TheVariants as fault
-use Rattle.program_endings.specs.CheckProgram.{finds_any}
-use Rattle.program_endings.specs.Ending.{EndsAs, ProgramAnswer}
+use Rattle.sheet_check.specs.declared.named.CheckFault.{CheckFault}
+use Rattle.sheet_check.specs.declared.named.CheckFault.TheVariants as checks
+use Rattle.program_endings.specs.CheckProgram.{CheckedAnswer, EndsChecked, finds_any}
 use Rattle.program_endings.specs.Programs.{EndsUnopened}
 use Rattle.program_endings.specs.Records.{Calling, DoesNothing, GivenDisk, Streams, given_disk, text_after, text_before, view_given}
 use Rattle.program_endings.specs.declared.ending.Ending.{Ending}
@@ -22,7 +22,7 @@ abbrev pub accepts_all : Chosen → Counts → Bool
 accepts_all chosen counts = (counts.unanswered == 0) && finds_any chosen counts
 
 -- what the program answers: all is well where each output that is compared is the same, or was accepted
-abbrev pub answer_of_acceptance : Chosen → Result Counts RunFault → ProgramAnswer
+abbrev pub answer_of_acceptance : Chosen → Result Counts CheckFault → CheckedAnswer
 answer_of_acceptance chosen (Ok counts) = Ok (accepts_all chosen counts)
 answer_of_acceptance chosen (Err why) = Err why
 
@@ -31,13 +31,13 @@ pub record AcceptDone {D C W E : Type 0} (o : OneByOne C) (g : GivenDisk D) (q :
   -- the disk, as it was closed
   pub later : D
   pub closed : g.how.closed later
-  pub answer : Result Counts RunFault
+  pub answer : Result Counts CheckFault
   pub accepted : AcceptAnswer o (view_given g) (g.how.view later) (passage q.old q.new (text_before s.output) (text_after s.output)) (DoesNothing q s.output) answer
   -- that the disk failed at the opening is reported only where it did
-  pub failed : answer ≡ Err (fault.Open opens.Disk) → Rises (view_given g).faults (g.how.view later).faults
+  pub failed : answer ≡ Err (checks.Run (fault.Open opens.Disk)) → Rises (view_given g).faults (g.how.view later).faults
   -- lack of memory at the opening is reported only where no call of the disk failed
-  pub memory : answer ≡ Err (fault.Open opens.OutOfMemory) → (g.how.view later).faults ≡ (view_given g).faults
-  pub ends : EndsAs s.errors ending (answer_of_acceptance o.chosen answer)
+  pub memory : answer ≡ Err (checks.Run (fault.Open opens.OutOfMemory)) → (g.how.view later).faults ≡ (view_given g).faults
+  pub ends : EndsChecked s.errors ending (answer_of_acceptance o.chosen answer)
 
 -- how `check --accept` ends on its files, or on why they weren't opened
 abbrev pub AcceptEnds : {D C W E : Type 0} → Closable D → OneByOne C → Result D FilesFault → Calling C → Streams W E → Ending → Type 0

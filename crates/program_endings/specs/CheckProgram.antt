@@ -9,12 +9,18 @@ use Rattle.check_report.specs.declared.report.Format.{Format}
 use Rattle.check_report.specs.declared.report.Format.TheVariants as format
 use Rattle.check_report.specs.declared.verdict.Counts.{Counts}
 use Rattle.check_report.specs.Verdicts.{total}
-use Rattle.offline_programs.specs.declared.fault.RunFault.{RunFault}
+use Rattle.evaluation.specs.declared.fault.EvalFault.TheVariants as evals
+use Rattle.offline_programs.specs.Saying.{Saying}
 use Rattle.offline_programs.specs.declared.fault.RunFault.TheVariants as fault
-use Rattle.program_endings.specs.Ending.{EndsAs, ProgramAnswer}
+use Rattle.sheet_check.specs.declared.named.CheckFault.{CheckFault}
+use Rattle.sheet_check.specs.declared.named.CheckFault.TheVariants as checks
+use Rattle.program_endings.specs.Ending.{EndsAs}
+use Rattle.program_endings.specs.EvalProgram.{FramedLast, TellsEval}
 use Rattle.program_endings.specs.Faults.{no_files}
 use Rattle.program_endings.specs.LiveProgram.{LastTold}
+use Rattle.program_endings.specs.declared.ending.Ending.{Ending}
 use Rattle.tellings.specs.Json.{in_json}
+use Rattle.tellings.specs.declared.note.Frame.TheVariants as frame
 use Rattle.program_endings.specs.Records.{Calling, DoesNothing, GivenDisk, Streams, Writing, given_disk, text_before, view_given, writing}
 use Rattle.program_endings.specs.declared.check_program.CheckEnding.{CheckEnding}
 use Rattle.sheet_files.specs.Closing.{Closable}
@@ -35,14 +41,29 @@ finds_any chosen counts = any_of chosen.only counts
 abbrev pub passes : Chosen → Counts → Bool
 passes chosen counts = all_same counts && finds_any chosen counts
 
+-- what a check answers: whether all is well, or its fault
+abbrev pub CheckedAnswer : Type 0
+CheckedAnswer = Result Bool CheckFault
+
+-- How a check with this answer ends: the status, and the line of its fault. One of a field that isn't there is that of an evaluation.
+abbrev pub EndsChecked : {E : Type 0} → Saying E → Ending → CheckedAnswer → Type 0
+EndsChecked errors ending (Ok passed) = EndsAs errors ending (Ok passed)
+EndsChecked errors ending (Err (checks.Run why)) = EndsAs errors ending (Err why)
+EndsChecked errors ending (Err (checks.NoField id)) = (ending.status ≡ 1) × TellsEval errors ending.told (Err (evals.NoField id))
+
 -- what the program answers: all is well where all outputs that are compared are the same
-abbrev pub answer_of_check : Chosen → Result Counts RunFault → ProgramAnswer
+abbrev pub answer_of_check : Chosen → Result Counts CheckFault → CheckedAnswer
 answer_of_check chosen (Ok counts) = Ok (passes chosen counts)
 answer_of_check chosen (Err why) = Err why
 
 -- A fault is reported last of all in a report as JSON, where the output takes it; the other formats have none.
-abbrev pub LastOfCheck : {W : Type 0} → Format → Writing W → Bool → ProgramAnswer → Type 0
-LastOfCheck format.Json w told answer = LastTold in_json w.contents w.old w.new told answer
+abbrev pub LastInJson : {W : Type 0} → Writing W → Bool → CheckedAnswer → Type 0
+LastInJson w told (Ok passed) = w.new ≡ w.old
+LastInJson w told (Err (checks.Run why)) = LastTold {T = Bool} in_json w.contents w.old w.new told (Err why)
+LastInJson w told (Err (checks.NoField id)) = FramedLast in_json w.contents w.old w.new told (frame.NoField id)
+
+abbrev pub LastOfCheck : {W : Type 0} → Format → Writing W → Bool → CheckedAnswer → Type 0
+LastOfCheck format.Json w told answer = LastInJson w told answer
 LastOfCheck format.Text w told answer = w.new ≡ w.old
 LastOfCheck format.Whole w told answer = w.new ≡ w.old
 LastOfCheck format.Tap w told answer = w.new ≡ w.old
@@ -59,14 +80,15 @@ pub record CheckDone {D C W E : Type 0} (o : OneByOne C) (g : GivenDisk D) (q : 
   pub last_told : LastOfCheck o.format (writing s.output.contents mid s.output.new) end.ending.told (answer_of_check o.chosen end.answer)
   pub read : OnlyRead (view_given g) (g.how.view later)
   -- that the disk failed is reported only where it did
-  pub failed : end.answer ≡ Err (fault.Open opens.Disk) → Rises (view_given g).faults (g.how.view later).faults
+  pub failed : end.answer ≡ Err (checks.Run (fault.Open opens.Disk)) → Rises (view_given g).faults (g.how.view later).faults
   -- and where anything else is answered no call of it failed
-  pub steady : (end.answer ≡ Err (fault.Open opens.Disk) → ⊥) → (g.how.view later).faults ≡ (view_given g).faults
-  pub ends : EndsAs s.errors end.ending (answer_of_check o.chosen end.answer)
+  pub steady : (end.answer ≡ Err (checks.Run (fault.Open opens.Disk)) → ⊥) → (g.how.view later).faults ≡ (view_given g).faults
+  pub ends : EndsChecked s.errors end.ending (answer_of_check o.chosen end.answer)
 
 -- how `check` ends where its files weren't opened: no child is called, and why is its fault
 abbrev pub CheckUnopened : {C W E : Type 0} → Format → Calling C → Streams W E → CheckEnding → FilesFault → Type 0
-CheckUnopened F q s end why = (q.new ≡ q.old) × (end.answer ≡ Err (no_files why)) × LastOfCheck F s.output end.ending.told (Err (no_files why)) × EndsAs s.errors end.ending (Err (no_files why))
+CheckUnopened F q s end why = (q.new ≡ q.old) × (end.answer ≡ Err (checks.Run (no_files why))) × LastOfCheck F s.output end.ending.told (Err (checks.Run (no_files why)))
+    × EndsAs s.errors end.ending (Err (no_files why))
 
 -- how `check` ends on its files, or on why they weren't opened
 abbrev pub CheckEnds : {D C W E : Type 0} → Closable D → OneByOne C → Result D FilesFault → Calling C → Streams W E → CheckEnding → Type 0

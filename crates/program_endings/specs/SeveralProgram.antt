@@ -7,6 +7,8 @@ use Rattle.sheet_text.specs.Escape.{on_line}
 use Rattle.check_report.specs.declared.verdict.Counts.{Counts}
 use Rattle.offline_programs.specs.declared.fault.RunFault.{RunFault}
 use Rattle.offline_programs.specs.declared.fault.RunFault.TheVariants as fault
+use Rattle.sheet_check.specs.declared.named.CheckFault.{CheckFault}
+use Rattle.sheet_check.specs.declared.named.CheckFault.TheVariants as checks
 use Rattle.program_endings.specs.Ending.{EndsAs, status_of}
 use Rattle.program_endings.specs.Records.{Streams, text_after, text_before}
 use Rattle.program_endings.specs.declared.check_program.CheckEnding.{CheckEnding}
@@ -18,7 +20,7 @@ abbrev pub worksheet_line : List ℕ → List ℕ
 worksheet_line path = codes "worksheet " ++ on_line path ++ 10 ∷ []
 
 -- how many fields of a worksheet came to something; of one whose check met a fault none is counted
-abbrev pub counted_by : (Counts → ℕ) → Result Counts RunFault → ℕ
+abbrev pub counted_by : (Counts → ℕ) → Result Counts CheckFault → ℕ
 counted_by part (Ok counts) = part counts
 counted_by part (Err why) = 0
 
@@ -26,7 +28,7 @@ abbrev pub counted_in : (Counts → ℕ) → CheckEnding → ℕ
 counted_in part end = counted_by part end.answer
 
 -- 1 where its check met a fault
-abbrev pub faults_by : Result Counts RunFault → ℕ
+abbrev pub faults_by : Result Counts CheckFault → ℕ
 faults_by (Ok counts) = 0
 faults_by (Err why) = 1
 
@@ -82,13 +84,17 @@ TotalEnds total s ending =
     ⊎ ((last : Ending) × EndsAs s.errors last (Err fault.Output) × (ending ≡ record { status = 1; told = total.told && last.told }))
 
 -- whether the output failed: nothing more can be written then
-abbrev pub is_unwritten : Result Counts RunFault → Bool
+abbrev pub failed_output : RunFault → Bool
+failed_output fault.Input = false
+failed_output fault.InputTooLong = false
+failed_output fault.Output = true
+failed_output fault.OutOfMemory = false
+failed_output (fault.Host why) = false
+failed_output (fault.Open why) = false
+failed_output fault.InUse = false
+failed_output fault.SecondFile = false
+
+abbrev pub is_unwritten : Result Counts CheckFault → Bool
 is_unwritten (Ok counts) = false
-is_unwritten (Err fault.Input) = false
-is_unwritten (Err fault.InputTooLong) = false
-is_unwritten (Err fault.Output) = true
-is_unwritten (Err fault.OutOfMemory) = false
-is_unwritten (Err (fault.Host why)) = false
-is_unwritten (Err (fault.Open why)) = false
-is_unwritten (Err fault.InUse) = false
-is_unwritten (Err fault.SecondFile) = false
+is_unwritten (Err (checks.NoField id)) = false
+is_unwritten (Err (checks.Run why)) = failed_output why

@@ -6,8 +6,8 @@ use Rattle.journal.specs.declared.opening.OpenCause.TheVariants as opens
 use Rattle.sheet_check.specs.Check.{OnlyRead, passage}
 use Rattle.sheet_check.specs.Together.{SideBySide, TogetherAnswer}
 use Rattle.offline_programs.specs.declared.fault.RunFault.TheVariants as fault
-use Rattle.program_endings.specs.CheckProgram.{CheckUnopened, LastOfCheck, answer_of_check}
-use Rattle.program_endings.specs.Ending.{EndsAs}
+use Rattle.sheet_check.specs.declared.named.CheckFault.TheVariants as checks
+use Rattle.program_endings.specs.CheckProgram.{CheckUnopened, EndsChecked, LastOfCheck, answer_of_check}
 use Rattle.program_endings.specs.Records.{Calling, DoesNothing, GivenDisk, Streams, given_disk, text_before, view_given, writing}
 use Rattle.program_endings.specs.declared.check_program.CheckEnding.{CheckEnding}
 use Rattle.sheet_files.specs.Closing.{Closable}
@@ -23,10 +23,10 @@ pub record TogetherDone {D C W E : Type 0} (o : SideBySide C) (g : GivenDisk D) 
   pub last_told : LastOfCheck o.format (writing s.output.contents mid s.output.new) end.ending.told (answer_of_check o.chosen end.answer)
   pub read : OnlyRead (view_given g) (g.how.view later)
   -- that the disk failed is reported only where it did
-  pub failed : end.answer ≡ Err (fault.Open opens.Disk) → Rises (view_given g).faults (g.how.view later).faults
+  pub failed : end.answer ≡ Err (checks.Run (fault.Open opens.Disk)) → Rises (view_given g).faults (g.how.view later).faults
   -- and where anything else is answered no call of it failed
-  pub steady : (end.answer ≡ Err (fault.Open opens.Disk) → ⊥) → (g.how.view later).faults ≡ (view_given g).faults
-  pub ends : EndsAs s.errors end.ending (answer_of_check o.chosen end.answer)
+  pub steady : (end.answer ≡ Err (checks.Run (fault.Open opens.Disk)) → ⊥) → (g.how.view later).faults ≡ (view_given g).faults
+  pub ends : EndsChecked s.errors end.ending (answer_of_check o.chosen end.answer)
 
 -- how it ends on its files, or on why they weren't opened
 abbrev pub TogetherEnds : {D C W E : Type 0} → Closable D → SideBySide C → Result D FilesFault → Calling C → Streams W E → CheckEnding → Type 0

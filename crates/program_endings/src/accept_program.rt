@@ -1,22 +1,21 @@
 //! The program `check --accept` over a worksheet's files, from its files on.
 ghost use Rattle.std.specs.Prelude.{◌≡◌, Result};
 ghost use Rattle.check_report.specs.declared.verdict.Counts.{Counts};
-ghost use Rattle.offline_programs.specs.declared.fault.RunFault.{RunFault};
 ghost use Rattle.sheet_check.specs.Accept.{to_accept};
 ghost use Rattle.sheet_check.specs.Evaluated.{way};
 ghost use Rattle.sheet_files.specs.Closing.{closable};
 ghost use Rattle.offline_programs.specs.Saying.{saying};
-ghost use Rattle.program_endings.specs.Ending.{EndsAs};
 ghost use Rattle.program_endings.specs.AcceptProgram.{AcceptDone, AcceptEnds, accepts_all, answer_of_acceptance};
+ghost use Rattle.program_endings.specs.CheckProgram.{EndsChecked};
 ghost use Rattle.program_endings.specs.Records.{calling, given_disk, streams, writing};
 
-use crate::check_program::found_any;
+use crate::check_program::{end_in_words, found_any};
 use crate::telling::no_files;
 use crate::{Ending, end_program};
 use arrivals::Sources;
 use check_report::{Chosen, Counts, Request};
-use offline_programs::{RunFault, Says};
-use sheet_check::{Checked, Progress, check_accepting};
+use offline_programs::Says;
+use sheet_check::{CheckFault, Checked, Progress, check_accepting};
 use sheet_files::{Close, FilesFault};
 use std::alloc::Global;
 use std::io::Write;
@@ -32,14 +31,14 @@ fn are_accepted(chosen: &Chosen, counts: Counts) -> bool
 /// Ends the program by what a check that accepts answered.
 fn end_acceptance<E: Says>(
     chosen: &Chosen,
-    answer: Result<Counts, RunFault>,
+    answer: Result<Counts, CheckFault>,
     errors: &mut E,
 ) -> Ending
-    ensures { EndsAs (saying E.contents E.tried errors.old errors.new) result (answer_of_acceptance chosen.now answer) }
+    ensures { EndsChecked (saying E.contents E.tried errors.old errors.new) result (answer_of_acceptance chosen.now answer) }
 {
     match answer {
-        Ok(counts) => end_program(Ok(are_accepted(chosen, counts)), errors),
-        Err(fault) => end_program(Err(fault), errors),
+        Ok(counts) => end_in_words(Ok(are_accepted(chosen, counts)), errors),
+        Err(fault) => end_in_words(Err(fault), errors),
     }
 }
 

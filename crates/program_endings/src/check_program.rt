@@ -1,32 +1,36 @@
 //! The program `check` over a worksheet's files, from its files on.
 ghost use Rattle.std.specs.Prelude.{◌≡◌, Err, Result};
 ghost use Rattle.check_report.specs.declared.verdict.Counts.{Counts};
-ghost use Rattle.offline_programs.specs.declared.fault.RunFault.{RunFault};
+ghost use Rattle.sheet_check.specs.declared.named.CheckFault.TheVariants as checks;
 ghost use Rattle.sheet_check.specs.Evaluated.{one_by_one, way};
 ghost use Rattle.sheet_files.specs.Closing.{closable};
 ghost use Rattle.offline_programs.specs.Saying.{saying};
 ghost use Rattle.program_endings.specs.Ending.{EndsAs};
-ghost use Rattle.program_endings.specs.CheckProgram.{CheckDone, CheckEnds, LastOfCheck, all_same, answer_of_check, finds_any, passes};
+ghost use Rattle.program_endings.specs.CheckProgram.{CheckDone, CheckEnds, EndsChecked, LastInJson, LastOfCheck, all_same, answer_of_check, finds_any, passes};
 ghost use Rattle.program_endings.specs.Faults as printed;
 ghost use Rattle.program_endings.specs.Records.{calling, given_disk, streams, writing};
 
+use crate::ending::ended;
+use crate::eval_program::end_without;
 use crate::live_program::end_told;
+use crate::messages::NotEvaluated;
 use crate::telling::no_files;
 use crate::{Ending, end_program};
 use arrivals::Sources;
 use check_report::{Chosen, Counts, Format, Request};
-use offline_programs::{RunFault, Says};
-use sheet_check::{Checked, Progress, check};
+use evaluation::EvalFault;
+use offline_programs::Says;
+use sheet_check::{CheckFault, Checked, Progress, check};
 use sheet_files::{Close, FilesFault};
 use std::alloc::Global;
 use std::io::Write;
-use tellings::InJson;
+use tellings::{Frame, InJson};
 
 /// How a check of one worksheet ended.
 #[derive(Clone, Copy, Debug, PartialEq, Eq)]
 pub struct CheckEnding {
     /// How many evaluations came to what, or the fault that the check met.
-    pub answer: Result<Counts, RunFault>,
+    pub answer: Result<Counts, CheckFault>,
     /// How the program ends that checks this worksheet alone.
     pub ending: Ending,
 }
@@ -55,21 +59,63 @@ fn is_passed(chosen: &Chosen, counts: Counts) -> bool
     are_same(counts) && found_any(chosen, counts)
 }
 
+/// Ends the program where no field has a number that is named.
+fn end_missing<E: Says>(id: u32, errors: &mut E) -> Ending
+    ensures { EndsChecked (saying E.contents E.tried errors.old errors.new) result (Err (checks.NoField id)) }
+{
+    let why = EvalFault::NoField(id);
+    ended(1, errors.say(&NotEvaluated { why }))
+}
+
+/// Ends the program by what it answered: a fault is a line.
+pub(crate) fn end_in_words<E: Says>(answer: Result<bool, CheckFault>, errors: &mut E) -> Ending
+    ensures { EndsChecked (saying E.contents E.tried errors.old errors.new) result answer }
+{
+    match answer {
+        Ok(passed) => end_program(Ok(passed), errors),
+        Err(CheckFault::Run(why)) => end_program(Err(why), errors),
+        Err(CheckFault::NoField(id)) => end_missing(id, errors),
+    }
+}
+
+/// The same, where a fault is printed on the output, too.
+fn end_in_json<W: Write, E: Says>(
+    alloc: Global,
+    answer: Result<bool, CheckFault>,
+    output: &mut W,
+    errors: &mut E,
+) -> Ending
+    ensures last { LastInJson (writing W.contents output.old output.new) result.told answer }
+    ensures ends { EndsChecked (saying E.contents E.tried errors.old errors.new) result answer }
+{
+    match answer {
+        Ok(passed) => end_program(Ok(passed), errors),
+        Err(CheckFault::Run(why)) => end_told(Err(why), &InJson { alloc }, output, errors),
+        Err(CheckFault::NoField(id)) => end_without(
+            EvalFault::NoField(id),
+            Frame::NoField(id),
+            &InJson { alloc },
+            output,
+            errors,
+        ),
+    }
+}
+
 /// Ends the program by what it answered: a fault is printed on both streams where the report is JSON.
 fn end_report<W: Write, E: Says>(
     alloc: Global,
     format: Format,
-    answer: Result<bool, RunFault>,
+    answer: Result<bool, CheckFault>,
     output: &mut W,
     errors: &mut E,
 ) -> Ending
     ensures last { LastOfCheck format (writing W.contents output.old output.new) result.told answer }
-    ensures ends { EndsAs (saying E.contents E.tried errors.old errors.new) result answer }
+    ensures ends { EndsChecked (saying E.contents E.tried errors.old errors.new) result answer }
 {
     match format {
-        Format::Json => end_told(answer, &InJson { alloc }, output, errors),
+        Format::Json => end_in_json(alloc, answer, output, errors),
         Format::Text | Format::Whole | Format::Tap | Format::Junit | Format::Accepting => {
-            end_program(answer, errors)
+            end_in_words(answer, errors)
         }
     }
 }
@@ -78,13 +124,13 @@ fn end_report<W: Write, E: Says>(
 pub(crate) fn end_check<W: Write, E: Says>(
     alloc: Global,
     request: &Request,
-    answer: Result<Counts, RunFault>,
+    answer: Result<Counts, CheckFault>,
     output: &mut W,
     errors: &mut E,
 ) -> Ending
     ensures last { LastOfCheck request.now.format (writing W.contents output.old output.new) result.told
         (answer_of_check request.now.chosen answer) }
-    ensures ends { EndsAs (saying E.contents E.tried errors.old errors.new) result
+    ensures ends { EndsChecked (saying E.contents E.tried errors.old errors.new) result
         (answer_of_check request.now.chosen answer) }
 {
     match answer {
@@ -104,12 +150,12 @@ pub(crate) fn end_unopened<W: Write, E: Says>(
     output: &mut W,
     errors: &mut E,
 ) -> CheckEnding
-    ensures answer { result.answer ≡ Err (printed.no_files why) }
+    ensures answer { result.answer ≡ Err (checks.Run (printed.no_files why)) }
     ensures last { LastOfCheck format (writing W.contents output.old output.new) result.ending.told
-        (Err (printed.no_files why)) }
+        (Err (checks.Run (printed.no_files why))) }
     ensures ends { EndsAs (saying E.contents E.tried errors.old errors.new) result.ending (Err (printed.no_files why)) }
 {
-    let fault = no_files(why);
+    let fault = CheckFault::Run(no_files(why));
     let ending = end_report(alloc, format, Err(fault), output, errors);
     CheckEnding {
         answer: Err(fault),

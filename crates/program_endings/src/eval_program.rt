@@ -133,7 +133,7 @@ fn end_evaluated<E: Says>(end: EvalEnd, errors: &mut E) -> Ending
 
 /// Ends the program where a field or a program isn't there, which goes to both streams where its voice has it: as
 /// what stands last on one, and as its line on the other.
-fn end_without<W: Write, E: Says, T: Tells>(
+pub(crate) fn end_without<W: Write, E: Says, T: Tells>(
     why: EvalFault,
     last: Frame,
     tells: &T,

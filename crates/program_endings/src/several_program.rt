@@ -3,6 +3,7 @@ ghost use Rattle.std.specs.Prelude.{◌≡◌, ◌++◌, ◌∷◌, ◌+◌, ◌
 ghost use Rattle.std.specs.Io.KnownBytes.{Appends};
 ghost use Rattle.offline_programs.specs.declared.fault.RunFault.TheVariants as fault;
 ghost use Rattle.offline_programs.specs.Saying.{saying};
+ghost use Rattle.sheet_check.specs.declared.named.CheckFault.TheVariants as checks;
 ghost use Rattle.program_endings.specs.Ending.{EndsAs};
 ghost use Rattle.program_endings.specs.Records.{streams, writing};
 ghost use Rattle.program_endings.specs.SeveralProgram.{IsBounded, TotalEnds, ending_of, faults_part, summed_part, total_of, total_text, worksheet_line};
@@ -16,6 +17,7 @@ use crate::ending::ended;
 use crate::{Ending, end_program};
 use check_report::{Counts, bring_out};
 use offline_programs::{RunFault, Says};
+use sheet_check::CheckFault;
 use sheet_text::{WriteFault, write_line};
 use std::io::Write;
 
@@ -126,22 +128,30 @@ impl Total {
     }
 }
 
+/// Whether this is that the output failed.
+fn failed_output(why: RunFault) -> bool
+    ensures { result ≡ several.failed_output why }
+{
+    match why {
+        RunFault::Output => true,
+        RunFault::Input
+        | RunFault::InputTooLong
+        | RunFault::OutOfMemory
+        | RunFault::Host(_)
+        | RunFault::Open(_)
+        | RunFault::SecondFile
+        | RunFault::InUse => false,
+    }
+}
+
 /// Whether the output failed, so that nothing more can be written.
 pub fn is_unwritten(end: CheckEnding) -> bool
     ensures { result ≡ several.is_unwritten end.answer }
 {
     match end.answer {
-        Err(RunFault::Output) => true,
-        Ok(_)
-        | Err(
-            RunFault::Input
-            | RunFault::InputTooLong
-            | RunFault::OutOfMemory
-            | RunFault::Host(_)
-            | RunFault::Open(_)
-            | RunFault::SecondFile
-            | RunFault::InUse,
-        ) => false,
+        Ok(_) => false,
+        Err(CheckFault::NoField(_)) => false,
+        Err(CheckFault::Run(why)) => failed_output(why),
     }
 }
 
@@ -159,12 +169,12 @@ pub fn tell_worksheet<W: Write>(path: &str, output: &mut W) -> Result<(), WriteF
 
 /// Ends the check of a worksheet above whose report no line could be written: nothing of it was done.
 pub fn end_unwritten<E: Says>(errors: &mut E) -> CheckEnding
-    ensures answer { result.answer ≡ Err fault.Output }
+    ensures answer { result.answer ≡ Err (checks.Run fault.Output) }
     ensures ends { EndsAs (saying E.contents E.tried errors.old errors.new) result.ending (Err fault.Output) }
 {
     let ending = end_program(Err(RunFault::Output), errors);
     CheckEnding {
-        answer: Err(RunFault::Output),
+        answer: Err(CheckFault::Run(RunFault::Output)),
         ending,
     }
 }

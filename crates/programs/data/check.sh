@@ -250,12 +250,32 @@ rm -f sent lives
 reports 'one session, of which what differs is left out' 0 'TAP version 13\nok 1 - field 1 of a\nok 2 - field 2 of a # SKIP left out\n1..2\n' --format tap --only a --leave-out 2
 sent 'one session, of which what differs is left out' 'start a\nsend a # SKIP\nsend a taps'
 reports 'a session that is not there' 1 'same 0 differ 0 unanswered 0\n' --only c
-reports 'fields that are left out' 0 'same 2 differ 0 unanswered 0 left out 2\n' --leave-out 2-3,7,4294967295
+reports 'fields that are left out' 0 'same 2 differ 0 unanswered 0 left out 2\n' --leave-out 2-3
 reports 'all fields left out' 0 'same 0 differ 0 unanswered 0 left out 4\n' --leave-out 1,2,3-4
 reports 'one that is compared' 1 '#3 b\nb] hangs\n- hangs\n+ ?\nsame 1 differ 0 unanswered 1 left out 2\n' --compare 3-4
 reports 'one that is compared, and left out' 0 'same 1 differ 0 unanswered 0 left out 3\n' --compare 3-4 --leave-out 3
-reports 'none that is compared' 0 'TAP version 13\nok 1 - field 1 of a # SKIP left out\nok 2 - field 2 of a # SKIP left out\n1..2\n' --format tap --only a --compare 7
+reports 'none that is compared' 0 'TAP version 13\nok 1 - field 1 of a # SKIP left out\nok 2 - field 2 of a # SKIP left out\n1..2\n' --format tap --only a --compare 3-4
 reports 'one that is not left out' 1 '#3 b\nb] hangs\n- hangs\n+ ?\nsame 2 differ 0 unanswered 1 left out 1\n' --leave-out 2,2
+
+# A number that no field has: nothing is evaluated, and nothing written. Of a range its first and its last are looked for.
+rm -f sent lives
+reports 'a number that no field has' 1 'fault 37 NoField 7\n' --leave-out 2-3,7,4294967295
+reports 'a range that ends after the fields' 1 'fault 37 NoField 5\n' --leave-out 1,4-5
+reports 'a range that begins before them' 1 'fault 37 NoField 0\n' --leave-out 0-4
+reports 'a range of none' 1 'fault 37 NoField 8\n' --compare 1,8-9
+reports 'one to compare that no field has' 1 'fault 37 NoField 9\n' --compare 9 --format junit
+reports 'one to leave out, and one to compare' 1 'fault 37 NoField 6\n' --compare 5 --leave-out 6 --jobs 1
+reports 'an object of a number that no field has' 1 '{"id":7,"name":"NoField","number":37,"type":"fault"}\nfault 37 NoField 7\n' --json --leave-out 7
+reports 'one of accepted ones that no field has' 1 'fault 37 NoField 7\n' --accept --compare 7
+reports 'a number that no field has, side by side' 1 'fault 37 NoField 7\n' --jobs 2 --leave-out 7
+compare 'numbers that no field has' "$(cat sent 2>/dev/null)" ''
+reports 'a field of another session' 0 'same 1 differ 0 unanswered 0 left out 1\n' --only a --leave-out 2-3
+"$tmhost" run sheet <<'END_OF_SCRIPT' >/dev/null
+remove 2
+END_OF_SCRIPT
+rm -f sent lives
+reports 'a range around a field that is gone' 0 'same 1 differ 0 unanswered 0 left out 2\n' --leave-out 1-3
+reports 'one that is gone' 1 'fault 37 NoField 2\n' --leave-out 2-3
 
 # Words that ask for no check.
 rm -f sent

@@ -6,4 +6,5 @@ pub mod Broken
 pub mod Showing
 pub mod Accepted
 pub mod Kept
+pub mod Lacking
 pub mod Compared

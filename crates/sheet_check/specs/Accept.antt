@@ -22,6 +22,9 @@ use Rattle.check_report.specs.declared.verdict.Verdict.TheVariants as verdict
 use Rattle.check_report.specs.Reports.{Case, report_front}
 use Rattle.sheet_check.specs.Check.{FirstLed, FirstTooLong, FirstUnwatched, OnlyRead, Passage, SheetChecked, SheetLed, SheetStopped}
 use Rattle.sheet_check.specs.Evaluated.{OneByOne, Way, one_by_one}
+use Rattle.sheet_check.specs.Named.{ByNames, missing_named}
+use Rattle.sheet_check.specs.declared.named.CheckFault.{CheckFault}
+use Rattle.sheet_check.specs.declared.named.CheckFault.TheVariants as checks
 
 -- how fields are checked one after another, and reported with what is accepted
 abbrev pub to_accept : {C : Type 0} → Way C → Chosen → OneByOne C
@@ -97,10 +100,11 @@ abbrev pub SheetAccepts : {C : Type 0} → OneByOne C → Contents → Passage C
 SheetAccepts o sheet q nothing x (Ok counts) = (checked : SheetChecked o sheet q counts) × FiledAll x checked.cases
 SheetAccepts o sheet q nothing x (Err why) = ((why ≡ fault.OutOfMemory) × nothing × FiledAll x []) ⊎ AcceptLeft o sheet q x why
 
--- What is answered: that the disk wasn't opened, where nothing was done and no byte of it was changed, or what becomes of the worksheet
--- on it.
-pub data AcceptAnswer {C : Type 0} (o : OneByOne C) (disk back : DiskView) (q : Passage C) (nothing : Type 0) (answer : Result Counts RunFault) : Type 0 where
-  unopened : (why : OpenCause) → answer ≡ Err (fault.Open why) → nothing → InModel disk (TellsOfSheet (bytes_on disk) why) → OnlyRead disk back
+-- What is answered: that the disk wasn't opened, where nothing was done and no byte of it was changed; that the worksheet on it lacks a field that
+-- is named, where nothing was done and the disk is as it was found; or what becomes of that worksheet.
+pub data AcceptAnswer {C : Type 0} (o : OneByOne C) (disk back : DiskView) (q : Passage C) (nothing : Type 0) (answer : Result Counts CheckFault) : Type 0 where
+  unopened : (why : OpenCause) → answer ≡ Err (checks.Run (fault.Open why)) → nothing → InModel disk (TellsOfSheet (bytes_on disk) why) → OnlyRead disk back
       → AcceptAnswer o disk back q nothing answer
-  opened : (sheet : Contents) (ops : List Op) (now : DiskView) → FoundOn disk sheet ops now → SheetAccepts o sheet q nothing (filing ops now back) answer
+  opened : (sheet : Contents) (ops : List Op) (now : DiskView) → FoundOn disk sheet ops now
+      → ByNames (missing_named o.chosen sheet.fields) (nothing × (back ≡ now)) (SheetAccepts o sheet q nothing (filing ops now back)) answer
       → AcceptAnswer o disk back q nothing answer

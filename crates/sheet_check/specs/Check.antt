@@ -32,6 +32,9 @@ use Rattle.check_report.specs.Reports.{Case, report_front, report_text, verdicts
 use Rattle.check_report.specs.Verdicts.{counts_of}
 use Rattle.evaluation.specs.Within.{WaitInPart, WaitTooLong, WaitUnwatched, WaitUpTo, WaitedWithin}
 use Rattle.sheet_check.specs.Evaluated.{FieldsChecked, OneByOne, Way, eval_of, limited}
+use Rattle.sheet_check.specs.Named.{ByNames, missing_named}
+use Rattle.sheet_check.specs.declared.named.CheckFault.{CheckFault}
+use Rattle.sheet_check.specs.declared.named.CheckFault.TheVariants as checks
 
 -- From the first of these sources to the last a check ran, and from the first text to the last it wrote.
 pub record Passage (C : Type 0) : Type 0 where
@@ -175,10 +178,12 @@ abbrev pub SheetAnswer : {C : Type 0} → OneByOne C → Contents → Passage C 
 SheetAnswer o sheet q nothing (Ok counts) = SheetChecked o sheet q counts
 SheetAnswer o sheet q nothing (Err why) = TellsCheck o sheet q nothing why
 
--- What a check answers: that the disk wasn't opened, where nothing was done, or what becomes of a check of the worksheet on it.
-pub data CheckAnswer {C : Type 0} (o : OneByOne C) (disk : DiskView) (q : Passage C) (nothing : Type 0) (answer : Result Counts RunFault) : Type 0 where
-  unopened : (why : OpenCause) → answer ≡ Err (fault.Open why) → nothing → InModel disk (TellsOfSheet (bytes_on disk) why) → CheckAnswer o disk q nothing answer
-  opened : (sheet : Contents) → InModel disk (IsSheetImage sheet (bytes_on disk)) → SheetAnswer o sheet q nothing answer → CheckAnswer o disk q nothing answer
+-- What a check answers: that the disk wasn't opened, where nothing was done; that the worksheet on it lacks a field that is named, where nothing was
+-- done either; or what becomes of a check of that worksheet.
+pub data CheckAnswer {C : Type 0} (o : OneByOne C) (disk : DiskView) (q : Passage C) (nothing : Type 0) (answer : Result Counts CheckFault) : Type 0 where
+  unopened : (why : OpenCause) → answer ≡ Err (checks.Run (fault.Open why)) → nothing → InModel disk (TellsOfSheet (bytes_on disk) why) → CheckAnswer o disk q nothing answer
+  opened : (sheet : Contents) → InModel disk (IsSheetImage sheet (bytes_on disk)) → ByNames (missing_named o.chosen sheet.fields) nothing (SheetAnswer o sheet q nothing) answer
+      → CheckAnswer o disk q nothing answer
 
 -- The disk afterwards: reads alone were made on it, or syncs, which change no byte of it and leave no image that is new.
 pub record OnlyRead (old new : DiskView) : Type 0 where

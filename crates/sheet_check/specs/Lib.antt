@@ -1,3 +1,4 @@
+pub mod Named
 pub mod Evaluated
 pub mod Check
 pub mod Together

@@ -16,6 +16,9 @@ use Rattle.check_report.specs.Reports.{is_written}
 use Rattle.sheet_check.specs.declared.progress.Sight.{Sight}
 use Rattle.sheet_check.specs.declared.progress.Sight.TheVariants as sight
 use Rattle.check_report.specs.Verdicts.{counted_with, counts_of}
+use Rattle.sheet_check.specs.Named.{ByNames, missing_named}
+use Rattle.sheet_check.specs.declared.named.CheckFault.{CheckFault}
+use Rattle.sheet_check.specs.declared.named.CheckFault.TheVariants as checks
 
 -- how many of these fields show an answer, and are of a session that is checked
 abbrev pub answered : Chosen → List Field → ℕ
@@ -58,7 +61,9 @@ abbrev pub SheetShows : {P : Type 0} → Display P → ℕ → P → P → Resul
 SheetShows {P = P} m all p q (Ok counts) = (last : P) × FieldsShow m all p counts last × m.shows last sight.Nothing q
 SheetShows {P = P} m all p q (Err why) = (last : P) × FieldsLeft m all p last × m.shows last sight.Nothing q
 
--- What a check shows: nothing where the disk wasn't opened, else the fields of the worksheet on it that are checked.
-pub data CheckShows {P : Type 0} (m : Display P) (chosen : Chosen) (disk : DiskView) (p q : P) (answer : Result Counts RunFault) : Type 0 where
-  unopened : (why : OpenCause) → answer ≡ Err (fault.Open why) → q ≡ p → CheckShows m chosen disk p q answer
-  opened : (sheet : Contents) → InModel disk (IsSheetImage sheet (bytes_on disk)) → SheetShows m (answered chosen sheet.fields) p q answer → CheckShows m chosen disk p q answer
+-- What a check shows: nothing where the disk wasn't opened, or the worksheet on it lacks a field that is named, else the fields of it that are
+-- checked.
+pub data CheckShows {P : Type 0} (m : Display P) (chosen : Chosen) (disk : DiskView) (p q : P) (answer : Result Counts CheckFault) : Type 0 where
+  unopened : (why : OpenCause) → answer ≡ Err (checks.Run (fault.Open why)) → q ≡ p → CheckShows m chosen disk p q answer
+  opened : (sheet : Contents) → InModel disk (IsSheetImage sheet (bytes_on disk))
+      → ByNames (missing_named chosen sheet.fields) (q ≡ p) (SheetShows m (answered chosen sheet.fields) p q) answer → CheckShows m chosen disk p q answer

@@ -35,6 +35,9 @@ use Rattle.evaluation.specs.Steps.{Setting}
 use Rattle.evaluation.specs.Silently.{EvaluatedSilently, SilentlyBroke, silent_setting}
 use Rattle.sheet_check.specs.Check.{IsCopy, Passage, SheetAnswer}
 use Rattle.sheet_check.specs.Evaluated.{Way, came_if, fault_on_copy, one_by_one, reason_shown_in, shown_in}
+use Rattle.sheet_check.specs.Named.{ByNames, missing_named}
+use Rattle.sheet_check.specs.declared.named.CheckFault.{CheckFault}
+use Rattle.sheet_check.specs.declared.named.CheckFault.TheVariants as checks
 
 -- How fields are checked side by side: how they are evaluated, in how many sessions they wait at a time, which they are, and how they are
 -- reported.
@@ -183,7 +186,9 @@ abbrev pub TellsBySessions : {C : Type 0} → SideBySide C → Contents → Pass
 TellsBySessions o sheet q nothing answer =
     MatchBool (have_several o.chosen sheet.fields) (TogetherTells o sheet q nothing answer) (SheetAnswer (one_by_one o.way o.chosen o.format) sheet q nothing answer)
 
--- What the check answers: that the disk wasn't opened, where nothing was done, or what becomes of a check of the worksheet on it.
-pub data TogetherAnswer {C : Type 0} (o : SideBySide C) (disk : DiskView) (q : Passage C) (nothing : Type 0) (answer : Result Counts RunFault) : Type 0 where
-  unopened : (why : OpenCause) → answer ≡ Err (fault.Open why) → nothing → InModel disk (TellsOfSheet (bytes_on disk) why) → TogetherAnswer o disk q nothing answer
-  opened : (sheet : Contents) → InModel disk (IsSheetImage sheet (bytes_on disk)) → TellsBySessions o sheet q nothing answer → TogetherAnswer o disk q nothing answer
+-- What the check answers: that the disk wasn't opened, where nothing was done; that the worksheet on it lacks a field that is named, where nothing was
+-- done either; or what becomes of a check of that worksheet.
+pub data TogetherAnswer {C : Type 0} (o : SideBySide C) (disk : DiskView) (q : Passage C) (nothing : Type 0) (answer : Result Counts CheckFault) : Type 0 where
+  unopened : (why : OpenCause) → answer ≡ Err (checks.Run (fault.Open why)) → nothing → InModel disk (TellsOfSheet (bytes_on disk) why) → TogetherAnswer o disk q nothing answer
+  opened : (sheet : Contents) → InModel disk (IsSheetImage sheet (bytes_on disk)) → ByNames (missing_named o.chosen sheet.fields) nothing (TellsBySessions o sheet q nothing) answer
+      → TogetherAnswer o disk q nothing answer

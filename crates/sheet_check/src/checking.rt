@@ -14,6 +14,7 @@ ghost use Rattle.check_report.specs.Reports.{closing_text, opening_text};
 ghost use Rattle.check_report.specs.Verdicts.{total};
 ghost use Rattle.sheet_check.specs.Evaluated.{one_by_one, way};
 ghost use Rattle.sheet_check.specs.Check.{CheckAnswer, OnlyRead, SheetAnswer, passage};
+ghost use Rattle.sheet_check.specs.declared.named.CheckFault.TheVariants as named;
 ghost use Rattle.sheet_check.specs.Progress.{CheckShows, FieldsLeft, FieldsShow, LeavesLine, MakesRoom, SheetShows, answered, display};
 ghost use Rattle.sheet_check.specs.declared.progress.Sight.TheVariants as sight;
 ghost use Rattle.sheet_check.specs.inside.Checking.{FieldFailed, FieldShown, FieldWrote, FieldsEnded, FieldsFailed, FieldsStopped, FieldsWrote, OnCopy, ShownWrote, question};
@@ -21,6 +22,7 @@ ghost use Rattle.live.specs.Records.{left};
 
 use crate::copying::open_copy;
 use crate::evaluating::evaluate;
+use crate::named::{CheckFault, check_named};
 use crate::progress::{Progress, Sight};
 use crate::telling::tell_what_came;
 use arrivals::Sources;
@@ -292,7 +294,7 @@ pub struct Checked<D: Disk> {
     /// The disk, on which reads alone were made.
     pub disk: D,
     /// How many evaluations came to what, or why the check ended early.
-    pub answer: Result<Counts, RunFault>,
+    pub answer: Result<Counts, CheckFault>,
 }
 
 /// Checks the worksheet on a disk: evaluates each field that shows an answer again, in their order, on a
@@ -311,10 +313,11 @@ pub struct Checked<D: Disk> {
 /// At the end and at a fault each life that goes on is stopped. The disk is only read, and the
 /// worksheet there stays as it is.
 ///
-/// `Open` where the disk isn't opened: nothing was done. `OutOfMemory`, also where the copy has no
-/// room in memory, `Host` where the host of the copy has another fault, and with a limit `Input` where the
-/// sources can't be watched, and `InputTooLong` after 2^64 - 1 steps of one field: what was reported before
-/// is written. `Output` where the writer fails: a part of the text may have gone out.
+/// `Open` where the disk isn't opened, `NoField` where the worksheet lacks a field whose number is left out or
+/// compared: nothing was done. `OutOfMemory`, also where the copy has no room in memory, `Host` where the host of
+/// the copy has another fault, and with a limit `Input` where the sources can't be watched, and `InputTooLong` after
+/// 2^64 - 1 steps of one field: what was reported before is written. `Output` where the writer fails: a part of the
+/// text may have gone out.
 pub fn check<D: Disk, C: Sources, W: Write, P: Progress>(
     alloc: Global,
     request: &Request,
@@ -333,16 +336,16 @@ pub fn check<D: Disk, C: Sources, W: Write, P: Progress>(
         progress.old progress.new result.answer }
 
     // That the disk failed is reported only where it did.
-    ensures failed { result.answer ≡ Err (told.Open opens.Disk)
+    ensures failed { result.answer ≡ Err (named.Run (told.Open opens.Disk))
         → Rises (D.view disk).faults (D.view result.disk).faults }
 
     // Where anything else is answered, no call of the disk failed.
-    ensures steady { (result.answer ≡ Err (told.Open opens.Disk) → ⊥)
+    ensures steady { (result.answer ≡ Err (named.Run (told.Open opens.Disk)) → ⊥)
         → (D.view result.disk).faults ≡ (D.view disk).faults }
 {
     match Store::open(alloc, disk) {
         Ok(store) => {
-            let answer = check_sheet(alloc, request, store.sheet(), sources, progress, writer);
+            let answer = check_named(alloc, request, store.sheet(), sources, progress, writer);
             Checked {
                 disk: store.into_disk(),
                 answer,
@@ -350,7 +353,7 @@ pub fn check<D: Disk, C: Sources, W: Write, P: Progress>(
         }
         Err(OpenFault { cause, disk }) => Checked {
             disk,
-            answer: Err(RunFault::Open(cause)),
+            answer: Err(CheckFault::Run(RunFault::Open(cause))),
         },
     }
 }

@@ -17,6 +17,7 @@ ghost use Rattle.check_report.specs.declared.report.Format.TheVariants as format
 ghost use Rattle.sheet_check.specs.Accept.{AcceptAnswer, AcceptLeft, SheetAccepts, accepted, filing, to_accept};
 ghost use Rattle.sheet_check.specs.Evaluated.{way};
 ghost use Rattle.sheet_check.specs.Check.{IsCopy, passage};
+ghost use Rattle.sheet_check.specs.declared.named.CheckFault.TheVariants as named;
 ghost use Rattle.sheet_check.specs.Progress.{CheckShows, FieldsLeft, FieldsShow, LeavesLine, MakesRoom, SheetShows, answered, display};
 ghost use Rattle.sheet_check.specs.declared.progress.Sight.TheVariants as sight;
 ghost use Rattle.sheet_check.specs.inside.Accepting.{FieldBroke, FieldsBroke, FieldsTook, GoesOn, OnCopy, PutAll, ShownTook, storing};
@@ -27,6 +28,7 @@ use crate::accepting::{find_on_copy, take};
 use crate::checking::{Checked, count_answered, show_counts, tell_closing};
 use crate::copying::open_copy;
 use crate::evaluating::evaluate;
+use crate::named::{CheckFault, accept_named};
 use crate::progress::{Progress, Sight};
 use arrivals::Sources;
 use check_report::{Counts, Format, Request, Verdict};
@@ -287,7 +289,7 @@ fn accepted_on_copies<S: Disk, C: Sources, W: Write, P: Progress>(
 }
 
 /// Checks the worksheet of a store, accepts the answers that differ, and tells the counts.
-fn accept_sheet<S: Disk, C: Sources, W: Write, P: Progress>(
+pub(crate) fn accept_sheet<S: Disk, C: Sources, W: Write, P: Progress>(
     alloc: Global,
     request: &Request,
     sources: &mut C,
@@ -328,7 +330,8 @@ fn accept_sheet<S: Disk, C: Sources, W: Write, P: Progress>(
 /// in time, and where a field is left out, nothing is put anywhere. The worksheet is then the one from before with
 /// those answers, in their order, and no other change.
 ///
-/// `Open` where the disk isn't opened: nothing was done. `Host(JournalFull)` where an answer doesn't fit
+/// `Open` where the disk isn't opened, `NoField` where the worksheet lacks a field whose number is left out or
+/// compared: nothing was done. `Host(JournalFull)` where an answer doesn't fit
 /// on the disk, or on that of the copy; `Host(Disk)` where the disk failed: one answer more than was reported
 /// may be on it. `Output` where the writer fails: the same. `OutOfMemory`, and `Host` of another fault
 /// of the copy's host: what was reported is on the disk, and no more.
@@ -350,16 +353,16 @@ pub fn check_accepting<D: Disk, C: Sources, W: Write, P: Progress>(
         progress.old progress.new result.answer }
 
     // That the disk can't be read is reported only where it failed.
-    ensures failed { result.answer ≡ Err (told.Open opens.Disk)
+    ensures failed { result.answer ≡ Err (named.Run (told.Open opens.Disk))
         → Rises (D.view disk).faults (D.view result.disk).faults }
 
     // Lack of memory at the opening is reported only where no call of the disk failed.
-    ensures memory { result.answer ≡ Err (told.Open opens.OutOfMemory)
+    ensures memory { result.answer ≡ Err (named.Run (told.Open opens.OutOfMemory))
         → (D.view result.disk).faults ≡ (D.view disk).faults }
 {
     match Store::open(alloc, disk) {
         Ok(mut store) => {
-            let answer = accept_sheet(alloc, request, sources, &mut store, progress, writer);
+            let answer = accept_named(alloc, request, sources, &mut store, progress, writer);
             Checked {
                 disk: store.into_disk(),
                 answer,
@@ -367,7 +370,7 @@ pub fn check_accepting<D: Disk, C: Sources, W: Write, P: Progress>(
         }
         Err(OpenFault { cause, disk }) => Checked {
             disk,
-            answer: Err(RunFault::Open(cause)),
+            answer: Err(CheckFault::Run(RunFault::Open(cause))),
         },
     }
 }

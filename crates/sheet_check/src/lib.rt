@@ -9,6 +9,7 @@ mod comparing;
 mod copying;
 mod differing;
 mod evaluating;
+mod named;
 mod progress;
 mod putting;
 mod sessions;
@@ -17,5 +18,6 @@ mod together;
 
 pub use checking::{Checked, check};
 pub use differing::check_accepting;
+pub use named::CheckFault;
 pub use progress::{NoProgress, Progress, ProgressLine, Sight};
 pub use together::check_together;

@@ -11,6 +11,7 @@ ghost use Rattle.journal.specs.declared.opening.OpenCause.TheVariants as opens;
 ghost use Rattle.live.specs.Records.{left};
 ghost use Rattle.sheet_check.specs.Evaluated.{way};
 ghost use Rattle.sheet_check.specs.Check.{IsCopy, OnlyRead, passage};
+ghost use Rattle.sheet_check.specs.declared.named.CheckFault.TheVariants as named;
 ghost use Rattle.sheet_check.specs.Progress.{CheckShows, FieldsLeft, FieldsShow, SheetShows, answered, display};
 ghost use Rattle.sheet_check.specs.Together.{TellsBySessions, TellsTogether, TogetherAnswer, TogetherTells, checking_plan as plan_of_check, cleared, side_by_side};
 ghost use Rattle.sheet_check.specs.inside.Comparing.{BrokeTogether, CameTogether, EndedTogether, FailedTogether, OnCleared, ReportedTogether};
@@ -19,6 +20,7 @@ use crate::checking::{Checked, check_sheet, count_answered, tell_closing};
 use crate::clearing::{checked_ids, open_cleared};
 use crate::comparing::compare_fields;
 use crate::evaluating::wait_fault;
+use crate::named::{CheckFault, check_named_together};
 use crate::progress::{Progress, Sight};
 use crate::sessions::has_several;
 use arrivals::Sources;
@@ -221,7 +223,7 @@ fn check_sheet_together<C: Sources, W: Write, P: Progress>(
 
 /// Checks a worksheet on a copy of it, and tells the counts: side by side where the fields that are checked are of
 /// several sessions, and else one after another.
-fn check_by_sessions<C: Sources, W: Write, P: Progress>(
+pub(crate) fn check_by_sessions<C: Sources, W: Write, P: Progress>(
     alloc: Global,
     request: &Request,
     jobs: u32,
@@ -259,7 +261,8 @@ fn check_by_sessions<C: Sources, W: Write, P: Progress>(
 /// At the end and at a fault each life that goes on is stopped. The disk is only read, and the worksheet there
 /// stays as it is.
 ///
-/// `Open` where the disk isn't opened: nothing was done. `OutOfMemory` where there is no memory for the copy,
+/// `Open` where the disk isn't opened, `NoField` where the worksheet lacks a field whose number is left out or
+/// compared: nothing was done. `OutOfMemory` where there is no memory for the copy,
 /// `OutOfMemory`, `Host`, `Input` and `InputTooLong` where the evaluation has such a fault: nothing was
 /// written. `OutOfMemory` where there is no memory for a line: what was reported before is written. `Output`
 /// where the writer fails: a part of the text may have gone out.
@@ -282,16 +285,16 @@ pub fn check_together<D: Disk, C: Sources, W: Write, P: Progress>(
         progress.old progress.new result.answer }
 
     // That the disk failed is reported only where it did.
-    ensures failed { result.answer ≡ Err (told.Open opens.Disk)
+    ensures failed { result.answer ≡ Err (named.Run (told.Open opens.Disk))
         → Rises (D.view disk).faults (D.view result.disk).faults }
 
     // Where anything else is answered, no call of the disk failed.
-    ensures steady { (result.answer ≡ Err (told.Open opens.Disk) → ⊥)
+    ensures steady { (result.answer ≡ Err (named.Run (told.Open opens.Disk)) → ⊥)
         → (D.view result.disk).faults ≡ (D.view disk).faults }
 {
     match Store::open(alloc, disk) {
         Ok(store) => {
-            let answer = check_by_sessions(
+            let answer = check_named_together(
                 alloc,
                 request,
                 jobs,
@@ -307,7 +310,7 @@ pub fn check_together<D: Disk, C: Sources, W: Write, P: Progress>(
         }
         Err(OpenFault { cause, disk }) => Checked {
             disk,
-            answer: Err(RunFault::Open(cause)),
+            answer: Err(CheckFault::Run(RunFault::Open(cause))),
         },
     }
 }

@@ -1,0 +1,120 @@
+-- What a check answers by the fields that are named; a worksheet that was opened isn't reported as one that wasn't.
+use Rattle.std.proofs.Common.{◌≡◌, ◌∙◌, ℕ, Bool, true, false, List, Option, ap, refl, sym, subst}
+use Rattle.std.specs.Prelude.{Result, Ok, Err}
+use Rattle.std.specs.Bool.{MatchBool}
+use Rattle.disk_model.specs.Disk.{DiskView}
+use Rattle.worksheet.specs.Contents.{Contents}
+use Rattle.worksheet.specs.declared.op.Op.{Op}
+use Rattle.journal.specs.declared.opening.OpenCause.{OpenCause}
+use Rattle.host_events.specs.declared.outcome.HostFault.{HostFault}
+use Rattle.host_events.specs.declared.outcome.HostFault.TheVariants as hosts
+use Rattle.session_engine.specs.Host.{HostView}
+use Rattle.child_edge.specs.Faithful.{At}
+use Rattle.offline_programs.specs.declared.fault.RunFault.{RunFault}
+use Rattle.offline_programs.specs.declared.fault.RunFault.TheVariants as fault
+use Rattle.check_report.specs.declared.chosen.Chosen.{Chosen}
+use Rattle.check_report.specs.declared.verdict.Counts.{Counts}
+use Rattle.evaluation.specs.Steps.{Setting}
+use Rattle.evaluation.specs.Silently.{SilentlyBroke}
+use Rattle.evaluation.specs.Silently as silently
+use Rattle.sheet_check.specs.Accept.{SheetAccepts, filing, to_accept}
+use Rattle.sheet_check.specs.Check.{Passage, SheetAnswer, TellsCheck, passage}
+use Rattle.sheet_check.specs.Check as ends
+use Rattle.sheet_check.specs.Evaluated.{OneByOne, Way, fault_on_copy, one_by_one}
+use Rattle.sheet_check.specs.Named.{ByNames, all_named, answer_as, no_field}
+use Rattle.sheet_check.specs.Together.{SideBySide, TellsBySessions, TellsTogether, TogetherTells, have_several}
+use Rattle.sheet_check.specs.Together as together
+use Rattle.sheet_check.specs.declared.named.CheckFault.{CheckFault}
+use Rattle.sheet_check.specs.declared.named.CheckFault.TheVariants as checks
+use Rattle.sheet_check.proofs.Kept.{was_opened}
+
+-- A field that isn't there is no fault of a run.
+
+abbrev is_missing_field : Result Counts CheckFault → Bool
+is_missing_field (Ok counts) = false
+is_missing_field (Err (checks.NoField id)) = true
+is_missing_field (Err (checks.Run why)) = false
+
+no_run : (answer : Result Counts CheckFault) (id : ℕ) (why : RunFault) → answer ≡ Err (checks.NoField id) → answer ≡ Err (checks.Run why) → ⊥
+no_run answer id why e f = let no : true ≡ false = sym (ap is_missing_field e) ∙ ap is_missing_field f in cc
+
+abbrev run_in : RunFault → Result Counts CheckFault → RunFault
+run_in other (Ok counts) = other
+run_in other (Err (checks.NoField id)) = other
+run_in other (Err (checks.Run why)) = why
+
+abbrev is_count : Result Counts CheckFault → Bool
+is_count (Ok counts) = true
+is_count (Err why) = false
+
+-- what came of a check that answers a fault of a run
+pub run_of : (counted : Result Counts RunFault) (why : RunFault) → answer_as counted ≡ Err (checks.Run why) → counted ≡ Err why
+run_of (Ok counts) why e = absurd (let no : true ≡ false = ap is_count e in cc)
+run_of (Err x) why e = ap (λ (y : RunFault). Err y) (ap (run_in x) e)
+
+came_of : (missing : Option ℕ) (nothing : Type 0) (Came : Result Counts RunFault → Type 0) (answer : Result Counts CheckFault) (why : RunFault)
+    → ((counted : Result Counts RunFault) → counted ≡ Err why → Came counted → ⊥) → ByNames missing nothing Came answer → answer ≡ Err (checks.Run why) → ⊥
+came_of missing nothing Came answer why never (no_field id is e done) f = no_run answer id why e f
+came_of missing nothing Came answer why never (all_named counted is e came) f = never counted (run_of counted why (sym e ∙ f)) came
+
+pub done_so : (missing : Option ℕ) (nothing done : Type 0) (Came Else : Result Counts RunFault → Type 0) (answer : Result Counts CheckFault)
+    → (nothing → done) → ((counted : Result Counts RunFault) → Came counted → Else counted) → ByNames missing nothing Came answer → ByNames missing done Else answer
+done_so missing nothing done Came Else answer none came (no_field id is e p) = no_field id is e (none p)
+done_so missing nothing done Came Else answer none came (all_named counted is e p) = all_named counted is e (came counted p)
+
+-- One after another.
+
+told_unopened : {C : Type 0} (o : OneByOne C) (sheet : Contents) (q : Passage C) (nothing : Type 0) (x : OpenCause) (why : RunFault) → why ≡ fault.Open x → TellsCheck o sheet q nothing why → ⊥
+told_unopened o sheet q nothing x why e (ends.not_begun is done) = let no : fault.OutOfMemory ≡ fault.Open x = sym is ∙ e in cc
+told_unopened o sheet q nothing x why e (ends.stopped cases f is led wrote) = let no : fault.Host f ≡ fault.Open x = sym is ∙ e in cc
+told_unopened o sheet q nothing x why e (ends.unremembered cases is led wrote) = let no : fault.OutOfMemory ≡ fault.Open x = sym is ∙ e in cc
+told_unopened o sheet q nothing x why e (ends.unwatched cases is led wrote) = let no : fault.Input ≡ fault.Open x = sym is ∙ e in cc
+told_unopened o sheet q nothing x why e (ends.too_long cases is led wrote) = let no : fault.InputTooLong ≡ fault.Open x = sym is ∙ e in cc
+told_unopened o sheet q nothing x why e (ends.unwritten cases is led) = let no : fault.Output ≡ fault.Open x = sym is ∙ e in cc
+
+sheet_unopened : {C : Type 0} (o : OneByOne C) (sheet : Contents) (q : Passage C) (nothing : Type 0) (x : OpenCause) → SheetAnswer o sheet q nothing (Err (fault.Open x)) → ⊥
+sheet_unopened o sheet q nothing x told = told_unopened o sheet q nothing x (fault.Open x) refl told
+
+pub check_unopened : {C : Type 0} (o : OneByOne C) (sheet : Contents) (q : Passage C) (missing : Option ℕ) (nothing : Type 0) (answer : Result Counts CheckFault) (x : OpenCause)
+    → ByNames missing nothing (SheetAnswer o sheet q nothing) answer → answer ≡ Err (checks.Run (fault.Open x)) → ⊥
+check_unopened o sheet q missing nothing answer x told e =
+    came_of missing nothing (SheetAnswer o sheet q nothing) answer (fault.Open x) (λ counted is came. sheet_unopened o sheet q nothing x (subst (SheetAnswer o sheet q nothing) is came)) told e
+
+-- Side by side.
+
+host_unopened : (x : OpenCause) (f : HostFault) → fault_on_copy (fault.Host f) ≡ fault.Open x → ⊥
+host_unopened x hosts.Disk e = let no : fault.OutOfMemory ≡ fault.Open x = e in cc
+host_unopened x hosts.OutOfMemory e = let no : fault.Host hosts.OutOfMemory ≡ fault.Open x = e in cc
+host_unopened x hosts.JournalFull e = let no : fault.Host hosts.JournalFull ≡ fault.Open x = e in cc
+host_unopened x hosts.Closed e = let no : fault.Host hosts.Closed ≡ fault.Open x = e in cc
+
+broke_unopened : {C : Type 0} (o : Setting C) (s t : At C) (h : HostView) (x : OpenCause) (cause : RunFault) → fault_on_copy cause ≡ fault.Open x → SilentlyBroke o s t h cause → ⊥
+broke_unopened o s t h x cause e (silently.of_host f event beats text is cut stopped) = host_unopened x f (sym (ap fault_on_copy is) ∙ e)
+broke_unopened o s t h x cause e (silently.no_memory is taken stands) = let no : fault.OutOfMemory ≡ fault.Open x = sym (ap fault_on_copy is) ∙ e in cc
+broke_unopened o s t h x cause e (silently.unwatched beats text is led stands same) = let no : fault.Input ≡ fault.Open x = sym (ap fault_on_copy is) ∙ e in cc
+broke_unopened o s t h x cause e (silently.too_long beats text is led stands same) = let no : fault.InputTooLong ≡ fault.Open x = sym (ap fault_on_copy is) ∙ e in cc
+
+together_unopened : {C : Type 0} (o : SideBySide C) (sheet : Contents) (q : Passage C) (nothing : Type 0) (x : OpenCause) (why : RunFault) → why ≡ fault.Open x → TellsTogether o sheet q nothing why → ⊥
+together_unopened o sheet q nothing x why e (together.not_begun is done) = let no : fault.OutOfMemory ≡ fault.Open x = sym is ∙ e in cc
+together_unopened o sheet q nothing x why e (together.broke p wrote) = broke_unopened _ _ p.leads p.host x p.cause (sym p.is ∙ e) p.broke
+together_unopened o sheet q nothing x why e (together.no_memory cases is led wrote) = let no : fault.OutOfMemory ≡ fault.Open x = sym is ∙ e in cc
+together_unopened o sheet q nothing x why e (together.unwritten cases is led) = let no : fault.Output ≡ fault.Open x = sym is ∙ e in cc
+
+sessions_unopened : {C : Type 0} (o : SideBySide C) (sheet : Contents) (q : Passage C) (nothing : Type 0) (x : OpenCause) (several : Bool)
+    → MatchBool several (TogetherTells o sheet q nothing (Err (fault.Open x))) (SheetAnswer (one_by_one o.way o.chosen o.format) sheet q nothing (Err (fault.Open x))) → ⊥
+sessions_unopened o sheet q nothing x true told = together_unopened o sheet q nothing x (fault.Open x) refl told
+sessions_unopened o sheet q nothing x false told = sheet_unopened (one_by_one o.way o.chosen o.format) sheet q nothing x told
+
+pub together_check_unopened : {C : Type 0} (o : SideBySide C) (sheet : Contents) (q : Passage C) (missing : Option ℕ) (nothing : Type 0) (answer : Result Counts CheckFault) (x : OpenCause)
+    → ByNames missing nothing (TellsBySessions o sheet q nothing) answer → answer ≡ Err (checks.Run (fault.Open x)) → ⊥
+together_check_unopened o sheet q missing nothing answer x told e =
+    came_of missing nothing (TellsBySessions o sheet q nothing) answer (fault.Open x)
+    (λ counted is came. sessions_unopened o sheet q nothing x (have_several o.chosen sheet.fields) (subst (TellsBySessions o sheet q nothing) is came)) told e
+
+-- Where answers are accepted.
+
+pub accept_unopened : {C : Type 0} (o : Way C) (chosen : Chosen) (sheet : Contents) (c d : C) (a b : Option (List ℕ)) (ops : List Op) (now back : DiskView) (missing : Option ℕ) (nothing done : Type 0) (answer : Result Counts CheckFault) (x : OpenCause)
+    → ByNames missing done (SheetAccepts (to_accept o chosen) sheet (passage c d a b) nothing (filing ops now back)) answer → answer ≡ Err (checks.Run (fault.Open x)) → ⊥
+accept_unopened o chosen sheet c d a b ops now back missing nothing done answer x told e =
+    came_of missing done (SheetAccepts (to_accept o chosen) sheet (passage c d a b) nothing (filing ops now back)) answer (fault.Open x)
+    (λ counted is came. was_opened o chosen sheet c d a b ops now back x nothing (subst (SheetAccepts (to_accept o chosen) sheet (passage c d a b) nothing (filing ops now back)) is came)) told e
