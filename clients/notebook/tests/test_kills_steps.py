@@ -18,7 +18,8 @@ KILLS = int(os.environ.get("TMHOST_KILLS", "20"))
 WORDS = [f"word{number}." for number in range(12)]
 MOST_CELLS = 24
 
-# What is cut is pasted then, or both are taken back; and a cell is removed only where another one has its word. So no word is to go. Who is told that nothing is done any more does nothing.
+# What is cut is pasted then, or both are taken back; and a cell is removed only where another one has its word. So no word is to go.
+# Who is told that nothing is done any more does nothing.
 WORK = """
 (() => {
   let count = %d;
