@@ -93,8 +93,6 @@ def prepared_home() -> str:
                 file.write(FONTS)
             texmacs = RealTeXmacs(folder, 0, document, home)
             try:
-                texmacs.does("1")
-                texmacs.does(f'(begin (load-buffer (system->url "{document}")) "loaded")')  # its first start shows a greeting, before or after it
                 texmacs.shows(document)
                 texmacs.ends()
             finally:

@@ -4,9 +4,10 @@ import shutil
 import subprocess
 import sys
 import time
+from typing import List
 
 from .lines import BUSY, COMPLETED, LINES, PROGRAMS
-from .real import RealTeXmacs, lacking
+from .real import WITHIN, RealTeXmacs, lacking
 from .support import COMMAND, PROGRAM, ROOT, Case, Worksheet, fields_of
 
 EMPTY = "<TeXmacs|2.1.4>\n\n<style|generic>\n\n<\\body>\n  \\;\n</body>\n"
@@ -62,6 +63,15 @@ class Real(Case):
                                 (l (list-filter (tree-children (tree-ref s 2)) field-context?)))
                            (tree-go-to (list-ref l {place}) 1 :end) "there")""")
         self.assertEqual(texmacs.session(), session)
+
+    def restores(self, texmacs: RealTeXmacs, session: str, ids: List[str]) -> None:
+        """Puts in what the document lacks, which comes after the answer that says so; it has these fields then."""
+        self.says(texmacs, session, "%tmhost restore")
+        until = time.monotonic() + WITHIN
+        while list(texmacs.fields()) != ids and time.monotonic() < until:
+            time.sleep(0.5)
+        texmacs.waits(session)
+        self.assertEqual(list(texmacs.fields()), ids)
 
     def keeps_document(self, texmacs: RealTeXmacs) -> None:
         texmacs.does(f'(begin (buffer-save (system->url "{self.document}")) "saved")')
@@ -190,9 +200,8 @@ class Documents(Real):
             texmacs.does("(with-innermost t field-context? (tree-remove! (tree-ref t :up) (tree-index t) 1) \"removed\")")
         self.assertEqual(list(texmacs.fields()), ["4", "6"])
         self.enters(texmacs, session)
-        self.says(texmacs, session, "%tmhost restore")
+        self.restores(texmacs, session, ["1", "2", "3", "4", "5", "6"])
         texmacs.shoots("put-in")
-        self.assertEqual(list(texmacs.fields()), ["1", "2", "3", "4", "5", "6"])
         self.assertEqual(texmacs.answers(), shown)
         self.enters(texmacs, session)
         self.says(texmacs, session, "%tmhost check")

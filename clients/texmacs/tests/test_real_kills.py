@@ -114,18 +114,15 @@ class RealKills(Real):
             self.goes_on()
         self.real.end()
         self.holds()
-        self.restores()
+        self.gets_all_again()
         print(f"{self.id().split('.')[-1]}: {KILLS} kills in turn, {len(self.shown)} answers shown, all there", file=sys.stderr)
 
-    def restores(self) -> None:
+    def gets_all_again(self) -> None:
         """The document, which was saved with its first line alone, gets all others."""
         kept = [str(field.id) for field in self.fields()]
         self.real = self.texmacs_of()
         self.enters(self.real, self.session)
-        self.says(self.real, self.session, "%tmhost restore")
-        time.sleep(2)
-        self.real.waits(self.session)
+        self.restores(self.real, self.session, kept)
         self.real.shoots("restored")
-        self.assertEqual(list(self.real.fields()), kept)
         again = self.answers()
         self.assertEqual({id: again[id] for id in self.shown}, self.shown)
