@@ -173,6 +173,12 @@ class Chosen(Case):
         self.assertEqual(ran.status, 1)
         self.assertIn("no case is one of those that are to be run", ran.errors)
 
+    def test_a_text_without_a_case_is_no_success(self) -> None:
+        self.write(case("say x", info="other"))
+        ran = self.run_suite(self.path)
+        self.assertEqual(ran.status, 1, ran)
+        self.assertIn("there is no case: no fence is of a session that the front matter names", ran.errors)
+
     def test_shards_are_all(self) -> None:
         others = []
         for number in range(5):

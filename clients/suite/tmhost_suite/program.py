@@ -184,6 +184,8 @@ class Runner:
         path = worksheets.sheet_path(suite.path, self.given.runs)
         if self.is_broken_off.is_set():
             return []
+        if text is not None and not suite.cases:
+            raise Trouble("there is no case: no fence is of a session that the front matter names")
         chosen = chooser(self.given, suite.path)
         self.chosen += sum(chosen(at, case) for at, case in enumerate(suite.cases))
         found = worksheets.resume(path, suite) if self.given.resume else None
