@@ -99,7 +99,7 @@ fn ids_of_host<D: Disk>(alloc: Global, plan: &Plan, host: &Host<D>) -> Result<Ve
     }
 }
 
-/// Evaluates fields of the worksheet of a host, as [`evaluate`](crate::evaluate) does: one after another, or
+/// Evaluates fields of the worksheet of a host, in the order and by the rules of `eval`: one after another, or
 /// with more jobs those of several sessions side by side, within the plan's limit of time. Nothing is reported.
 /// It hands out the numbers of the fields whose time was over, in the order in which that came; what such a
 /// field shows came too late. A number that is asked for and that no field has is passed over. The lives that

@@ -26,8 +26,8 @@ pub record Watches (C : Type 0) : Type 1 where
 abbrev pub watches : {C : Type 0} → Clock C → Watch C → Watches C
 watches clock wakes = record { clock = clock; wakes = wakes }
 
--- What stays the same in a run: the voice of what is written, what the children do at a call, how the sources are watched, how many
--- seconds a wait that names none may take, where there is a limit, and whether the input stops after the first line that goes wrong.
+-- What stays the same in a run: the voice of what is written, what the children do at a call, and how the sources are watched. A wait that names
+-- no seconds has no limit here, and no line stops the input: `edge` is the only one that is made.
 pub record Edge (C : Type 0) : Type 1 where
   pub voice : Voice
   pub after : Relation C

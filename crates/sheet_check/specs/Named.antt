@@ -19,7 +19,7 @@ lacks_end fields ids = is_missing fields ids.first || is_missing fields ids.last
 abbrev pub missing_end : List Field → Ids → ℕ
 missing_end fields ids = if is_missing fields ids.first then ids.first else ids.last
 
--- the first number of these that no field has
+-- The first of these ends that no field has. Whether each number between two ends has a field isn't asked.
 abbrev pub missing_of : List Field → List Ids → Option ℕ
 missing_of fields ids = option_map (missing_end fields) (find (lacks_end fields) ids)
 

@@ -80,7 +80,7 @@ pub data Invocations (room : ℕ) : Image → List HostTurn → Image → Type 0
       → CrashedSince v.now.history back.history mid → Invocations room mid turns after
       → Invocations room before (record { events = turn.events; told = [] } ∷ turns) after
   -- A crash came at or after a moment of the disk from which on each image has what these outcomes say, and they were reported no earlier (A6).
-  -- Which moment that is no contract of a program says.
+  -- Of what is driven a law says which moment that is (crate `driver_visits`); of other scripts no contract does.
   cut_since : {before mid after : Image} {turn : HostTurn} {turns : List HostTurn} (disk back : DiskView) → disk.room ≡ room → (v : Visit before disk turn back)
       → (told : List Outcome) (at : History) → LeavesOnly (HasTold (world_at_opening v.ops disk.room v.end) turn.events told) at back.history
       → CrashedSince at back.history mid → Invocations room mid turns after
