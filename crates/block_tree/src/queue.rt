@@ -37,13 +37,6 @@ impl<T> Queue<T> {
         Queue { values }
     }
 
-    /// The `VecDeque`, with the buffer that holds the values.
-    pub fn into_deque(self) -> VecDeque<T>
-        ensures { result.items ≡ self }
-    {
-        self.values
-    }
-
     /// How many values wait.
     pub fn len(&self) -> usize
         ensures { result ≡ length self.now }

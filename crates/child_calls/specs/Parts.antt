@@ -36,10 +36,6 @@ gives_of (Some got.Fault) = fault
 abbrev pub gives : List Got → Answer
 gives gs = gives_of (slice_get gs 0)
 
--- one receive of a list of them, for which there may be no memory
-abbrev pub Receives : List Got → Answer → List Got → Type 0
-Receives gs a hs = ((a ≡ gives gs) × (hs ≡ drop 1 gs)) ⊎ ((a ≡ no_memory) × (hs ≡ gs))
-
 abbrev pub after_send : Part → Part
 after_send p = record p { sends = drop 1 p.sends }
 

@@ -33,5 +33,5 @@ pub use replies::{
     nothing_value, refused_value, waited_value,
 };
 pub use sheets::{session_value, sheet_value, whole_value};
-pub use told::{closed_value, reply_value};
+pub use told::closed_value;
 pub use whole::sheet_bytes;

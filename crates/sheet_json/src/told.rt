@@ -1,31 +1,15 @@
-//! A host's replies as JSON.
-ghost use Rattle.std.specs.Prelude.{◌≡◌, IfOk, option_map, option_and_then};
+//! What closed, as JSON.
+ghost use Rattle.std.specs.Prelude.{◌≡◌, IfOk, option_map};
 ghost use Rattle.std.specs.Option.{option_copied};
 ghost use Rattle.serde_json.specs.View.{view};
-ghost use Rattle.sheet_json.specs.Objects.{event_data, reply_data};
+ghost use Rattle.sheet_json.specs.Objects.{event_data};
 ghost use Rattle.sheet_json.specs.Replies as replies;
 
 use crate::events::{answered_value, banner_value, completed_value};
-use crate::replies::{asked_value, done_value, made_value, refused_value};
-use host_events::{Closed, Reply};
+use host_events::Closed;
 use serde_json::Value;
 use std::alloc::{AllocError, Global};
 use worksheet::{Answer, Field, Sheet};
-
-/// What a command gives, where it is a reply to its line.
-pub fn reply_value(alloc: Global, line: u64, reply: &Reply) -> Result<Option<Value>, AllocError>
-    ensures { IfOk result (λ value. option_map view value
-        ≡ option_map (reply_data line) (replies.reply_of reply.now)) }
-{
-    match reply {
-        Reply::Done => Ok(Some(done_value(alloc, line)?)),
-        Reply::Field(id) => Ok(Some(made_value(alloc, line, *id)?)),
-        Reply::Asked(life) => Ok(Some(asked_value(alloc, line, *life)?)),
-        Reply::Refused(why) => Ok(Some(refused_value(alloc, line, *why)?)),
-        Reply::Child(_) => Ok(None),
-        Reply::Nothing => Ok(None),
-    }
-}
 
 /// The answer that a field shows.
 fn answer_value(

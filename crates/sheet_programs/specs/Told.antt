@@ -1,5 +1,5 @@
 -- What a line gave that is taken and written, and what a fault of it leaves: what was returned is on the disk.
-use Rattle.std.specs.Prelude.{◌≡◌, ◌⊎◌, ℕ, List, Option}
+use Rattle.std.specs.Prelude.{◌≡◌, ◌⊎◌, List, Option}
 use Rattle.std.specs.Io.KnownBytes.{Appends}
 use Rattle.disk_model.specs.Disk.{DiskView}
 use Rattle.host_events.specs.declared.event.Event.{Event}
@@ -12,18 +12,14 @@ use Rattle.child_edge.specs.Faithful.{Relation, At, at, Beat}
 use Rattle.child_edge.specs.Edge.{Stopped}
 use Rattle.child_edge.specs.Moments.{LeavesFronts, LeavesFrontsUpTo}
 use Rattle.sheet_text.specs.declared.script.ScriptLine.{ScriptLine}
-use Rattle.sheet_programs.specs.Records.{Brought, Left}
-use Rattle.sheet_programs.specs.Lines.{LineDone, LineUpTo, LineSoFar, LineLed, beats_text}
+use Rattle.sheet_programs.specs.Records.{Left}
+use Rattle.sheet_programs.specs.Lines.{LineUpTo, LineSoFar, LineLed, beats_text}
 use Rattle.offline_programs.specs.declared.fault.RunFault.{RunFault}
 use Rattle.offline_programs.specs.declared.fault.RunFault.TheVariants as fault
 
 abbrev pub fault_of_cause : EdgeCause → RunFault
 fault_of_cause (cause.Host f) = fault.Host f
 fault_of_cause cause.OutOfMemory = fault.OutOfMemory
-
--- The line was done, and what it gave is written.
-abbrev pub LineWrote : {C : Type 0} → Relation C → ℕ → Option ScriptLine → At C → Left C → Type 0
-LineWrote R number l s left = (it : Brought) × (t : World) × LineDone R number l s it (at t left.sources left.host.store.disk) × IsHost left.host t × Appends left.out left.now it.text
 
 -- the host goes on in this world and on this disk, or it has stopped after them
 abbrev pub StandsOrStopped : HostView → World → DiskView → Type 0

@@ -8,4 +8,4 @@ mod taking;
 mod together;
 
 pub use running::{Ran, run, run_read};
-pub use taking::{any_wrong, is_wrong, run_command, run_fault, run_line};
+pub use taking::{any_wrong, is_wrong, run_fault, run_line};

@@ -1,5 +1,5 @@
 //! The lines of a script over a worksheet on a disk and its interpreters.
-ghost use Rattle.std.specs.Prelude.{◌≡◌, ◌||◌, ℕ, IfErr, IfOk, OnOk, Some, true};
+ghost use Rattle.std.specs.Prelude.{◌≡◌, ◌||◌, ℕ, IfErr, IfOk, Some, true};
 ghost use Rattle.std.specs.List.{list_any};
 ghost use Rattle.disk_model.specs.Disk.{SameDisk};
 ghost use Rattle.session_engine.specs.World.{World};
@@ -10,7 +10,7 @@ ghost use Rattle.sheet_text.specs.declared.script.ScriptLine.TheVariants as said
 ghost use Rattle.sheet_programs.specs.Records.{left};
 ghost use Rattle.sheet_programs.specs.Strict as strictly;
 ghost use Rattle.sheet_programs.specs.Strict.{LineTook};
-ghost use Rattle.sheet_programs.specs.Told.{LineFailed, LineWrote, fault_of_cause};
+ghost use Rattle.sheet_programs.specs.Told.{LineFailed, fault_of_cause};
 
 use bstr::ByteSlice;
 use child_calls::Children;
@@ -70,7 +70,7 @@ fn goes_wrong(already: bool, replies: &[Reply]) -> bool
 }
 
 /// Takes a command and all that comes of it, and writes and flushes the replies. Whether it went wrong.
-pub(crate) fn take_command<D: Disk, C: Children, W: Write>(
+fn take_command<D: Disk, C: Children, W: Write>(
     alloc: Global,
     host: &mut Host<D>,
     children: &mut C,
@@ -94,31 +94,6 @@ pub(crate) fn take_command<D: Disk, C: Children, W: Write>(
             Ok(()) => Err(run_fault(cause)),
             Err(fault) => Err(fault),
         },
-    }
-}
-
-/// Takes a command and all that comes of it, and writes and flushes the replies: each is of an event that
-/// every image of the disk has from then on.
-///
-/// `Host` and `OutOfMemory`: what was returned before is written. `Output`: a part may have gone out.
-pub fn run_command<D: Disk, C: Children, W: Write>(
-    alloc: Global,
-    host: &mut Host<D>,
-    children: &mut C,
-    command: Command,
-    writer: &mut W,
-) -> Result<(), RunFault>
-    ensures same { SameDisk host.old.store.disk host.new.store.disk }
-    ensures ok { (number : ℕ) (w : World) → IsHost host.old w → OnOk result (LineWrote C.after number
-        (Some (said.Command command)) (at w children.old host.old.store.disk) (left host.new children.new
-        (W.contents writer.old) (W.contents writer.new))) }
-    ensures err { (w : World) → IsHost host.old w → IfErr result (LineFailed C.after
-        (Some (said.Command command)) (at w children.old host.old.store.disk) (left host.new children.new
-        (W.contents writer.old) (W.contents writer.new))) }
-{
-    match take_command(alloc, host, children, command, writer) {
-        Ok(_) => Ok(()),
-        Err(fault) => Err(fault),
     }
 }
 
