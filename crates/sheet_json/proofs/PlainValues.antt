@@ -226,8 +226,8 @@ tellings_are_plain (told.counted answered unanswered) s = an_object (a_member (a
 tellings_are_plain (told.counted_in_time answered unanswered over passed) s =
     an_object (a_member (a_count s.0) (a_member (a_count s.2) (a_member (a_count s.3) (a_member a_text (a_member (a_count s.1) no_more)))))
 tellings_are_plain (told.checked id session c) s = checked_plain id session c s.0 s.1
-tellings_are_plain (told.compared same differ unanswered left_out) s =
-    an_object (a_member (a_count s.1) (a_member (a_count s.3) (a_member (a_count s.0) (a_member a_text (a_member (a_count s.2) no_more)))))
+tellings_are_plain (told.compared same differ unanswered left_out errors) s =
+    an_object (a_member (a_count s.1) (a_member (a_count s.4) (a_member (a_count s.3) (a_member (a_count s.0) (a_member a_text (a_member (a_count s.2) no_more))))))
 tellings_are_plain (told.no_field id) s = an_object (a_member (a_count s) (a_member a_text (a_member (a_count (omega arith)) a_type)))
 tellings_are_plain (told.no_program session) s = an_object (a_member a_text (a_member (a_count (omega arith)) (a_member (some_bytes session) a_type)))
 tellings_are_plain told.end s = an_object a_type

@@ -87,8 +87,9 @@ pub data Telling : Type 0 where
   counted_in_time : ℕ → ℕ → ℕ → ℕ → Telling
   -- a field with this number, of this session, that a check evaluated again
   checked : ℕ → List ℕ → CheckTold → Telling
-  -- at the end of a check, how many outputs were the same, how many differed, and how many fields were unanswered and left out
-  compared : ℕ → ℕ → ℕ → ℕ → Telling
+  -- at the end of a check, how many outputs were the same, how many differed, how many fields were unanswered and left out, and how many answers
+  -- came that have an error
+  compared : ℕ → ℕ → ℕ → ℕ → ℕ → Telling
   -- the fault that no field has this number
   no_field : ℕ → Telling
   -- the fault that the program of this session isn't there

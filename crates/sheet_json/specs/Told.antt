@@ -160,8 +160,8 @@ checked_in d = of (of (option_map (λ id session c. told.checked id session c) (
 -- the counts of a check
 abbrev pub compared_in : Data → Option Telling
 compared_in d =
-    of (of (of (option_map (λ same differ unanswered left_out. told.compared same differ unanswered left_out) (member_in count_in (codes "same") d)) (member_in count_in (codes "differ") d))
-    (member_in count_in (codes "unanswered") d)) (member_in count_in (codes "left_out") d)
+    of (of (of (of (option_map (λ same differ unanswered left_out errors. told.compared same differ unanswered left_out errors) (member_in count_in (codes "same") d)) (member_in count_in (codes "differ") d))
+    (member_in count_in (codes "unanswered") d)) (member_in count_in (codes "left_out") d)) (member_in count_in (codes "errors") d)
 
 -- the number that no field has
 abbrev pub no_field_in : Data → Option Telling
