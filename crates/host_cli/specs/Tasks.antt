@@ -387,7 +387,7 @@ module _ {Y D P S I W E Q : Type 0} (o : OutsideView D P S I W E) where
   abbrev pub DoesRestore : Outside Y D P S I W E Q → Outside Y D P S I W E Q → Ending → Text → Text → Text → Type 0
   DoesRestore old new ending path changes to = MatchOption (number_written changes) (RefusesChanges old new ending) (RestoresAfter old new ending path to)
 
-  -- What is done, by the task. What `live --partial` tells beside that is kept nowhere, and no part of this.
+  -- What is done, by the task. What `live --partial` writes beside that is kept nowhere, and no part of this.
   abbrev pub DoesTask : Outside Y D P S I W E Q → Outside Y D P S I W E Q → Ending → TaskView → Type 0
   DoesTask old new ending asked.blocks = DoesBlocks old new ending
   DoesTask old new ending asked.blocks_json = DoesBlocksInJson old new ending

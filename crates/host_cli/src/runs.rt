@@ -111,7 +111,7 @@ pub(crate) fn live_json_at<Y: System>(
     )
 }
 
-/// The same, and what interpreters write before it is an answer is told beside it.
+/// The same, and what interpreters write before it is an answer is written beside it.
 pub(crate) fn live_partial_at<Y: System>(
     alloc: Global,
     mut outside: Outside<Y>,

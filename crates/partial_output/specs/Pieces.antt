@@ -1,4 +1,4 @@
--- Which pieces of an interpreter's output are told before its block is complete. (docs/use/PROTOCOL.md.)
+-- Which pieces of an interpreter's output are written out before its block is complete. (docs/use/PROTOCOL.md.)
 use Rattle.std.specs.Prelude.{ℕ, ◌==◌, Bool, List}
 use Rattle.std.specs.List.{list_any}
 use Rattle.sheet_json.specs.Sheets.{telling_line}

@@ -1,4 +1,4 @@
-//! What interpreters write before it is an answer, told as it comes.
+//! What interpreters write before it is an answer, written out as it comes.
 #![tactic(auto)]
 
 mod piece;

@@ -10,18 +10,18 @@ use std::io::Write;
 use std::marker::Model;
 use worksheet::Name;
 
-/// Sources that can tell what their interpreters write before it is an answer.
+/// Sources that can write out what their interpreters write before it is an answer.
 pub trait TellsPartial: Sources {
-    /// From now on each piece is told that is received and ends no block. What is told is nobody's promise, so it changes nothing
-    /// of what the sources are.
+    /// From now on each piece is written out that is received and ends no block. That is nobody's promise, so it changes nothing of
+    /// what the sources are.
     fn tell_partial(&mut self)
         ensures { self.new ≡ self.old };
 }
 
 /// Sources, and the writer to which a piece goes that ends no block, as a line of JSON, where that was asked for.
 ///
-/// Each call is handed on as it is. A contract sees the sources alone: what is told beside is kept nowhere and is no answer. Where
-/// there is no memory for a line, or the writer fails, nothing more is told.
+/// Each call is handed on as it is. A contract sees the sources alone: what is written beside is kept nowhere and is no answer. Where
+/// there is no memory for a line, or the writer fails, nothing more is written.
 #[derive(Drop)]
 pub struct Partial<S: Sources + Drop, W: Write + Drop> {
     alloc: Global,
@@ -37,7 +37,7 @@ impl<S: Sources + Drop, W: Write + Drop> Model for Partial<S, W> {
 }
 
 impl<S: Sources + Drop, W: Write + Drop> Partial<S, W> {
-    /// These sources, and this writer. Nothing is told yet.
+    /// These sources, and this writer. Nothing is written yet.
     pub fn new(alloc: Global, sources: S, writer: W) -> Partial<S, W>
         ensures { result ≡ sources }
     {
@@ -49,7 +49,7 @@ impl<S: Sources + Drop, W: Write + Drop> Partial<S, W> {
         }
     }
 
-    /// Tells a piece, where that was asked for and it ends no block.
+    /// Writes a piece out, where that was asked for and it ends no block.
     fn tell(&mut self, seat: Seat, bytes: &[u8])
         ensures { self.new ≡ self.old }
     {
@@ -58,7 +58,7 @@ impl<S: Sources + Drop, W: Write + Drop> Partial<S, W> {
         }
     }
 
-    /// Tells what was received, where it is such a piece.
+    /// Writes out what was received, where it is such a piece.
     fn tell_received(&mut self, seat: Seat, received: &Result<Received, ReceiveFault>)
         ensures { self.new ≡ self.old }
     {
