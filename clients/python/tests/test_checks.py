@@ -65,8 +65,11 @@ class Checks(Case):
         self.assertEqual(list(check(self.path, only="b", program=PROGRAM)), [Compared(0, 0, 0, 0)])
 
     def test_errors(self) -> None:
+        script = os.path.join(self.folder, "wrong.sh")
+        with open(script, "w") as file:
+            file.write(WRONG)
         with self.open() as sheet:
-            sheet.session("a", ["sh", "-c", WRONG])
+            sheet.session("a", ["sh", script])
             sheet.new("a", "x").evaluate()
         self.assertEqual(list(check(self.path, program=PROGRAM)), [Checked(1, "a", "same"), Compared(1, 0, 0, 0, 1)])
 
