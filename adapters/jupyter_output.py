@@ -60,6 +60,7 @@ class Output:
     def __init__(self, is_text: bool) -> None:
         self.is_text = is_text
         self.next_input = ""
+        self.preview = blocks.Preview()
         self.clear()
 
     def clear(self) -> None:
@@ -101,6 +102,7 @@ class Output:
         """A message about what is put out."""
         display = str(content.get("transient", {}).get("display_id", ""))
         if kind == "stream":
+            self.preview.add(as_bytes(content["text"]))
             self.add(Part(content["text"], is_printed=True))
         elif kind in ("execute_result", "display_data"):
             self.add_value(content["data"], display)
