@@ -218,7 +218,7 @@ cells.place.addEventListener("mousedown", (event) => {
     return;
   }
   cells.choice.drop();
-  cells.select(view, event.target === view.box || event.target === view.head);
+  cells.select(view, event.target === view.box || event.target === view.parts.head);
 });
 
 cells.place.addEventListener("dblclick", (event) => {
@@ -263,6 +263,10 @@ cells.place.addEventListener("change", (event) => {
 });
 
 document.addEventListener("visibilitychange", () => document.hidden && saveAll());
+
+// What the browser prints and looks through is all there.
+addEventListener("beforeprint", () => cells.growAll());
+document.addEventListener("keydown", ({ key, ctrlKey, metaKey }) => (ctrlKey || metaKey) && key === "f" && cells.growAll(), true);
 
 addEventListener("beforeunload", (event) => {
   if ([...cells.views.values()].some((view) => view.isUnsaved)) event.preventDefault();

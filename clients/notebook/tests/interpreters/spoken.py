@@ -6,6 +6,7 @@
     file TAG PATH   answers what a file has, in a block with this tag
     raw B64         writes these bytes as they are
     bytes N         answers N letters
+    until PATH TEXT begins an answer with TEXT, and ends it when there is such a file
     sleep SECONDS   answers behind that time; SIGINT ends it, and it answers "interrupted"
     slowly SECONDS  the same, but SIGINT ends the interpreter
     set TEXT        keeps TEXT, which `get` answers
@@ -36,6 +37,14 @@ def send(data: bytes) -> None:
 
 def say(text: str) -> None:
     write(b"verbatim", text.encode())
+
+
+def begin(path: str, text: str) -> None:
+    """The answer is whole when a file is there."""
+    send(b"\x02verbatim:" + text.encode())
+    while not os.path.exists(path):
+        time.sleep(0.02)
+    send(b" and its end\x02prompt#%d> \x05\x05" % (count + 1))
 
 
 def rest(seconds: float) -> None:
@@ -69,6 +78,8 @@ def answer(word: str, text: str) -> None:
         send(base64.b64decode(text))
     elif word == "bytes":
         say("x" * int(text))
+    elif word == "until":
+        begin(*text.split(" ", 1))
     elif word in ("sleep", "slowly"):
         if word == "slowly":
             signal.signal(signal.SIGINT, signal.SIG_DFL)
