@@ -12,7 +12,8 @@
     set TEXT        keeps TEXT, which `get` answers
     exit            ends
 
-A request of completions at `ca` is answered by `cat`, `cave` and `call`; one at `be` by `beta` alone.
+A request of completions at `ca` is answered by `cat`, `cave` and `call`; one at `be` by `beta` alone, and one at `told_FILE` by what the file FILE in
+the folder TOLD has.
 """
 
 import base64
@@ -58,6 +59,10 @@ def rest(seconds: float) -> None:
 def complete(line: str) -> None:
     found = re.search(r'"((?:[^"\\]|\\.)*)" (\d+)', line)
     word = found[1].encode()[: int(found[2])].decode().split()[-1] if found else ""
+    if word.startswith("told_"):
+        with open(os.path.join(os.environ["TOLD"], word[len("told_") :]), "rb") as file:
+            send(file.read())
+        return
     words = [one for one in ("cat", "cave", "call", "beta") if word and one.startswith(word)]
     told = " ".join(f'"{one[len(word):]}"' for one in words)
     send(b"\x02scheme:" + f'(tuple "{word if words else ""}" {told})'.encode() + b"\x05")
