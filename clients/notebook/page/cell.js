@@ -15,7 +15,7 @@ import { AT_FIRST, conflictOf, emptyShape, fitRows, isOther, partsOf, show } fro
 
 /**
  * What a cell knows of its page.
- * @typedef {{isThere: boolean, sessions: Map<string, Session>, note: (text: string) => void, news: import("./news").News}} Page
+ * @typedef {{isThere: boolean, isLooking: boolean, sessions: Map<string, Session>, note: (text: string) => void, news: import("./news").News}} Page
  */
 
 const SAVED_BEHIND = 1_000; // milliseconds without a key
@@ -71,7 +71,7 @@ export class CellView {
 
   grow() {
     if (this.own) return;
-    this.own = partsOf(this.box, this.id);
+    this.own = partsOf(this.box, this.id, this.page.isLooking);
     this.own.text.value = this.unseen;
     this.said = AT_FIRST;
     this.draw();

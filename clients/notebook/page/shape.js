@@ -40,19 +40,20 @@ function shape() {
 
 /**
  * Puts its parts into a cell.
- * @type {(box: HTMLElement, id: number) => Parts}
+ * @type {(box: HTMLElement, id: number, isReadOnly: boolean) => Parts}
  */
-export function partsOf(box, id) {
+export function partsOf(box, id, isReadOnly) {
   box.append(...childrenOf(/** @type {HTMLElement} */ (SHAPE.cloneNode(true))));
   const [head, line, output] = childrenOf(box);
   const [number, session, textState, answerState, took] = childrenOf(head);
-  const [prompt, text] = childrenOf(line);
+  const prompt = childrenOf(line)[0], text = /** @type {HTMLTextAreaElement} */ (childrenOf(line)[1]);
+  text.readOnly = isReadOnly;
   number.textContent = `#${id}`;
   textState.id = `text-state-${id}`;
   answerState.id = `answer-state-${id}`;
   box.setAttribute("aria-describedby", `${textState.id} ${answerState.id}`);
   text.setAttribute("aria-label", `Input of cell ${id}`);
-  return { head, session, textState, answerState, took, line, prompt, text: /** @type {HTMLTextAreaElement} */ (text), output: new OutputView(id, output) };
+  return { head, session, textState, answerState, took, line, prompt, text, output: new OutputView(id, output) };
 }
 
 /** What is said of a text that was changed elsewhere. */

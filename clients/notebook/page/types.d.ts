@@ -83,6 +83,7 @@ export interface Message {
   sessions?: Session[];
   removed?: Removed[];
   ended?: string | null;
+  isLooking?: boolean; // another program has the worksheet: it is only shown
 }
 
 export interface Suggestion { name: string; words: string; tab: boolean }

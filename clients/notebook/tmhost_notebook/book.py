@@ -31,6 +31,7 @@ class Book:
     def __init__(self, path: str, program: Optional[str]) -> None:
         self.path, self.program = path, program
         self.is_of_folder = False  # whether its server has a list of worksheets, too
+        self.is_looking = False  # another program has it: see `looking.py`
         self.server = secrets.token_urlsafe(8)  # a page whose server was started again sees that by it
         self.lock, self.order = threading.Lock(), threading.Lock()
         self.heard = threading.Condition(self.lock)
@@ -49,13 +50,16 @@ class Book:
     def _open(self, create: bool) -> None:
         sheet = opened(self.path, self.program, create)
         with self.lock:
-            self.sheet = sheet
-            self.notes, self.places, self.feed, self.past = Notes(), Places(sheet.fields), Feed(), Past(self.path, self.program)
-            self.partials = Partials()
-            self.in_doubt: Set[int] = set()  # the cells that a call changes, until it is known that it did or didn't
-            self.ended = None
+            self._begin(sheet)
         self._read_drafts()
         sheet.listen(lambda event: self._heard(sheet, event))
+
+    def _begin(self, sheet: Worksheet) -> None:
+        self.sheet = sheet
+        self.notes, self.places, self.feed, self.past = Notes(), Places(sheet.fields), Feed(), Past(self.path, self.program)
+        self.partials = Partials()
+        self.in_doubt: Set[int] = set()  # the cells that a call changes, until it is known that it did or didn't
+        self.is_looking, self.ended = False, None
 
     def _read_drafts(self) -> None:
         """Takes the drafts that were kept. Where the cell has the text by now there is none any more."""

@@ -102,6 +102,7 @@ def others(book: "Book") -> Message:
         "sessions": [session_facts(ended(session) if book.ended else session, book.feed.count(session.name)) for session in sessions],
         "removed": removed,
         "ended": book.ended,
+        "isLooking": book.is_looking,
     }
 
 
@@ -151,7 +152,7 @@ def touch_partial(watchers: Iterable[Watcher], *ids: Optional[int]) -> None:
 
 def mark_of(book: "Book", id: int) -> List[bool]:
     session = book.places.answered_by(id)
-    return NO_MARK if session is None else [book.places.is_stale(id), book.ended is not None or book.notes.has_ended(id, session)]
+    return NO_MARK if session is None or book.is_looking else [book.places.is_stale(id), book.ended is not None or book.notes.has_ended(id, session)]
 
 
 def cell_facts(book: "Book", field: Field) -> Message:
