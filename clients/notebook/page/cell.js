@@ -7,7 +7,7 @@ import { Layer } from "./layer.js";
 import { languageOf } from "./languages.js";
 import { Reading } from "./reading.js";
 import { answerState, textState, took } from "./said.js";
-import { AT_FIRST, conflictOf, emptyShape, fitRows, isOther, partsOf, show } from "./shape.js";
+import { AT_FIRST, conflictOf, describe, emptyShape, fitRows, isOther, partsOf, show } from "./shape.js";
 
 /** @typedef {import("./types").Cell} Cell */
 /** @typedef {import("./types").Reply} Reply */
@@ -231,6 +231,7 @@ export class CellView {
     if (this.own && isOther(text, was.text)) show(this.own.textState, text);
     if (text[0] !== was.text[0]) this.box.dataset.text = text[0];
     if (this.own && isOther(answer, was.answer)) show(this.own.answerState, answer);
+    describe(this.box, [text[1], answer[1], this.cell.output?.isError ? "Error" : ""]);
     if (state !== was.state) this.box.dataset.state = state;
     this.conflict?.toggleAttribute("hidden", !this.isElsewhere);
     if (this.conflict && theirs !== was.theirs) this.conflict.querySelector("pre")?.replaceChildren(theirs);

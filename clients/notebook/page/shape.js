@@ -49,11 +49,17 @@ export function partsOf(box, id, isReadOnly) {
   const prompt = childrenOf(line)[0], text = /** @type {HTMLTextAreaElement} */ (childrenOf(line)[1]);
   text.readOnly = isReadOnly;
   number.textContent = `#${id}`;
-  textState.id = `text-state-${id}`;
-  answerState.id = `answer-state-${id}`;
-  box.setAttribute("aria-describedby", `${textState.id} ${answerState.id}`);
   text.setAttribute("aria-label", `Input of cell ${id}`);
   return { head, session, textState, answerState, took, line, prompt, text, output: new OutputView(id, output) };
+}
+
+/**
+ * Says how a cell is where its name is read out. It does so in words of its own: to a browser what isn't seen has none.
+ * @type {(box: HTMLElement, words: string[]) => void}
+ */
+export function describe(box, words) {
+  const told = words.filter(Boolean).join(", ");
+  if (box.getAttribute("aria-description") !== told) box.setAttribute("aria-description", told);
 }
 
 /** What is said of a text that was changed elsewhere. */
