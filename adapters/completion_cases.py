@@ -77,16 +77,45 @@ OCTAVE_LINE = "zz_top = 5; zz_alone = 1; zz_s.field = 1; function zz_made (), er
 OCTAVE: List[Case] = [
     ("zz_|", '"zz_" "alone" "made" "s" "top"'), ("zz_t|", '"zz_t" "op"'), ("zz_t|op", '"zz_t" "op"'), ("x = zz_t|", '"zz_t" "op"'), ("1 + zz_m|", '"zz_m" "ade"'), ("fclos|", '"fclos" "e"'), ("zeros (fclos|", '"fclos" "e"'), ("1;\u2028fclos|\u20282", '"fclos" "e"'),
     ("zz_s.f|", NONE), ("zz_s.|", NONE), ("zz_made.f|", NONE), ("zz_made ().f|", NONE), ("nothing_like_it|", NONE), ("|", NONE), (" |", NONE), ("(|", NONE), ("1|", NONE), ("1.|", NONE), ("1e|", NONE), ("é|", NONE), ('"\\"; fclos|', '"fclos" "e"'), ("'; fclos|", '"fclos" "e"'),
+    ("zz_al|", '"zz_al" "one"'), ("zz_alone|", '"zz_alone" ""'), ("zz_al|one", '"zz_al" "one"'), ("zz_al|pha", '"zz_al" "one"'), ("[zz_t|", '"zz_t" "op"'),
+    ("[1, zz_t|]", '"zz_t" "op"'), ("{zz_t|}", '"zz_t" "op"'), ("zz_top + zz_al|", '"zz_al" "one"'), ("zz_top' * zz_al|", '"zz_al" "one"'), ("if zz_t|", '"zz_t" "op"'),
+    ("y(zz_t|)", '"zz_t" "op"'), ("@() zz_t|", '"zz_t" "op"'), ("x.y = zz_t|", '"zz_t" "op"'), ("zz_t|\u20281", '"zz_t" "op"'), ("1\u2028zz_al|one\u20282", '"zz_al" "one"'),
+    ("'é'; zz_t|", '"zz_t" "op"'), ("printf ('%d', zz_t|", '"zz_t" "op"'), ("-zz_t|", '"zz_t" "op"'), ("!zz_t|", '"zz_t" "op"'), ("2*zz_t|", '"zz_t" "op"'), ("2zz_t|", NONE),
+    ("zz_top.zz|", NONE), ("zz_s(1).f|", NONE), ("zz_s.field.x|", NONE), ("zz_tx|", NONE), ("ZZ_|", NONE), ("fclos|e", '"fclos" "e"'), ("x = @fclos|", '"fclos" "e"'),
+    ("endfunctio|n", '"endfunctio" "n"'), ("persisten|t", '"persisten" "t"'), ("bitshif|", '"bitshif" "t"'), ("isspac|", '"isspac" "e"'), ("strtri|", '"strtri" "m"'),
+    ("cellfu|", '"cellfu" "n"'), ("num2st|", '"num2st" "r"'), (" fclos|", '"fclos" "e"'), ("\tfclos|", '"fclos" "e"'), ("fclos| ", '"fclos" "e"'),
+    ("a;fclos|;b", '"fclos" "e"'), ("zz_made(fclos|", '"fclos" "e"'), ("a = [1 2; zz_t|", '"zz_t" "op"'), ("\"é\"; zz_m|ade", '"zz_m" "ade"'), ("über|", NONE),
+    ("zz_made|", '"zz_made" ""'), ("zz_s|", '"zz_s" ""'), ("~zz_t|", '"zz_t" "op"'), ("x=1;zz_t|op=2", '"zz_t" "op"'),
 ]
-R_LINE = "zz.top <- 5; zz_alone <- 1; zz.list <- list(field = 1); zz_made <- function() stop('run'); makeActiveBinding('zz_active', function() quit(), globalenv()); 7"
+R_LINE = "zz.top <- 5; zz_alone <- 1; zz.list <- list(field = 1); zz_made <- function() stop('run'); makeActiveBinding('zz_active', function() quit(), globalenv()); assign('zz\"h', 1); assign('zz)h', 1); assign('zz\\\\h', 1); 7"
 R: List[Case] = [
     ("zz|", '"zz" ".list" ".top" "_active" "_alone" "_made"'), ("zz.|", '"zz." "list" "top"'), ("zz.t|", '"zz.t" "op"'), ("zz.t|op", '"zz.t" "op"'), ("x <- zz.t|", '"zz.t" "op"'), ("1:zz.t|", '"zz.t" "op"'), ("read.tab|", '"read.tab" "le"'), ("c(read.tab|", '"read.tab" "le"'), ("1\u2028read.tab|\u20282", '"read.tab" "le"'),
     ("zz.list$f|", NONE), ("zz_active$f|", NONE), ("x@zz|", NONE), ("stats::med|", NONE), ("stats:::med|", NONE), ("nothing_like_it|", NONE), ("|", NONE), (" |", NONE), ("(|", NONE), ("1|", NONE), ("1e|", NONE), ("é|", NONE), ('"\\"; read.tab|', '"read.tab" "le"'), ("'; read.tab|", '"read.tab" "le"'),
+    ("zz_al|", '"zz_al" "one"'), ("zz_alone|", '"zz_alone" ""'), ("zz_al|one", '"zz_al" "one"'), ("zz_al|pha", '"zz_al" "one"'), ("c(zz_al|", '"zz_al" "one"'),
+    ("c(1, zz_al|)", '"zz_al" "one"'), ("list(a = zz_al|)", '"zz_al" "one"'), ("zz.top + zz_al|", '"zz_al" "one"'), ("if (zz_al|", '"zz_al" "one"'),
+    ("function(x) zz_al|", '"zz_al" "one"'), ("x[zz_al|]", '"zz_al" "one"'), ("x[[zz_al|]]", '"zz_al" "one"'), ("-zz_al|", '"zz_al" "one"'), ("!zz_al|", '"zz_al" "one"'),
+    ("2*zz_al|", '"zz_al" "one"'), ("2zz_al|", NONE), ("zz.l|", '"zz.l" "ist"'), ("zz.list|", '"zz.list" ""'), ("zz.list$|", NONE), ("zz.list$field|", NONE),
+    ("zz.list@f|", NONE), ("zz_act|ive", '"zz_act" "ive"'), ("zz_active|", '"zz_active" ""'), ("zz_made|", '"zz_made" ""'), ("zz_made(read.tab|", '"read.tab" "le"'),
+    ("Zz|", NONE), ("zzx|", NONE), ("'é'; zz_al|", '"zz_al" "one"'), ("1\u2028zz_al|one\u20282", '"zz_al" "one"'), ("zz_al|\u20281", '"zz_al" "one"'),
+    ("read.tab|le", '"read.tab" "le"'), ("x <- read.tab|", '"read.tab" "le"'), ("~read.tab|", '"read.tab" "le"'), ("a;read.tab|;b", '"read.tab" "le"'),
+    ("\tread.tab|", '"read.tab" "le"'), (" read.tab|", '"read.tab" "le"'), ("read.tab| ", '"read.tab" "le"'), ("strspli|", '"strspli" "t"'), ("toupp|", '"toupp" "er"'),
+    ("vappl|", '"vappl" "y"'), ("Reduc|", '"Reduc" "e"'), ("nchar|", '"nchar" ""'), ("x$y$zz|", NONE), ("base::vappl|", NONE), ("über|", NONE), ("TRU|", NONE),
+    ("zz.t|op=2", '"zz.t" "op"'), ("5 -> zz.t|", '"zz.t" "op"'),
 ]
-MAXIMA_LINE = "zz_top: 5$ zz_alone: [1]$ zz_made(x) := error(\"run\")$ zzUp: 1$ 7"
+MAXIMA_LINE = "zz_top: 5$ zz_alone: [1]$ zz_made(x) := error(\"run\")$ zzUp: 1$ zz\\\"h: 1$ zz\\)h: 1$ 7"
 MAXIMA: List[Case] = [
     ("zz_|", '"zz_" "alone" "made" "top"'), ("zz_t|", '"zz_t" "op"'), ("zz_t|op", '"zz_t" "op"'), ("x: zz_t|", '"zz_t" "op"'), ("1+zz_m|", '"zz_m" "ade"'), ("zzU|", '"zzU" "p"'), ("zzu|", NONE), ("integrate_use|", '"integrate_use" "_rootsof"'), ("f(integrate_use|", '"integrate_use" "_rootsof"'),
     ("1;\u2028polydec|\u20282", '"polydec" "omp"'), ("polydec|", '"polydec" "omp"'), ("NI|", NONE), ("%p|", NONE), ("nothing_like_it|", NONE), ("|", NONE), (" |", NONE), ("(|", NONE), ("1|", NONE), ("1e|", NONE), ("é|", NONE), ('"\\"; polydec|', '"polydec" "omp"'), ("'polydec|", '"polydec" "omp"'),
+    ("zz_al|", '"zz_al" "one"'), ("zz_alone|", '"zz_alone" ""'), ("zz_al|one", '"zz_al" "one"'), ("zz_al|pha", '"zz_al" "one"'), ("[zz_al|", '"zz_al" "one"'),
+    ("[1, zz_al|]", '"zz_al" "one"'), ("f(1, zz_al|)", '"zz_al" "one"'), ("zz_top + zz_al|", '"zz_al" "one"'), ("if zz_al|", '"zz_al" "one"'), ("x[zz_al|]", '"zz_al" "one"'),
+    ("-zz_al|", '"zz_al" "one"'), ("not zz_al|", '"zz_al" "one"'), ("2*zz_al|", '"zz_al" "one"'), ("2zz_al|", NONE), ("zz_a|lone", '"zz_a" "lone"'),
+    ("zz_made|", '"zz_made" ""'), ("zz_made(zz_t|", '"zz_t" "op"'), ("ZZ_|", NONE), ("zzx|", NONE), ("\"é\"; zz_al|", '"zz_al" "one"'),
+    ("1;\u2028zz_al|one;\u20282", '"zz_al" "one"'), ("zz_al|\u20281", '"zz_al" "one"'), ("zz_t|:1", '"zz_t" "op"'), ("block([a], zz_t|", '"zz_t" "op"'),
+    ("zzU|p", '"zzU" "p"'), ("zzUp|", '"zzUp" ""'), ("polydec|omp", '"polydec" "omp"'), (" polydec|", '"polydec" "omp"'), ("\tpolydec|", '"polydec" "omp"'),
+    ("polydec| ", '"polydec" "omp"'), ("a;polydec|;b", '"polydec" "omp"'), ("x:polydec|", '"polydec" "omp"'), ("'polydec|omp", '"polydec" "omp"'),
+    ("''polydec|", '"polydec" "omp"'), ("diff(polydec|", '"polydec" "omp"'), ("lambda([x], polydec|", '"polydec" "omp"'), ("integrate_us|", '"integrate_us" "e_rootsof"'),
+    ("?zz|", NONE), ("zz_top.zz_al|", '"zz_al" "one"'), ("zz_top^zz_al|", '"zz_al" "one"'), ("zz_top!+zz_al|", '"zz_al" "one"'), ("%zz_|", NONE),
+    ("über|", NONE), ("ü|", NONE), ("zz|", '"zz" "Up" "_alone" "_made" "_top"'), ("makegamm|", '"makegamm" "a"'), ("trigsim|", '"trigsim" "p"'), ("ratcoe|", '"ratcoe" "f" "ff"'),
 ]
 
 COMPLETING: Dict[str, Completing] = {

@@ -201,8 +201,9 @@ class Interpreter(blocks.Child):
 
     def complete(self, front: bytes) -> Optional[bytes]:
         """The block that says what can stand behind a text; None where it has ended."""
-        found = re.search(self.profile.word, front.decode("utf-8", "replace"), re.ASCII)
-        if not found or not self.profile.names:
+        text = front.decode("utf-8", "replace")
+        found = re.search(self.profile.word, text, re.ASCII)
+        if not found or not self.profile.names or not text[: found.start()][-1:].isascii():  # a letter that isn't asked for belongs to the word
             return blocks.NO_COMPLETIONS
         with self.at_a_line():
             said = self.ask(self.profile.names.format(found[0]).encode()) if self.drop_what_was_said() else None

@@ -57,13 +57,13 @@ export function showPath(path) {
   document.title = visible(path);
 }
 
-/** @type {(isThere: boolean, hasEnded: boolean) => void} */
-export function showConnection(isThere, hasEnded) {
+/** @type {(isThere: boolean, hasEnded: boolean, isLooking: boolean) => void} */
+export function showConnection(isThere, hasEnded, isLooking) {
   const place = byId("connection", HTMLElement);
   const lost = "no connection: what is typed now is not saved. If the server has ended, start it again: this page finds it, and keeps its texts till then";
-  const ended = "the program has ended: what is typed now is not saved";
+  const ended = isLooking ? "connected: what is shown is on the disk" : "the program has ended: what is typed now is not saved";
   place.textContent = !isThere ? lost : hasEnded ? ended : "connected: what is shown as saved is on the disk";
-  place.classList.toggle("bad", !isThere || hasEnded);
+  place.classList.toggle("bad", !isThere || (hasEnded && !isLooking));
 }
 
 /** The worksheet was closed in the list: this page looks for it no more. */
@@ -76,13 +76,14 @@ export function showClosed() {
 }
 
 /**
- * Why nothing goes any more.
- * @param {string | null} ended
+ * Why nothing goes any more, or not here.
+ * @type {(ended: string | null, isLooking: boolean) => void}
  */
-export function showTrouble(ended) {
+export function showTrouble(ended, isLooking) {
   const place = byId("trouble", HTMLElement);
   place.hidden = ended === null;
-  const told = ended === null ? "" : `${visible(ended)}. What is shown as saved is in the file; what was evaluated has no answer.`;
+  const rest = isLooking ? "" : " What is shown as saved is in the file; what was evaluated has no answer.";
+  const told = ended === null ? "" : `${visible(ended)}.${rest}`;
   place.querySelector("span")?.replaceChildren(told);
   place.querySelector("button")?.toggleAttribute("hidden", ended === null);
 }

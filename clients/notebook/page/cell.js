@@ -2,14 +2,12 @@
 // draft that is known to be on the disk beside it, while the cell can't have another text.
 
 import { ask } from "./talk.js";
-import { button, make, visible } from "./dom.js";
+import { visible } from "./dom.js";
 import { Layer } from "./layer.js";
 import { languageOf } from "./languages.js";
-import { OutputView } from "./output.js";
-import { fillPictures } from "./reading.js";
+import { Reading } from "./reading.js";
 import { answerState, textState, took } from "./said.js";
-import { AT_FIRST, childrenOf, copyOfShape, isOther, show } from "./shape.js";
-import { setInto } from "./setter.js";
+import { AT_FIRST, conflictOf, describe, emptyShape, fitRows, isOther, partsOf, show } from "./shape.js";
 
 /** @typedef {import("./types").Cell} Cell */
 /** @typedef {import("./types").Reply} Reply */
@@ -17,13 +15,11 @@ import { setInto } from "./setter.js";
 
 /**
  * What a cell knows of its page.
- * @typedef {{isThere: boolean, sessions: Map<string, Session>, note: (text: string) => void, news: import("./news").News}} Page
+ * @typedef {{isThere: boolean, isLooking: boolean, sessions: Map<string, Session>, note: (text: string) => void, news: import("./news").News}} Page
  */
 
 const SAVED_BEHIND = 1_000; // milliseconds without a key
 const SAVED_WITHIN = 2_500; // milliseconds of the first key that isn't saved: half a second is for the disk, so that it is saved within three
-const FITS_ITSELF = CSS.supports("field-sizing", "content");
-const LETTERS_IN_LINE = 80; // a guess
 const UNKNOWN = ["Ended", "TimedOut", "Unreached"]; // refusals behind which a text may be saved or not
 
 export class CellView {
@@ -57,35 +53,51 @@ export class CellView {
     /** @type {number | undefined} */
     this.typedAt = undefined; // when the first key came that isn't saved
     this.said = AT_FIRST;
-    this.box = copyOfShape();
-    const [head, line, output] = childrenOf(this.box);
-    const [number, session, textState, answerState, took] = childrenOf(head);
-    const [prompt, text] = childrenOf(line);
-    number.textContent = `#${this.id}`;
-    this.head = head;
-    this.session = session;
-    this.textState = textState;
-    this.answerState = answerState;
-    this.took = took;
-    this.line = line;
-    this.prompt = prompt;
-    this.text = /** @type {HTMLTextAreaElement} */ (text);
-    this.output = new OutputView(cell.id, output);
+    this.box = emptyShape();
+    this.box.id = `cell-${this.id}`;
+    /** @type {import("./shape").Parts | undefined} */
+    this.own = undefined; // when they were wanted
+    this.unseen = cell.input; // its text till then
     /** @type {Layer | undefined} */
     this.layer = undefined; // when it was seen
-    /** @type {HTMLElement | undefined} */
+    /** @type {Reading | undefined} */
     this.reading = undefined; // of prose: what it says
-    /** @type {string | null} */
-    this.read = null; // the text that it says, null where that is to be set again
     /** @type {HTMLElement | undefined} */
     this.conflict = undefined;
-    this.box.id = `cell-${this.id}`;
-    textState.id = `text-state-${this.id}`;
-    answerState.id = `answer-state-${this.id}`;
-    this.box.setAttribute("aria-describedby", `${textState.id} ${answerState.id}`);
-    this.text.setAttribute("aria-label", `Input of cell ${this.id}`);
-    this.text.value = cell.input;
     this.update(cell, at);
+  }
+
+  // ---- its parts, which are made when they are wanted: most cells of a long worksheet aren't seen
+
+  grow() {
+    if (this.own) return;
+    this.own = partsOf(this.box, this.id, this.page.isLooking);
+    this.own.text.value = this.unseen;
+    this.said = AT_FIRST;
+    this.draw();
+  }
+
+  get parts() {
+    this.grow();
+    return /** @type {import("./shape").Parts} */ (this.own);
+  }
+
+  get text() {
+    return this.parts.text;
+  }
+
+  get output() {
+    return this.parts.output;
+  }
+
+  /** The text that stands here. */
+  get value() {
+    return this.own ? this.own.text.value : this.unseen;
+  }
+
+  set value(text) {
+    if (this.own) this.own.text.value = text;
+    else this.unseen = text;
   }
 
   get isProse() {
@@ -98,17 +110,17 @@ export class CellView {
 
   /** Whether something stands here that is not in the file, or a draft is there that doesn't stand here. */
   get isDraft() {
-    return this.isElsewhere || this.text.value !== this.base || this.kept !== null;
+    return this.isElsewhere || this.value !== this.base || this.kept !== null;
   }
 
   /** Whether what stands here is kept as a draft. */
   get isKept() {
-    return this.text.value === this.kept;
+    return this.value === this.kept;
   }
 
   /** Whether what stands here is on no disk. */
   get isUnsaved() {
-    return this.text.value !== (this.kept ?? this.base);
+    return this.value !== (this.kept ?? this.base);
   }
 
   /** What the cell was given elsewhere. */
@@ -151,20 +163,27 @@ export class CellView {
     this.cell = cell;
     this.toldAt = at;
     this.takeText(cell);
-    const session = this.isProse ? "prose" : cell.session;
-    if (this.session.textContent !== session) {
-      this.session.textContent = session;
+    const name = this.isProse ? `Prose ${this.id}` : `Cell ${this.id}, ${cell.session}`;
+    if (this.box.ariaLabel !== name) {
+      this.box.ariaLabel = name;
       this.box.classList.toggle("prose", this.isProse);
-      this.box.setAttribute("aria-label", this.isProse ? `Prose ${this.id}` : `Cell ${this.id}, ${cell.session}`);
     }
-    this.prompt.textContent = this.isProse ? "" : visible(cell.prompt ?? "> ");
-    this.output.update(this.isProse ? null : cell.output, cell.isOld);
-    const time = took(cell);
-    if (this.took.textContent !== time) this.took.textContent = time;
+    if (this.own) this.draw();
+    else this.say();
+    if (this.isDraft && !this.waits && (waited || this.trouble || this.isKept)) this.saveLater();
+  }
+
+  /** Shows what the cell is now. */
+  draw() {
+    const { cell, isProse, parts } = this;
+    const session = isProse ? "prose" : cell.session, time = took(cell);
+    if (parts.session.textContent !== session) parts.session.textContent = session;
+    parts.prompt.textContent = isProse ? "" : visible(cell.prompt ?? "> ");
+    parts.output.update(isProse ? null : cell.output, cell.isOld);
+    if (parts.took.textContent !== time) parts.took.textContent = time;
     this.showProse();
     this.fit();
     this.say();
-    if (this.isDraft && !this.waits && (waited || this.trouble || this.isKept)) this.saveLater();
   }
 
   /** @param {Cell} cell */
@@ -172,7 +191,7 @@ export class CellView {
     const kept = draft?.text ?? null;
     if (input === this.base && kept === this.kept && !this.isElsewhere) return;
     const isNone = !this.isElsewhere && !this.isUnsaved; // of this page alone
-    if (isNone) this.text.value = kept ?? input;
+    if (isNone) this.value = kept ?? input;
     const isKnown = isNone || (this.knows(input) && (kept === null || this.knows(kept)));
     this.isElsewhere = !isKnown || (draft !== null && draft.base !== input);
     if (isKnown) {
@@ -188,7 +207,7 @@ export class CellView {
    * @param {string} text
    */
   knows(text) {
-    return text === this.base || text === this.kept || text === this.text.value || this.tried.has(text);
+    return text === this.base || text === this.kept || text === this.value || this.tried.has(text);
   }
 
   /** @param {[boolean, boolean]} mark */
@@ -209,9 +228,10 @@ export class CellView {
     const theirs = this.isElsewhere ? visible(this.theirs) : "";
     const was = this.said;
     this.said = { text, answer, state, theirs };
-    if (isOther(text, was.text)) show(this.textState, text);
+    if (this.own && isOther(text, was.text)) show(this.own.textState, text);
     if (text[0] !== was.text[0]) this.box.dataset.text = text[0];
-    if (isOther(answer, was.answer)) show(this.answerState, answer);
+    if (this.own && isOther(answer, was.answer)) show(this.own.answerState, answer);
+    describe(this.box, [text[1], answer[1], this.cell.output?.isError ? "Error" : ""]);
     if (state !== was.state) this.box.dataset.state = state;
     this.conflict?.toggleAttribute("hidden", !this.isElsewhere);
     if (this.conflict && theirs !== was.theirs) this.conflict.querySelector("pre")?.replaceChildren(theirs);
@@ -231,37 +251,19 @@ export class CellView {
   /** Makes the text as high as its lines, where the browser doesn't by itself, and draws it. */
   fit() {
     if (this.layer) this.paint();
-    if (FITS_ITSELF) return;
-    const rows = this.text.value.split("\n").reduce((sum, line) => sum + Math.max(1, Math.ceil(line.length / LETTERS_IN_LINE)), 0);
-    if (this.text.rows !== rows) this.text.rows = rows;
+    fitRows(this.text);
   }
 
-  async showProse() {
-    if (!this.isProse) {
-      this.reading?.remove();
-      this.reading = undefined;
-      this.read = null;
-      return;
-    }
-    this.reading ??= this.box.appendChild(make("div", "reading"));
-    this.reading.dir = "auto";
-    const text = this.text.value;
-    if (this.read === text) return;
-    this.read = text;
-    this.reading.classList.remove("set");
-    this.reading.textContent = visible(text).trim() || "empty prose";
-    const { reading } = this;
-    const isOver = await setInto(reading, "markdown", text, () => this.read === text && text.trim() !== "");
-    if (!isOver && this.read === text) this.read = null;
-    else await fillPictures(reading);
+  showProse() {
+    if (!this.isProse) this.reading?.place.remove();
+    this.reading = this.isProse ? this.reading ?? new Reading(this.box) : undefined;
+    this.reading?.show(this.value);
   }
 
   offerBoth() {
     if (!this.conflict) {
-      this.conflict = make("div", "conflict", "This cell was given another text elsewhere: ");
-      this.conflict.append(button("keepMine", "Keep this text", "Save the text that stands in the cell"), " ",
-        button("takeTheirs", "Take the other", "Put the other text into the cell, and drop this one"), make("pre"));
-      this.head.after(this.conflict);
+      this.conflict = conflictOf();
+      this.parts.head.after(this.conflict);
     }
   }
 
@@ -343,7 +345,7 @@ export class CellView {
   isSavedNow(text, at) {
     if (text !== this.base) {
       this.cell = { ...this.cell, input: text, state: /** @type {const} */ ("empty"), reason: null, prompt: null, isOld: true, took: null };
-      this.took.textContent = "";
+      this.parts.took.textContent = "";
     }
     this.cell = { ...this.cell, draft: null };
     this.kept = null;

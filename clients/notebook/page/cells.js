@@ -3,9 +3,13 @@
 import { byId, make } from "./dom.js";
 import { CellView } from "./cell.js";
 import { Choice } from "./choice.js";
+import { inIdleMoments } from "./idle.js";
+import { showPartial } from "./partial.js";
 import { toolbarOf } from "./toolbar.js";
 
 /** @typedef {import("./types").Message} Message */
+
+const AT_ONCE = 200; // new cells that get their parts before they are in the page
 
 export class Cells {
   /** @param {import("./cell").Page} page */
@@ -32,13 +36,18 @@ export class Cells {
     const isOther = message.server !== undefined && message.server !== this.server;
     this.server = message.server ?? this.server;
     if (message.isWhole) for (const view of this.views.values()) view.begin(isOther);
+    /** @type {CellView[]} */
+    const made = [];
     for (const cell of message.cells ?? []) {
       const view = this.views.get(cell.id);
       const before = view?.cell.state ?? "";
       if (view) view.update(cell, message.at);
       if (view && !message.isWhole) this.page.news.hear(view.cell, before);
-      if (!view) this.views.set(cell.id, new CellView(this.page, cell, message.at, message.marks?.[cell.id] ?? [false, false]));
+      if (!view) made.push(new CellView(this.page, cell, message.at, message.marks?.[cell.id] ?? [false, false]));
     }
+    for (const view of made) this.views.set(view.id, view);
+    this.grow(made);
+    this.showPartials(message);
     const order = message.order ?? this.orderBehind(message);
     if (order) this.arrange(order);
     for (const [id, mark] of Object.entries(message.marks ?? {})) this.views.get(Number(id))?.takeMark(mark);
@@ -47,6 +56,30 @@ export class Cells {
       this.awaited.get(cell.id)?.forEach((done) => done());
       this.awaited.delete(cell.id);
     }
+  }
+
+  /**
+   * Has new cells get their parts: of many the first ones, those that come into view, and the others in idle moments, so that a long page is there at once.
+   * @param {CellView[]} made
+   */
+  grow(made) {
+    for (const view of made.slice(0, AT_ONCE)) view.grow();
+    inIdleMoments(made.slice(AT_ONCE), (view) => this.views.get(view.id) === view && view.grow());
+  }
+
+  /** All cells get their parts, as for what the browser looks through. */
+  growAll() {
+    for (const view of this.views.values()) view.grow();
+  }
+
+  /**
+   * What isn't an answer yet goes where its cell is no longer evaluated.
+   * @param {Message} message
+   */
+  showPartials({ cells = [], partial = {}, isWhole }) {
+    if (isWhole) for (const view of this.views.values()) showPartial(view, null);
+    for (const { id } of cells) if (this.views.get(id)?.cell.state !== "running") showPartial(this.views.get(id), null);
+    for (const [id, told] of Object.entries(partial)) showPartial(this.views.get(Number(id)), told);
   }
 
   /**
@@ -84,7 +117,7 @@ export class Cells {
     const view = this.views.get(id);
     if (!view) return false;
     const hadFocus = view.box.contains(document.activeElement);
-    if (view.isDraft) this.page.note(`cell ${id} was removed in another page; what was not saved of it: ${view.text.value}`);
+    if (view.isDraft) this.page.note(`cell ${id} was removed in another page; what was not saved of it: ${view.value}`);
     view.box.remove();
     this.views.delete(id);
     if (this.selected === view) this.selected = undefined;

@@ -71,7 +71,7 @@ export class Clipboard {
   }
 
   keep() {
-    this.own = this.chosen().map((view) => ({ session: view.isProse ? null : view.cell.session, text: view.text.value, of: view.id }));
+    this.own = this.chosen().map((view) => ({ session: view.isProse ? null : view.cell.session, text: view.value, of: view.id }));
     try {
       localStorage.setItem(KEPT, JSON.stringify(this.own));
     } catch {

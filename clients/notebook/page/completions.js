@@ -52,7 +52,7 @@ export class Completions {
       item.setAttribute("role", "option");
       return item;
     }));
-    view.line.after(this.list);
+    view.parts.line.after(this.list);
     view.text.setAttribute("aria-controls", this.list.id);
     this.choose(0);
   }

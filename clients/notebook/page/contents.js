@@ -8,7 +8,7 @@ import { headingsOf } from "./folds.js";
 /** @type {(cells: Cells) => void} */
 export function showContents(cells) {
   const dialog = byId("contents-dialog", HTMLDialogElement);
-  const rows = cells.inOrder().filter((view) => view.isProse).flatMap((view) => headingsOf(view.text.value).map(([level, words]) => {
+  const rows = cells.inOrder().filter((view) => view.isProse).flatMap((view) => headingsOf(view.value).map(([level, words]) => {
     const item = make("li"), node = make("button", "", words || "(empty)");
     node.type = "button";
     item.style.marginInlineStart = `${level - 1}em`;

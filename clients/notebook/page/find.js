@@ -132,10 +132,10 @@ export class Find {
     if (of.length === 0) return;
     const { at } = this;
     const isDone = await this.several.step(what, of.map(([view]) => view), () => ({
-      set: of.map(([view, some]) => ({ id: view.id, base: view.text.value, text: this.replaced(view, some) })),
+      set: of.map(([view, some]) => ({ id: view.id, base: view.value, text: this.replaced(view, some) })),
     }));
     if (!isDone) return;
-    await until(() => of.every(([view]) => view.text.value === view.cell.input));
+    await until(() => of.every(([view]) => view.value === view.cell.input));
     this.search();
     this.at = Math.min(at, this.places.length - 1);
     this.show();
@@ -147,10 +147,10 @@ export class Find {
   replaced(view, places) {
     let text = "", end = 0;
     for (const { start, end: to, found } of places) {
-      text += view.text.value.slice(end, start) + this.otherFor(found);
+      text += view.value.slice(end, start) + this.otherFor(found);
       end = to;
     }
-    return text + view.text.value.slice(end);
+    return text + view.value.slice(end);
   }
 
   /**
@@ -165,7 +165,7 @@ export class Find {
 
 /** @type {(view: CellView, form: RegExp) => Place[]} */
 function placesIn(view, form) {
-  return [...view.text.value.matchAll(form)].filter((found) => found[0]).map((found) => {
+  return [...view.value.matchAll(form)].filter((found) => found[0]).map((found) => {
     const start = found.index ?? 0;
     return { view, start, end: start + found[0].length, found: /** @type {RegExpExecArray} */ (found) };
   });

@@ -17,7 +17,7 @@ export const headingsOf = (text) =>
   [...text.replace(FENCE, "").matchAll(/^(#{1,6}) +(.*?)(?: +#+)?$/gm)].map(([, marks, words]) => [marks.length, words]);
 
 /** @type {(view: CellView) => number} */
-const levelOf = (view) => (view.isProse ? headingsOf(view.text.value)[0]?.[0] ?? 0 : 0);
+const levelOf = (view) => (view.isProse ? headingsOf(view.value)[0]?.[0] ?? 0 : 0);
 
 export class Folds {
   /** @param {Cells} cells */
@@ -100,7 +100,7 @@ export class Folds {
     const isAnswer = this.of.answer.has(view.id) && !view.isProse, isInput = this.of.input.has(view.id) && !view.isProse;
     view.box.classList.toggle("answer-folded", isAnswer);
     view.box.classList.toggle("input-folded", isInput);
-    const lines = view.text.value.split("\n").length;
+    const lines = view.value.split("\n").length;
     const says = [...(isInput ? [`${lines} ${lines === 1 ? "line" : "lines"} folded`] : []), ...(isAnswer ? ["answer folded"] : [])];
     this.offer(view, says.join(", "));
   }

@@ -47,7 +47,7 @@ export class Help {
   show(view, says) {
     this.view = view;
     this.place.replaceChildren(make("p", "", says));
-    if (this.place.parentElement !== view.box) view.line.after(this.place);
+    if (this.place.parentElement !== view.box) view.parts.line.after(this.place);
   }
 
   /** @param {import("./types").Output} output */

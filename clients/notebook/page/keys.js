@@ -178,6 +178,7 @@ export class Keys {
       else this.cells.select(view);
       return true;
     }
+    if (view.text.readOnly) return false;
     if (event.key === "Tab" && !event.ctrlKey && !event.altKey) return this.tab(view, event.shiftKey);
     if (event.key === "Enter") return newLine(view);
     if (event.ctrlKey && event.key === "/") {

@@ -24,7 +24,7 @@ import { Several } from "./several.js";
 /** @typedef {import("./types").Message} Message */
 
 /** @type {import("./cell").Page} */
-const page = { isThere: false, sessions: new Map(), note: bars.note, news: new News() };
+const page = { isThere: false, isLooking: false, sessions: new Map(), note: bars.note, news: new News() };
 let hasEnded = false; // the program, while the server is there
 let hasBeenThere = false; // the server: what was typed since is to be saved when it is there again
 const cells = new Cells(page);
@@ -61,10 +61,11 @@ function hear(message, isFirst) {
   if (message.sessions) page.sessions = new Map(message.sessions.map((session) => [session.name, session]));
   if (message.path !== undefined) bars.showPath(message.path);
   if (message.isOfFolder) byId("list", HTMLAnchorElement).hidden = false;
+  if (message.isLooking !== undefined) lookOn(message.isLooking);
   if (message.ended !== undefined) {
     hasEnded = message.ended !== null;
-    bars.showTrouble(message.ended);
-    bars.showConnection(true, hasEnded);
+    bars.showTrouble(message.ended, page.isLooking);
+    bars.showConnection(true, hasEnded, page.isLooking);
   }
   if (message.removed) bars.showRemoved(message.removed);
   if (message.sessions) bars.showSessions(page.sessions, page.isThere);
@@ -75,10 +76,20 @@ function hear(message, isFirst) {
   if (isFirst) document.documentElement.dataset.ready = "true";
 }
 
+/**
+ * Whether the worksheet is only shown, since another program has it.
+ * @param {boolean} isLooking
+ */
+function lookOn(isLooking) {
+  page.isLooking = isLooking;
+  document.body.classList.toggle("looking", isLooking);
+  for (const { own } of cells.views.values()) if (own) own.text.readOnly = isLooking;
+}
+
 /** @param {boolean} isThere */
 function connect(isThere) {
   page.isThere = isThere;
-  bars.showConnection(isThere, hasEnded);
+  bars.showConnection(isThere, hasEnded, page.isLooking);
   bars.showSessions(page.sessions, isThere);
   if (isThere && hasBeenThere) saveAll();
   hasBeenThere ||= isThere;
@@ -218,7 +229,7 @@ cells.place.addEventListener("mousedown", (event) => {
     return;
   }
   cells.choice.drop();
-  cells.select(view, event.target === view.box || event.target === view.head);
+  cells.select(view, event.target === view.box || event.target === view.parts.head);
 });
 
 cells.place.addEventListener("dblclick", (event) => {
@@ -263,6 +274,10 @@ cells.place.addEventListener("change", (event) => {
 });
 
 document.addEventListener("visibilitychange", () => document.hidden && saveAll());
+
+// What the browser prints and looks through is all there.
+addEventListener("beforeprint", () => cells.growAll());
+document.addEventListener("keydown", ({ key, ctrlKey, metaKey }) => (ctrlKey || metaKey) && key === "f" && cells.growAll(), true);
 
 addEventListener("beforeunload", (event) => {
   if ([...cells.views.values()].some((view) => view.isUnsaved)) event.preventDefault();

@@ -8,6 +8,9 @@ import { setInto } from "./setter.js";
 /** @typedef {import("./types").Output} Output */
 /** @typedef {import("./types").Part} Part */
 
+/** @type {(number: number) => string} */
+const grouped = (number) => number.toLocaleString("en");
+
 /** @type {(tex: string) => HTMLElement} */
 function formulaOf(tex) {
   const place = make("span", "formula", visible(tex));
@@ -89,8 +92,14 @@ export function savePicture(button, name) {
   setTimeout(() => URL.revokeObjectURL(link.href), 60_000);
 }
 
-/** @type {(number: number) => string} */
-const grouped = (number) => number.toLocaleString("en");
+/**
+ * Why formulas of an answer are shown as text; nothing where they are set.
+ * @type {(shown: Output) => string}
+ */
+function whyNotSet({ parts, isCut, unset }) {
+  if (isCut && (unset || parts.some(({ tex }) => tex !== undefined))) return "Formulas in so long an answer are shown as text.";
+  return unset ? `A formula of ${grouped(unset)} characters is shown as text: at most 5,000 are set.` : "";
+}
 
 /** What each answer is shown in. */
 export function outputShape() {
@@ -136,6 +145,7 @@ export class OutputView {
     const { shown } = this;
     this.more?.remove();
     this.pictures?.remove();
+    this.why?.remove();
     this.body.replaceChildren();
     markError(this.box, shown);
     this.box.hidden = !shown || shown.length === 0;
@@ -143,6 +153,8 @@ export class OutputView {
     if (this.isText || shown.isCut) this.body.append(visible(shown.text));
     else this.body.append(...shown.parts.map(nodeOf));
     this.end = [...shown.text].length;
+    const why = this.isText ? "" : whyNotSet(shown);
+    if (why) this.body.before(this.why = make("p", "more", why));
     if (!shown.isCut) return;
     this.offerMore();
     if (!this.isText) this.appendPictures(shown);

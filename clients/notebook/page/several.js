@@ -126,7 +126,7 @@ export class Several {
       return false;
     }
     return this.step(`merge of ${counted(views.length)}`, views, () => ({
-      set: [{ id: first.id, base: first.text.value, text: views.map((one) => one.text.value).join(first.isProse ? "\n\n" : "\n") }],
+      set: [{ id: first.id, base: first.value, text: views.map((one) => one.value).join(first.isProse ? "\n\n" : "\n") }],
       remove: others.map(({ id }) => ({ id })),
     }));
   }
@@ -153,7 +153,7 @@ export class Several {
     if (views.length === 1) return this.actions.change(view, session);
     const others = views.filter((one) => (session === null ? !one.isProse : one.cell.session !== session));
     return this.step("another session", others, () => ({
-      new: others.map((one) => ({ after: one.id, session, text: one.text.value, of: one.id })), remove: others.map(({ id }) => ({ id })),
+      new: others.map((one) => ({ after: one.id, session, text: one.value, of: one.id })), remove: others.map(({ id }) => ({ id })),
     }));
   }
 
@@ -174,11 +174,11 @@ export class Several {
       const session = cell.isProse ? null : cell.session;
       return this.step("an earlier cell", [], () => ({ new: [{ after: cell.after, session, text, then }] }));
     }
-    if (view.text.value === text) {
+    if (view.value === text) {
       this.actions.note(`cell ${cell.id} has this text: nothing was changed`);
       return Promise.resolve(false);
     }
-    return this.step("an earlier text", [view], () => ({ set: [{ id: view.id, base: view.text.value, text, then }] }));
+    return this.step("an earlier text", [view], () => ({ set: [{ id: view.id, base: view.value, text, then }] }));
   }
 
   // ---- taken back, and done again

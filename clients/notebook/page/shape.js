@@ -1,15 +1,23 @@
 // What a cell in the page consists of, and how its states are shown.
 
-import { make } from "./dom.js";
-import { outputShape } from "./output.js";
+import { button, make } from "./dom.js";
+import { OutputView, outputShape } from "./output.js";
+
+const FITS_ITSELF = CSS.supports("field-sizing", "content");
+const LETTERS_IN_LINE = 80; // a guess
 
 /** What is said of most cells: of the text and of the answer the class and the words, and the state of the cell. */
 export const AT_FIRST = { text: ["saved", "saved"], answer: ["", ""], state: "answered", theirs: "" };
 
+/**
+ * @typedef {{head: HTMLElement, session: HTMLElement, textState: HTMLElement, answerState: HTMLElement, took: HTMLElement, line: HTMLElement,
+ *   prompt: HTMLElement, text: HTMLTextAreaElement, output: OutputView}} Parts
+ */
+
 const SHAPE = shape();
 
-/** What each cell consists of. A copy takes a fraction of the time in which the same is made part by part. */
-export const copyOfShape = () => /** @type {HTMLElement} */ (SHAPE.cloneNode(true));
+/** A cell without its parts. A copy takes a fraction of the time in which the same is made part by part. */
+export const emptyShape = () => /** @type {HTMLElement} */ (SHAPE.cloneNode(false));
 
 function shape() {
   const box = make("section", "cell"), head = make("header"), line = make("div", "input"), text = make("textarea");
@@ -30,6 +38,48 @@ function shape() {
   return box;
 }
 
+/**
+ * Puts its parts into a cell.
+ * @type {(box: HTMLElement, id: number, isReadOnly: boolean) => Parts}
+ */
+export function partsOf(box, id, isReadOnly) {
+  box.append(...childrenOf(/** @type {HTMLElement} */ (SHAPE.cloneNode(true))));
+  const [head, line, output] = childrenOf(box);
+  const [number, session, textState, answerState, took] = childrenOf(head);
+  const prompt = childrenOf(line)[0], text = /** @type {HTMLTextAreaElement} */ (childrenOf(line)[1]);
+  text.readOnly = isReadOnly;
+  number.textContent = `#${id}`;
+  text.setAttribute("aria-label", `Input of cell ${id}`);
+  return { head, session, textState, answerState, took, line, prompt, text, output: new OutputView(id, output) };
+}
+
+/**
+ * Says how a cell is where its name is read out. It does so in words of its own: to a browser what isn't seen has none.
+ * @type {(box: HTMLElement, words: string[]) => void}
+ */
+export function describe(box, words) {
+  const told = words.filter(Boolean).join(", ");
+  if (box.getAttribute("aria-description") !== told) box.setAttribute("aria-description", told);
+}
+
+/** What is said of a text that was changed elsewhere. */
+export function conflictOf() {
+  const box = make("div", "conflict", "This cell was given another text elsewhere: ");
+  box.append(button("keepMine", "Keep this text", "Save the text that stands in the cell"), " ",
+    button("takeTheirs", "Take the other", "Put the other text into the cell, and drop this one"), make("pre"));
+  return box;
+}
+
+/**
+ * Gives a text area as many rows as its text has, where the browser doesn't by itself.
+ * @param {HTMLTextAreaElement} text
+ */
+export function fitRows(text) {
+  if (FITS_ITSELF) return;
+  const rows = text.value.split("\n").reduce((sum, line) => sum + Math.max(1, Math.ceil(line.length / LETTERS_IN_LINE)), 0);
+  if (text.rows !== rows) text.rows = rows;
+}
+
 /** @type {(one: string[], other: string[]) => boolean} */
 export const isOther = ([name, words], [otherName, otherWords]) => name !== otherName || words !== otherWords;
 
@@ -40,4 +90,4 @@ export function show(place, [name, words]) {
 }
 
 /** @type {(node: HTMLElement) => HTMLElement[]} */
-export const childrenOf = (node) => /** @type {HTMLElement[]} */ ([...node.children]);
+const childrenOf = (node) => /** @type {HTMLElement[]} */ ([...node.children]);

@@ -52,7 +52,7 @@ export function toolbarOf() {
     buttons.get("toggleText")?.toggleAttribute("hidden", !view.output.hasFormulas);
     buttons.get("toggleText")?.setAttribute("aria-pressed", String(view.output.isText));
     buttons.get("clear")?.toggleAttribute("disabled", !cell.output && cell.state !== "lost");
-    if (bar.parentElement !== view.head) view.head.append(bar);
+    if (bar.parentElement !== view.parts.head) view.parts.head.append(bar);
   };
   return { bar, show };
 }

@@ -6,10 +6,14 @@
  */
 export interface Part { text?: string; error?: string; tex?: string; picture?: string; heavy?: string }
 
-export interface Output { parts: Part[]; isError: boolean; text: string; isCut: boolean; length: number }
+/** An answer; `unset` is how long the longest of its formulas is that are too long to be set, 0 where none is. */
+export interface Output { parts: Part[]; isError: boolean; text: string; isCut: boolean; length: number; unset: number }
 
 /** A text that is kept until its cell can have it, and the cell's text that it was typed over. */
 export interface Draft { base: string; text: string }
+
+/** What an interpreter has written of an answer that isn't whole yet; cut is its front. */
+export interface Partial { text: string; isCut: boolean }
 
 export interface Cell {
   id: number;
@@ -72,12 +76,14 @@ export interface Message {
   says?: string[];
   cells?: Cell[];
   marks?: Record<string, [boolean, boolean]>;
+  partial?: Record<string, Partial | null>; // null where there is no such text any more
   path?: string;
   isOfFolder?: boolean; // whether the server has a list of worksheets
   order?: number[];
   sessions?: Session[];
   removed?: Removed[];
   ended?: string | null;
+  isLooking?: boolean; // another program has the worksheet: it is only shown
 }
 
 export interface Suggestion { name: string; words: string; tab: boolean }

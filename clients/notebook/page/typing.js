@@ -17,7 +17,7 @@ export function insert(view, text) {
 }
 
 /**
- * A new line begins below the first letter of the one before, and deeper where that opens something.
+ * A new line begins below the first letter of the one before, and deeper where that opens something. One that has blanks alone loses them.
  * @type {(view: CellView) => boolean}
  */
 export function newLine(view) {
@@ -26,6 +26,7 @@ export function newLine(view) {
   const isOpen = !view.isProse && languageNamed(view.language).opens.test(line);
   const blanks = (/^[ \t]*/.exec(line)?.[0] ?? "") + (isOpen ? INDENT : "");
   if (!blanks) return false;
+  if (!line.trim()) view.text.setSelectionRange(selectionStart - line.length, view.text.selectionEnd);
   insert(view, `\n${blanks}`);
   return true;
 }

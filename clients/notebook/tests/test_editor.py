@@ -113,6 +113,9 @@ class Colours(Written):
         tab.key("Enter")
         tab.type("x")
         tab.until(TEXTS, ["a\n  b\n\nc = {\n    x"])
+        tab.key("Enter")
+        tab.key("Enter")
+        tab.until(TEXTS, ["a\n  b\n\nc = {\n    x\n\n    "])
         tab.key("Escape")
         tab.key("l")
         numbers = "getComputedStyle(document.querySelector('#cell-1 .line:nth-child(5)'), '::before').content"

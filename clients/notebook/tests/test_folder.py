@@ -127,8 +127,6 @@ class Requests(FolderCase):
         other = Server(os.path.join(self.place, "two"))
         self.addCleanup(other.kill)
         self.assertEqual(self.states(listed.call("list")), [["one", "closed"], ["two", "inUse"]])
-        status, _, told = SheetPage(listed, "two").get()
-        self.assertEqual((status, told), (409, b"two is in use: another program, as a second tmhost-notebook, has it open\n"))
         self.assertEqual(listed.call("rename", name="two", to="three")["says"], "two is in use: close it first")
 
     def test_who_is_refused(self) -> None:

@@ -61,7 +61,7 @@ UNHARMED = """
   const bad = ["script:not([src='main.js'])", "iframe", "object", "embed", "base", "form:not([method=dialog]):not(body > header > #find)",
     "img:not(.picture > img[src^='data:image/'])", "style", "video", "audio", "[onerror]", "[onload]", "[onclick]", "a[href^='javascript' i]",
     "a[href^='data' i]", "#cells link", "#cells meta", ".output [id]", ".reading [id]", ".output header", ".reading header",
-    "#cells [id]:not(.cell):not(#completions):not(.cell > header > .text-state):not(.cell > header > .answer-state)",
+    "#cells [id]:not(.cell):not(#completions)",
     "#cells [style*=fixed]", "#cells [style*=url]"];
   return [window.harmed ?? 0, ...bad.filter((selector) => document.querySelector(selector))];
 })()

@@ -240,6 +240,8 @@ class Shown(unittest.TestCase):
     def test_a_long_formula_is_text(self) -> None:
         tex = "$" + "x" * shown.LONGEST_FORMULA + "$"
         self.assertEqual(self.facts(tex, tag="latex"), [{"text": "{latex:" + tex + "}"}])
+        for items, unset in (((tex,), len(tex)), (("$x$",), 0)):
+            self.assertEqual(shown.facts_of(Answer("> ", Block("latex", "format", items), ""))["unset"], unset)
 
 
 class Prose(unittest.TestCase):

@@ -1,9 +1,10 @@
 """The page by keys: from an empty worksheet to an answer, buttons, the dialog of a new session, what is undone and found."""
 
+import os
 import shutil
 import sys
 import unittest
-from typing import Any, List
+from typing import Any, List, Tuple, Union
 
 import harness
 from harness import HOLDS, IN_TEXT, READY, SPOKEN, Page, PageCase, needs_chromium, needs_program, opened
@@ -55,6 +56,18 @@ MOVES = """
   return new Promise((done) => setTimeout(done, 100));
 })()
 """
+UNREAD, NONE = "no completions: the interpreter's completions can't be read", "no completions"
+SCRIPT = b"<script>window.harmed=1</script><img src=x onerror=window.harmed=1>"
+# What an interpreter answers, and the first lines of the list, or the note and what goes into the text.
+HOSTILE: List[Tuple[bytes, Union[List[str], Tuple[str, str]]]] = [
+    (b'\x02scheme:(tuple "told" "' + SCRIPT + b'" "<b>")\x05', ["told" + SCRIPT.decode(), "told<b>"]),
+    ("\x02scheme:(tuple \"\u202etold\" \"\u2066a\" \"\0b\")\x05".encode(), ["\\u202etold\\u2066a", "\\u202etold\\x00b"]),
+    (b'\x02scheme:(tuple "t"' + b"".join(b' "%d"' % one for one in range(20_000)) + b")\x05", ["t0", "t1", "t2"]),
+    (b'\x02scheme:(tuple "t" "' + b"x" * 1_000_000 + b'" "y")\x05', ["t" + "x" * 1_000_000, "ty"]),
+    (b'\x02scheme:(tuple "t" "' + SCRIPT + b'")\x05', ("", SCRIPT.decode())), (b"\x02scheme:(tuple \"t\" \"\")\x05", (NONE, "")), (b"\x02scheme:\x05", (NONE, "")),
+    (b"\x02scheme:(tuple\x05", (UNREAD, "")), (b"\x02scheme:(exec-delayed 1)\x05", (UNREAD, "")), (b"\x02latex:$x$\x05", (UNREAD, "")), (b"\x02verbatim:say\x05", (UNREAD, "")),
+    (b'\x02verbatim:\x02scheme:(tuple "a" "b")\x05\x02scheme:(tuple "a" "c")\x05\x05', (UNREAD, "")), (b'\x02scheme:(tuple "a" "b" 1)\x05', (UNREAD, "")),
+]
 # The suggestions come when `answer` is called.
 LATE = """
 (() => {
@@ -156,8 +169,40 @@ class KeysOfThePage(PageCase):
         self.page, self.browser = Page(self.server), self.browse()
         tab = opened(self.browser, self.server)
         self.complete_by(tab, "python", "import os; naming = 1", "nami", "naming", "os.getcw", ["getcwd", "getcwdb"])
-        if shutil.which("gp"):
-            self.complete_by(tab, "gp", "naming = 1; naval = 2", "nami", "naming", "na", ["naming", "naval"])
+        for name, line in (("gp", "zz_one = 1; zz_two = 2"), ("octave", "zz_one = 1; zz_two = 2;"), ("r", "zz_one <- 1; zz_two <- 2"), ("maxima", "zz_one: 1$ zz_two: 2$")):
+            if shutil.which({"r": "R"}.get(name, name)):
+                self.complete_by(tab, name, line, "zz_o", "zz_one", "zz_", ["zz_one", "zz_two"])
+            else:
+                print(f" {name} isn't here", end="")
+        self.assertEqual(self.browser.trouble, [])
+
+    def test_hostile_completions(self) -> None:
+        """Whatever is answered is a text or nothing: it adds no markup, no more lines than are shown, and the next request is answered."""
+        os.environ["TOLD"] = self.folder
+        self.addCleanup(os.environ.pop, "TOLD")
+        self.begin()
+        self.page.call("new", session="s", text="", after=0)
+        tab = opened(self.browser, self.server)
+        tab.click("#cell-1 .number")
+        tab.key("Enter")
+        for number, (answer, wanted) in enumerate(HOSTILE):
+            with self.subTest(answer=answer[:60]), open(os.path.join(self.folder, str(number)), "wb") as file:
+                file.write(answer)
+            tab.ask("Input.dispatchKeyEvent", {"type": "keyDown", "commands": ["selectAll"]})
+            tab.type(f"say told_{number}")
+            tab.key("Tab")
+            if isinstance(wanted, list):
+                tab.until(f"{SHOWN}.length > 0")
+                self.assertEqual(tab.value(f"{SHOWN}.slice(0, 3)"), wanted)
+                self.assertLessEqual(tab.value(f"{SHOWN}.length"), 100)
+                tab.key("Escape")
+            else:
+                tab.until("[document.querySelector('#note').textContent, document.activeElement.value]", [wanted[0], f"say told_{number}{wanted[1]}"])
+        self.assertEqual(tab.value("[window.harmed ?? 0, document.querySelectorAll('#cells script, #cells img, #cells b').length]"), [0, 0])
+        tab.ask("Input.dispatchKeyEvent", {"type": "keyDown", "commands": ["selectAll"]})
+        tab.type("say be")
+        tab.key("Tab")
+        tab.until("document.activeElement.value", "say beta")
         self.assertEqual(self.browser.trouble, [])
 
     def complete_by(self, tab: Any, name: str, line: str, one: str, whole: str, several: str, shown: List[str]) -> None:
@@ -168,7 +213,7 @@ class KeysOfThePage(PageCase):
         tab.until(FOCUSED, "session-make")
         tab.key("Enter")
         tab.until("document.querySelector('#session-dialog').open", False)
-        tab.until(f"[...document.querySelectorAll('#sessions li')].some((one) => one.textContent.includes({name!r}))", True)
+        tab.until(f"document.querySelector('#sessions li[data-session={name}]') !== null")
         id = self.page.call("new", session=name, text=line, after=0)["id"]
         self.page.call("eval", id=id)
         self.page.until_idle()

@@ -1,5 +1,6 @@
 """How what is there can be read: directions, lines that are longer than the page, paper, and cells without output."""
 
+import os
 import unittest
 
 from harness import PageCase, needs_chromium, needs_program, opened
@@ -20,6 +21,9 @@ WIDTHS = """
 ((output) => [output.scrollWidth > output.clientWidth, document.documentElement.scrollWidth <= innerWidth,
   document.querySelector('#cell-1 pre').getClientRects()[0].height])(document.querySelector('#cell-1 .output'))
 """
+
+
+WHY = "[...document.querySelectorAll('.output')].map((box) => box.querySelector('pre').previousElementSibling?.textContent ?? '')"
 
 
 @needs_program
@@ -65,6 +69,22 @@ class Reading(PageCase):
         tab = opened(self.browser, self.server)
         self.assertEqual(tab.value("[...document.querySelectorAll('.answer-state')].map((node) => node.textContent)"),
             ["evaluated: it has no output", "", ""])
+
+    def test_formulas_that_are_not_set(self) -> None:
+        """It is said why, and no more where all is wanted as text."""
+        self.begin()
+        for after, text in enumerate(("$" + "x" * 6_000 + "$", "$" + "x" * 30_000 + "$", "$x$")):
+            path = os.path.join(self.folder, f"formula{after}")
+            with open(path, "w") as file:
+                file.write(text)
+            self.page.call("eval", id=self.page.call("new", session="s", text=f"file latex {path}", after=after)["id"])
+        self.page.until_idle()
+        tab = opened(self.browser, self.server)
+        tab.until("document.querySelectorAll('.formula.set').length", 1)
+        self.assertEqual(tab.value(WHY), ["A formula of 6,002 characters is shown as text: at most 5,000 are set.", "Formulas in so long an answer are shown as text.", ""])
+        tab.click("#cell-1 .number")
+        tab.key("t")
+        self.assertEqual(tab.value(WHY)[0], "")
 
     def test_headings_on_paper(self) -> None:
         """None stands at the foot of a page, also where its text is in the next cell."""

@@ -3,39 +3,25 @@
 import contextlib
 import secrets
 import threading
-import time
 from typing import Any, Callable, Dict, Iterable, Iterator, List, Optional, Set
 
-from tmhost import Answer, Answered, BadLine, Closed, Died, Done, Ended, Event, Field, Finished, Gone, InUse, ProtocolError, Refused, Stopped, TimedOut, Worksheet
+from tmhost import Answer, Answered, BadLine, Closed, Died, Done, Ended, Event, Field, Finished, Gone, Partial, ProtocolError, Refused, Stopped, TimedOut, Worksheet
 
 from . import prose, rewording, startable, telling
 from .drafts import Draft, Drafts, NotKept
 from .feed import Feed
 from .helping import Helper
 from .notes import Notes
+from .opening import opened
+from .partial import Partials
 from .past import Past
 from .places import Places
 from .sayings import SAYINGS
 from .steps import Steps
 from .telling import Message, Watcher, text_of
 
-REPLY_WITHIN = 60.0  # seconds that a command may take
-OPENED_WITHIN = 3.0  # seconds that another program has to let go of the worksheet, as one whose server was just killed
 HEARD_WITHIN = 10.0  # seconds until what was done is heard of
 MOST_REMOVED = 200  # removed cells that can be brought back
-SILENCE = 15.0  # seconds behind which a page is told that the server is there
-
-
-def opened(path: str, program: Optional[str], create: bool) -> Worksheet:
-    """The worksheet; InUse where another program has it and keeps it."""
-    end = time.monotonic() + OPENED_WITHIN
-    while True:
-        try:
-            return Worksheet(path, create=create, program=program, timeout=REPLY_WITHIN)
-        except InUse:
-            if time.monotonic() > end:
-                raise
-            time.sleep(0.1)
 
 
 class Book:
@@ -45,6 +31,7 @@ class Book:
     def __init__(self, path: str, program: Optional[str]) -> None:
         self.path, self.program = path, program
         self.is_of_folder = False  # whether its server has a list of worksheets, too
+        self.is_looking = False  # another program has it: see `looking.py`
         self.server = secrets.token_urlsafe(8)  # a page whose server was started again sees that by it
         self.lock, self.order = threading.Lock(), threading.Lock()
         self.heard = threading.Condition(self.lock)
@@ -63,12 +50,16 @@ class Book:
     def _open(self, create: bool) -> None:
         sheet = opened(self.path, self.program, create)
         with self.lock:
-            self.sheet = sheet
-            self.notes, self.places, self.feed, self.past = Notes(), Places(sheet.fields), Feed(), Past(self.path, self.program)
-            self.in_doubt: Set[int] = set()  # the cells that a call changes, until it is known that it did or didn't
-            self.ended = None
+            self._begin(sheet)
         self._read_drafts()
         sheet.listen(lambda event: self._heard(sheet, event))
+
+    def _begin(self, sheet: Worksheet) -> None:
+        self.sheet = sheet
+        self.notes, self.places, self.feed, self.past = Notes(), Places(sheet.fields), Feed(), Past(self.path, self.program)
+        self.partials = Partials()
+        self.in_doubt: Set[int] = set()  # the cells that a call changes, until it is known that it did or didn't
+        self.is_looking, self.ended = False, None
 
     def _read_drafts(self) -> None:
         """Takes the drafts that were kept. Where the cell has the text by now there is none any more."""
@@ -308,13 +299,15 @@ class Book:
         with self.heard:
             if isinstance(event, Finished):
                 self.ended = "the worksheet was closed" if event.error is None else str(event.error)
+                self.partials = Partials()
                 self.feed.drop_all()
                 for watcher in self.watchers:
                     watcher.begin()
             else:
                 self._take(event)
             self.heard.notify_all()
-        self.wake()
+        if not isinstance(event, Partial):  # of that pages are told now and then
+            self.wake()
 
     def _take(self, event: Event) -> None:
         """Changes notes and places by an event."""
@@ -323,7 +316,10 @@ class Book:
         if name is not None:
             session = self.sheet.sessions.get(name)
             marked |= self.notes.lives(name, session.life if session else None)
+        ran = self.notes.running(name)
         cells |= self.notes.take(event, name)
+        if self.partials.take(event):
+            telling.touch_partial(self.watchers, ran, self.notes.running(name))
         if isinstance(event, Done) and event.id is not None:
             cells.add(event.id)
             marked |= self._place(event, event.id)
@@ -389,10 +385,12 @@ class Book:
         """What has changed since the last one. Empty where nothing has for a while; None at the end."""
         if watcher.is_over:
             return None
-        watcher.wake.wait(SILENCE)
-        watcher.wake.clear()
-        with self.lock:
-            return telling.message_for(self, watcher)
+        while True:
+            watcher.wait()
+            with self.lock:
+                message = telling.message_for(self, watcher)
+            if message or not watcher.partial:
+                return message
 
 
 def cells(count: int) -> str:

@@ -64,6 +64,12 @@ def facts_of(path: str) -> Dict[str, int]:
             "major": os.major(first.st_dev), "minor": os.minor(first.st_dev), "inode": first.st_ino}
 
 
+def is_locked(path: str) -> bool:
+    """Whether a program has a worksheet open."""
+    facts = facts_of(path)
+    return (facts["major"], facts["minor"], facts["inode"]) in locked()
+
+
 # ---- other names
 
 

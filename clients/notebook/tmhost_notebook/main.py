@@ -17,6 +17,7 @@ from . import packing
 from .book import Book
 from .files import Files
 from .folder import NotDone
+from .looking import MaybeLooking
 from .server import Server, served
 from .shelf import Alone, Shelf
 
@@ -24,7 +25,7 @@ from .shelf import Alone, Shelf
 def words() -> argparse.ArgumentParser:
     parser = argparse.ArgumentParser(
         prog="tmhost-notebook",
-        usage="tmhost-notebook [-h] [--no-browser] [--port N] [--libraries FOLDER] SHEET|FOLDER\n"
+        usage="tmhost-notebook [-h] [--no-browser] [--look] [--port N] [--libraries FOLDER] SHEET|FOLDER\n"
         "       tmhost-notebook pack SHEET FILE.zip\n       tmhost-notebook unpack FILE.zip FOLDER",
         description="Opens a worksheet of tmhost as a page in the browser, and prints its address. Where there is no worksheet it is made. "
         "What the page shows as saved is on the disk. Of a folder it opens a page with the list of its worksheets.",
@@ -34,6 +35,7 @@ def words() -> argparse.ArgumentParser:
     )
     parser.add_argument("sheet", metavar="SHEET", help="the worksheet, or a folder with some")
     parser.add_argument("--no-browser", action="store_true", help="print the address alone")
+    parser.add_argument("--look", action="store_true", help="show a worksheet that another program has open, and change nothing; a folder's page does so by itself")
     parser.add_argument("--port", type=int, default=0, metavar="N", help="the port on 127.0.0.1; if it isn't given the one that the worksheet had "
                         "last, or one that is free")
     parser.add_argument("--libraries", default="/usr/share", metavar="FOLDER", help="where KaTeX and markdown-it are looked for (/usr/share)")
@@ -85,6 +87,10 @@ def shelf_of(path: str) -> Shelf:
     return shelf
 
 
+def alone(path: str, may_look: bool) -> Union[Alone, Shelf]:
+    return Alone(MaybeLooking(path, None) if may_look else Book(path, None))
+
+
 def pack_or_unpack(given: List[str]) -> int:
     """Does `pack SHEET FILE` or `unpack FILE FOLDER`."""
     try:
@@ -104,9 +110,9 @@ def main(given: Optional[List[str]] = None) -> int:
         return pack_or_unpack(given)
     asked = words().parse_args(given)
     try:
-        place: Union[Alone, Shelf] = shelf_of(asked.sheet) if os.path.isdir(asked.sheet) else Alone(Book(asked.sheet, None))
+        place = shelf_of(asked.sheet) if os.path.isdir(asked.sheet) else alone(asked.sheet, asked.look)
     except InUse:
-        return tell(f"{asked.sheet} is in use: another program, as a second tmhost-notebook, has it open")
+        return tell(f"{asked.sheet} is in use: another program, as a second tmhost-notebook, has it open; --look shows it as it is on the disk")
     except (Died, ProtocolError, TimedOut, OSError) as error:
         return tell(f"{asked.sheet} can't be opened: {error}")
     try:

@@ -47,6 +47,11 @@ class Notes:
     def drop(self, id: int) -> None:
         self.of.pop(id, None)
 
+    def running(self, session: Optional[str]) -> Optional[int]:
+        """The cell that the interpreter of a session works for."""
+        row = self._rows.get(session or "")
+        return row[0][0] if row and row[0][1] else None
+
     # ---- events
 
     def take(self, event: Event, session: Optional[str]) -> Set[int]:

@@ -1,16 +1,19 @@
 """What a server has: one worksheet, or those of a folder, each of which is open from the moment at which its page was asked for until it is closed."""
 
+import contextlib
 import os
 import threading
 from typing import Any, Callable, Dict, List, Optional, Set, Tuple
 
 from tmhost import Died, InUse, ProtocolError, TimedOut
 
-from . import folder
+from . import asked, folder
 from .book import Book
 from .folder import NotDone
+from .looking import MaybeLooking
 
 SHEET = "sheet/"  # before the name of a worksheet in its page's address
+LOOK = ".look"
 MOST_OPEN = 64  # each is a program
 
 
@@ -18,7 +21,8 @@ class Alone:
     """One worksheet, which is open."""
 
     def __init__(self, book: Book) -> None:
-        self.book, self.path, self.name = book, book.path, os.path.basename(book.path)
+        self.book, self.name = book, os.path.basename(book.path)
+        self.path = book.path + (LOOK if book.is_looking else "")  # by which its address is kept: the other server has its own
 
     def split(self, asked: str) -> Tuple[Optional[str], str]:
         """The worksheet that an address behind the secret path is of, None for the list, and what is asked of it."""
@@ -57,12 +61,19 @@ class Shelf:
         """A worksheet, which is opened where it isn't; `is_asked` where a user asks for its page. Raises NotDone."""
         with self.lock:
             if name in self.books:
-                return self.books[name]
+                return self._again(self.books[name], is_asked)
             if name in self.closed and not is_asked:
                 raise NotDone(f"{name} was closed")
             if not self._has(name):
                 raise NotDone(f"there is no worksheet {name}")
             return self._open(name)
+
+    def _again(self, book: Book, is_asked: bool) -> Book:
+        """An open worksheet; one that was only looked at is opened where no other program has it any more and a user asks for its page."""
+        if book.is_looking and is_asked and not folder.is_locked(book.path):
+            with contextlib.suppress(asked.NotDone, Died, ProtocolError, TimedOut, OSError):
+                book.reopen()
+        return book
 
     def _has(self, name: str) -> bool:
         return folder.is_name(name) and folder.is_sheet(os.path.join(self.path, name))
@@ -71,7 +82,7 @@ class Shelf:
         if len(self.books) >= MOST_OPEN:
             raise NotDone(f"{MOST_OPEN} worksheets are open: close one first")
         try:
-            book = Book(os.path.join(self.path, name), self.program)
+            book = MaybeLooking(os.path.join(self.path, name), self.program)
         except InUse:
             raise NotDone(f"{name} is in use: another program, as a second tmhost-notebook, has it open") from None
         except (Died, ProtocolError, TimedOut, OSError) as error:
@@ -118,6 +129,8 @@ class Shelf:
 
     def _rename(self, name: str, to: str) -> None:
         folder.rename(self.path, name, to)
+        if name in self.books:  # it was only looked at
+            self.books.pop(name).close()
 
     def _duplicate(self, name: str, to: str) -> None:
         folder.duplicate(self.path, name, to)
@@ -132,6 +145,7 @@ class Shelf:
             is_locked = (facts["major"], facts["minor"], facts["inode"]) in locked
             book = self.books.get(name)
             waiting = 0 if book is None else sum(session.waiting + book.feed.count(session.name) for session in book.sheet.sessions.values())
-            state = ("ended" if book.ended else "open") if book else "inUse" if is_locked else "closed"
+            is_ours = book is not None and not book.is_looking
+            state = ("ended" if book and book.ended else "open") if is_ours else "inUse" if is_locked else "closed"
             found.append({"name": name, "changed": facts["changed"], "size": facts["size"], "state": state, "waiting": waiting})
         return found

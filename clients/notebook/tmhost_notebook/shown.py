@@ -25,6 +25,7 @@ class Parts:
         self.parts: List[Part] = []
         self.left = LONGEST
         self.kind = "text"
+        self.unset = 0  # characters of the longest formula that is too long to be set
 
     def text(self, text: str) -> None:
         text = text[: self.left]
@@ -46,6 +47,7 @@ class Parts:
             self.parts.append({"tex": tex})
             self.left -= len(tex)
             return
+        self.unset = max(self.unset, len(tex or ""))
         is_error = id(block) in self.errors
         is_bare = tag in SHOWN_WITHOUT_TAG or is_error
         self.kind = "error" if is_error else self.kind
@@ -100,7 +102,7 @@ def facts_of(answer: Answer) -> Dict[str, Any]:
     parts = Parts(pictures, errors)
     parts.add(answer.output)
     text = whole_text(answer, pictures)
-    return {"parts": parts.parts, "isError": bool(errors), "text": text[:LONGEST], "isCut": len(text) > LONGEST, "length": len(text)}
+    return {"parts": parts.parts, "isError": bool(errors), "text": text[:LONGEST], "isCut": len(text) > LONGEST, "length": len(text), "unset": parts.unset}
 
 
 def piece_of(answer: Answer, start: int) -> Dict[str, Any]:

@@ -3,6 +3,7 @@
 import dataclasses
 import os
 import threading
+import time
 from typing import TYPE_CHECKING, Any, Dict, Iterable, List, Optional, Set
 
 from tmhost import Field, Session, readable
@@ -15,6 +16,8 @@ if TYPE_CHECKING:
 
 Message = Dict[str, Any]
 
+SILENCE = 15.0  # seconds behind which a page is told that the server is there
+PARTIAL_EVERY = 0.2  # seconds between two messages of what isn't an answer yet
 MOST_PLACED = 50  # cells whose new places are told one by one; of more the whole order is told
 NO_MARK = [False, False]
 
@@ -31,6 +34,7 @@ class Watcher:
         self.wake = threading.Event()
         self.says: List[str] = []
         self.is_over = False
+        self.partial_at = 0.0  # when it can be told again what isn't an answer yet
         self.begin()
 
     def begin(self) -> None:
@@ -42,14 +46,20 @@ class Watcher:
         self.gone: Set[int] = set()
         self.marks: Dict[int, List[bool]] = {}
         self.others: Message = {}
+        self.partial: Set[int] = set()  # the cells for which an interpreter wrote something that is no answer yet, or that have no such text any more
         self.wake.set()
+
+    def wait(self) -> None:
+        """Waits until something has to be told, or for a while."""
+        self.wake.wait(SILENCE if not self.partial else max(0.0, self.partial_at - time.monotonic()))
+        self.wake.clear()
 
     def put(self, id: int) -> None:
         self.placed.add(id)
         self.cells.add(id)
 
     def drop(self, id: int) -> None:
-        for ids in (self.placed, self.cells, self.marked):
+        for ids in (self.placed, self.cells, self.marked, self.partial):
             ids.discard(id)
         self.marks.pop(id, None)
         self.gone.add(id)
@@ -68,10 +78,11 @@ def message_for(book: "Book", watcher: Watcher) -> Message:
         fields = [field for field in (book.field(id) for id in sorted(watcher.cells)) if field is not None and field.id in book.places]
         message.update(places(book, watcher))
     cells = [cell_facts(book, field) for field in fields]
-    message.update({name: value for name, value in (("cells", cells), ("marks", marks(book, watcher)), ("says", watcher.says)) if value})
+    told = {"cells": cells, "marks": marks(book, watcher), "says": watcher.says, "partial": partial(book, watcher)}
+    message.update({name: value for name, value in told.items() if value})
     watcher.is_new, watcher.says = False, []
-    for told in (watcher.cells, watcher.marked, watcher.placed, watcher.gone):
-        told.clear()
+    for ids in (watcher.cells, watcher.marked, watcher.placed, watcher.gone):
+        ids.clear()
     return {**message, "at": at} if message else message
 
 
@@ -91,6 +102,7 @@ def others(book: "Book") -> Message:
         "sessions": [session_facts(ended(session) if book.ended else session, book.feed.count(session.name)) for session in sessions],
         "removed": removed,
         "ended": book.ended,
+        "isLooking": book.is_looking,
     }
 
 
@@ -112,9 +124,35 @@ def marks(book: "Book", watcher: Watcher) -> Dict[int, List[bool]]:
     return changed
 
 
+def partial(book: "Book", watcher: Watcher) -> Dict[int, Optional[Message]]:
+    """Of cells that are evaluated what was written of their answers, null where there is nothing. Each page is told that now and then."""
+    if watcher.is_new:
+        watcher.partial = {id for id in map(book.notes.running, book.sheet.sessions) if id is not None}
+    if not watcher.partial or (not watcher.is_new and time.monotonic() < watcher.partial_at):
+        return {}
+    found = {id: partial_of(book, id) for id in watcher.partial}
+    watcher.partial = set()
+    watcher.partial_at = time.monotonic() + PARTIAL_EVERY
+    return {id: text for id, text in found.items() if text or not watcher.is_new}
+
+
+def partial_of(book: "Book", id: int) -> Optional[Message]:
+    field = book.field(id)
+    text = book.partials.of(field.session) if field and book.notes.running(field.session) == id else None
+    return {"text": text.text, "isCut": text.is_cut} if text else None
+
+
+def touch_partial(watchers: Iterable[Watcher], *ids: Optional[int]) -> None:
+    found = {id for id in ids if id is not None}
+    for watcher in watchers if found else ():
+        if not watcher.partial:
+            watcher.wake.set()  # who waits for news waits less long now
+        watcher.partial |= found
+
+
 def mark_of(book: "Book", id: int) -> List[bool]:
     session = book.places.answered_by(id)
-    return NO_MARK if session is None else [book.places.is_stale(id), book.ended is not None or book.notes.has_ended(id, session)]
+    return NO_MARK if session is None or book.is_looking else [book.places.is_stale(id), book.ended is not None or book.notes.has_ended(id, session)]
 
 
 def cell_facts(book: "Book", field: Field) -> Message:

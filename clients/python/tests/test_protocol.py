@@ -9,7 +9,7 @@ from typing import Any, Dict, List, Tuple
 
 from support import ROOT
 
-from tmhost import Answer, Answered, Block, BadLine, Field, Lost, Protocol, ProtocolError, Refused, Session, Stopped, Warned
+from tmhost import Answer, Answered, Block, BadLine, Field, Lost, Partial, Protocol, ProtocolError, Refused, Session, Stopped, Warned
 from tmhost import commands
 from tmhost.protocol import Lines, Taken
 from tmhost.reading import read
@@ -138,6 +138,18 @@ class Objects(unittest.TestCase):
         """What comes of one has no line: of a wait it is about an interpreter, and no command asks for one of a field."""
         self.assertEqual(read(b'{"life":2,"outcome":"failed","session":"a","type":"interrupted"}'), Warned("a", 2, "failed"))
         self.assertIsNone(read(b'{"id":3,"outcome":"sent","type":"over"}'))
+
+    def test_what_is_no_answer_yet(self) -> None:
+        """It has its bytes as they came, and changes nothing of what is shown."""
+        told: Dict[str, Any] = {"life": 1, "session": "a", "type": "partial"}
+        for value, data in (("\u0002verbatim:\u00e9", b"\x02verbatim:\xc3\xa9"), ({"base64": "wwL/"}, b"\xc3\x02\xff"), ("", b"")):
+            self.assertEqual(read(json.dumps({**told, "bytes": value}).encode()), Partial("a", 1, data))
+        for broken in (b"null", b"1", b'{"base64":"YQ=="}', b'{"items":[]}'):
+            self.assertRaises(ProtocolError, read, b'{"bytes":%b,"life":1,"session":"a","type":"partial"}' % broken)
+        talk, evaluation = self.asked()
+        held = talk.protocol.mirror.fields()
+        self.assertEqual(talk.told({**told, "bytes": "x"}).events, [Partial("a", 1, b"x")])
+        self.assertEqual((talk.protocol.mirror.fields(), evaluation.done()), (held, False))
 
     def test_halves_of_a_character_that_are_together(self) -> None:
         told = read(b'{"line":1,"name":"\\ud83d\\ude00","number":1,"type":"refused"}')

@@ -11,7 +11,7 @@ from .aio import AsyncCell, AsyncCellLike, AsyncEvaluation, AsyncWorksheet
 from .blocking import Cell, CellLike, Evaluation, Worksheet
 from .checks import Checked, Compared, check
 from .errors import BadLine, Closed, Died, Gone, InUse, Lost, NoScript, NoWorksheet, ProtocolError, Refused, TimedOut, TmhostError
-from .events import Answered, Banner, Completed, Default, Done, Ended, Event, Finished, OfLife, Stopped, Warned
+from .events import Answered, Banner, Completed, Default, Done, Ended, Event, Finished, OfLife, Partial, Stopped, Warned
 from .program import find_program
 from .protocol import Protocol
 from .reading import Asked, Exported, Interrupted, Made, OneField, Refusal, Reply, Sheet, StopReply, Waited
@@ -55,6 +55,7 @@ __all__ = [
     "NoWorksheet",
     "OfLife",
     "OneField",
+    "Partial",
     "Protocol",
     "ProtocolError",
     "Refusal",

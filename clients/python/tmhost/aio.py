@@ -89,10 +89,11 @@ class AsyncWorksheet:
     """As Worksheet; `open`, or `async with`, starts the program."""
 
     def __init__(
-        self, path: "Union[str, os.PathLike[str]]", *, create: bool = False, program: Program = None, timeout: Optional[float] = None
+        self, path: "Union[str, os.PathLike[str]]", *, create: bool = False, program: Program = None, timeout: Optional[float] = None,
+        partial: bool = False,
     ) -> None:
         self.path, self.version = path_word(path), ""
-        self._create, self._program, self._timeout = create, program, timeout
+        self._create, self._program, self._timeout, self._partial = create, program, timeout, partial
         self._opened: Optional[AsyncConnection] = None
         # What changes the order of the cells is done one after another, so that the last cell is known when one is put behind it.
         self._order: asyncio.Lock
@@ -105,7 +106,7 @@ class AsyncWorksheet:
         if self._create and not os.path.lexists(self.path):
             await tasks.create(words, self.path)
         self._order = asyncio.Lock()
-        self._opened = AsyncConnection([*words, "live", "--json", self.path])
+        self._opened = AsyncConnection(await tasks.words_of_live(words, self.path, self._partial))
         try:
             self.version = (await outcome(self._opened.hello, self._timeout, "opening")).version
             await self.refresh()

@@ -19,7 +19,7 @@ from .cells import CellView, id_of
 from .commands import Command, R, input_of, matching, words_of
 from .connection import Connection, Listener, Moment, outcome
 from .errors import BadLine, Closed, NoScript, Refused, TimedOut, TmhostError
-from .program import Program, path_word, refuse_uncreated, words_of_program
+from .program import Program, path_word, refuse_uncreated, words_of_live, words_of_program
 from .values import Answer, Completions, Field, LostItem, Session, Text, Turn
 
 CellLike = Union["Cell", int]
@@ -104,7 +104,8 @@ class Worksheet:
     """A worksheet that is held open: it is locked, and no other program works on it.
 
     `create` makes it where there is no file. `program` is the program `tmhost`, or its words (else the one that TMHOST names, or that is on
-    PATH). `timeout` is how many seconds the reply to a command may take: none of them is one that an interpreter works for.
+    PATH). `timeout` is how many seconds the reply to a command may take: none of them is one that an interpreter works for. `partial` has the
+    event Partial told, where the program knows it.
 
     What it shows (`cells`, `fields`, `sessions`) is held here, and asking for it sends nothing. It is exact behind each call and each event:
     but that a lost line has a reason is a guess, mostly right, until it was looked up (the event `Done("print", id)` tells where it has
@@ -112,7 +113,8 @@ class Worksheet:
     """
 
     def __init__(
-        self, path: "Union[str, os.PathLike[str]]", *, create: bool = False, program: Program = None, timeout: Optional[float] = None
+        self, path: "Union[str, os.PathLike[str]]", *, create: bool = False, program: Program = None, timeout: Optional[float] = None,
+        partial: bool = False,
     ) -> None:
         """Raises InUse where another program has the worksheet, FileNotFoundError where nothing is at the path (NoWorksheet, which is a
         Died) or there is no program, and Died where it can't be opened."""
@@ -125,7 +127,7 @@ class Worksheet:
         # What changes the order of the cells is done one after another, so that the last cell is known when one is put behind it.
         self._order = threading.Lock()
         self._ordering: "Optional[Future[Any]]" = None
-        self._connection = Connection([*words, "live", "--json", self.path])
+        self._connection = Connection(words_of_live(words, self.path, partial))
         try:
             self.version = outcome(self._connection.hello, timeout, "opening").version
             self.refresh()

@@ -52,6 +52,14 @@ class Default(OfLife):
 
 
 @dataclasses.dataclass(frozen=True)
+class Partial(OfLife):
+    """What the interpreter has written of a block that isn't closed: bytes of the protocol, as they came. It is told to those who ask for it, is no
+    promise and never kept: drop what came of a life when it has an answer, or another event of it comes."""
+
+    data: bytes
+
+
+@dataclasses.dataclass(frozen=True)
 class Warned(OfLife):
     """The time that a `wait` of `run` may take is over, and the interpreter was at something: it was interrupted, and `outcome` is "sent",
     "idle" or "failed"."""

@@ -16,6 +16,8 @@ from .reading import Fault
 FAULT = re.compile(r"^fault (\d+) (\w+)(?: (\d+))?$", re.MULTILINE)
 NOT_EMPTY, IN_USE = 34, 35
 LONGEST_SAYING = 65_536  # bytes of standard error that are kept
+PARTIAL = "--partial"
+HELP = ("help", "live")
 GRACE = 10.0  # seconds that it has for its end behind that of its output
 
 Program = Union[None, str, Sequence[str]]
@@ -42,6 +44,19 @@ def words_of_program(program: Program) -> List[str]:
     if program is None:
         return [find_program()]
     return [program] if isinstance(program, str) else list(program)
+
+
+def words_of_live(words: Sequence[str], path: str, partial: bool) -> List[str]:
+    """Those that hold a worksheet open. What isn't an answer yet is asked for where the program can tell it."""
+    if partial:
+        told = subprocess.run([*words, *HELP], stdin=subprocess.DEVNULL, capture_output=True)
+        partial = has_flag(told.returncode, told.stdout, PARTIAL)
+    return [*words, "live", "--json", *([PARTIAL] if partial else []), path]
+
+
+def has_flag(status: Optional[int], told: bytes, flag: str) -> bool:
+    """Whether a task has a flag, as its own help says."""
+    return status == 0 and any(line.split()[:1] == [flag] for line in told.decode("utf-8", "replace").splitlines())
 
 
 def path_word(path: "Union[str, os.PathLike[str]]") -> str:

@@ -12,7 +12,7 @@ import re
 from typing import Any, Callable, Dict, List, NoReturn, Optional, Tuple, Union
 
 from .errors import ProtocolError
-from .events import Answered, Banner, Completed, Default, Ended, Event, Warned
+from .events import Answered, Banner, Completed, Default, Ended, Event, Partial, Warned
 from .values import LINE_END, Answer, Block, Completions, Field, LostItem, Session, Text
 
 KINDS = ("format", "channel")
@@ -163,14 +163,20 @@ def text(value: object) -> Text:
     if isinstance(value, str):
         return value
     try:
-        data = base64.b64decode(Members(value).string("base64").encode("ascii"), validate=True)
+        found = base64.b64decode(Members(value).string("base64").encode("ascii"), validate=True)
     except (binascii.Error, UnicodeEncodeError):
         broken("bytes that aren't base64")
     try:
-        data.decode("utf-8")
+        found.decode("utf-8")
     except UnicodeDecodeError:
-        return data
+        return found
     broken("base64 of what is UTF-8")
+
+
+def data(value: object) -> bytes:
+    """BYTES as they are."""
+    found = text(value)
+    return found.encode("utf-8") if isinstance(found, str) else found
 
 
 def block(value: object) -> Block:
@@ -252,6 +258,7 @@ EVENTS: Dict[str, Callable[[str, int, Members], Event]] = {
     "completed": lambda name, life, told: Completed(name, life, told.number("id"), told.or_none("told", completions)),
     "default": lambda name, life, told: Default(name, life, told.text("text")),
     "interrupted": lambda name, life, told: Warned(name, life, outcome(told)),
+    "partial": lambda name, life, told: Partial(name, life, data(told.get("bytes"))),
     "ended": lambda name, life, told: Ended(name, life, told.string("reason"), lost(told)),
 }
 OTHERS: Dict[str, Callable[[Members], Union[Hello, Fault, End]]] = {
@@ -268,12 +275,12 @@ def without_doubles(pairs: List[Tuple[str, Any]]) -> Dict[str, Any]:
 
 def data_of(line: bytes) -> Members:
     try:
-        data = json.loads(line.decode("utf-8"), object_pairs_hook=without_doubles, parse_constant=lambda name: broken(name))
+        found = json.loads(line.decode("utf-8"), object_pairs_hook=without_doubles, parse_constant=lambda name: broken(name))
         if HALF.search(line):
-            json.dumps(data, ensure_ascii=False).encode("utf-8")
+            json.dumps(found, ensure_ascii=False).encode("utf-8")
     except (ValueError, RecursionError) as error:
         raise ProtocolError(f"tmhost wrote a line that is no JSON: {line[:60]!r}") from error
-    return Members(data)
+    return Members(found)
 
 
 def read(line: bytes) -> Optional[Told]:

@@ -13,7 +13,7 @@ from .commands import Command, R
 from .connection import PAUSE, PIECE
 from .errors import Closed, ProtocolError, TimedOut, TmhostError
 from .events import Event, Finished
-from .program import GRACE, Child, missing, refuse_uncreated
+from .program import GRACE, HELP, PARTIAL, Child, has_flag, missing, refuse_uncreated
 from .protocol import Lines, Protocol, Taken
 from .reading import Hello, read
 
@@ -54,6 +54,15 @@ async def create(words: List[str], path: str) -> None:
     made = await asyncio.create_subprocess_exec(*words, "create", path, stdin=DEVNULL, stdout=DEVNULL, stderr=PIPE)
     _, errors = await made.communicate()
     refuse_uncreated(path, made.returncode, errors)
+
+
+async def words_of_live(words: List[str], path: str, partial: bool) -> List[str]:
+    """Those that hold a worksheet open, as `program.words_of_live` gives them."""
+    if partial:
+        asked = await asyncio.create_subprocess_exec(*words, *HELP, stdin=DEVNULL, stdout=PIPE, stderr=DEVNULL)
+        told, _ = await asked.communicate()
+        partial = has_flag(asked.returncode, told, PARTIAL)
+    return [*words, "live", "--json", *([PARTIAL] if partial else []), path]
 
 
 class AsyncConnection:

@@ -6,12 +6,14 @@
     file TAG PATH   answers what a file has, in a block with this tag
     raw B64         writes these bytes as they are
     bytes N         answers N letters
+    until PATH TEXT begins an answer with TEXT, and ends it when there is such a file
     sleep SECONDS   answers behind that time; SIGINT ends it, and it answers "interrupted"
     slowly SECONDS  the same, but SIGINT ends the interpreter
     set TEXT        keeps TEXT, which `get` answers
     exit            ends
 
-A request of completions at `ca` is answered by `cat`, `cave` and `call`; one at `be` by `beta` alone.
+A request of completions at `ca` is answered by `cat`, `cave` and `call`; one at `be` by `beta` alone, and one at `told_FILE` by what the file FILE in
+the folder TOLD has.
 """
 
 import base64
@@ -38,6 +40,14 @@ def say(text: str) -> None:
     write(b"verbatim", text.encode())
 
 
+def begin(path: str, text: str) -> None:
+    """The answer is whole when a file is there."""
+    send(b"\x02verbatim:" + text.encode())
+    while not os.path.exists(path):
+        time.sleep(0.02)
+    send(b" and its end\x02prompt#%d> \x05\x05" % (count + 1))
+
+
 def rest(seconds: float) -> None:
     try:
         time.sleep(seconds)
@@ -49,6 +59,10 @@ def rest(seconds: float) -> None:
 def complete(line: str) -> None:
     found = re.search(r'"((?:[^"\\]|\\.)*)" (\d+)', line)
     word = found[1].encode()[: int(found[2])].decode().split()[-1] if found else ""
+    if word.startswith("told_"):
+        with open(os.path.join(os.environ["TOLD"], word[len("told_") :]), "rb") as file:
+            send(file.read())
+        return
     words = [one for one in ("cat", "cave", "call", "beta") if word and one.startswith(word)]
     told = " ".join(f'"{one[len(word):]}"' for one in words)
     send(b"\x02scheme:" + f'(tuple "{word if words else ""}" {told})'.encode() + b"\x05")
@@ -69,6 +83,8 @@ def answer(word: str, text: str) -> None:
         send(base64.b64decode(text))
     elif word == "bytes":
         say("x" * int(text))
+    elif word == "until":
+        begin(*text.split(" ", 1))
     elif word in ("sleep", "slowly"):
         if word == "slowly":
             signal.signal(signal.SIGINT, signal.SIG_DFL)
