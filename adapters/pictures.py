@@ -15,6 +15,10 @@ EMPTY = re.compile(rb"<svg\b[^>]*>\s*(?:<g\b[^>]*>\s*</g>\s*)?</svg>\s*\Z")  # a
 IS_SVG = re.compile(rb"(?:\xef\xbb\xbf)?\s*(?:<\?xml\b([^>]*)>\s*)?(?:<!--.*?-->\s*)*(?:<!DOCTYPE\b[^>]*>\s*)?(?:<!--.*?-->\s*)*(?=<svg[\s>/])", re.DOTALL)
 ENCODING = re.compile(rb"\bencoding\s*=\s*[\"'](?!utf-8|us-ascii)", re.IGNORECASE)  # another than UTF-8
 
+# The element that a picture is, with the size of what it shows; and whether it has one of its own.
+ROOT = re.compile(rb"\A<svg\b([^>]*?\bviewBox\s*=\s*[\"']\s*[-+.\d]+[\s,]+[-+.\d]+[\s,]+([.\d]+)[\s,]+([.\d]+)\s*[\"'][^>]*>)")
+SIZE = re.compile(rb"\s(?:width|height)\s*=")
+
 
 def picture(data: bytes) -> Optional[Part]:
     """The picture of these bytes; None where they are none that is known."""
@@ -25,9 +29,12 @@ def picture(data: bytes) -> Optional[Part]:
 
 
 def bare(data: bytes) -> bytes:
-    """An SVG without what stands before it: readers of notebooks put it into a page, and some refuse one that declares an encoding."""
+    """An SVG without what stands before it: readers of notebooks put it into a page, and some refuse one that declares an encoding. It has a
+    size, without which an image may have none in a page: that of what it shows."""
     found = IS_SVG.match(data)
-    return data[found.end():] if found and not ENCODING.search(found[1] or b"") else data
+    if not found or ENCODING.search(found[1] or b""):
+        return data
+    return ROOT.sub(lambda root: root[0] if SIZE.search(root[0]) else b'<svg width="%s" height="%s"%s' % (root[2], root[3], root[1]), data[found.end():], count=1)
 
 
 def written_to(folder: str) -> Iterator[bytes]:
