@@ -121,7 +121,7 @@ class Colours(Written):
         numbers = "getComputedStyle(document.querySelector('#cell-1 .line:nth-child(5)'), '::before').content"
         tab.until(numbers, 'counter(line)')
         tab.until("document.querySelector('#cell-1 .text-state').textContent", "saved")
-        tab.ask("Page.reload")
+        tab.reload()
         tab.until(f"{READY} && {numbers}", 'counter(line)')
         tab.key("l")
         tab.until(numbers, "none")
@@ -214,7 +214,7 @@ class Finding(Written):
         tab.key("O", "Shift")
         says = "[...document.querySelectorAll('.unfold')].map((one) => one.textContent)"
         tab.until(says, ["3 cells folded", "1 line folded, answer folded"])
-        tab.ask("Page.reload")
+        tab.reload()
         tab.until(f"{READY} && {SHOWN}", ["cell-1", "cell-5", "cell-6", "cell-7"])
         tab.until(says, ["3 cells folded", "1 line folded, answer folded"])
         self.assertEqual(tab.value("document.querySelector('#cell-7 .output').getBoundingClientRect().height"), 0)
