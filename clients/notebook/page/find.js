@@ -135,6 +135,7 @@ export class Find {
       set: of.map(([view, some]) => ({ id: view.id, base: view.value, text: this.replaced(view, some) })),
     }));
     if (!isDone) return;
+    this.cells.choice.drop(); // what is done next is for one cell
     await until(() => of.every(([view]) => view.value === view.cell.input));
     this.search();
     this.at = Math.min(at, this.places.length - 1);

@@ -178,6 +178,12 @@ class Tab:
                 raise Failed(f"{expression} is {found!r}" + ("" if callable(wanted) else f", and not {wanted!r}"))
             time.sleep(0.03)
 
+    def reload(self) -> None:
+        """Loads the page anew; what is asked behind it is asked of the new one."""
+        self.value("window.isOld = true")
+        self.ask("Page.reload")
+        self.until("window.isOld ?? false", False)
+
     def key(self, key: str, *modifiers: str, at: Optional[float] = None) -> None:
         """Presses a key as a user does, now or at a time."""
         bits = sum(MODIFIERS[one] for one in modifiers)

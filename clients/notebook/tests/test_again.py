@@ -121,7 +121,7 @@ class Again(PageCase):
         self.kill()
         self.again()
         self.tab.value("document.documentElement.dataset.ready = 'no'")
-        self.tab.ask("Page.reload")
+        self.tab.reload()
         self.tab.until(harness.READY, "true")
         self.assertEqual(self.tab.value(TEXT % 3), "say 3")
 

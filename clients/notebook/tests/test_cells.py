@@ -87,7 +87,7 @@ class Cells(SharedCase):
         tab.key("z")
         self.agree(tab, "say c", "say d", "say e", "say a", "say b")
         self.assertEqual(tab.value(NOTE), "taken back: paste of 2 cells")
-        tab.ask("Page.reload")
+        tab.reload()
         tab.until(f"[{READY}, document.querySelectorAll('.cell').length]", ["true", 5])
         tab.key("z", "Control")
         self.agree(tab, "say c", "say d", "say e")

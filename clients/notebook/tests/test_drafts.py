@@ -85,7 +85,7 @@ class DraftsOfThePage(PageCase):
                 tab = opened(self.browser, self.server, in_window=True)
             else:
                 tab.value("document.documentElement.dataset.ready = 'no'")
-                tab.ask("Page.reload")
+                tab.reload()
                 tab.until(READY, "true")
             self.assertEqual({id: (tab.value(TEXT % id), tab.value(SAYS % id)) for id in (1, 2)}, {id: (texts[id], KEPT) for id in (1, 2)})
             self.assertEqual([tab.value(STATE % id) for id in (1, 2)], ["running", "queued"])

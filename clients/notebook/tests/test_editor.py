@@ -11,7 +11,7 @@ import unittest
 from typing import List, Tuple
 
 import chromium
-from harness import IN_TEXT, PROGRAM, READY, REPOSITORY, SPOKEN, SharedCase, needs_chromium, needs_program
+from harness import IN_TEXT, PROGRAM, READY, REPOSITORY, SPOKEN, Page, SharedCase, needs_chromium, needs_program
 
 TEXTS = "[...document.querySelectorAll('.cell textarea')].map((text) => text.value)"
 PIECES = "[...document.querySelectorAll('#cell-%d .layer [class^=t-]')].map((one) => `${one.className.slice(2)} ${one.textContent}`)"
@@ -121,10 +121,49 @@ class Colours(Written):
         numbers = "getComputedStyle(document.querySelector('#cell-1 .line:nth-child(5)'), '::before').content"
         tab.until(numbers, 'counter(line)')
         tab.until("document.querySelector('#cell-1 .text-state').textContent", "saved")
-        tab.ask("Page.reload")
+        tab.reload()
         tab.until(f"{READY} && {numbers}", 'counter(line)')
         tab.key("l")
         tab.until(numbers, "none")
+
+    def test_cells_that_are_not_seen(self) -> None:
+        """They have no parts till they are wanted; what is told of them, found, copied and read out is theirs all the same."""
+        self.begin()
+        self.server.stop()
+        lines = [f"session s tab {SPOKEN}", *(f"new {number} s say {number}{' needle' if number == 950 else ''}" for number in range(1_000))]
+        self.sheet += "2"
+        subprocess.run([PROGRAM or "", "create", self.sheet], check=True, stdout=subprocess.DEVNULL)
+        subprocess.run([PROGRAM or "", "run", self.sheet], input="\n".join(lines).encode() + b"\n", check=True, stdout=subprocess.DEVNULL)
+        self.server = self.serve()
+        self.page = Page(self.server)
+        tab = self.browser.open("about:blank")
+        self.addCleanup(tab.close)
+        tab.ask("Page.addScriptToEvaluateOnNewDocument", {"source": "window.requestIdleCallback = (does) => { window.idle = does; return 1 }"})
+        tab.ask("Page.navigate", {"url": self.server.address})
+        tab.until(READY, "true")
+        empty = "document.querySelectorAll('.cell:empty').length"
+        self.assertEqual(tab.value(empty), 800)
+        told = "((cell) => [cell.ariaLabel, cell.getAttribute('aria-description'), cell.dataset.text, cell.dataset.state])(document.querySelector('#cell-900'))"
+        self.assertEqual(tab.value(told), ["Cell 900, s", "saved", "saved", "empty"])
+        self.page.call("set", id=900, text="say other", base="say 899")
+        self.page.call("eval", id=900)
+        tab.until(told, ["Cell 900, s", "saved", "saved", "answered"])
+        self.assertEqual(tab.value(empty), 800)
+        tab.value("document.querySelector('#cell-900').scrollIntoView()")
+        tab.until("['textarea', '.output pre'].map((name) => document.querySelector(`#cell-900 ${name}`)?.[name === 'textarea' ? 'value' : 'textContent'])", ["say other", "other"])
+        tab.click("#cell-900 .number")
+        tab.key("f")
+        tab.until("document.activeElement.id", "find-text")
+        tab.type("needle")
+        tab.until("document.querySelector('.cell.selected').id", "cell-951")
+        tab.key("Escape")
+        tab.key("a", "Control")
+        tab.key("c")
+        tab.until("JSON.parse(localStorage.getItem('tmhost-cells') ?? '[]').length", 1_000)
+        self.assertGreater(tab.value(empty), 600)
+        tab.value("window.idle({timeRemaining: () => 50})")
+        self.assertEqual(tab.value(empty), 0)
+        self.assertEqual(self.browser.trouble, [])
 
     def test_many_cells(self) -> None:
         """Of 10,000 cells those that are seen have colours, and a key is seen as soon as in few."""
@@ -214,7 +253,7 @@ class Finding(Written):
         tab.key("O", "Shift")
         says = "[...document.querySelectorAll('.unfold')].map((one) => one.textContent)"
         tab.until(says, ["3 cells folded", "1 line folded, answer folded"])
-        tab.ask("Page.reload")
+        tab.reload()
         tab.until(f"{READY} && {SHOWN}", ["cell-1", "cell-5", "cell-6", "cell-7"])
         tab.until(says, ["3 cells folded", "1 line folded, answer folded"])
         self.assertEqual(tab.value("document.querySelector('#cell-7 .output').getBoundingClientRect().height"), 0)

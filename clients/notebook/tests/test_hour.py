@@ -180,24 +180,34 @@ class Hour(PageCase):
         self.tab.until(NOTE, lambda found: "replaced" in str(found))
         self.tab.key("Escape")
         self.assertEqual(self.tab.value(TEXTS), [text.replace("pi_(", "count(") for text in before])
+        self.assertEqual(self.tab.value("document.querySelectorAll('.cell.chosen').length"), 0)
         self.tab.click("[data-do=evaluateStale]")
         self.tab.until("document.querySelectorAll('.cell:not(.prose) .output.old').length", 0)
         self.settle()
 
     def look(self) -> None:
         """Pictures of it; and nothing is wider than its page, where formulas and tables are, too."""
-        for name, width, scheme in (("light", 1000, "light"), ("dark", 1000, "dark"), ("narrow", 360, "light")):
-            self.tab.ask("Emulation.setEmulatedMedia", {"features": [{"name": "prefers-color-scheme", "value": scheme}]})
+        for name, width, scheme, media in (("light", 1000, "light", ""), ("dark", 1000, "dark", ""), ("narrow", 360, "light", ""), ("paper", 700, "light", "print")):
+            self.tab.ask("Emulation.setEmulatedMedia", {"media": media, "features": [{"name": "prefers-color-scheme", "value": scheme}]})
             self.tab.size(width, 900)
             self.tab.value("scrollTo(0, 0)")
             for place in range(12):
                 self.tab.value(f"scrollTo(0, {place * 800}), new Promise((done) => requestAnimationFrame(() => setTimeout(done, 100)))")
                 self.assertTrue(self.tab.value(LINES), name)
                 self.keep(f"{name}{place:02}.png", self.tab.ask("Page.captureScreenshot", {"format": "png"})["data"])
+        self.assertLess(self.head(360), 180)
         self.tab.size(1000, 800)
+        self.tab.ask("Emulation.setEmulatedMedia", {"media": ""})
         data = self.tab.ask("Page.printToPDF", {"printBackground": True})["data"]
         self.keep("print.pdf", data)
         self.assertIn(base64.b64decode(data).count(b"/Type /Page\n"), range(4, 40))
+
+    def head(self, width: int) -> float:
+        """How high the head is that stays in view."""
+        self.tab.ask("Emulation.setEmulatedMedia", {"media": ""})
+        self.tab.size(width, 740)
+        height: float = self.tab.value("document.querySelector('#bar').getBoundingClientRect().height")
+        return height
 
     def keep(self, name: str, data: str) -> None:
         if PICTURES:

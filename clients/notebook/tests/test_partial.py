@@ -200,8 +200,8 @@ class InThePage(Telling, PageCase):
         self.tell(b"\x02latex:$x$\x05\xe2\x80\xae", "t")
         self.tell("\x02verbatim:\u202etwo\x1b[31m".encode(), "t")
         tab.until(SHOWN, [[f"cell-{first}", "one é <b>\n"], [f"cell-{second}", "{latex:$x$}\\u202etwo\\x1b[31m"]])
-        tab.value("window.isOld = true, location.reload()")
-        tab.until(f"window.isOld ? 0 : {READY} && {SHOWN}.length", 2)
+        tab.reload()
+        tab.until(f"{READY} && {SHOWN}.length", 2)
         with open(self.sheet, "rb") as file:
             self.assertNotIn(b"one \xc3", file.read())
         self.assertNotIn("one", self.show())

@@ -253,8 +253,7 @@ class Session(Case):
         first.value("window.go()")
 
     def reload(self) -> None:
-        self.tab.value("document.documentElement.dataset.ready = 'no'")
-        self.tab.ask("Page.reload")
+        self.tab.reload()
 
     def kill_the_server(self) -> None:
         self.tab.click("#cell-1 .number")
