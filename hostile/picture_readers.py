@@ -23,8 +23,12 @@ SHARED = "file:///usr/share/javascript/"  # from where Debian's nbconvert takes 
 DRAWN = re.compile(r"data:image/(?:png|jpeg);base64,[A-Za-z0-9+/=\n]*")
 LONG = 100_000  # characters
 QUICK = 20.0  # seconds in which the notebook shows a key, on a busy machine too
-# The elements in the answers of the notebook's page, each with the names of its attributes.
-IN_ANSWERS = "[...document.querySelectorAll('#cells .output, #cells .output *')].map((one) => [one.localName, ...one.getAttributeNames().sort()].join(' '))"
+# The elements in the answers of the notebook's page, each with the names of its attributes, but what it has for long texts and for pictures to be asked for.
+OWN = ".more, .more *, [data-do=showPicture]"
+IN_ANSWERS = (
+    "[...document.querySelectorAll('#cells .output, #cells .output *')].filter((one) => !one.matches('%s'))"
+    ".map((one) => [one.localName, ...one.getAttributeNames().sort()].join(' '))" % OWN
+)
 ADDRESSES = "[...document.querySelectorAll('#cells .output img')].map((one) => one.src.slice(0, 30))"
 HEAVY = "document.querySelectorAll('[data-do=showPicture]').length"
 
