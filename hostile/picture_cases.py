@@ -11,6 +11,8 @@ from typing import NamedTuple
 
 HOST = "picture.example"
 HARM = "top.harmed=1;document.title=1"
+# What a browser draws for minutes. The notebook doesn't give it any of these.
+SLOW = frozenset(("a long entity, often", "references of references", "patterns of patterns"))
 
 
 class Case(NamedTuple):

@@ -17,12 +17,17 @@ import chromium  # noqa: E402
 
 HARMED = "[window.harmed ?? 0, document.title === '1' ? 1 : 0]"
 DRAWN = "document.readyState === 'complete' && [...document.images].every((one) => one.complete)"
-# Shows all of the page once, a screen at a time.
+# Shows the page a screen at a time, and each image in it. One may be so high that a page has thousands of screens.
 SCROLLED = """
 (async () => {
-  for (let place = 0; place < document.documentElement.scrollHeight; place += 700) {
+  const drawn = () => new Promise((done) => requestAnimationFrame(() => requestAnimationFrame(done)));
+  for (let place = 0; place < Math.min(document.documentElement.scrollHeight, 70_000); place += 700) {
     scrollTo(0, place);
-    await new Promise((done) => requestAnimationFrame(() => requestAnimationFrame(done)));
+    await drawn();
+  }
+  for (const image of document.images) {
+    image.scrollIntoView();
+    await drawn();
   }
 })()
 """
