@@ -43,8 +43,8 @@ function shape() {
  * @type {(box: HTMLElement, id: number, isReadOnly: boolean) => Parts}
  */
 export function partsOf(box, id, isReadOnly) {
-  box.append(...childrenOf(/** @type {HTMLElement} */ (SHAPE.cloneNode(true))));
-  const [head, line, output] = childrenOf(box);
+  const [head, line, output] = childrenOf(/** @type {HTMLElement} */ (SHAPE.cloneNode(true)));
+  box.prepend(head, line, output); // in front of what it may have by then, as what says that it is folded
   const [number, session, textState, answerState, took] = childrenOf(head);
   const prompt = childrenOf(line)[0], text = /** @type {HTMLTextAreaElement} */ (childrenOf(line)[1]);
   text.readOnly = isReadOnly;

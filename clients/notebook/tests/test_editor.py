@@ -163,7 +163,19 @@ class Colours(Written):
         self.assertGreater(tab.value(empty), 600)
         tab.value("window.idle({timeRemaining: () => 50})")
         self.assertEqual(tab.value(empty), 0)
+        self.fold_unseen(tab)
         self.assertEqual(self.browser.trouble, [])
+
+    def fold_unseen(self, tab: chromium.Tab) -> None:
+        """What is folded of a cell that isn't seen stands behind its parts, when it has them."""
+        tab.click("#cell-900 .number")
+        tab.key("O", "Shift")
+        tab.until("document.querySelector('#cell-900 > .unfold')?.textContent", "1 line folded")
+        tab.reload()
+        tab.until(f"{READY} && [...document.querySelector('#cell-900').children].map((one) => one.className)", ["unfold"])
+        tab.value("document.querySelector('#cell-900').scrollIntoView()")
+        tab.until("[...document.querySelector('#cell-900').children].map((one) => one.className.split(' ')[0])", ["", "input", "output", "unfold"])
+        self.assertEqual(tab.value("document.querySelector('#cell-900 textarea').value"), "say other")
 
     def test_many_cells(self) -> None:
         """Of 10,000 cells those that are seen have colours, and a key is seen as soon as in few."""
