@@ -175,19 +175,21 @@ def read_notebook(path: str, text: str, session: Session) -> Suite:
         notebook = json.loads(text)
         metadata = notebook.get("metadata", {})
         language = str(metadata.get("kernelspec", {}).get("language") or metadata.get("language_info", {}).get("name") or "python")
-        cells = list(notebook["cells"])
+        cases = tuple(notebook_cases(session.name, notebook["cells"], language))
     except (ValueError, KeyError, AttributeError, TypeError):
         raise Trouble("it is no notebook of Jupyter") from None
     if language != "python" and session == PYTHON:
         raise Trouble(f"the notebook is in {language}: --words names the interpreter of its cells")
-    cases: List[Case] = []
+    return Suite(path, dict([session]), Rules(without=frozenset([PICTURES])), None, cases)
+
+
+def notebook_cases(session: str, cells: List[Dict[str, Any]], language: str) -> Iterator[Case]:
     for number, cell in enumerate(cells, 1):
         lines = text_in(cell.get("source")).split("\n")
         fields = tuple(whole(cell_lines(text_in(cell.get("source")), language)))
         if cell.get("cell_type") == "code" and fields:
             wanted = "\n".join(part for part in (output_of(it, language) for it in cell.get("outputs", [])) if part)
-            cases.append(Case(session.name, Marks(), tuple(lines), fields, number, wanted))
-    return Suite(path, dict([session]), Rules(without=frozenset([PICTURES])), None, tuple(cases))
+            yield Case(session, Marks(), tuple(lines), fields, number, wanted)
 
 
 # ---- PARI
@@ -245,7 +247,12 @@ def read_other(path: str, text: str, names_sessions: bool, words: Optional[str])
     if found is None:
         return None
     reader, session = found
-    return reader(path, text, session_of(words) if words is not None else session)
+    try:
+        return reader(path, text, session_of(words) if words is not None else session)
+    except SyntaxError as error:
+        raise Trouble(f"line {error.lineno} is no Python: {error.msg}") from None
+    except (ValueError, RecursionError) as error:
+        raise Trouble(f"it can't be read: {error}") from None
 
 
 # ---- the text form
