@@ -5,7 +5,7 @@ import re
 import unittest
 from decimal import Decimal
 from fractions import Fraction
-from typing import List, Tuple
+from typing import Callable, List, Tuple
 
 from . import support  # noqa: F401
 from tmhost_suite.rules import Normal, Rules, as_wanted
@@ -136,7 +136,7 @@ class Random(unittest.TestCase):
         return text, text, True
 
     def parts(self, rules: Rules) -> List[Part]:
-        makers = [lambda: self.number(rules.relative, rules.absolute), self.integer, lambda: self.other(bool(rules.normal))]
+        makers: List[Callable[[], Part]] = [lambda: self.number(rules.relative, rules.absolute), self.integer, lambda: self.other(bool(rules.normal))]
         return [self.random.choices(makers, (5, 1, 4))[0]() for _ in range(self.random.randint(1, 6))]
 
     def rules(self) -> Rules:
@@ -161,7 +161,7 @@ class Random(unittest.TestCase):
         for _ in range(ROUNDS):
             rules = dataclasses.replace(self.rules(), normal=(), columns=self.random.randint(3, 30))
             parts = [part for part in self.parts(rules) if not part[0].startswith(("<", "in ", "0x"))]
-            one, other = (" ".join(part[at] for part in parts) for at in (0, 1))
+            one, other = " ".join(part[0] for part in parts), " ".join(part[1] for part in parts)
             wanted = "\n".join(one[at : at + (rules.columns or 1)] for at in range(0, max(1, len(one)), rules.columns or 1))
             if not all(part[2] for part in parts):
                 seen += 1

@@ -23,8 +23,10 @@ class Verdicts(Case):
             case("die", "8", "a {skip needs a net}"),
             case("quiet"),
             case("say 9", "9", "b"),
+            case("say 10", "10", "b {may_fail by chance}"),
+            case("say 11", "10", "b {may_fail by chance}"),
         )
-        self.assertEqual(self.verdicts(self.path), ["ok", "differs", "new", "xfail", "xpass", "skip", "ok", "ok"])
+        self.assertEqual(self.verdicts(self.path), ["ok", "differs", "new", "xfail", "xpass", "skip", "ok", "ok", "ok", "xfail"])
         self.assertEqual(self.outcome.status, 1)
         self.assertEqual(
             without_seconds(self.outcome.output).split("\n"),
@@ -38,7 +40,7 @@ class Verdicts(Case):
                 "  +4",
                 f"xpass: {self.path}:43 say 7 (was mended)",
                 "  it is wanted to fail, and passes",
-                "3 ok, 1 xfail, 1 skip, 1 differs, 1 new, 1 xpass",
+                "4 ok, 2 xfail, 1 skip, 1 differs, 1 new, 1 xpass",
                 "",
             ],
         )

@@ -30,7 +30,8 @@ ABOUT = "Runs test suites that are texts: evaluates the code in their fences, an
 NOTES = """
 The front matter of SUITE names the sessions, as `sessions: {py: [tmhost-python]}`, and may have `normal`, `tolerance` and
 `timeout`. A fence of a session is a case, and a fence `answer` behind it what is wanted. Behind the session may stand {setup},
-{teardown}, {xfail REASON}, {skip REASON}, {timeout SECONDS}, {tags A B}, {flaky N} and {whole}.
+{teardown}, {xfail REASON}, {may_fail REASON}, {skip REASON}, {timeout SECONDS}, {tags A B}, {flaky N}, {whole} and others
+(clients/suite/README.md).
 What came is kept in the worksheet SUITE.run while the suite runs, so --resume goes on where a run was cut off.
 The program is the one that TMHOST names, or tmhost on PATH. The status is 0 where all is as wanted, 1 where it isn't, and 2
 where the words are refused.

@@ -1,6 +1,5 @@
 """What came of a run, for programs: TAP, JUnit's XML, lines of JSON, remarks for GitHub and GitLab."""
 import dataclasses
-import difflib
 import hashlib
 import json
 import os
@@ -9,10 +8,11 @@ from typing import Dict, Iterator, List, NamedTuple, Optional
 from xml.sax.saxutils import escape, quoteattr
 
 from .cases import Case, Suite
+from .diffs import diff
 from .kept import Result
+from .rules import wrong_patterns
 from .running import WRONG
 
-CONTEXT = 2  # lines
 NO_XML = re.compile("[^\t\n\r -\ud7ff\ue000-\ufffd\U00010000-\U0010ffff]")
 
 
@@ -60,11 +60,13 @@ class Told:
         """What is said of it beside its verdict."""
         marks = self.case.marks
         was_skipped = self.verdict == "skip" and self.result is not None
-        parts = [marks.skip or "", marks.xfail or "", self.got.split("\n")[0] if was_skipped else ""]
+        parts = [marks.skip or "", marks.xfail or "", (marks.may_fail or "") if self.verdict == "xfail" else "", self.got.split("\n")[0] if was_skipped else ""]
         if self.result and self.result.tries > 1:
             parts.append(f"tried {self.result.tries} times")
         if self.result and self.result.began_anew:
             parts.append("in an interpreter that was started again")
+        if self.verdict == "differs":
+            parts += wrong_patterns(self.case.wanted or "") + wrong_patterns(self.case.errors or "")
         return ", ".join(part for part in parts if part)
 
     @property
@@ -84,8 +86,7 @@ class Told:
         return found
 
     def _diff_of(self, wanted: Optional[str], came: str, what: str) -> List[str]:
-        lines, others = self.suite.rules_of(self.case).laid_out(wanted or "", came)
-        return list(difflib.unified_diff(lines if wanted is not None else [], others if came or not what else [], f"wanted{what}", f"came{what}", lineterm="", n=CONTEXT))
+        return diff(wanted, came, self.suite.rules_of(self.case), what)
 
 
 class Trouble(NamedTuple):

@@ -143,6 +143,18 @@ def line_matches(wanted: str, got: str, rules: Rules) -> bool:
     return all(near(*pair, rules) for pair in zip(numbers, others))
 
 
+def wrong_patterns(wanted: str) -> List[str]:
+    """Why lines ` (re)` of an answer are no patterns, each with its number."""
+    found: List[str] = []
+    for number, line in enumerate(wanted.split("\n"), 1):
+        if line.endswith(BY_PATTERN):
+            try:
+                re.compile(line[: -len(BY_PATTERN)])
+            except re.error as error:
+                found.append(f"line {number} of what is wanted is no pattern: {error}")
+    return found
+
+
 def match(wanted: Sequence[str], got: Sequence[str], rules: Rules) -> bool:
     """Line by line, where a line `...` stands for any lines. After such a line the first place that goes on is tried, then the next one."""
     at = other = 0
