@@ -316,14 +316,14 @@ def as_text(suite: Suite) -> str:
     """The text form of a suite of another form, with its prose where that takes nothing from its cases."""
     rules = [*(["without: pictures"] if PICTURES in suite.rules.without else []), *(["spaces: any"] if suite.rules.any_spaces else []), *([f"columns: {suite.rules.columns}"] if suite.rules.columns else [])]
     front = ["---", "sessions:", *(f"  {name}: {json.dumps(list(words))}" for name, words in suite.sessions.items()), *rules, "---", ""]
-    cases = [case_text(case, language_in(suite.sessions[case.session])) for case in suite.cases]
+    cases: List[List[str]] = [case_text(case, language_in(suite.sessions[case.session])) for case in suite.cases]
     bare = "\n".join([*front, *(line for case in cases for line in case)])
     prose = [case.before for case in suite.cases] + [suite.after]
     if not any(prose):
         return bare
     lines = list(front)
-    for before, case in zip(prose, [*cases, []]):
-        lines += [*([before, ""] if before else []), *case]
+    for before, case in zip(prose, cases + [[]]):
+        lines += [before, "", *case] if before else case
     full = "\n".join(lines)
     return full if has_the_same_cases(full, bare) else bare
 
