@@ -154,6 +154,12 @@ class Notebooks(Forms):
             self.assertNotIn(prose, text)
             self.assertEqual(self.verdicts(self.put("a.md", text)), ["ok"], text)
 
+    def test_it_runs_in_its_folder(self) -> None:
+        path = self.notebook("python", [("open('a.ipynb').read(1)", [self.result("'{'")])])
+        os.mkdir(self.place("other"))
+        self.folder = self.place("other")
+        self.assertEqual(self.verdicts(path), ["ok"], self.outcome.output)
+
     def test_formulas_and_pictures(self) -> None:
         formula = {"output_type": "execute_result", "execution_count": 1, "metadata": {}, "data": {"text/latex": "$\\displaystyle x^{2}$", "text/plain": "x**2"}}
         picture = {"output_type": "display_data", "metadata": {}, "data": {"image/png": "iVBORw0KGgo=", "text/plain": "<Figure>"}}

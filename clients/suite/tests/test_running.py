@@ -70,6 +70,22 @@ class Verdicts(Case):
             file.write(text)
         self.assertEqual(self.verdicts(self.path), ["ok"])
 
+    def test_the_folder_of_its_interpreters(self) -> None:
+        os.mkdir(self.place("below"))
+        with open(self.place("below/here"), "w", encoding="utf-8") as file:
+            file.write("it is")
+        self.write(case("file here", "it is"), more="folder: ./below\n")
+        self.assertEqual(self.verdicts(self.path), ["ok"])
+        self.write(case("say x", "x", "c"), case("say x", "x"))
+        with open(self.path, encoding="utf-8") as file:
+            text = file.read().replace("sessions:\n", "sessions:\n  c: [./nothing, here]\n")
+        with open(self.path, "w", encoding="utf-8") as file:
+            file.write(text)
+        self.assertEqual(self.verdicts(self.path), ["differs", "ok"])
+        self.assertIn("no case of the session c has an answer: do its words start an interpreter here? ./nothing here\n", self.outcome.output)
+        self.write(case("say x", "x"), more="folder: none\n")
+        self.assertIn("`folder` is " + self.place("none") + ", which is no folder", self.run_suite(self.path).errors)
+
     def test_what_takes_down_comes_last(self) -> None:
         self.write(case("say end", "end", "a {teardown}"), case("say 1", "1"))
         self.assertEqual(self.verdicts(self.path), ["ok", "ok"])

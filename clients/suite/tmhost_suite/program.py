@@ -253,6 +253,7 @@ class Runner:
                 self.teller.tell_normalised(one)
         if self.given.slowest:
             self.teller.tell_slowest(told, self.given.slowest)
+        self.teller.tell_silent_sessions(told)
         self.teller.tell_idle_rules(told)
         self.teller.tell_counts(told, taken)
 

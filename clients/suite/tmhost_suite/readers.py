@@ -175,7 +175,7 @@ def cell_lines(source: str, language: str) -> List[str]:
 
 def read_notebook(path: str, text: str, session: Session) -> Suite:
     """Each cell of code is a case of one field, which its first error ends, and its outputs as plain text are what is wanted. The number of its
-    cell stands for a line."""
+    cell stands for a line. As for Jupyter, the interpreter is started in the notebook's folder."""
     try:
         notebook = json.loads(text)
         metadata = notebook.get("metadata", {})
@@ -185,7 +185,7 @@ def read_notebook(path: str, text: str, session: Session) -> Suite:
         raise Trouble("it is no notebook of Jupyter") from None
     if language != "python" and session == PYTHON:
         raise Trouble(f"the notebook is in {language}: --words names the interpreter of its cells")
-    return Suite(path, dict([session]), Rules(without=frozenset([PICTURES])), None, tuple(cases), after)
+    return Suite(path, dict([session]), Rules(without=frozenset([PICTURES])), None, tuple(cases), after, os.path.dirname(os.path.abspath(path)))
 
 
 def notebook_case(session: str, cell: Dict[str, Any], language: str, number: int, before: str) -> Optional[Case]:
@@ -314,7 +314,7 @@ def case_text(case: Case, language: str) -> List[str]:
 
 def as_text(suite: Suite) -> str:
     """The text form of a suite of another form, with its prose where that takes nothing from its cases."""
-    rules = [*(["without: pictures"] if PICTURES in suite.rules.without else []), *(["spaces: any"] if suite.rules.any_spaces else []), *([f"columns: {suite.rules.columns}"] if suite.rules.columns else [])]
+    rules = [*(["folder: ."] if suite.folder else []), *(["without: pictures"] if PICTURES in suite.rules.without else []), *(["spaces: any"] if suite.rules.any_spaces else []), *([f"columns: {suite.rules.columns}"] if suite.rules.columns else [])]
     front = ["---", "sessions:", *(f"  {name}: {json.dumps(list(words))}" for name, words in suite.sessions.items()), *rules, "---", ""]
     cases: List[List[str]] = [case_text(case, language_in(suite.sessions[case.session])) for case in suite.cases]
     bare = "\n".join([*front, *(line for case in cases for line in case)])
