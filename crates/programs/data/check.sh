@@ -516,6 +516,7 @@ words 'another, and one that differs' 1 'worksheet one\nsame 2 differ 0 unanswer
 words 'one worksheet twice' 0 'worksheet one\nsame 2 differ 0 unanswered 0\nworksheet one\nsame 2 differ 0 unanswered 0\ntotal of 2 worksheets: same 4 differ 0 unanswered 0\n' check one one
 words 'one of three that is not there' 1 'worksheet one\nsame 2 differ 0 unanswered 0\nworksheet nowhere\nworksheet two\nsame 1 differ 0 unanswered 0\ntotal of 3 worksheets: same 3 differ 0 unanswered 0 faults 1\nfault 32 Disk\n' check one nowhere two
 words 'two that are none' 1 'worksheet nowhere\nworksheet suite.sh\ntotal of 2 worksheets: same 0 differ 0 unanswered 0 faults 2\nfault 32 Disk\nfault 31 NotASheet\n' check nowhere suite.sh
+words 'a hundred worksheets' 1 "$(repeated 100 'worksheet nowhere@' | sed 's/@/\\n/g')total of 100 worksheets: same 0 differ 0 unanswered 0 faults 100\n$(repeated 100 'fault 32 Disk@' | sed 's/@/\\n/g')" check $(repeated 100 'nowhere ')
 words 'a path of two lines' 0 'worksheet a\\x0aworksheet b\nsame 1 differ 0 unanswered 0\nworksheet one\nsame 2 differ 0 unanswered 0\ntotal of 2 worksheets: same 3 differ 0 unanswered 0\n' check "a${line_feed}worksheet b" one
 talk_over live two
 say '# held\nprint 1\n'

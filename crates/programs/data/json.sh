@@ -263,6 +263,23 @@ say 'export script\n'
 hears 'an object of an export' '{"format":"script","line":11,"text":"session a plain sh p.sh\\nnew 0 a x\\nnew 1 a z\\n","type":"exported"}\n'
 hang_up 'a talk in JSON' '{"type":"end"}\n' '#1 a\n> x\nA\n#2 a\n> z\n?\n'
 
+# A worksheet of 3,000 fields is printed.
+{
+    echo 'session a plain p'
+    seq 0 2999 | awk '{ print "new " $1 " a x" $1 + 1 }'
+} >given
+rm -f sheet sheet.alt
+"$tmhost" create sheet
+"$tmhost" run sheet <given >text
+echo print >given
+compare '3,000 fields are printed in JSON' "$({ answer live --json sheet <given; } | cksum)" "$({
+    printf '{"format":1,"program":"tmhost","protocol":2,"type":"hello","version":"0.1.0"}\n'
+    seq 3000 | sed 's/.*/{"field":{"id":&,"input":"x&","session":"a","state":"empty"},"line":1,"more":true,"type":"field"}/'
+    printf '{"fields":[1'
+    seq 2 3000 | sed 's/^/,/' | tr -d '\n'
+    printf '],"line":1,"next":3001,"sessions":[{"life":null,"name":"a","tab":false,"waiting":0,"words":["p"]}],"type":"sheet"}\n{"type":"end"}\nstatus 0\n'
+} | cksum)"
+
 # Faults: before the worksheet is open it is the only object, and then the last one.
 faulty() {
     cat >wanted
