@@ -148,7 +148,7 @@ read_at_once() {
     compare "a difference that is read at once, $1, $2" "$? $(cat text errors)" "$(printf '1 #1 a\na] differs\n- differs\n+ another\nsame %s differ 1 unanswered 0' "$3")"
 }
 made "$a"'session b plain sh suite.sh b\nnew 0 a differs\nnew 1 b not evaluated\nnew 2 a looks\neval 1\neval 3\nwait\n'
-for words in '' '--jobs 8' '--timeout 60'; do read_at_once 'one session' "$words" 1; done
+for words in '' '--jobs 8' '--timeout 60' --whole; do read_at_once 'one session' "$words" 1; done
 made "$a"'session b plain sh suite.sh b\nnew 0 a differs\nnew 1 b x\nnew 2 a looks\neval 1\neval 2\neval 3\nwait\n'
 read_at_once 'one of two sessions' '--only a' 1
 for words in '--jobs 1' '--timeout 60'; do read_at_once 'two sessions' "$words" 2; done

@@ -230,6 +230,22 @@ made 'session a plain env --default-signal=INT sh tells.sh\nnew 0 a x\n'
 : >text
 "$tmhost" eval --timeout 1 sheet >text 2>errors </dev/null
 compare 'a time that is over is told at once' "$? $(cat text errors)" "$(printf '1 asked\nbanner a\nover 1\nanswered 1\nanswered 1 unanswered 0\nover 1 passed 0')"
+# Each wait of the system has the limit that was given: none of these ends sooner, and each sleeps that long where nothing comes.
+python3 calls.py list polls true
+listing=$?
+limits_of() {
+    if [ $listing != 0 ]; then echo 'some 600 s, 0 others' && return; fi
+    python3 calls.py list polls "$tmhost" "$@" <given >text 2>errors
+    awk '$1 == "poll" && $2 > 570000 && $2 <= 600000 { some = "some 600 s" } $1 == "poll" && $2 > 0 && ($2 <= 570000 || $2 > 600000) { others++ }
+        END { print some ", " others + 0 " others" }' list
+}
+made 'session a plain sh count.sh\nnew 0 a x\n'
+printf 'eval 1\nwait 600\n' >given
+compare 'the limits of live' "$(limits_of live sheet)" 'some 600 s, 0 others'
+printf 'eval 1\nwait\n' >given
+for program in 'run --timeout 600' 'eval --timeout 600' 'check --timeout 600'; do
+    compare "the limits of $program" "$(limits_of $program sheet)" 'some 600 s, 0 others'
+done
 for seconds in 0 1000001 x '' 1.5; do
     words "no time: $seconds" 2 "error: this is no time: SECONDS is a number from 1 to 1000000\n\nFor more information, try 'tmhost eval --help'.\n" eval --timeout "$seconds" sheet
 done
