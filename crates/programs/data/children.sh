@@ -37,7 +37,7 @@ for line in range(1, 16):
     filled(4096 * line)
     os.write(1, b"\2verbatim:A\5")
 filled(65536)
-time.sleep(0.2)
+time.sleep(0.05)
 while sys.argv[1] == "full_reads" and not os.read(0, 65536).endswith(b" 1)\n"):
     pass
 if sys.argv[1] == "full_reads":
@@ -49,9 +49,9 @@ fills() {
     {
         printf 'session t tab python3 fills.py %s\nnew 0 t %s\n' "$1" "$(repeated 4095 x)"
         seq 15 | sed 's/.*/eval 1\nwait/'
-        printf 'complete 1 1 %s\nwait 10\n' "$(repeated 4095 x)"
+        printf 'complete 1 1 %s\nwait 30\n' "$(repeated 4095 x)"
     } >"given.$1"
-    { timeout 10 "$tmhost" run "$1" <"given.$1" 2>&1; echo "status $?"; } >"$1.told" &
+    { timeout 30 "$tmhost" run "$1" <"given.$1" 2>&1; echo "status $?"; } >"$1.told" &
 }
 fills full_reads
 fills full_never

@@ -174,8 +174,8 @@ passes() {
     {
         begun=$(python3 -c 'import time; time.sleep(1.5 - time.monotonic() % 1); print(int(time.monotonic()))')
         clock="unshare -U -T --monotonic $(($2 - 1 - begun))"
-        $clock true || clock=
-        $clock timeout 10 "$tmhost" eval --timeout 1 "$1" 5
+        $clock true 2>/dev/null || clock=
+        $clock timeout 30 "$tmhost" eval --timeout 1 "$1" 5
         echo "status $?"
     } </dev/null >"$1.told" 2>&1 &
 }
@@ -238,7 +238,9 @@ limits_of() {
     python3 calls.py list polls "$tmhost" "$@" <given >text 2>errors
     awk '$1 == "poll" && $2 > 570000 && $2 <= 600000 { some = "some 600 s" } $1 == "poll" && $2 > 0 && ($2 <= 570000 || $2 > 600000) { others++ }
         END { print some ", " others + 0 " others" }' list
+    cat list >>polls
 }
+rm -f polls
 made 'session a plain sh count.sh\nnew 0 a x\n'
 printf 'eval 1\nwait 600\n' >given
 compare 'the limits of live' "$(limits_of live sheet)" 'some 600 s, 0 others'
@@ -246,6 +248,8 @@ printf 'eval 1\nwait\n' >given
 for program in 'run --timeout 600' 'eval --timeout 600' 'check --timeout 600'; do
     compare "the limits of $program" "$(limits_of $program sheet)" 'some 600 s, 0 others'
 done
+[ $listing = 0 ] || echo 'poll 1' >polls
+compare 'a clock of milliseconds' "$(awk '$1 == "poll" && $2 % 1000 > 0 { finer = "finer" } END { print finer }' polls)" finer
 for seconds in 0 1000001 x '' 1.5; do
     words "no time: $seconds" 2 "error: this is no time: SECONDS is a number from 1 to 1000000\n\nFor more information, try 'tmhost eval --help'.\n" eval --timeout "$seconds" sheet
 done
@@ -320,7 +324,7 @@ compare 'both are interrupted before anything else is taken' "$(grep -A 1 '^over
 rm -f sheet sheet.alt
 "$tmhost" create sheet
 "$tmhost" run sheet <given >text
-compare '64 sessions side by side' "$(timeout 10 "$tmhost" eval --jobs 64 sheet </dev/null 2>&1 | LC_ALL=C sort)" \
+compare '64 sessions side by side' "$(timeout 60 "$tmhost" eval --jobs 64 sheet </dev/null 2>&1 | LC_ALL=C sort)" \
     "$({ echo 'answered 64 unanswered 0'; seq 64 | sed 's/.*/asked/'; seq 64 | sed 's/.*/banner s&/'; seq 64 | sed 's/.*/answered &/'; } | LC_ALL=C sort)"
 compare '64 sessions side by side, shown' "$(answer show sheet </dev/null)" "$(ending "$(seq 64 -1 1 | sed 's/.*/#& s&\\n> x&\\nx&\\n/' | tr -d '\n')" 0)"
 
