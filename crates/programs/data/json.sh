@@ -320,4 +320,61 @@ cat >wanted <<'END_OF_JSON'
 status 0
 END_OF_JSON
 compare 'a worksheet as JSON' "$(answer export json sheet </dev/null)" "$(cat wanted)"
+
+# What comes of a block before its end, of an interpreter that ends it once that was written, or at once.
+cat >slow.sh <<'END'
+printf '\002verbatim:\005'
+while IFS= read -r l; do
+    printf '\002verbatim:%b' "$l"
+    until [ "$l" = 'at once' ] || grep -q '"type":"partial"' text; do sleep 0.01; done
+    printf ' done\005'
+done
+END
+
+# A case of it: NAME FLAGS LINE.
+partial() {
+    cat >wanted
+    rm -f sheet sheet.alt
+    "$tmhost" create sheet
+    printf 'session a plain sh slow.sh\nnew 0 a %s\neval 1\nwait\n' "$3" >given
+    "$tmhost" live $2 sheet <given >text 2>errors
+    compare "$1" "status $? $(cat text errors)" "status 0 $(cat wanted)"
+}
+
+for flags in '--json --partial' --partial; do
+    partial "a block that isn't complete, by $flags" "$flags" x <<'END_OF_JSON'
+{"format":1,"program":"tmhost","protocol":2,"type":"hello","version":"0.1.0"}
+{"line":1,"type":"done"}
+{"id":1,"line":2,"type":"made"}
+{"life":1,"line":3,"type":"asked"}
+{"life":1,"output":{"items":[],"kind":"format","tag":"verbatim"},"session":"a","shown":"","type":"banner"}
+{"bytes":"\u0002verbatim:x","life":1,"session":"a","type":"partial"}
+{"id":1,"life":1,"output":{"items":["x done"],"kind":"format","tag":"verbatim"},"prompt":"> ","session":"a","shown":"x done","type":"answered"}
+{"line":4,"over":"idle","type":"waited"}
+{"type":"end"}
+END_OF_JSON
+done
+
+partial "one that isn't UTF-8" --partial '\0377' <<'END_OF_JSON'
+{"format":1,"program":"tmhost","protocol":2,"type":"hello","version":"0.1.0"}
+{"line":1,"type":"done"}
+{"id":1,"line":2,"type":"made"}
+{"life":1,"line":3,"type":"asked"}
+{"life":1,"output":{"items":[],"kind":"format","tag":"verbatim"},"session":"a","shown":"","type":"banner"}
+{"bytes":{"base64":"AnZlcmJhdGltOv8="},"life":1,"session":"a","type":"partial"}
+{"id":1,"life":1,"output":{"items":[{"base64":"/yBkb25l"}],"kind":"format","tag":"verbatim"},"prompt":"> ","session":"a","shown":{"base64":"/yBkb25l"},"type":"answered"}
+{"line":4,"over":"idle","type":"waited"}
+{"type":"end"}
+END_OF_JSON
+
+partial "one that isn't complete, unasked" --json 'at once' <<'END_OF_JSON'
+{"format":1,"program":"tmhost","protocol":2,"type":"hello","version":"0.1.0"}
+{"line":1,"type":"done"}
+{"id":1,"line":2,"type":"made"}
+{"life":1,"line":3,"type":"asked"}
+{"life":1,"output":{"items":[],"kind":"format","tag":"verbatim"},"session":"a","shown":"","type":"banner"}
+{"id":1,"life":1,"output":{"items":["at once done"],"kind":"format","tag":"verbatim"},"prompt":"> ","session":"a","shown":"at once done","type":"answered"}
+{"line":4,"over":"idle","type":"waited"}
+{"type":"end"}
+END_OF_JSON
 counted json

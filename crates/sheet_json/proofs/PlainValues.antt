@@ -163,6 +163,7 @@ event_plain session life (told.input line) l s = an_object (a_member (a_count l)
 event_plain session life (told.ended why lost) l s =
     an_object (a_member (a_count l) (a_member (losts_plain lost s (omega arith)) (a_member a_text (a_member (some_bytes session) a_type))))
 event_plain session life (told.warned outcome) l s = an_object (a_member (a_count l) (a_member a_text (a_member (some_bytes session) a_type)))
+event_plain session life (told.partial bytes) l s = an_object (a_member (some_bytes bytes) (a_member (a_count l) (a_member (some_bytes session) a_type)))
 
 field_plain : (id : ℕ) (session input : List ℕ) (state : State) → Is64 id → IsSoundState state → IsPlain 66 (field_with id session input state)
 field_plain id session input (told.answered prompt output) i s =

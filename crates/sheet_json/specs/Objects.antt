@@ -77,6 +77,8 @@ event_data session life (told.ended why lost) =
     object (member (codes "life") (count life) (member (codes "lost") (losts_data lost) (member (codes "reason") (string (reason_name why)) (member (codes "session") (bytes_data session) (typed (codes "ended"))))))
 event_data session life (told.warned outcome) =
     object (member (codes "life") (count life) (member (codes "outcome") (string outcome) (member (codes "session") (bytes_data session) (typed (codes "interrupted")))))
+event_data session life (told.partial bytes) =
+    object (member (codes "bytes") (bytes_data bytes) (member (codes "life") (count life) (member (codes "session") (bytes_data session) (typed (codes "partial")))))
 
 -- Worksheets.
 

@@ -52,6 +52,7 @@ IsSoundEvent (told.completed id completions) = Is64 id
 IsSoundEvent (told.input line) = Unit {0}
 IsSoundEvent (told.ended why lost) = AllByRecursion IsSoundItem lost
 IsSoundEvent (told.warned outcome) = Unit {0}
+IsSoundEvent (told.partial bytes) = Unit {0}
 
 abbrev pub IsSoundState : State → Type 0
 IsSoundState (told.answered prompt output) = is_block output ≡ true

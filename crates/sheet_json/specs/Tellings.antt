@@ -51,6 +51,8 @@ pub data EventTold : Type 0 where
   ended : Reason → List Item → EventTold
   -- a limit of time was over, and it was interrupted: what came of that, as a word
   warned : List ℕ → EventTold
+  -- what it wrote that ends no block; it is kept nowhere, and no answer
+  partial : List ℕ → EventTold
 
 -- What another evaluation of a field came to. Where that isn't the same output: its input, the answer that it shows, and the one that
 -- came, or the reason that it shows for none.
