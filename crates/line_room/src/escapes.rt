@@ -32,9 +32,9 @@ pub(crate) fn put_spelled(byte: u8, room: &mut [u8], used: usize) -> usize
     ensures within { result ≤ used + MOST_PRINTED }
     ensures text { take result room.new ≡ take used room.old ++ spelled_byte byte }
 {
-    let text = SPELLED[byte as usize];
-    put_four(&text, room, used);
-    used + size_of(&text)
+    let text = &SPELLED[byte as usize];
+    put_four(text, room, used);
+    used + size_of(text)
 }
 
 /// What a byte that a 27 stands before stands for, where it couldn't stand alone.

@@ -56,11 +56,15 @@ fn put_run(bytes: &[u8], at: usize, room: &mut [u8], used: usize) -> Place
     let mut held = used;
     while bytes.len() - to >= LANES && room.len() - held >= LANES {
         let run = put_lanes(bytes, to, room, held);
-        to += run;
-        held += run;
         if run < LANES {
-            return Place { at: to, used: held };
+            return Place {
+                at: to + run,
+                used: held + run,
+            };
         }
+        // Not by `run`, for which the next step would have to wait.
+        to += LANES;
+        held += LANES;
     }
     Place { at: to, used: held }
 }
