@@ -1,4 +1,4 @@
-//! What bytes of a spelling stand for, put behind the bytes of a room.
+//! What bytes of a spelling stand for, put after the bytes of a room.
 ghost use Rattle.std.specs.Prelude.{◌≡◌, ◌≤◌, ◌+◌, ◌*◌, ◌++◌, length, take, true};
 ghost use Rattle.meta_format.specs.Spelling.{is_special};
 ghost use Rattle.sheet_text.specs.inside.Spelled.{behind_escape, spelled_byte};
@@ -14,7 +14,7 @@ fn size_of(text: &[u8; MOST_PRINTED]) -> usize
     if text[1] == b'x' { 4 } else { 1 }
 }
 
-/// Puts four bytes behind those that a room holds.
+/// Puts four bytes after those that a room holds.
 #[inline(always)]
 fn put_four(text: &[u8; MOST_PRINTED], room: &mut [u8], used: usize)
     requires { used + MOST_PRINTED ≤ length room.old }

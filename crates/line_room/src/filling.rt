@@ -1,4 +1,4 @@
-//! What bytes that spell a block stand for, put behind the bytes of a room.
+//! What bytes that spell a block stand for, put after the bytes of a room.
 ghost use Rattle.std.specs.Prelude.{◌≡◌, ◌≤◌, ◌<◌, ◌+◌, ◌*◌, length};
 ghost use Rattle.line_room.specs.inside.Puts.{Puts};
 
@@ -69,7 +69,7 @@ fn put_run(bytes: &[u8], at: usize, room: &mut [u8], used: usize) -> Place
     Place { at: to, used: held }
 }
 
-/// Puts what stands there, and the bytes behind it that are printed as themselves, as far as there is room.
+/// Puts what stands there, and the bytes after it that are printed as themselves, as far as there is room.
 #[inline(always)]
 fn put_next(bytes: &[u8], at: usize, room: &mut [u8], used: usize) -> Place
     requires there { at < length bytes.now }

@@ -30,7 +30,7 @@ fn run_at(bytes: &[u8], at: usize) -> usize
     first_stop(stops.to_bitmask())
 }
 
-/// Puts the next 16 bytes behind those that a room holds, and tells how many of them are printed as themselves.
+/// Puts the next 16 bytes after those that a room holds, and tells how many of them are printed as themselves.
 #[inline(always)]
 pub(crate) fn put_lanes(bytes: &[u8], at: usize, room: &mut [u8], used: usize) -> usize
     requires there { at + LANES ≤ length bytes.now }

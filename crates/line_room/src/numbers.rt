@@ -1,4 +1,4 @@
-//! Numbers, put behind the bytes of a room.
+//! Numbers, put after the bytes of a room.
 ghost use Rattle.std.specs.Prelude.{◌≡◌, ◌≤◌, ◌+◌, ◌++◌, ◌∷◌, [], length, take};
 ghost use Rattle.std.specs.Fmt.{decimal};
 
