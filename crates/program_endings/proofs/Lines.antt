@@ -1,5 +1,5 @@
 -- What comes next in a stream is what is printed.
-use Rattle.std.proofs.KnownBytes.{Appends-trans}
+use Rattle.std.proofs.KnownBytes.{Appends-trans, Appends-nil}
 use Rattle.std.proofs.Common.{◌≡◌, ℕ, Bool, true, false, List, [], ◌∷◌, ◌++◌, Option, None, Some, refl, sym, ap, ◌∙◌, subst, append_assoc, append-nil}
 use Rattle.std.proofs.lemmas.Grind.{flat_map-append}
 use Rattle.std.specs.Io.KnownBytes.{Appends, append_known}
@@ -14,6 +14,8 @@ use Rattle.meta_format.specs.Ahead.{ComesNext}
 use Rattle.meta_format.specs.declared.ahead.Seen.TheVariants as seen
 use Rattle.program_endings.specs.Printed.{Printed, end_line, outer_line, outer_lines, unfinished_line, fault_line}
 use Rattle.stream_json.specs.Streams.{StreamEnd, StreamHas, broken, faulty, inside, is_whole, outside, unfinished, whole}
+
+pub ruleset steps = (Appends-trans, Appends-nil)
 
 -- a room that holds nothing
 pub held_none : (a : Option (List ℕ)) (room : List ℕ) → room ≡ [] → Appends a (append_known a room) []
