@@ -75,12 +75,12 @@ class Notebooks(Case):
         for name, language, words in (("ir", None, "R"), ("xeus", "Octave", "octave"), ("python3", "python", "python"), ("bash", "bash", "sh")):
             about = {"kernelspec": {"name": name, "display_name": "x"}, "language_info": {"name": language or name}}
             first = self.script(notebook(code("x"), metadata=about))[0]
-            self.assertRegex(first, rf"^session {name} plain python3 /\S+/(?:prompted\.py )?{words}$")
+            self.assertEqual(first, f"session {name} plain tmhost-{words}")
 
     def test_cells_may_name_sessions_of_their_own(self) -> None:
         lines = self.script(notebook(code("a", "gp"), code("b"), code("c", "mine"), code("d", "gp")), "--session", "mine=sh mine.sh")
         self.assertRegex(lines[0], r"^session gp plain (?:\S+ )*\S+$")
-        self.assertRegex(lines[1], r"^session python3 plain python3 /\S+/(?:prompted\.py )?python$")
+        self.assertEqual(lines[1], "session python3 plain tmhost-python")
         self.assertEqual(lines[2:], ["session mine plain sh mine.sh", "new 0 gp a", "new 1 python3 b", "new 2 mine c", "new 3 gp d"])
 
     def test_words_may_be_given_by_session_or_language(self) -> None:
