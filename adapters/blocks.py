@@ -22,6 +22,10 @@ PIECE = 65_536  # bytes that are read at once
 SPARED = 0.1  # seconds of a line in which it isn't interrupted
 GRACE = 5.0  # seconds that an interpreter has for an interrupt at the end of its time; it ends behind two of them
 NEVER = 1e6  # seconds
+PREVIEWS = os.environ.get("TMHOST_PARTIAL") == "1"  # whether what is said in a line is shown before its block is there
+LONGEST_PREVIEW = 4_000  # bytes that are shown at once, the last ones
+NO_PREVIEW = re.compile(rb"[\x02\x05]|m[0-9a-f]{16}")  # a block's bytes, and the names of `new_name` and of marks
+SEQUENCES = re.compile(rb"\x1b\[[0-?]*[ -/]*[@-~]|\x1b")
 KILL_WITH_PARENT = 1  # PR_SET_PDEATHSIG of prctl(2)
 LINE_SEPARATOR = "\u2028".encode()
 REQUEST = b"\x10"  # a line that begins so asks for completions
@@ -193,15 +197,37 @@ def new_name() -> bytes:
     return b"m" + os.urandom(16).hex().encode()
 
 
+class Preview:
+    """Shows what an interpreter says in a line as it comes, between blocks, where a host drops it: whole lines, and the states of a line that is
+    written over, but none with a block in it or with a word of ours."""
+
+    def __init__(self, noise: bytes = b"") -> None:
+        """`noise` is a pattern of what isn't shown."""
+        self.noise = re.compile(noise) if noise else None
+        self.rest = b""
+
+    def add(self, piece: bytes) -> None:
+        if not PREVIEWS:
+            return
+        *whole, self.rest = re.split(rb"(?<=[\r\n])", self.rest + piece)
+        self.rest = self.rest[-PIECE:]
+        text = SEQUENCES.sub(b"", b"".join(one for one in whole if not NO_PREVIEW.search(one)))
+        text = self.noise.sub(b"", text) if self.noise else text
+        write(text[-LONGEST_PREVIEW:])
+
+
 class Said:
     """What an interpreter says until a mark comes: the first LONGEST bytes, and the last ones, which may be a part of the mark."""
 
-    def __init__(self) -> None:
+    def __init__(self, preview: Optional[Preview] = None) -> None:
+        self.preview = preview
         self.kept = bytearray()
         self.left_out = 0
         self.last = 0  # where the last piece begins
 
     def add(self, piece: bytes) -> None:
+        if self.preview:
+            self.preview.add(piece)
         surplus = max(0, len(self.kept) - LONGEST - PIECE)
         del self.kept[LONGEST:LONGEST + surplus]
         self.left_out += surplus

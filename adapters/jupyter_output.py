@@ -3,6 +3,7 @@ import re
 from typing import Any, Dict, Iterator, List, NamedTuple
 
 import blocks
+import pictures
 from terminal import folded
 
 Message = Dict[str, Any]
@@ -50,7 +51,8 @@ def of_value(data: Dict[str, Any], display: str, is_text: bool) -> Part:
     name = next((name for name in PICTURES if name in told), "")
     if name and not is_text and len(told[name]) < blocks.LONGEST:
         has_base64 = name != "image/svg+xml"
-        return Part("".join(told[name].split()) if has_base64 else told[name], name + ";base64" * has_base64, display=display)
+        picture = "".join(told[name].split()) if has_base64 else pictures.bare(as_bytes(told[name])).decode()
+        return Part(picture, name + ";base64" * has_base64, display=display)
     return Part(folded(next((told[kind] for kind in TEXTS if kind in told), f"[{', '.join(data)}]")), display=display)
 
 
@@ -60,6 +62,7 @@ class Output:
     def __init__(self, is_text: bool) -> None:
         self.is_text = is_text
         self.next_input = ""
+        self.preview = blocks.Preview()
         self.clear()
 
     def clear(self) -> None:
@@ -101,6 +104,7 @@ class Output:
         """A message about what is put out."""
         display = str(content.get("transient", {}).get("display_id", ""))
         if kind == "stream":
+            self.preview.add(as_bytes(content["text"]))
             self.add(Part(content["text"], is_printed=True))
         elif kind in ("execute_result", "display_data"):
             self.add_value(content["data"], display)

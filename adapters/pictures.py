@@ -12,7 +12,12 @@ BASE64 = ((b"\x89PNG\r\n\x1a\n", b"image/png;base64"), (b"\xff\xd8\xff", b"image
 SVG = b"image/svg+xml"
 EMPTY = re.compile(rb"<svg\b[^>]*>\s*(?:<g\b[^>]*>\s*</g>\s*)?</svg>\s*\Z")  # as R's device writes it where nothing was drawn
 # What may stand before the picture itself: a mark of the byte order, the declaration of XML, comments, and the type of the document.
-IS_SVG = re.compile(rb"(?:\xef\xbb\xbf)?\s*(?:<\?xml\b[^>]*>\s*)?(?:<!--.*?-->\s*)*(?:<!DOCTYPE\b[^>]*>\s*)?(?:<!--.*?-->\s*)*<svg[\s>/]", re.DOTALL)
+IS_SVG = re.compile(rb"(?:\xef\xbb\xbf)?\s*(?:<\?xml\b([^>]*)>\s*)?(?:<!--.*?-->\s*)*(?:<!DOCTYPE\b[^>]*>\s*)?(?:<!--.*?-->\s*)*(?=<svg[\s>/])", re.DOTALL)
+ENCODING = re.compile(rb"\bencoding\s*=\s*[\"'](?!utf-8|us-ascii)", re.IGNORECASE)  # another than UTF-8
+
+# The element that a picture is, with the size of what it shows; and whether it has one of its own.
+ROOT = re.compile(rb"\A<svg\b([^>]*?\bviewBox\s*=\s*[\"']\s*[-+.\d]+[\s,]+[-+.\d]+[\s,]+([.\d]+)[\s,]+([.\d]+)\s*[\"'][^>]*>)")
+SIZE = re.compile(rb"\s(?:width|height)\s*=")
 
 
 def picture(data: bytes) -> Optional[Part]:
@@ -20,7 +25,16 @@ def picture(data: bytes) -> Optional[Part]:
     for begin, format in BASE64:
         if data.startswith(begin):
             return Part(base64.b64encode(data), format)
-    return Part(data, SVG) if IS_SVG.match(data) else None
+    return Part(bare(data), SVG) if IS_SVG.match(data) else None
+
+
+def bare(data: bytes) -> bytes:
+    """An SVG without what stands before it: readers of notebooks put it into a page, and some refuse one that declares an encoding. It has a
+    size, without which an image may have none in a page: that of what it shows."""
+    found = IS_SVG.match(data)
+    if not found or ENCODING.search(found[1] or b""):
+        return data
+    return ROOT.sub(lambda root: root[0] if SIZE.search(root[0]) else b'<svg width="%s" height="%s"%s' % (root[2], root[3], root[1]), data[found.end():], count=1)
 
 
 def written_to(folder: str) -> Iterator[bytes]:

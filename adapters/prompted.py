@@ -125,9 +125,9 @@ class Interpreter(blocks.Child):
         blocks.write(b"".join(line + b"\n" for line in (*lines, marks)), self.commands)
         return mark
 
-    def ask(self, *sent: bytes) -> Optional[Parts]:
+    def ask(self, *sent: bytes, preview: Optional[blocks.Preview] = None) -> Optional[Parts]:
         """The parts of what it says to these lines; None where it, or our reader, has ended before the marker."""
-        marks, said, patience = [self.send(*sent)], blocks.Said(), PATIENCE
+        marks, said, patience = [self.send(*sent)], blocks.Said(preview), PATIENCE
         ended: Set[int] = set()
         was_waiting = False
         while (end := said.find(marks[-1].whole + self.profile.ends)) < 0:
@@ -197,7 +197,7 @@ class Interpreter(blocks.Child):
         if self.profile.refuses(line):
             return [blocks.Part(NO_INPUT, blocks.ERROR)]
         with self.at_a_line():
-            return self.ask(*self.around(line)) if self.drop_what_was_said() else None
+            return self.ask(*self.around(line), preview=blocks.Preview(self.profile.noise)) if self.drop_what_was_said() else None
 
     def complete(self, front: bytes) -> Optional[bytes]:
         """The block that says what can stand behind a text; None where it has ended."""

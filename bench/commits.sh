@@ -2,7 +2,8 @@
 # Prints how many commands a second `tmhost run` makes durable, on a script of 2,000 `set` lines with a `wait` after each, so that each is
 # taken by itself, and the same of a plain C program that does the same four calls for records of the same length in a file beside it
 # (bench/plain_commits.c), and their ratio: the medians of RUNS runs (9 where it isn't set) of both programs in turn. A second line has one
-# run of each on 10,000 `new` lines, which are taken together, of `run --strict`, and of `run --json`. The files lie in FOLDER, or where none is given in the current one.
+# run of each on 10,000 `new` lines, which are taken together, of `run --strict`, and of `run --json`. A third one counts the syncs of 100,000
+# commands, where `strace` is there. The files lie in FOLDER, or where none is given in the current one.
 set -euo pipefail
 folder=$(readlink -f "${1:-.}")
 root=$(dirname "$(dirname "$(readlink -f "${BASH_SOURCE[0]}")")")
@@ -11,7 +12,7 @@ trap 'rm -rf "$work"' EXIT
 "${CC:-cc}" -O2 -o "$work/plain" "$root/bench/plain_commits.c"
 "$root/install/proved"
 python3 - "$root/crates/tmhost/out/tmhost" "$work" "${RUNS:-9}" <<'PYTHON'
-import os, statistics, subprocess, sys, time
+import os, re, shutil, statistics, subprocess, sys, time
 
 program, work, runs = sys.argv[1], sys.argv[2], int(sys.argv[3])
 records, fields, text = 2000, 10000, "x" * 20
@@ -71,4 +72,16 @@ def in_json():
 
 our, strict, theirs, objects = together(), together("--strict"), plain(fields, field_length), in_json()
 print(f"new fields a second: tmhost {fields / our:.0f}, plain {fields / theirs:.0f}, {theirs / our:.0f} times as many; strict {fields / strict:.0f}, {theirs / strict:.0f} times as many; in JSON {fields / objects:.0f}, {our / objects:.2f} of the rate in words")
+
+# How often a script of so many commands asks for a sync, its opening included.
+def syncs(commands):
+    lines = "".join(f"set 1 {number}\n" for number in range(commands))
+    counts = work + "/counts"
+    subprocess.run(["strace", "-f", "-c", "-e", "trace=fdatasync,fsync", "-o", counts, program, "run", sheet], input=lines.encode(), stdout=subprocess.DEVNULL, check=True)
+    with open(counts) as text:
+        return sum(int(row.split()[3]) for row in text if re.search(r" (fdatasync|fsync)$", row))
+
+if shutil.which("strace"):
+    commands = 100_000
+    print(f"{commands:,} commands of one script: {syncs(commands)} syncs")
 PYTHON

@@ -350,8 +350,9 @@ def checked(it: Object) -> bytes:
 
 
 def compared(it: Object) -> bytes:
-    counts = tuple(map(number_of, members(it, "same", "differ", "unanswered", "left_out")))
-    return b"same %d differ %d unanswered %d" % counts[:3] + (b" left out %d" % counts[3] if counts[3] else b"") + b"\n"
+    counts = tuple(map(number_of, members(it, "same", "differ", "unanswered", "left_out", "errors")))
+    more = (b" left out %d" % counts[3] if counts[3] else b"") + (b" errors %d" % counts[4] if counts[4] else b"")
+    return b"same %d differ %d unanswered %d" % counts[:3] + more + b"\n"
 
 
 def checked_words(objects: list[Object]) -> bytes:

@@ -22,6 +22,7 @@ from tmhost import Answer, Answered, Banner, Block, Done, Ended, Partial  # noqa
 from tmhost.program import words_of_live  # noqa: E402
 from tmhost_notebook.partial import LONGEST, Partials, Text  # noqa: E402
 
+PYTHON = os.path.join(REPOSITORY, "adapters", "python")
 TELLING = os.path.join(HERE, "interpreters", "telling")
 EMPTY = Block("verbatim", "format", ())
 
@@ -36,11 +37,11 @@ def text_of(*pieces: bytes) -> str:
 class Reading(unittest.TestCase):
     def test_blocks(self) -> None:
         for stream, wanted in (
-            (b"\x02verbatim:a", "a"), (b"noise\x02verbatim:a\x05noise", "a"), (b"\x02verbatim:a\x02latex:$x$\x05b", "a{latex:$x$}b"), (b"\x02latex:$x", "{latex:$x"),
+            (b"\x02verbatim:a", "a"), (b"beside\n\x02verbatim:a\x05b", "beside\nab"), (b"\x02verbatim:a\x02latex:$x$\x05b", "a{latex:$x$}b"), (b"\x02latex:$x", "{latex:$x"),
             (b"\x02verbatim:\x1b\x02\x1b\x05\x1b\x1b\x1ba", "\x02\x05\x1b\x1ba"), (b"\x02verbatim:a\x02prompt#> \x02verbatim:b\x05\x05\x02input#c", "a"),
             (b"\x02output#\x02output#bad\x05\x05", "bad"), (b"\x02verbatim:a\x02image/png;base64:iVBO\x05b", "a[a picture]b"), (b"\x02image/svg+xml:<svg", "[a picture]"),
             ("\x02verbatim:é\u2028\U0001f600".encode(), "é\u2028\U0001f600"), (b"\x02verbatim:\xff\xc3(\xe2\x82", "\\xff\\xc3("), (b"\x02scheme:(tuple", "{scheme:(tuple"),
-            (b"\x02verb\x01atim:a", "verb\x01atim:a"), (b"\x02" + b"x" * 80 + b":a", "x" * 80 + ":a"), (b"\x05\x1b\x05a", ""), (b"", ""),
+            (b"\x02verb\x01atim:a", "verb\x01atim:a"), (b"\x02" + b"x" * 80 + b":a", "x" * 80 + ":a"), (b"\x05\x1b\x05a", "a"), (b"", ""), (b" 1%\r 2%\r", " 2%"), (b"a\r\nb\r 3%", "a\n 3%"), (b"\r 1%\r\n\rb", " 1%\nb"),
         ):
             with self.subTest(stream=stream):
                 self.assertEqual(text_of(stream), wanted)
@@ -278,6 +279,27 @@ class ByTheProgram(PageCase):
             os.remove(end)
             tab.until(f"document.querySelector('#cell-{id}').dataset.state", "answered")
         self.assertEqual(self.browser.trouble, [])
+
+
+@needs_program
+@unittest.skipUnless(knows(), "the program has no live --partial")
+class ByAnAdapter(Case):
+    def test_what_python_prints(self) -> None:
+        """It stands beside its blocks, since its answers are written when they are whole."""
+        self.server = self.serve()
+        page = Page(self.server)
+        page.call("session", name="p", words=PYTHON, tab=True)
+        text = "import time\u2028for n in range(600): print(n); time.sleep(0.05)"
+        id = page.call("new", session="p", text=text, after=0)["id"]
+        page.call("eval", id=id)
+        end = time.monotonic() + 60
+        while not (told := page.snapshot().get("partial", {}).get(str(id), {}).get("text", "")).startswith("0\n1\n2\n"):
+            self.assertLess(time.monotonic(), end, told)
+            time.sleep(0.1)
+        page.call("interrupt", session="p")
+        page.until_idle()
+        self.assertNotIn("partial", page.snapshot())
+        self.assertIn("KeyboardInterrupt", self.show())
 
 
 if __name__ == "__main__":

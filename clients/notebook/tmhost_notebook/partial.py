@@ -19,6 +19,15 @@ UNSHOWN = (b"prompt#", b"input#")
 PICTURE = b"image/"
 
 
+def seen(text: str) -> str:
+    """A text of which some lines were written over, as progress bars do. The last line is there until more comes."""
+    if "\r" not in text:
+        return text
+    *lines, last = text.split("\n")
+    end = "\r" if last.endswith("\r") else ""
+    return "\n".join(line.rstrip("\r").rpartition("\r")[2] for line in [*lines, last]) + end
+
+
 class Text:
     """What blocks have, as `tmhost show` prints it: no prompt, no next input, and in the place of a picture a word."""
 
@@ -28,22 +37,27 @@ class Text:
         self._is_escaped = False
         self._decoder = codecs.getincrementaldecoder("utf-8")("backslashreplace")
         self._said: List[str] = []
-        self.text, self.is_cut = "", False
+        self._kept, self.is_cut = "", False
 
     def feed(self, piece: bytes) -> None:
         at = 0
         while at < len(piece):
             at = self._read_text(piece, at) if self._tag is None else self._read_tag(self._tag, piece, at)
-        text = self.text + "".join(self._said)
+        text = seen(self._kept + "".join(self._said))
         self._said.clear()
-        self.text, self.is_cut = text[-LONGEST:], self.is_cut or len(text) > LONGEST
+        self._kept, self.is_cut = text[-LONGEST:], self.is_cut or len(text) > LONGEST
+
+    @property
+    def text(self) -> str:
+        return self._kept.rstrip("\r")
 
     @property
     def _is_shown(self) -> bool:
-        return bool(self._open) and self._open[-1][1]
+        """Also what stands beside blocks, which adapters write before an answer."""
+        return not self._open or self._open[-1][1]
 
     def _read_text(self, piece: bytes, at: int) -> int:
-        """Reads on to what means something in a block. Beside blocks there is noise."""
+        """Reads on to what means something there."""
         if self._is_escaped:
             self._is_escaped = False
             self._add(piece[at : at + 1] if MARK.match(piece, at) else ESCAPE + piece[at : at + 1])
@@ -77,7 +91,7 @@ class Text:
         return at
 
     def _begin(self, tag: bytes) -> None:
-        is_outer_shown = self._is_shown or not self._open
+        is_outer_shown = self._is_shown
         is_picture = tag.startswith(PICTURE)
         self._tag = None
         self._open[DEEPEST - 1 :] = [(tag, is_outer_shown and not is_picture and tag not in UNSHOWN)]

@@ -21,6 +21,8 @@ for line in sys.stdin:
         sys.exit()
     write(b"\\x02verbatim:" + (b"caf\\xe9" if os.path.exists(sys.argv[1]) and line == "again\\n" else line.encode().strip()) + b"\\x05")
 """
+# One whose answers are errors.
+WRONG = r"""printf '\002verbatim:\005'; while read -r line; do printf '\002output#\002output#oops\005\005'; done"""
 
 
 def lines(*words: str) -> List[bytes]:
@@ -61,6 +63,15 @@ class Checks(Case):
         self.assertEqual([one.verdict for one in told if isinstance(one, Checked)], ["same", "left_out", "left_out", "same"])
         self.assertEqual(told[-1], Compared(2, 0, 0, 2))
         self.assertEqual(list(check(self.path, only="b", program=PROGRAM)), [Compared(0, 0, 0, 0)])
+
+    def test_errors(self) -> None:
+        script = os.path.join(self.folder, "wrong.sh")
+        with open(script, "w") as file:
+            file.write(WRONG)
+        with self.open() as sheet:
+            sheet.session("a", ["sh", script])
+            sheet.new("a", "x").evaluate()
+        self.assertEqual(list(check(self.path, program=PROGRAM)), [Checked(1, "a", "same"), Compared(1, 0, 0, 0, 1)])
 
     def test_side_by_side(self) -> None:
         self.made()

@@ -35,6 +35,7 @@ class Compared:
     differ: int
     unanswered: int
     left_out: int
+    errors: int = 0
 
     @property
     def is_same(self) -> bool:
@@ -63,7 +64,7 @@ def read(line: bytes) -> "Union[Checked, Compared, Hello, Fault, End, None]":
     if kind == "checked":
         return checked(told)
     if kind == "compared":
-        return Compared(told.number("same"), told.number("differ"), told.number("unanswered"), told.number("left_out"))
+        return Compared(told.number("same"), told.number("differ"), told.number("unanswered"), told.number("left_out"), told.number("errors"))
     return OTHERS[kind](told) if kind in OTHERS else None
 
 

@@ -114,7 +114,7 @@ class Child:
         try:
             self.process = subprocess.Popen(
                 words, bufsize=0, stdin=given or pipe, stdout=pipe, stderr=self._errors, start_new_session=True,
-                env={**os.environ, "PATH": search_path()})
+                env={**os.environ, "PATH": search_path(), **({"TMHOST_PARTIAL": "1"} if PARTIAL in words[:-1] else {})})
         except BaseException:
             self._errors.close()
             raise

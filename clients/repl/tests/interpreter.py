@@ -9,9 +9,11 @@
     count         how many lines this process has answered
     formula       a block in the answer
     error TEXT    an error
+    work FILE     says `half of it` beside its blocks, and answers when that file is there
 
 Another line is answered by itself. Completed are the words above. A line that an interrupt ends is answered by `interrupted`.
 """
+import os
 import re
 import signal
 import sys
@@ -50,6 +52,12 @@ class Interpreter:
             return b"\x02latex:$x$\x05"
         if word == "error":
             return b"\x02output#\x02output#" + escaped(rest.encode()) + b"\x05\x05"
+        if word == "work":
+            sys.stdout.write("begun\nhalf of it\n")
+            sys.stdout.flush()
+            while not os.path.exists(rest):
+                time.sleep(0.01)
+            return b"all of it"
         if word == "die":
             sys.exit(3)
         self.is_stuck = word == "stuck"

@@ -1,5 +1,6 @@
 """The command at a terminal: what is shown after what is typed."""
 import os
+import re
 import shutil
 import signal
 import termios
@@ -34,6 +35,20 @@ class Lines(Case):
         terminal.sees(r"^Tester 1\.0\n1\] error no way\nno way\n\(#1 is an error\)\nt>\Z")
         terminal.send("%list\r")
         terminal.sees(r"no way\n\(#1 is an error\)\nt> %list\n#1 t\n1\] error no way\nno way\n\(#1 is an error\)\nt>\Z")
+
+    def test_what_comes_before_the_answer(self) -> None:
+        """The last line of it is seen while the line is evaluated, and nothing of it stays."""
+        self.make()
+        terminal = self.terminal()
+        terminal.sees("t>")
+        there = os.path.join(self.folder, "there")
+        terminal.send(f"work {there}\r")
+        terminal.sees(r"^half of it\Z")
+        with open(there, "w", encoding="ascii"):
+            pass
+        terminal.sees(rf"\ATester 1\.0\n1\] work {re.escape(there)}\nall of it\nt>\Z")
+        terminal.send("\x04")
+        self.assertEqual(terminal.ends(), 0)
 
     def test_a_line_that_goes_on(self) -> None:
         self.make()

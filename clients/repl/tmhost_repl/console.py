@@ -7,7 +7,7 @@ from typing import Optional
 
 from tmhost import Answer, Field
 
-from .texts import harmless, rows, under
+from .texts import cut, harmless, last_line, rows, under
 
 ERROR = 31  # the style of a mark: red
 
@@ -28,6 +28,9 @@ class Console:
 
     def banner(self, text: str) -> None:
         """An interpreter greets."""
+
+    def working(self, said: bytes) -> None:
+        """What an interpreter has written that is no answer yet."""
 
     def answer(self, input: str, answer: Answer) -> None:
         """The answer to the line that was read last."""
@@ -107,6 +110,7 @@ class Terminal(Console):
         self._modes = termios.tcgetattr(0)
         self._can_steer = os.environ.get("TERM", "dumb") != "dumb"
         self._has_style = self._can_steer and not os.environ.get("NO_COLOR")
+        self._is_working = False
         self._echo(False)
 
     def read(self, prompt: str) -> str:
@@ -157,6 +161,13 @@ class Terminal(Console):
             self._print(typed.text + "\n")
             self._typed = typed
 
+    def working(self, said: bytes) -> None:
+        """The last line of it, on a row that the next text takes."""
+        text = last_line(said)
+        if self._can_steer and text:
+            self._print(self._styled(cut(text, self._size().columns - 1), 2))
+            self._is_working = True
+
     def answer(self, input: str, answer: Answer) -> None:
         prompt = harmless(answer.prompt)
         self.show(self._styled(under(prompt, harmless(input)) if self._take_off() else prompt.rstrip(), 1) if prompt.strip() else "")
@@ -176,6 +187,7 @@ class Terminal(Console):
     def _ask(self, prompt: str) -> str:
         """What is typed while nothing is asked isn't echoed, since it would stand among answers: it is shown where it is asked for."""
         self._echo(True)
+        self._print("")
         try:
             return input(prompt)
         finally:
@@ -203,6 +215,8 @@ class Terminal(Console):
         return f"\x1b[{style}m{text}\x1b[0m" if self._has_style else text
 
     def _print(self, text: str) -> None:
+        if self._is_working:
+            text, self._is_working = "\r\x1b[K" + text, False
         sys.stdout.write(text)
         sys.stdout.flush()
 

@@ -9,7 +9,7 @@ import time
 from types import FrameType
 from typing import Counter, Deque, Iterator, Optional, Tuple, Union
 
-from tmhost import Answer, Answered, Banner, Cell, Closed, Done, Ended, Event, Finished, LostItem, Stopped, Worksheet
+from tmhost import Answer, Answered, Banner, Cell, Closed, Done, Ended, Event, Finished, LostItem, Partial, Stopped, Worksheet
 
 from .console import Console
 
@@ -104,6 +104,10 @@ class Evaluator:
     def _awaited(self, cell: Cell, happening: Union[Event, Interrupt]) -> Optional[Outcome]:
         if isinstance(happening, Interrupt):
             return self._interrupt(cell)
+        if isinstance(happening, Partial):
+            if happening.session == cell.session:
+                self.console.working(happening.data)
+            return None
         if self._owed[cell.id] == 1:
             if isinstance(happening, Answered) and happening.id == cell.id:
                 self._owed[cell.id] = 0

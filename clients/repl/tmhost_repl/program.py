@@ -40,7 +40,7 @@ def opened(given: argparse.Namespace, console: Console) -> Worksheet:
             raise Mistake(f"there is no worksheet {given.sheet}: --create makes it")
         if console.choose(f"There is no worksheet {given.sheet}. Make it? [y]es, [n]o:", "yn") != "y":
             raise Mistake("no worksheet was made")
-    return Worksheet(given.sheet, create=True)
+    return Worksheet(given.sheet, create=True, partial=console.is_terminal)
 
 
 def begin(given: argparse.Namespace, worksheet: Worksheet) -> None:

@@ -1,5 +1,6 @@
 """Texts as a terminal may show them, and how much room they take there."""
 
+import re
 import unicodedata
 from typing import Optional
 
@@ -26,6 +27,20 @@ def harmless(text: Text) -> str:
     """The text with nothing in it that steers a terminal: what isn't seen stands as `\\xNN`, `\\uNNNN` or `\\UNNNNNNNN`. The program has
     done so with bytes below 32 already, and leaves those from 128 on as they are, some of which a terminal obeys."""
     return "\n".join(harmless_line(line) for line in readable(text).replace(LINE_END, "\n").split("\n"))
+
+
+def last_line(said: bytes) -> str:
+    """The last line of what an interpreter has written beside its blocks, or in one that isn't complete."""
+    text = re.sub(rb"\x02[^:#]*[:#]|[\x05\x1b]", b"", said).decode("utf-8", "replace")
+    lines = [line for line in re.split(r"[\r\n]", text) if line.strip()]
+    return harmless_line(lines[-1].replace("\t", " ")) if lines else ""
+
+
+def cut(text: str, width: int) -> str:
+    """The front of a text that surely stands in so many columns."""
+    while text and len(text) > 1 and (columns(text) or width + 1) > width:
+        text = text[: min(len(text) - 1, width)]
+    return text
 
 
 def columns(text: str) -> Optional[int]:

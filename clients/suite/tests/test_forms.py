@@ -123,6 +123,43 @@ class Notebooks(Forms):
         text = self.run_suite("--convert", path).output
         self.assertEqual(self.verdicts(self.put("a.md", text)), ["ok", "ok", "differs"], text)
 
+    def test_tags_and_remarks_of_nbval(self) -> None:
+        error = {"output_type": "error", "ename": "KeyError", "evalue": "1", "traceback": []}
+        cells: List[Any] = [
+            ("# NBVAL_SKIP\n1 / 0", []),
+            ("#NBVAL_IGNORE_OUTPUT\n1", [self.result("7")]),
+            ("# NBVAL_IGNORE_OUTPUT\n1 / 0", [self.result("7")]),
+            ("# NBVAL_RAISES_EXCEPTION\n{}[1]", [error]),
+            ("2", [self.result("2")]),
+        ]
+        path = self.notebook("python", cells)
+        whole = json.loads(self.read(path))
+        whole["cells"][4]["metadata"] = {"tags": ["skip-execution", "a b"]}
+        prose = [{"cell_type": "markdown", "metadata": {}, "source": text} for text in ("# Title", "More.\n\n- a list", "The end.")]
+        whole["cells"] = prose[:2] + whole["cells"] + prose[2:]
+        self.put("a.ipynb", json.dumps(whole))
+        wanted = ["skip", "ok", "differs", "ok", "skip"]
+        self.assertEqual(self.verdicts(path), wanted, self.outcome.output)
+        text = self.run_suite("--convert", path).output
+        self.assertTrue("\n# Title\n\nMore.\n\n- a list\n" in text and text.endswith("\nThe end.\n"), text)
+        self.assertEqual(self.verdicts(self.put("a.md", text)), wanted, text)
+
+    def test_prose_that_would_be_a_case_is_left_out(self) -> None:
+        path = self.notebook("python", [("1", [self.result("1")])])
+        whole = json.loads(self.read(path))
+        for prose in ("```py\n2\n```", "<!-- never closed", "~~~~py\n2"):
+            whole["cells"] = [{"cell_type": "markdown", "metadata": {}, "source": prose}, whole["cells"][-1]]
+            self.put("a.ipynb", json.dumps(whole))
+            text = self.run_suite("--convert", path).output
+            self.assertNotIn(prose, text)
+            self.assertEqual(self.verdicts(self.put("a.md", text)), ["ok"], text)
+
+    def test_it_runs_in_its_folder(self) -> None:
+        path = self.notebook("python", [("open('a.ipynb').read(1)", [self.result("'{'")])])
+        os.mkdir(self.place("other"))
+        self.folder = self.place("other")
+        self.assertEqual(self.verdicts(path), ["ok"], self.outcome.output)
+
     def test_formulas_and_pictures(self) -> None:
         formula = {"output_type": "execute_result", "execution_count": 1, "metadata": {}, "data": {"text/latex": "$\\displaystyle x^{2}$", "text/plain": "x**2"}}
         picture = {"output_type": "display_data", "metadata": {}, "data": {"image/png": "iVBORw0KGgo=", "text/plain": "<Figure>"}}

@@ -1,12 +1,19 @@
 """Suites that are written from random sessions pass, and one byte that is changed in one wanted answer is the failure of its case alone."""
 import os
 import random
-from typing import List, Tuple
+import string
+from typing import Any, Dict, List, Tuple
 
 from .support import Case, case
 from .values import expected
+from tmhost_suite.kept import Result
+from tmhost_suite.running import is_good, verdict_of
+from tmhost_suite.text import Text
 
-SUITES, CHANGES = 4, 3
+# Of each suite one run is of the suite as it is, and some are of one with a change; more changes are judged by what came.
+SUITES, RUNS, CHANGES = 6, 2, 100
+# Those that make no pattern of a line, and no fence.
+BYTES = [letter for letter in string.printable[:95] if letter not in "`.()"] + ["\t"]
 LETTERS = "abxyz019 .#>`-*[]()\u00e9"
 
 
@@ -38,10 +45,13 @@ class Random(Case):
         return "" if word == "quiet" else rest.replace("\\n", "\n") if word == "say" else value
 
     def changed(self, text: str) -> str:
-        """The text with one of its characters that end no line put in another's place."""
+        """The text with one of its characters that end no line put in another's place, taken away, or put beside it."""
         at = self.random.choice([at for at, character in enumerate(text) if character != "\n"])
-        other = self.random.choice([letter for letter in "abcdefgh0123456789" if letter != text[at]])
-        return text[:at] + other + text[at + 1 :]
+        other = self.random.choice([letter for letter in BYTES if letter != text[at]])
+        kind = self.random.random()
+        found = text[:at] + (other if kind < 0.6 else other + text[at] if kind < 0.8 else "") + text[at + 1 :]
+        # A fence leaves no trace of an answer that is empty, and `...` stands for any lines.
+        return found if found and "..." not in found else text[:at] + other + text[at + 1 :]
 
     def put(self, cases: List[Tuple[str, str, str]]) -> None:
         for name in "ab":
@@ -49,13 +59,27 @@ class Random(Case):
                 os.unlink(self.place(name + ".log"))
         self.write(*(case(line, wanted, info) if wanted else case(line, None, info) for info, line, wanted in cases))
 
+    def with_a_change(self, cases: List[Tuple[str, str, str]]) -> List[str]:
+        """Writes the suite with one byte changed in one wanted answer, and says what is to come of each case."""
+        at = self.random.choice([at for at, one in enumerate(cases) if one[2]])
+        info, line, wanted = cases[at]
+        self.put([*cases[:at], (info, line, self.changed(wanted)), *cases[at + 1 :]])
+        return ["differs" if it == at else "ok" for it in range(len(cases))]
+
+    def judged(self, came: List[Dict[str, Any]]) -> List[str]:
+        """What the suite as it is now makes of what came."""
+        suite = Text(self.path, self.read()).suite
+        found = [(case, Result(str(one["came"]), 0.0)) for case, one in zip(suite.cases, came)]
+        return [verdict_of(case, result.got, is_good(suite, case, result), 1) for case, result in found]
+
     def test_they_pass_and_each_change_is_one_failure(self) -> None:
         for _ in range(SUITES):
             cases = self.session()
             self.put(cases)
-            self.assertEqual(self.verdicts(self.path), ["ok"] * len(cases), self.read())
-            for _ in range(CHANGES):
-                at = self.random.choice([at for at, one in enumerate(cases) if one[2]])
-                info, line, wanted = cases[at]
-                self.put([*cases[:at], (info, line, self.changed(wanted)), *cases[at + 1 :]])
-                self.assertEqual(self.verdicts(self.path), ["differs" if it == at else "ok" for it in range(len(cases))], self.read())
+            came = self.objects(self.path)
+            self.assertEqual([one["verdict"] for one in came], ["ok"] * len(cases), self.read())
+            for at in range(CHANGES):
+                wanted = self.with_a_change(cases)
+                self.assertEqual(self.judged(came), wanted, self.read())
+                if at < RUNS:
+                    self.assertEqual(self.verdicts(self.path), wanted, self.read())

@@ -1,8 +1,11 @@
 """How what came is compared with what is wanted."""
+import dataclasses
 import random
 import re
 import unittest
 from decimal import Decimal
+from fractions import Fraction
+from typing import Callable, List, Tuple
 
 from . import support  # noqa: F401
 from tmhost_suite.rules import Normal, Rules, as_wanted
@@ -68,6 +71,111 @@ class Numbers(unittest.TestCase):
             values = [Decimal(text.split()[1]) for text in texts]
             is_near = abs(values[0] - values[1]) <= max(absolute, relative * abs(values[0]))
             self.assertEqual(alike(texts[0], texts[1], Rules((), relative, absolute)), is_near, texts)
+
+
+    def test_no_text_is_a_number(self) -> None:
+        for wanted, got in (("v # w", "v 1.5 w"), ("# 1.0", "1.0 #"), ("1.5 ", "1.5"), ("\u0661.5", "1.5"), ("1.5 #", "# 1.5")):
+            self.assertFalse(alike(wanted, got, self.near), (wanted, got))
+            self.assertFalse(alike(got, wanted, self.near), (wanted, got))
+
+    def test_numbers_out_of_all_bounds(self) -> None:
+        one, other = "1.0e999999999999999999999", "1.0e5"
+        self.assertFalse(alike(one, other, self.near) or alike(other, one, self.near) or alike(one, "1.5" + one[3:], self.near))
+        self.assertTrue(alike(one, one, self.near))
+        self.assertFalse(alike("1.0e-9999999", "1.1e-9999999", self.near))
+        self.assertTrue(alike("1.0000000e9999999", "1.0000001e9999999", self.near))
+
+    def test_a_number_that_is_cut_is_exact(self) -> None:
+        rules = Rules(absolute=Decimal("0.5"), columns=8)
+        for wanted, got in (("x = 1.23\n45 E10", "x = 1.2445 E10"), ("y = 1.2 \nE10", "y = 1.3 E10"), ("y= 1.2 E\n10", "y= 1.3 E10"), ("x = 1.5e\n+10", "x = 1.6e+10")):
+            self.assertFalse(alike(wanted, got, rules), (wanted, got))
+        self.assertTrue(alike("x = 1.23", "x = 1.24", rules))
+        self.assertTrue(alike("1.5 text\n and", "1.6 text and", rules))
+
+
+# What stands around numbers, and what rules make the same.
+BETWEEN = ("#", "x =", "(", ")", "[", "E", "e", "a_", "^", "*", "/", "-", "+", "v1", "0", "\u0661", "...x", "\u00e9", "1.5x", "# #")
+FREE = ((re.compile("0x[0-9a-f]+"), "ADDRESS"), (re.compile("in [0-9]+ ms"), "in TIME"), (re.compile("<id[0-9]+>"), "#"))
+ROUNDS = 2000
+
+Part = Tuple[str, str, bool]  # of one text, of the other, and whether they may be taken for the same
+
+
+class Random(unittest.TestCase):
+    """Lines with many numbers, of which it is known whether they are apart, under random rules."""
+
+    def setUp(self) -> None:
+        self.random = random.Random(self.id())
+
+    def number(self, relative: Decimal, absolute: Decimal) -> Part:
+        """Two numbers that are the same, near or apart, as texts, in one way of writing them."""
+        digits, exponent = self.random.randint(1, 9), self.random.randint(-12, 12)
+        one = self.random.randint(-(10**9), 10**9)
+        change = self.random.choice([0, 0, 1, -1, self.random.randint(-(10**9), 10**9), int(one * Decimal(self.random.uniform(-2, 2)) * relative)])
+        form = self.random.choice(["{}", "{}e{}", "{} E{}"])
+        texts = [form.format(f"{Decimal(value).scaleb(-digits):.{digits}f}", exponent) for value in (one, one + change)]
+        scale = Fraction(10) ** ((exponent if "E" in form.upper() else 0) - digits)
+        is_near = abs(change) * scale <= max(Fraction(absolute), Fraction(relative) * abs(one) * scale)
+        return texts[0], texts[1], is_near
+
+    def integer(self) -> Part:
+        one = self.random.randint(-999, 10**12)
+        other = one + self.random.choice([0, 0, 0, 0, 1])
+        return str(one), str(other), one == other
+
+    def other(self, is_free: bool) -> Part:
+        """Texts that are the same, or by a rule, or a number against what isn't one."""
+        kind = self.random.random()
+        if kind < 0.1:
+            return "#", "1.5", False
+        if kind < 0.3:
+            form = self.random.choice(["0x{}", "in {} ms", "<id{}>"])
+            one, other = self.random.randint(0, 9), self.random.randint(0, 9)
+            return form.format(one), form.format(other), is_free or one == other
+        text = self.random.choice(BETWEEN)
+        return text, text, True
+
+    def parts(self, rules: Rules) -> List[Part]:
+        makers: List[Callable[[], Part]] = [lambda: self.number(rules.relative, rules.absolute), self.integer, lambda: self.other(bool(rules.normal))]
+        return [self.random.choices(makers, (5, 1, 4))[0]() for _ in range(self.random.randint(1, 6))]
+
+    def rules(self) -> Rules:
+        relative, absolute = (self.random.choice([Decimal(0), Decimal(10) ** self.random.randint(-12, 1)]) for _ in range(2))
+        normal = tuple(Normal(*rule) for rule in FREE) if self.random.random() < 0.5 else ()
+        return Rules(normal, relative, absolute, self.random.random() < 0.5)
+
+    def test_numbers_outside_of_the_tolerance_are_never_equal(self) -> None:
+        seen = {True: 0, False: 0}
+        for _ in range(ROUNDS):
+            rules = self.rules()
+            parts = self.parts(rules)
+            blanks = "  " if rules.any_spaces and self.random.random() < 0.5 else " "
+            texts = " ".join(part[0] for part in parts), blanks.join(part[1] for part in parts)
+            is_same = all(part[2] for part in parts)
+            seen[is_same] += 1
+            self.assertEqual(alike(*texts, rules), is_same, (texts, rules))
+        self.assertGreater(min(seen.values()), ROUNDS // 10, seen)
+
+    def test_nor_where_lines_are_cut(self) -> None:
+        seen = 0
+        for _ in range(ROUNDS):
+            rules = dataclasses.replace(self.rules(), normal=(), columns=self.random.randint(3, 30))
+            parts = [part for part in self.parts(rules) if not part[0].startswith(("<", "in ", "0x"))]
+            one, other = " ".join(part[0] for part in parts), " ".join(part[1] for part in parts)
+            wanted = "\n".join(one[at : at + (rules.columns or 1)] for at in range(0, max(1, len(one)), rules.columns or 1))
+            if not all(part[2] for part in parts):
+                seen += 1
+                self.assertFalse(alike(wanted, other, rules), (wanted, other, rules))
+            self.assertTrue(alike(wanted, one, rules), (wanted, rules))
+        self.assertGreater(seen, ROUNDS // 10)
+
+    def test_no_text_ends_a_comparison(self) -> None:
+        """Texts of numbers' characters are compared, whatever they are, and the same ones are alike."""
+        for _ in range(ROUNDS):
+            texts = ["".join(self.random.choices("0123456789.eE+- #\n", k=self.random.randint(0, 30))) for _ in range(2)]
+            rules = self.rules()
+            alike(texts[0], texts[1], rules)
+            self.assertTrue(alike(texts[0], texts[0], rules))
 
 
 class Normals(unittest.TestCase):

@@ -23,8 +23,10 @@ class Verdicts(Case):
             case("die", "8", "a {skip needs a net}"),
             case("quiet"),
             case("say 9", "9", "b"),
+            case("say 10", "10", "b {may_fail by chance}"),
+            case("say 11", "10", "b {may_fail by chance}"),
         )
-        self.assertEqual(self.verdicts(self.path), ["ok", "differs", "new", "xfail", "xpass", "skip", "ok", "ok"])
+        self.assertEqual(self.verdicts(self.path), ["ok", "differs", "new", "xfail", "xpass", "skip", "ok", "ok", "ok", "xfail"])
         self.assertEqual(self.outcome.status, 1)
         self.assertEqual(
             without_seconds(self.outcome.output).split("\n"),
@@ -38,7 +40,7 @@ class Verdicts(Case):
                 "  +4",
                 f"xpass: {self.path}:43 say 7 (was mended)",
                 "  it is wanted to fail, and passes",
-                "3 ok, 1 xfail, 1 skip, 1 differs, 1 new, 1 xpass",
+                "4 ok, 2 xfail, 1 skip, 1 differs, 1 new, 1 xpass",
                 "",
             ],
         )
@@ -67,6 +69,22 @@ class Verdicts(Case):
         with open(self.path, "w", encoding="utf-8") as file:
             file.write(text)
         self.assertEqual(self.verdicts(self.path), ["ok"])
+
+    def test_the_folder_of_its_interpreters(self) -> None:
+        os.mkdir(self.place("below"))
+        with open(self.place("below/here"), "w", encoding="utf-8") as file:
+            file.write("it is")
+        self.write(case("file here", "it is"), more="folder: ./below\n")
+        self.assertEqual(self.verdicts(self.path), ["ok"])
+        self.write(case("say x", "x", "c"), case("say x", "x"))
+        with open(self.path, encoding="utf-8") as file:
+            text = file.read().replace("sessions:\n", "sessions:\n  c: [./nothing, here]\n")
+        with open(self.path, "w", encoding="utf-8") as file:
+            file.write(text)
+        self.assertEqual(self.verdicts(self.path), ["differs", "ok"])
+        self.assertIn("no case of the session c has an answer: do its words start an interpreter here? ./nothing here\n", self.outcome.output)
+        self.write(case("say x", "x"), more="folder: none\n")
+        self.assertIn("`folder` is " + self.place("none") + ", which is no folder", self.run_suite(self.path).errors)
 
     def test_what_takes_down_comes_last(self) -> None:
         self.write(case("say end", "end", "a {teardown}"), case("say 1", "1"))

@@ -71,6 +71,11 @@ endfunction
 %! assert (true);
 %!test <12345>
 %! assert (false);
+%!test <12345>
+%! assert (true);
+%!xtest assert (false);
+%!assert (["abc\\
+%! def"], "abc def")
 %!testif HAVE_NOTHING_OF_THE_KIND
 %! assert (false);
 %!testif ; false
@@ -84,7 +89,7 @@ endfunction
 OCTAVE_WANTED = (
     ["ok"] * 3 + ["ok"] * 4 + ["differs"]
     + ["ok", "ok", "differs", "ok", "differs", "differs", "ok", "ok", "differs"]
-    + ["ok", "xfail", "skip", "skip", "ok", "ok"]
+    + ["ok", "xfail", "ok", "xfail", "ok", "skip", "skip", "ok", "ok"]
 )
 
 

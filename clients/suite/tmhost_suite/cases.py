@@ -18,6 +18,7 @@ class Marks:
     is_teardown: bool = False
     is_whole: bool = False
     xfail: Optional[str] = None
+    may_fail: Optional[str] = None
     skip: Optional[str] = None
     skip_if: Optional[str] = None  # a pattern: where what comes has it, the case is skipped
     timeout: Optional[float] = None
@@ -30,7 +31,8 @@ class Marks:
 
 @dataclasses.dataclass(frozen=True)
 class Case:
-    """`line` is that of its fence, from 1. `wanted` and `errors` are None where the text has no answer behind it, and no errors apart."""
+    """`line` is that of its fence, from 1. `wanted` and `errors` are None where the text has no answer behind it, and no errors apart. `before`
+    is the prose in front of it, of a suite of another form."""
 
     session: str
     marks: Marks
@@ -39,6 +41,7 @@ class Case:
     line: int
     wanted: Optional[str]
     errors: Optional[str] = None
+    before: str = ""
 
     @property
     def title(self) -> str:
@@ -59,6 +62,8 @@ class Suite:
     rules: Rules
     timeout: Optional[float]
     cases: Tuple[Case, ...]
+    after: str = ""  # the prose behind the last case, of a suite of another form
+    folder: Optional[str] = None  # in which its interpreters are started; None: where tmhost-suite was
 
     def rules_of(self, case: Case) -> Rules:
         own = case.marks

@@ -87,11 +87,19 @@ def remove(path: str) -> None:
             os.unlink(name)
 
 
-def opened(path: str) -> Worksheet:
+def program_in(folder: Optional[str]) -> Optional[List[str]]:
+    """The words of the program where its interpreters are to be started in a folder, which is that of the program."""
+    if folder is None:
+        return None
+    program = find_program()
+    return ["sh", "-c", 'cd -- "$0" && exec "$@"', folder, os.path.abspath(program) if os.sep in program else program]
+
+
+def opened(path: str, folder: Optional[str] = None) -> Worksheet:
     until = time.monotonic() + PATIENCE
     while True:
         try:
-            return Worksheet(path)
+            return Worksheet(os.path.abspath(path), program=program_in(folder))
         except InUse:
             if time.monotonic() > until:
                 raise Trouble(f"{path} is in use by another program") from None
@@ -112,7 +120,7 @@ def begin(path: str, suite: Suite) -> Kept:
     made = subprocess.run([find_program(), "create", os.path.join(".", path)], stdin=subprocess.DEVNULL, capture_output=True)
     if made.returncode != 0:
         raise Trouble(f"{path} can't be made: {made.stderr.decode('utf-8', 'backslashreplace').strip()}")
-    sheet = Worksheet(path)
+    sheet = opened(path, suite.folder)
     try:
         return fill(sheet, suite)
     except BaseException:
@@ -144,7 +152,7 @@ def resume(path: str, suite: Suite) -> Optional[Kept]:
     """The run that was broken off. None where there is none, or where it was broken off before a case began."""
     if not os.path.lexists(path):
         return None
-    sheet = opened(path)
+    sheet = opened(path, suite.folder)
     try:
         return found_in(sheet, suite)
     except BaseException:

@@ -88,6 +88,7 @@ READERS: Dict[str, Tuple[str, Callable[[str], object]]] = {
     "teardown": ("is_teardown", lambda rest: True),
     "whole": ("is_whole", lambda rest: True),
     "xfail": ("xfail", str),
+    "may_fail": ("may_fail", str),
     "skip": ("skip", str),
     "skip_if": ("skip_if", pattern),
     "timeout": ("timeout", seconds),

@@ -16,6 +16,7 @@ from tmhost_weave.files import put
 from tmhost_fences.troubles import Trouble
 
 from . import kept as worksheets
+from . import reports
 from .cases import Case, Suite
 from .marks import seconds
 from .reports import FORMATS, Told, told_of
@@ -29,7 +30,8 @@ ABOUT = "Runs test suites that are texts: evaluates the code in their fences, an
 NOTES = """
 The front matter of SUITE names the sessions, as `sessions: {py: [tmhost-python]}`, and may have `normal`, `tolerance` and
 `timeout`. A fence of a session is a case, and a fence `answer` behind it what is wanted. Behind the session may stand {setup},
-{teardown}, {xfail REASON}, {skip REASON}, {timeout SECONDS}, {tags A B}, {flaky N} and {whole}.
+{teardown}, {xfail REASON}, {may_fail REASON}, {skip REASON}, {timeout SECONDS}, {tags A B}, {flaky N}, {whole} and others
+(clients/suite/README.md).
 What came is kept in the worksheet SUITE.run while the suite runs, so --resume goes on where a run was cut off.
 The program is the one that TMHOST names, or tmhost on PATH. The status is 0 where all is as wanted, 1 where it isn't, and 2
 where the words are refused.
@@ -113,6 +115,14 @@ def read(path: str, words: Optional[str]) -> Read:
     return found.suite, found
 
 
+def converted(path: str, words: Optional[str]) -> str:
+    """The text form of a suite."""
+    try:
+        return as_text(read(path, words)[0])
+    except Trouble as trouble:
+        raise Trouble(f"{path}: {trouble}") from None
+
+
 class Runner:
     """Runs the suites of a command line."""
 
@@ -121,7 +131,7 @@ class Runner:
         self.slots, self.ended, self.is_broken_off = threading.Semaphore(given.jobs), threading.Event(), threading.Event()
         self.sheets: List[Worksheet] = []  # those of suites that have begun
         self.chosen = 0  # how many cases were to be run
-        self.troubles: List[str] = []  # why suites weren't run to their end; the others are
+        self.troubles: List[reports.Trouble] = []  # why suites weren't run to their end; the others are
         self.seed = str(random.randrange(10**6)) if given.random == "new" else given.random
 
     def run(self) -> bool:
@@ -133,7 +143,7 @@ class Runner:
         if self.given.runs:
             os.makedirs(self.given.runs, exist_ok=True)
         paths = self.given.suites[number - 1 :: parts]
-        suites = [self._read(path) for path in paths]
+        suites = [found for found in map(self._read, paths) if found is not None]
         self.teller.begin(sum(len(suite.cases) for suite, _ in suites))
         if self.given.random:
             self.teller.say(f"in the order of --random {self.seed}")
@@ -147,10 +157,10 @@ class Runner:
         self.teller.end_progress()
         self._tell(told, time.monotonic() - began)
         self._write_reports(told)
+        for trouble in self.troubles:
+            print(f"tmhost-suite: {trouble.path}: {trouble.why}", file=sys.stderr)
         if not self.chosen and parts == 1 and (self.given.only or self.given.tags):
             raise Trouble("no case is one of those that are to be run")
-        for trouble in self.troubles:
-            print(f"tmhost-suite: {trouble}", file=sys.stderr)
         return not self.troubles and all(one.verdict in PASSED or one.verdict == "out" for one in told)
 
     def _break_off(self) -> None:
@@ -160,25 +170,25 @@ class Runner:
         for sheet in self.sheets:
             sheet.close(0)
 
-    def _read(self, path: str) -> Read:
-        try:
+    def _read(self, path: str) -> Optional[Read]:
+        with self._told_of(path):
             return read(path, self.given.words)
-        except Trouble as trouble:
-            raise Trouble(f"{path}: {trouble}") from None
+        return None
 
     def _run_one(self, suite: Suite, text: Optional[Text]) -> List[Told]:
-        with self._told_of(suite):
+        with self._told_of(suite.path):
             return self._run_suite(suite, text)
         return []
 
     @contextlib.contextmanager
-    def _told_of(self, suite: Suite) -> Iterator[None]:
+    def _told_of(self, path: str) -> Iterator[None]:
         """What goes wrong with a suite is told at the end, and the others are run."""
         try:
             yield
-        except (Trouble, TmhostError) as trouble:
+        except (Trouble, TmhostError, OSError) as trouble:
+            why = trouble.strerror if isinstance(trouble, OSError) else None
             if not self.is_broken_off.is_set():
-                self.troubles.append(f"{suite.path}: {trouble}")
+                self.troubles.append(reports.Trouble(path, why or str(trouble)))
 
     def _run_suite(self, suite: Suite, text: Optional[Text]) -> List[Told]:
         path = worksheets.sheet_path(suite.path, self.given.runs)
@@ -198,7 +208,7 @@ class Runner:
             run(kept, plan, lambda at: self.teller.one_more())
         told = told_of(suite, kept.results)
         if self.given.accept:
-            with self._told_of(suite):
+            with self._told_of(suite.path):
                 self._accept(text, told)
         return told
 
@@ -243,6 +253,7 @@ class Runner:
                 self.teller.tell_normalised(one)
         if self.given.slowest:
             self.teller.tell_slowest(told, self.given.slowest)
+        self.teller.tell_silent_sessions(told)
         self.teller.tell_idle_rules(told)
         self.teller.tell_counts(told, taken)
 
@@ -251,7 +262,7 @@ class Runner:
             path: Optional[str] = getattr(self.given, name)
             if path is None:
                 continue
-            text = "".join(line + "\n" for line in write(told))
+            text = "".join(line + "\n" for line in write(told, self.troubles))
             if path == "-":
                 sys.stdout.write(text)
             else:
@@ -263,7 +274,7 @@ def main(words: List[str]) -> int:
     given = arguments(words)
     try:
         if given.convert:
-            sys.stdout.write("".join(as_text(read(path, given.words)[0]) for path in given.suites))
+            sys.stdout.write("".join(converted(path, given.words) for path in given.suites))
             return 0
         return 0 if Runner(given, standard()).run() else 1
     except (Trouble, TmhostError) as trouble:

@@ -1,6 +1,7 @@
 """Suites in the forms of others: doctest's `>>>`, cram's `.t`, a Jupyter notebook with its outputs, PARI's `in` and `32`; those of GAP and of
 Octave are in transcripts.py. Each is read as cases of one session."""
 import ast
+import dataclasses
 import doctest
 import json
 import os
@@ -15,6 +16,7 @@ from tmhost_fences.troubles import Trouble
 from .cases import Case, Marks, Suite
 from .forms import GAP, GP, OCTAVE, PYTHON, SHELL, Session, session_of, whole_case
 from .rules import ANY_LINES, BY_GLOB, BY_PATTERN, PICTURES, Rules
+from .text import Text
 from .transcripts import is_gap, is_octave, read_gap, read_octave
 
 CRAM_CODE, CRAM_MORE = re.compile(r"  \$ (.*)"), re.compile(r"  > (.*)")
@@ -22,6 +24,9 @@ NO_END, ESCAPED = " (no-eol)", " (esc)"
 CONTROL = re.compile(r"[\x00-\x08\x0a-\x1f\x7f]")
 FORMULA = re.compile(r"\s*(\${1,2})([^$]+)\1\s*")
 PICTURE_TYPES = ("image/svg+xml", "image/png", "image/jpeg")
+NBVAL = re.compile(r"^[ \t]*# ?(NBVAL_\w+|PYTEST_VALIDATE_IGNORE_OUTPUT)", re.MULTILINE)
+SKIPPING, FREEING = ("nbval-skip", "skip-execution"), ("nbval-ignore-output", "pytest-validate-ignore-output")
+PLAIN_TAG = re.compile(r"[\w.:-]+")
 PARI_TIME = ("Total time spent:", '? print("Total time spent: "')
 CRAM_OUTPUT, CRAM_SKIPS = '"$CRAMTMP"/tmhost-output', "skipped: exit 80"
 
@@ -170,24 +175,49 @@ def cell_lines(source: str, language: str) -> List[str]:
 
 def read_notebook(path: str, text: str, session: Session) -> Suite:
     """Each cell of code is a case of one field, which its first error ends, and its outputs as plain text are what is wanted. The number of its
-    cell stands for a line."""
+    cell stands for a line. As for Jupyter, the interpreter is started in the notebook's folder."""
     try:
         notebook = json.loads(text)
         metadata = notebook.get("metadata", {})
         language = str(metadata.get("kernelspec", {}).get("language") or metadata.get("language_info", {}).get("name") or "python")
-        cells = list(notebook["cells"])
+        cases, after = notebook_cases(session.name, notebook["cells"], language)
     except (ValueError, KeyError, AttributeError, TypeError):
         raise Trouble("it is no notebook of Jupyter") from None
     if language != "python" and session == PYTHON:
         raise Trouble(f"the notebook is in {language}: --words names the interpreter of its cells")
+    return Suite(path, dict([session]), Rules(without=frozenset([PICTURES])), None, tuple(cases), after, os.path.dirname(os.path.abspath(path)))
+
+
+def notebook_case(session: str, cell: Dict[str, Any], language: str, number: int, before: str) -> Optional[Case]:
+    """The case of a cell of code. None where it has none. Its tags, and those that nbval reads in remarks, say whether it is skipped, and
+    whether its outputs may be others."""
+    source = text_in(cell.get("source"))
+    fields = tuple(whole(cell_lines(source, language)))
+    if not fields:
+        return None
+    tags = {str(tag) for tag in cell.get("metadata", {}).get("tags", [])} | {word.lower().replace("_", "-") for word in NBVAL.findall(source)}
+    skip = next((f"by its tag {tag}" for tag in SKIPPING if tag in tags), None)
+    marks = Marks(skip=skip, tags=frozenset(tag for tag in tags if PLAIN_TAG.fullmatch(tag)))
+    outputs = (output_of(it, language) for it in cell.get("outputs", []))
+    is_free = not tags.isdisjoint(FREEING)
+    wanted = ANY_LINES if is_free else "\n".join(part for part in outputs if part)
+    may_err = any(it.get("output_type") == "error" for it in cell.get("outputs", []))
+    return Case(session, marks, tuple(source.split("\n")), fields, number, wanted, "" if is_free and not may_err else None, before)
+
+
+def notebook_cases(session: str, cells: List[Dict[str, Any]], language: str) -> Tuple[List[Case], str]:
+    """The cases, and the prose behind them."""
     cases: List[Case] = []
+    prose: List[str] = []
     for number, cell in enumerate(cells, 1):
-        lines = text_in(cell.get("source")).split("\n")
-        fields = tuple(whole(cell_lines(text_in(cell.get("source")), language)))
-        if cell.get("cell_type") == "code" and fields:
-            wanted = "\n".join(part for part in (output_of(it, language) for it in cell.get("outputs", [])) if part)
-            cases.append(Case(session.name, Marks(), tuple(lines), fields, number, wanted))
-    return Suite(path, dict([session]), Rules(without=frozenset([PICTURES])), None, tuple(cases))
+        kind = cell.get("cell_type")
+        found = notebook_case(session, cell, language, number, "\n\n".join(prose)) if kind == "code" else None
+        if found:
+            cases.append(found)
+            prose = []
+        elif kind == "markdown":
+            prose.append(text_in(cell.get("source")).strip("\n"))
+    return cases, "\n\n".join(prose)
 
 
 # ---- PARI
@@ -245,7 +275,12 @@ def read_other(path: str, text: str, names_sessions: bool, words: Optional[str])
     if found is None:
         return None
     reader, session = found
-    return reader(path, text, session_of(words) if words is not None else session)
+    try:
+        return reader(path, text, session_of(words) if words is not None else session)
+    except SyntaxError as error:
+        raise Trouble(f"line {error.lineno} is no Python: {error.msg}") from None
+    except (ValueError, RecursionError) as error:
+        raise Trouble(f"it can't be read: {error}") from None
 
 
 # ---- the text form
@@ -256,21 +291,46 @@ def fenced(kind: str, lines: List[str]) -> List[str]:
     return [mark + kind, *lines, mark]
 
 
+def marks_of(case: Case) -> str:
+    """The words of a case that its reader can have found."""
+    marks = case.marks
+    reasons = (("skip", marks.skip), ("skip_if", marks.skip_if), ("xfail", marks.xfail), ("may_fail", marks.may_fail), ("tags", " ".join(sorted(marks.tags)) or None))
+    words = [*(["setup"] if marks.is_setup else []), *(["teardown"] if marks.is_teardown else []), *(["spaces any"] if marks.any_spaces else [])]
+    words += [f"{name} {said}".rstrip() for name, said in reasons if said is not None]
+    return "".join(f" {{{word}}}" for word in words)
+
+
+def case_text(case: Case, language: str) -> List[str]:
+    code = list(case.lines)
+    if len(case.fields) == 1:
+        code = case.fields[0].input.split(LINE_END)
+    is_whole = case.fields != tuple(groups(code, language))
+    lines = fenced(case.session + marks_of(case) + (" {whole}" if is_whole else ""), code)
+    for kind, text in (("answer", case.wanted), ("error", case.errors)):
+        if text is not None:
+            lines += ["", *fenced(kind, text.split("\n") if text else [])]
+    return [*lines, ""]
+
+
 def as_text(suite: Suite) -> str:
-    """The text form of a suite of another form."""
-    rules = [*(["without: pictures"] if PICTURES in suite.rules.without else []), *(["spaces: any"] if suite.rules.any_spaces else []), *([f"columns: {suite.rules.columns}"] if suite.rules.columns else [])]
-    lines = ["---", "sessions:", *(f"  {name}: {json.dumps(list(words))}" for name, words in suite.sessions.items()), *rules, "---", ""]
-    for case in suite.cases:
-        code = list(case.lines)
-        if len(case.fields) == 1:
-            code = case.fields[0].input.split(LINE_END)
-        marks = " {setup}" if case.marks.is_setup else " {teardown}" if case.marks.is_teardown else ""
-        if case.fields != tuple(groups(code, language_in(suite.sessions[case.session]))):
-            marks += " {whole}"
-        marks += (" {spaces any}" if case.marks.any_spaces else "") + (f" {{skip {case.marks.skip}}}" if case.marks.skip else "")
-        marks += (f" {{skip_if {case.marks.skip_if}}}" if case.marks.skip_if else "") + (f" {{xfail {case.marks.xfail}}}" if case.marks.xfail else "")
-        lines += fenced(case.session + marks, code)
-        if case.wanted is not None:
-            lines += ["", *fenced("answer", case.wanted.split("\n") if case.wanted else [])]
-        lines.append("")
-    return "\n".join(lines)
+    """The text form of a suite of another form, with its prose where that takes nothing from its cases."""
+    rules = [*(["folder: ."] if suite.folder else []), *(["without: pictures"] if PICTURES in suite.rules.without else []), *(["spaces: any"] if suite.rules.any_spaces else []), *([f"columns: {suite.rules.columns}"] if suite.rules.columns else [])]
+    front = ["---", "sessions:", *(f"  {name}: {json.dumps(list(words))}" for name, words in suite.sessions.items()), *rules, "---", ""]
+    cases: List[List[str]] = [case_text(case, language_in(suite.sessions[case.session])) for case in suite.cases]
+    bare = "\n".join([*front, *(line for case in cases for line in case)])
+    prose = [case.before for case in suite.cases] + [suite.after]
+    if not any(prose):
+        return bare
+    lines = list(front)
+    for before, case in zip(prose, cases + [[]]):
+        lines += [before, "", *case] if before else case
+    full = "\n".join(lines)
+    return full if has_the_same_cases(full, bare) else bare
+
+
+def has_the_same_cases(text: str, other: str) -> bool:
+    try:
+        one, two = (Text("", text).cases for text in (text, other))
+    except Trouble:
+        return False
+    return [dataclasses.replace(case, line=1) for case in one] == [dataclasses.replace(case, line=1) for case in two]

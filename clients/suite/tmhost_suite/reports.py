@@ -1,18 +1,18 @@
-"""What came of a run, for programs: TAP 14, JUnit's XML, lines of JSON, remarks for GitHub and GitLab."""
+"""What came of a run, for programs: TAP, JUnit's XML, lines of JSON, remarks for GitHub and GitLab."""
 import dataclasses
-import difflib
 import hashlib
 import json
 import os
 import re
-from typing import Iterator, List, Optional
+from typing import Dict, Iterator, List, NamedTuple, Optional
 from xml.sax.saxutils import escape, quoteattr
 
 from .cases import Case, Suite
+from .diffs import diff
 from .kept import Result
+from .rules import wrong_patterns
 from .running import WRONG
 
-CONTEXT = 2  # lines
 NO_XML = re.compile("[^\t\n\r -\ud7ff\ue000-\ufffd\U00010000-\U0010ffff]")
 
 
@@ -60,11 +60,13 @@ class Told:
         """What is said of it beside its verdict."""
         marks = self.case.marks
         was_skipped = self.verdict == "skip" and self.result is not None
-        parts = [marks.skip or "", marks.xfail or "", self.got.split("\n")[0] if was_skipped else ""]
+        parts = [marks.skip or "", marks.xfail or "", (marks.may_fail or "") if self.verdict == "xfail" else "", self.got.split("\n")[0] if was_skipped else ""]
         if self.result and self.result.tries > 1:
             parts.append(f"tried {self.result.tries} times")
         if self.result and self.result.began_anew:
             parts.append("in an interpreter that was started again")
+        if self.verdict == "differs":
+            parts += wrong_patterns(self.case.wanted or "") + wrong_patterns(self.case.errors or "")
         return ", ".join(part for part in parts if part)
 
     @property
@@ -84,8 +86,22 @@ class Told:
         return found
 
     def _diff_of(self, wanted: Optional[str], came: str, what: str) -> List[str]:
-        lines, others = self.suite.rules_of(self.case).laid_out(wanted or "", came)
-        return list(difflib.unified_diff(lines if wanted is not None else [], others if came or not what else [], f"wanted{what}", f"came{what}", lineterm="", n=CONTEXT))
+        return diff(wanted, came, self.suite.rules_of(self.case), what)
+
+
+class Trouble(NamedTuple):
+    """Why a suite wasn't run to its end, or what came of it wasn't accepted."""
+
+    path: str
+    why: str
+
+
+def paths_in(all_told: List[Told], troubles: List[Trouble]) -> List[str]:
+    return list(dict.fromkeys([*(told.suite.path for told in all_told), *(trouble.path for trouble in troubles)]))
+
+
+def of_path(all_told: List[Told], path: str) -> List[Told]:
+    return [told for told in all_told if told.suite.path == path]
 
 
 def told_of(suite: Suite, results: "dict[int, Result]") -> List[Told]:
@@ -97,16 +113,17 @@ def told_of(suite: Suite, results: "dict[int, Result]") -> List[Told]:
     return told
 
 
-def tap(all_told: List[Told]) -> Iterator[str]:
-    """TAP (testanything.org). It says that it is version 13, which Perl's `prove` reads; nothing of version 14 is in it."""
-    shown = [told for told in all_told if told.verdict not in ("out", "setup")]
-    yield "TAP version 13"
-    yield f"1..{len(shown)}"
+def tap_text(text: str) -> str:
+    return re.sub(r"[\\#]", r"\\\g<0>", readable(text.replace("\n", " ")))
+
+
+def tap_points(shown: List[Told], troubles: List[Trouble]) -> Iterator[str]:
+    """The plan, and a point for each case, and for each suite that wasn't run to its end."""
+    yield f"1..{len(shown) + len(troubles)}"
     for number, told in enumerate(shown, 1):
-        name = re.sub(r"[\\#]", r"\\\g<0>", readable(told.name.replace("\n", " ")))
         remark = readable(told.remark)
         directive = {"skip": f" # SKIP {remark}", "xfail": f" # TODO {remark}", "xpass": f" # TODO {remark}"}.get(told.verdict, "")
-        yield f"{'not ok' if told.verdict in ('differs', 'new', 'xfail') else 'ok'} {number} - {name}{directive.rstrip()}"
+        yield f"{'not ok' if told.verdict in ('differs', 'new', 'xfail') else 'ok'} {number} - {tap_text(told.name)}{directive.rstrip()}"
         if told.result:
             yield "  ---"
             yield f"  verdict: {told.verdict}"
@@ -115,6 +132,31 @@ def tap(all_told: List[Told]) -> Iterator[str]:
                 yield "  diff: |2"
                 yield from ("    " + readable(line) for line in told.diff)
             yield "  ..."
+    for number, trouble in enumerate(troubles, len(shown) + 1):
+        yield f"not ok {number} - {tap_text(f'{trouble.path}: {trouble.why}')}"
+
+
+def in_points(all_told: List[Told]) -> List[Told]:
+    return [told for told in all_told if told.verdict not in ("out", "setup")]
+
+
+def tap(all_told: List[Told], troubles: List[Trouble]) -> Iterator[str]:
+    """TAP (testanything.org) of version 13, which Perl's `prove` reads; it refuses version 14."""
+    yield "TAP version 13"
+    yield from tap_points(in_points(all_told), troubles)
+
+
+def tap14(all_told: List[Told], troubles: List[Trouble]) -> Iterator[str]:
+    """The same of version 14, in which each suite is a subtest."""
+    yield "TAP version 14"
+    paths = paths_in(all_told, troubles)
+    yield f"1..{len(paths)}"
+    for number, path in enumerate(paths, 1):
+        own, own_troubles = in_points(of_path(all_told, path)), [one for one in troubles if one.path == path]
+        is_good = not own_troubles and not any(told.is_wrong for told in own)
+        yield f"# Subtest: {tap_text(path)}"
+        yield from ("    " + line for line in tap_points(own, own_troubles))
+        yield f"{'ok' if is_good else 'not ok'} {number} - {tap_text(path)}"
 
 
 def xml_text(text: str) -> str:
@@ -125,31 +167,36 @@ def xml_attribute(text: str) -> str:
     return quoteattr(NO_XML.sub("\N{REPLACEMENT CHARACTER}", text))
 
 
-def junit(all_told: List[Told]) -> Iterator[str]:
-    """One `testsuite` for each text, one `testcase` for each case."""
+def junit(all_told: List[Told], troubles: List[Trouble]) -> Iterator[str]:
+    """One `testsuite` for each text, one `testcase` for each case, and for each text that wasn't run to its end."""
     yield '<?xml version="1.0" encoding="UTF-8"?>'
     yield "<testsuites>"
-    for path in dict.fromkeys(told.suite.path for told in all_told):
-        own = [told for told in all_told if told.suite.path == path and told.verdict not in ("out", "setup")]
-        wrong, skipped = sum(told.is_wrong for told in own), sum(told.verdict in ("skip", "xfail") for told in own)
-        seconds = sum(told.seconds for told in own)
-        counts = f'tests="{len(own)}" failures="{wrong}" errors="0" skipped="{skipped}" time="{seconds:.3f}"'
-        yield f"<testsuite name={xml_attribute(path)} {counts}>"
-        for told in own:
-            head = f'<testcase classname={xml_attribute(path)} name={xml_attribute(f"{told.case.line}: {told.case.title}")} time="{told.seconds:.3f}"'
-            if told.is_wrong:
-                kind = "error" if told.is_error else "answer"
-                yield f'{head}><failure message={xml_attribute(told.verdict)} type="{kind}">{xml_text(chr(10).join(told.diff))}</failure></testcase>'
-            elif told.verdict in ("skip", "xfail"):
-                yield f"{head}><skipped message={xml_attribute(told.remark)}/></testcase>"
-            else:
-                yield head + "/>"
-        yield "</testsuite>"
+    for path in paths_in(all_told, troubles):
+        yield from junit_suite(path, in_points(of_path(all_told, path)), [one.why for one in troubles if one.path == path])
     yield "</testsuites>"
 
 
-def json_lines(all_told: List[Told]) -> Iterator[str]:
-    """One object for each case (`clients/suite/report.schema.json`)."""
+def junit_suite(path: str, own: List[Told], troubles: List[str]) -> Iterator[str]:
+    wrong, skipped = sum(told.is_wrong for told in own), sum(told.verdict in ("skip", "xfail") for told in own)
+    seconds = sum(told.seconds for told in own)
+    counts = f'tests="{len(own) + len(troubles)}" failures="{wrong}" errors="{len(troubles)}" skipped="{skipped}" time="{seconds:.3f}"'
+    yield f"<testsuite name={xml_attribute(path)} {counts}>"
+    for told in own:
+        head = f'<testcase classname={xml_attribute(path)} name={xml_attribute(f"{told.case.line}: {told.case.title}")} time="{told.seconds:.3f}"'
+        if told.is_wrong:
+            kind = "error" if told.is_error else "answer"
+            yield f'{head}><failure message={xml_attribute(told.verdict)} type="{kind}">{xml_text(chr(10).join(told.diff))}</failure></testcase>'
+        elif told.verdict in ("skip", "xfail"):
+            yield f"{head}><skipped message={xml_attribute(told.remark)}/></testcase>"
+        else:
+            yield head + "/>"
+    for why in troubles:
+        yield f'<testcase classname={xml_attribute(path)} name="the suite" time="0"><error message={xml_attribute(why)}/></testcase>'
+    yield "</testsuite>"
+
+
+def json_lines(all_told: List[Told], troubles: List[Trouble]) -> Iterator[str]:
+    """One object for each case, and for each suite that wasn't run to its end (`clients/suite/report.schema.json`)."""
     for told in all_told:
         if told.verdict == "out":
             continue
@@ -171,6 +218,8 @@ def json_lines(all_told: List[Told]) -> Iterator[str]:
             "startedAgain": bool(told.result and told.result.began_anew),
         }
         yield json.dumps(one, ensure_ascii=True)
+    for trouble in troubles:
+        yield json.dumps({"file": trouble.path, "trouble": trouble.why}, ensure_ascii=True)
 
 
 def github_text(text: str) -> str:
@@ -185,29 +234,35 @@ def path_in_repository(path: str) -> str:
     return path if inside.startswith("..") else inside
 
 
-def github(all_told: List[Told]) -> Iterator[str]:
+def github_member(text: str) -> str:
+    return github_text(text).replace(":", "%3A").replace(",", "%2C")
+
+
+def github(all_told: List[Told], troubles: List[Trouble]) -> Iterator[str]:
     """Workflow commands, which GitHub shows at the lines of the text."""
     for told in all_told:
         if told.is_wrong:
-            path = github_text(path_in_repository(told.suite.path)).replace(":", "%3A").replace(",", "%2C")
-            title = github_text(f"{told.verdict}: {told.case.title}").replace(":", "%3A").replace(",", "%2C")
+            path, title = github_member(path_in_repository(told.suite.path)), github_member(f"{told.verdict}: {told.case.title}")
             yield f"::error file={path},line={told.case.line},title={title}::{github_text(chr(10).join(told.diff) or told.verdict)}"
+    for trouble in troubles:
+        yield f"::error file={github_member(path_in_repository(trouble.path))}::{github_text(trouble.why)}"
 
 
-def gitlab(all_told: List[Told]) -> Iterator[str]:
+def gitlab_issue(path: str, line: int, description: str, mark: str) -> Dict[str, object]:
+    return {
+        "description": description,
+        "check_name": "tmhost-suite",
+        "fingerprint": hashlib.sha256(f"{path} {line} {mark}".encode("utf-8", "surrogateescape")).hexdigest(),
+        "severity": "major",
+        "location": {"path": path_in_repository(path), "lines": {"begin": line}},
+    }
+
+
+def gitlab(all_told: List[Told], troubles: List[Trouble]) -> Iterator[str]:
     """A report on the quality of code, which GitLab shows at the lines of the text."""
-    issues = [
-        {
-            "description": f"{told.verdict}: {told.case.title}",
-            "check_name": "tmhost-suite",
-            "fingerprint": hashlib.sha256(f"{told.suite.path} {told.case.line} {told.case.digest}".encode()).hexdigest(),
-            "severity": "major",
-            "location": {"path": path_in_repository(told.suite.path), "lines": {"begin": told.case.line}},
-        }
-        for told in all_told
-        if told.is_wrong
-    ]
+    issues = [gitlab_issue(told.suite.path, told.case.line, f"{told.verdict}: {told.case.title}", told.case.digest) for told in all_told if told.is_wrong]
+    issues += [gitlab_issue(trouble.path, 1, trouble.why, "trouble") for trouble in troubles]
     yield json.dumps(issues, ensure_ascii=True, indent=1)
 
 
-FORMATS = {"tap": tap, "junit": junit, "json": json_lines, "github": github, "gitlab": gitlab}
+FORMATS = {"tap": tap, "tap14": tap14, "junit": junit, "json": json_lines, "github": github, "gitlab": gitlab}

@@ -7,7 +7,9 @@ from decimal import Decimal, InvalidOperation
 from typing import FrozenSet, List, Optional, Sequence, Set, Tuple
 
 # A number that was rounded: it has a point or an exponent, which gp writes behind a space. An integer is exact, and has no tolerance.
-NUMBER = re.compile(r"(?<![\w.])[-+]?(?:(?:\d+\.\d*|\.\d+)(?: ?[eE][-+]?\d+)?|\d+ ?[eE][-+]?\d+)(?!\w)")
+NUMBER = re.compile(r"(?<![\w.])[-+]?(?:(?:[0-9]+\.[0-9]*|\.[0-9]+)(?: ?[eE][-+]?[0-9]+)?|[0-9]+ ?[eE][-+]?[0-9]+)(?!\w)")
+GOES_ON = re.compile(" ?([eE][-+]?)?")  # stands behind a number that may go on in the next line
+OUT_OF_BOUNDS = [decimal.InvalidOperation, decimal.Overflow, decimal.Underflow]
 ANY_LINES = "..."
 BY_PATTERN, BY_GLOB = " (re)", " (glob)"
 PICTURES, FORMULAS = "pictures", "formulas"  # what can be left out
@@ -83,15 +85,23 @@ class Rules:
         return (bare(lines), bare(others)) if self.any_spaces else (lines, others)
 
 
+class Cut(str):
+    """A part of a line that goes on in the next one. A number at its end may do so, too."""
+
+
 def wrapped(lines: Sequence[str], columns: int, wanted: Sequence[str]) -> List[str]:
     """The lines in parts of so many characters, but those that are wanted as they are: gp cuts no messages."""
     whole = frozenset(line for line in wanted if len(line) > columns)
-    return [line[at : at + columns] if line not in whole else line for line in lines for at in range(0, 1 if line in whole else max(1, len(line)), columns)]
+    found: List[str] = []
+    for line in lines:
+        parts = [line] if line in whole else [line[at : at + columns] for at in range(0, max(1, len(line)), columns)]
+        found += [*map(Cut, parts[:-1]), parts[-1]]
+    return found
 
 
 def bare(lines: Sequence[str]) -> List[str]:
     """The lines with one blank in place of several, and without those that have nothing else."""
-    return [" ".join(line.split()) for line in lines if line.strip()]
+    return [type(line)(" ".join(line.split())) for line in lines if line.strip()]
 
 
 def value(text: str) -> Decimal:
@@ -99,10 +109,18 @@ def value(text: str) -> Decimal:
 
 
 def near(wanted: str, got: str, rules: Rules) -> bool:
-    with decimal.localcontext() as context:
-        context.prec = max(28, len(wanted) + len(got))
-        one, other = value(wanted), value(got)
-        return abs(one - other) <= max(rules.absolute, rules.relative * abs(one))
+    """Whether they are as near as they may be. Where that can't be told, as of numbers that are out of all bounds, they aren't. What doesn't fit
+    into the digits makes the difference greater and the allowance smaller, so no two numbers are near that may not be."""
+    digits = 28 + len(wanted) + len(got) + len(rules.relative.as_tuple().digits)
+    bounds = decimal.Context(digits, decimal.ROUND_CEILING, decimal.MIN_EMIN, decimal.MAX_EMAX, traps=OUT_OF_BOUNDS)
+    try:
+        with decimal.localcontext(bounds) as context:
+            one, other = value(wanted), value(got)
+            apart = max(one, other) - min(one, other)
+            context.rounding = decimal.ROUND_FLOOR
+            return apart <= max(rules.absolute, rules.relative * abs(one))
+    except decimal.DecimalException:
+        return False
 
 
 def line_matches(wanted: str, got: str, rules: Rules) -> bool:
@@ -117,9 +135,24 @@ def line_matches(wanted: str, got: str, rules: Rules) -> bool:
         return fnmatch.fnmatchcase(got, wanted[: -len(BY_GLOB)])
     if not rules.relative and not rules.absolute:
         return False
-    if NUMBER.sub("#", wanted) != NUMBER.sub("#", got):
+    between, numbers, others = NUMBER.split(got), NUMBER.findall(wanted), NUMBER.findall(got)
+    if NUMBER.split(wanted) != between:
         return False
-    return all(near(*pair, rules) for pair in zip(NUMBER.findall(wanted), NUMBER.findall(got)))
+    if isinstance(got, Cut) and others and GOES_ON.fullmatch(between[-1]) and numbers[-1] != others[-1]:
+        return False
+    return all(near(*pair, rules) for pair in zip(numbers, others))
+
+
+def wrong_patterns(wanted: str) -> List[str]:
+    """Why lines ` (re)` of an answer are no patterns, each with its number."""
+    found: List[str] = []
+    for number, line in enumerate(wanted.split("\n"), 1):
+        if line.endswith(BY_PATTERN):
+            try:
+                re.compile(line[: -len(BY_PATTERN)])
+            except re.error as error:
+                found.append(f"line {number} of what is wanted is no pattern: {error}")
+    return found
 
 
 def match(wanted: Sequence[str], got: Sequence[str], rules: Rules) -> bool:

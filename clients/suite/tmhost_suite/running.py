@@ -40,6 +40,8 @@ def verdict_of(case: Case, got: str, is_good: bool, tries: int) -> str:
         return "xpass" if is_good else "xfail"
     if is_good:
         return "flaky" if tries > 1 else "ok"
+    if case.marks.may_fail is not None:
+        return "xfail"
     if case.wanted is None and case.errors is None:
         return "setup" if case.marks.is_setup or case.marks.is_teardown else "new"
     return "differs"

@@ -1,13 +1,14 @@
 """What came of a run, for people: differences, counts, the slowest cases, and on a terminal how far it is."""
 import sys
 import threading
-from typing import Dict, List, Set, TextIO
+from typing import Dict, List, Set, TextIO, Tuple
 
 from .reports import Told, readable
 
 COLOURS = {"-": "31", "+": "32", "@": "36"}
 BOLD = "1"
 ORDER = ("ok", "flaky", "xfail", "skip", "differs", "new", "xpass")
+SILENT = ("? Ended", "? StartRefused", "? Stalled")
 CLEAR = "\r\x1b[K"
 
 
@@ -48,6 +49,17 @@ class Teller:
             self.say("  it is wanted to fail, and passes")
         for line in told.diff[2:] if told.differs_in_text else told.diff:
             self.say("  " + self.painted(readable(line), COLOURS.get(line[:1], "")))
+
+    def tell_silent_sessions(self, all_told: List[Told]) -> None:
+        """The sessions of which no case had an answer though one is wanted, since what their interpreters said of it stands nowhere."""
+        sessions: Dict[Tuple[str, str], List[Told]] = {}
+        for told in all_told:
+            if told.result:
+                sessions.setdefault((told.suite.path, told.case.session), []).append(told)
+        for (path, name), own in sessions.items():
+            if any(told.is_wrong for told in own) and all(told.got in SILENT for told in own):
+                words = " ".join(own[0].suite.sessions[name])
+                self.say(readable(f"{path}: no case of the session {name} has an answer: do its words start an interpreter here? {words}"))
 
     def tell_slowest(self, all_told: List[Told], count: int) -> None:
         slowest = sorted((told for told in all_told if told.result), key=lambda told: -told.seconds)[:count]

@@ -1,6 +1,7 @@
 """The text form of a suite: CommonMark, whose fences of sessions are cases, each with a fence `answer` behind it for what is wanted, and one
 `error` where errors are compared apart."""
 import dataclasses
+import os
 import re
 from decimal import Decimal
 from typing import Any, Dict, FrozenSet, List, Optional, Sequence, Tuple
@@ -106,6 +107,19 @@ def timeout_in(front: Dict[str, Any]) -> Optional[float]:
         raise Trouble("`timeout` is no number of seconds") from None
 
 
+def folder_in(front: Dict[str, Any], path: str) -> Optional[str]:
+    """Where the interpreters are started: a folder that is named from that of the text."""
+    name = front.get("folder")
+    if name is None:
+        return None
+    if not isinstance(name, str) or not name:
+        raise Trouble("`folder` is no name of a folder")
+    found = os.path.abspath(os.path.join(os.path.dirname(path), name))
+    if not os.path.isdir(found):
+        raise Trouble(f"`folder` is {found}, which is no folder")
+    return found
+
+
 def is_behind(block: Block, other: Block, lines: Sequence[str]) -> bool:
     """Whether there is nothing but empty lines between the fences."""
     return not any(line.strip(" \t>") for line in lines[block.end : other.begin])
@@ -131,7 +145,7 @@ class Text:
         self.cases: List[Case] = []
         self.spans: List[Dict[str, Span]] = []
         self._read(contents, blocks_of(contents, first))
-        self.suite = Suite(path, self.sessions, rules_in(front), timeout_in(front), tuple(self.cases))
+        self.suite = Suite(path, self.sessions, rules_in(front), timeout_in(front), tuple(self.cases), folder=folder_in(front, path))
 
     def _read(self, lines: List[str], blocks: List[Block]) -> None:
         at = 0

@@ -12,7 +12,7 @@ GAP_PACKAGE = re.compile(r"/pkg/([\w-]+)/")
 GAP_BORDER = re.compile(r"\s*(?:START|STOP)_TEST\b.*")
 
 OCTAVE_BLOCK = re.compile(r"^%!([a-z]+)(.*(?:\n%!(?:[ \t].*)?$)*)", re.MULTILINE)
-OCTAVE_MORE = re.compile(r"\n%! ?")
+OCTAVE_MORE = re.compile(r"\n%!")
 OCTAVE_BUG = re.compile(r"\s*<(\*?)\d+>")
 OCTAVE_MESSAGE = re.compile(r"\s*(?:id=([\w:-]+)|<((?:\\.|[^>\\])*)>)?", re.DOTALL)
 PASSED, SKIPPED = "passed", "skipped: it wants"
@@ -124,7 +124,7 @@ def octave_case(session: str, kind: str, code: str, shared: str, line: int) -> O
     bug = OCTAVE_BUG.match(code)
     if bug and kind != "testif":
         code = code[bug.end() :]
-    marks = Marks(xfail="a known bug" if kind == "xtest" or bug and not bug[1] else None)
+    marks = Marks(may_fail="a known bug" if kind == "xtest" or bug and not bug[1] else None)
     passes = f"{ANY_LINES}\n{PASSED}"
     if kind == "testif":
         return whole_case(session, where_it_can(code, shared), passes, line, Marks(skip_if=f"^{SKIPPED}"))

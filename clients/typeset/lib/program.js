@@ -24,7 +24,7 @@ status: 0, also where formulas stay as their TeX; 1 where something can't be rea
 `;
 const USAGE = HELP.split("\n")[0];
 const KATEX = ["/usr/share/nodejs/katex/dist/katex.js", "/usr/share/javascript/katex/katex.js"];
-const MARKDOWN = ["/usr/share/nodejs/markdown-it/dist/markdown-it.js", "/usr/share/javascript/markdown-it/markdown-it.js"];
+const MARKDOWN = ["/usr/share/javascript/markdown-it/markdown-it.js", "/usr/share/nodejs/markdown-it/dist/markdown-it.js"]; // some of the second kind name a file that isn't there
 const PROSE = /^prose(-\d{1,6})?$/; // as tmhost-notebook and tmhost-import name its sessions
 const SECONDS = "60";
 const SHOWN = 60; // characters of a formula in a report

@@ -7,7 +7,7 @@ use Rattle.arrivals.specs.Held.{Readiness}
 use Rattle.arrivals.specs.declared.sources.Woken.{Woken}
 use Rattle.offline_programs.specs.declared.fault.RunFault.{RunFault}
 use Rattle.offline_programs.specs.declared.fault.RunFault.TheVariants as fault
-use Rattle.sheet_programs.specs.Together.{most_commands}
+use Rattle.driver.specs.Steps.{most_together}
 use Rattle.live.specs.declared.holding.Hold.TheVariants as hold
 use Rattle.live.specs.Saying.{stop_if}
 use Rattle.live.specs.Arrivals.{input_at, patience_at}
@@ -48,7 +48,7 @@ pub data LinesSay (a : LinesAt) (w : World) (now : ℕ) (r : Result Turn RunFaul
   -- in a strict input a line went wrong
   stopped : a.held ≡ hold.Stopped → r ≡ Ok turn.End → b ≡ a → LinesSay a w now r b
   -- so many were taken that those of a group more couldn't be counted
-  uncounted : 2 ^ 64 ≤ a.number + most_commands + 1 → r ≡ Err fault.InputTooLong → b ≡ a → LinesSay a w now r b
+  uncounted : 2 ^ 64 ≤ a.number + most_together + 1 → r ≡ Err fault.InputTooLong → b ≡ a → LinesSay a w now r b
   -- the next life whose time is over
   warns : (seat : Seat) (rest : List Seat) → a.late ≡ seat ∷ rest → r ≡ Ok (turn.Interrupt seat.name) → b ≡ warning a seat rest → LinesSay a w now r b
   says : (m : Matter) → (a.held ≡ hold.Stopped → ⊥) → a.late ≡ [] → IsAbout a now m → SaysMatter (heeded a) w now m r b → LinesSay a w now r b

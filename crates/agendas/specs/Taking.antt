@@ -6,7 +6,8 @@ use Rattle.arrivals.specs.Lines.{InputLine, whole}
 use Rattle.arrivals.specs.Held.{Held, KeepsLines, Readiness, left_with, to_come}
 use Rattle.offline_programs.specs.declared.fault.RunFault.{RunFault}
 use Rattle.offline_programs.specs.declared.fault.RunFault.TheVariants as fault
-use Rattle.sheet_programs.specs.Together.{lines_events, most_commands}
+use Rattle.sheet_programs.specs.Together.{lines_events}
+use Rattle.driver.specs.Steps.{most_together}
 use Rattle.live.specs.declared.live_line.LiveLine.{LiveLine}
 use Rattle.live.specs.Saying.{IsCommand, SaysGrouped}
 use Rattle.live.specs.Arrivals.{said_by}
@@ -39,7 +40,7 @@ ReadsOn a r b =
 pub data TakesInput (a : LinesAt) (w : World) (now : ℕ) (r : Result Turn RunFault) (b : LinesAt) : Type 0 where
   -- Lines that are there together, of which each says a command other than `checkpoint`. A strict input takes its lines one by one.
   together : (given : List (List ℕ)) (k : Held) (t : Turn) → a.manner.strict ≡ false → AllByRecursion SaysGrouped given → 1 ≤ length given
-      → length given ≤ most_commands → Readiness a.buffer true → ComeNext (map whole given) a.buffer k → r ≡ Ok t
+      → length given ≤ most_together → Readiness a.buffer true → ComeNext (map whole given) a.buffer k → r ≡ Ok t
       → AsksLines (a.number + 1) (lines_events given) t → b ≡ behind_group (given_to a k) (length given) → TakesInput a w now r b
   -- the next line by itself
   alone : (l : InputLine) (k : Held) → Readiness a.buffer true → ComeNext (l ∷ []) a.buffer k → TakesGivenLine (given_to a k) w now (said_by l) r b → TakesInput a w now r b

@@ -2,7 +2,7 @@
 ghost use Rattle.std.specs.Prelude.{◌≡◌, ◌+◌, ◌<◌, ◌^◌, ◌&&◌, ◌∷◌, [], Bool, IfNone, IfSome, None, true};
 ghost use Rattle.session_engine.specs.World.{World};
 ghost use Rattle.session_engine.specs.Host.{IsHost};
-ghost use Rattle.sheet_programs.specs.Together.{most_commands};
+ghost use Rattle.driver.specs.Steps.{most_together};
 ghost use Rattle.live.specs.Saying as saying;
 ghost use Rattle.agendas.specs.Waits as waits;
 ghost use Rattle.agendas.specs.Matters.{IsMatter};
@@ -167,7 +167,7 @@ impl<R: Read> ByLines<R> {
         now: u64,
         matter: Matter,
     ) -> Result<Turn, RunFault>
-        requires { self.old.number + most_commands + 1 < 2 ^ 64 }
+        requires { self.old.number + most_together + 1 < 2 ^ 64 }
         ensures { (w : World) → self.old.late.items ≡ [] → IsHost host.now w
             → SaysMatter (lines_stand R.remaining self.old) w now matter result (lines_stand R.remaining self.new) }
     {

@@ -3,7 +3,8 @@ ghost use Rattle.std.specs.Prelude.{◌≡◌, ◌+◌, ◌≤◌, ◌++◌, ◌
 ghost use Rattle.host_events.specs.declared.event.Event.TheVariants as asks;
 ghost use Rattle.session_engine.specs.Gathers.{is_checkpoint};
 ghost use Rattle.sheet_text.specs.Script.{line_of};
-ghost use Rattle.sheet_programs.specs.Together.{line_events, most_commands};
+ghost use Rattle.sheet_programs.specs.Together.{line_events};
+ghost use Rattle.driver.specs.Steps.{most_together};
 ghost use Rattle.live.specs.Saying.{SaysGrouped};
 ghost use Rattle.live.specs.Gathering.{Gathered, GathersOne};
 
@@ -64,7 +65,7 @@ fn gather_one<R: Read>(alloc: Global, lines: &mut InputLines<R>, events: &mut Ve
 /// them were in the buffer of the input.
 pub(crate) fn gather<R: Read>(alloc: Global, lines: &mut InputLines<R>) -> Vec<Event>
     ensures gathered { Gathered lines.old.held lines.new.held result.items }
-    ensures few { length result.items ≤ most_commands }
+    ensures few { length result.items ≤ most_together }
     ensures reader { lines.new.reader ≡ lines.old.reader }
 {
     let mut events = Vec::new(alloc);

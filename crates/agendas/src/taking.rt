@@ -2,7 +2,7 @@
 ghost use Rattle.std.specs.Prelude.{◌≡◌, ◌+◌, ◌<◌, ◌^◌, None};
 ghost use Rattle.session_engine.specs.World.{World};
 ghost use Rattle.session_engine.specs.Host.{IsHost};
-ghost use Rattle.sheet_programs.specs.Together.{most_commands};
+ghost use Rattle.driver.specs.Steps.{most_together};
 ghost use Rattle.live.specs.LiveLines.{live_line_of};
 
 use crate::alone::{Reading, bad, choose_line};
@@ -127,7 +127,7 @@ impl<R: Read> ByLines<R> {
         host: &Host<D>,
         now: u64,
     ) -> Result<Turn, RunFault>
-        requires { self.old.number + most_commands + 1 < 2 ^ 64 }
+        requires { self.old.number + most_together + 1 < 2 ^ 64 }
         ensures { (w : World) → IsHost host.now w → TakesInput (lines_stand R.remaining self.old) w now result (lines_stand R.remaining self.new) }
     {
         if self.manner.strict {

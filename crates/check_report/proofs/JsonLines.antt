@@ -16,10 +16,10 @@ use Rattle.check_report.specs.declared.report.Format.TheVariants as format
 use Rattle.check_report.specs.declared.verdict.Counts.{Counts}
 use Rattle.check_report.specs.Json.{counts_told, json_head, json_tail}
 use Rattle.check_report.specs.Laws.{JsonIsItsLines, report_tellings}
-use Rattle.check_report.specs.Reports.{Case, cases_text, report_text, telling_of, verdicts_of}
+use Rattle.check_report.specs.Reports.{Case, cases_text, report_text, telling_of, judgements_of}
 use Rattle.check_report.specs.Verdicts.{counts_of, total}
 use Rattle.check_report.specs.inside.Closing.{first_part, second_part}
-use Rattle.check_report.proofs.Totals.{total-of}
+use Rattle.check_report.proofs.Totals.{errors-of, total-of}
 
 -- What is written without memory is the text of the values.
 
@@ -35,6 +35,9 @@ part x y more all e = append_assoc x y more ∙ ap (λ t. x ++ t) e
 abbrev first : List ℕ
 first = codes "{\"differ\":"
 
+abbrev erring : List ℕ
+erring = codes ",\"errors\":"
+
 abbrev second : List ℕ
 second = codes ",\"left_out\":"
 
@@ -48,21 +51,25 @@ abbrev behind : List ℕ
 behind = codes "}\n{\"type\":\"end\"}\n"
 
 -- the parts, each with all that follows it
-abbrev row : (a b c d rest : List ℕ) → List ℕ
-row a b c d rest = first ++ (a ++ (second ++ (b ++ (third ++ (c ++ (fourth ++ (d ++ rest)))))))
+abbrev row : (a e b c d rest : List ℕ) → List ℕ
+row a e b c d rest = first ++ (a ++ (erring ++ (e ++ (second ++ (b ++ (third ++ (c ++ (fourth ++ (d ++ rest)))))))))
 
 to_the_right : (p a q b more : List ℕ) → p ++ a ++ q ++ b ++ more ≡ p ++ (a ++ (q ++ (b ++ more)))
 to_the_right p a q b more = append_assoc (p ++ a ++ q) b more ∙ append_assoc (p ++ a) q (b ++ more) ∙ append_assoc p a (q ++ (b ++ more))
 
+three_to_the_right : (p a q b r c more : List ℕ) → p ++ a ++ q ++ b ++ r ++ c ++ more ≡ p ++ (a ++ (q ++ (b ++ (r ++ (c ++ more)))))
+three_to_the_right p a q b r c more = append_assoc (p ++ a ++ q ++ b ++ r) c more ∙ append_assoc (p ++ a ++ q ++ b) r (c ++ more) ∙ to_the_right p a q b (r ++ (c ++ more))
+
 -- a row of parts with more after it
-further : (a b c d x more : List ℕ) → row a b c d x ++ more ≡ row a b c d (x ++ more)
-further a b c d x more =
-    ap (λ t. first ++ t) (part a (second ++ (b ++ (third ++ (c ++ (fourth ++ (d ++ x)))))) more (second ++ (b ++ (third ++ (c ++ (fourth ++ (d ++ (x ++ more)))))))
+further : (a e b c d x more : List ℕ) → row a e b c d x ++ more ≡ row a e b c d (x ++ more)
+further a e b c d x more =
+    ap (λ t. first ++ t) (part a (erring ++ (e ++ (second ++ (b ++ (third ++ (c ++ (fourth ++ (d ++ x)))))))) more (erring ++ (e ++ (second ++ (b ++ (third ++ (c ++ (fourth ++ (d ++ (x ++ more)))))))))
+    (ap (λ t. erring ++ t) (part e (second ++ (b ++ (third ++ (c ++ (fourth ++ (d ++ x)))))) more (second ++ (b ++ (third ++ (c ++ (fourth ++ (d ++ (x ++ more)))))))
     (ap (λ t. second ++ t) (part b (third ++ (c ++ (fourth ++ (d ++ x)))) more (third ++ (c ++ (fourth ++ (d ++ (x ++ more)))))
     (ap (λ t. third ++ t) (part c (fourth ++ (d ++ x)) more (fourth ++ (d ++ (x ++ more)))
-    (ap (λ t. fourth ++ t) (part d x more (x ++ more) refl)))))))
+    (ap (λ t. fourth ++ t) (part d x more (x ++ more) refl)))))))))
 
-counts_are : (counts : Counts) → compact_text (telling_data (counts_told counts)) ≡ row (decimal counts.differ) (decimal counts.left_out) (decimal counts.same) (decimal counts.unanswered) (125 ∷ [])
+counts_are : (counts : Counts) → compact_text (telling_data (counts_told counts)) ≡ row (decimal counts.differ) (decimal counts.errors) (decimal counts.left_out) (decimal counts.same) (decimal counts.unanswered) (125 ∷ [])
 unfolding escape_byte
 counts_are counts = refl
 
@@ -73,13 +80,14 @@ end_is = refl
 pub closing_is : (counts : Counts) → first_part counts ++ second_part counts ≡ json_tail counts
 closing_is counts =
     let a = decimal counts.differ in
+    let e = decimal counts.errors in
     let b = decimal counts.left_out in
     let c = decimal counts.same in
     let d = decimal counts.unanswered in
     let last = codes "{\"type\":\"end\"}\n" in
-    to_the_right first a second b (second_part counts) ∙ ap (λ t. first ++ (a ++ (second ++ (b ++ t)))) (to_the_right third c fourth d behind)
-    ∙ sym (ap (λ t. (t ++ 10 ∷ []) ++ telling_line told.end) (counts_are counts) ∙ ap (λ t. (row a b c d (125 ∷ []) ++ 10 ∷ []) ++ t) end_is
-    ∙ ap (λ t. t ++ last) (further a b c d (125 ∷ []) (10 ∷ [])) ∙ further a b c d (125 ∷ 10 ∷ []) last)
+    three_to_the_right first a erring e second b (second_part counts) ∙ ap (λ t. first ++ (a ++ (erring ++ (e ++ (second ++ (b ++ t)))))) (to_the_right third c fourth d behind)
+    ∙ sym (ap (λ t. (t ++ 10 ∷ []) ++ telling_line told.end) (counts_are counts) ∙ ap (λ t. (row a e b c d (125 ∷ []) ++ 10 ∷ []) ++ t) end_is
+    ∙ ap (λ t. t ++ last) (further a e b c d (125 ∷ []) (10 ∷ [])) ∙ further a e b c d (125 ∷ 10 ∷ []) last)
 
 -- The report is the lines of its tellings.
 
@@ -93,7 +101,7 @@ jsons number (c ∷ cases) = ap (λ t. telling_line (telling_of c) ++ t) (jsons 
 
 pub json_report : (cases : List Case) → report_text format.Json cases ≡ tellings_text (report_tellings cases)
 json_report cases =
-    let last = counts_told (counts_of (verdicts_of cases)) in
+    let last = counts_told (counts_of (judgements_of cases)) in
     append_assoc json_head (cases_text format.Json 1 cases) (telling_line last ++ telling_line told.end)
     ∙ ap (λ t. json_head ++ t) (ap (λ t. t ++ (telling_line last ++ telling_line told.end)) (jsons 1 cases)
     ∙ ap (λ t. tellings_text (map telling_of cases) ++ (telling_line last ++ t)) (sym (append-nil (telling_line told.end))) ∙ sym (tellings-append (map telling_of cases) (last ∷ told.end ∷ [])))
@@ -106,8 +114,8 @@ one_line t s = (compact_text (telling_data t), refl, text_within (telling_data t
 within : (n : ℕ) → n < 2 ^ 32 → n < 2 ^ 64
 within n h = omega (arith, h)
 
-counts_sound : (counts : Counts) → total counts < 2 ^ 32 → IsSoundTelling (counts_told counts)
-counts_sound counts h = (omega (arith, h), omega (arith, h), omega (arith, h), omega (arith, h))
+counts_sound : (counts : Counts) → total counts < 2 ^ 32 → counts.errors < 2 ^ 32 → IsSoundTelling (counts_told counts)
+counts_sound counts h e = (omega (arith, h), omega (arith, h), omega (arith, h), omega (arith, h), within counts.errors e)
 
 each_line : (cases : List Case) (more : List Telling) → AllByRecursion (λ c. IsSoundTelling (telling_of c)) cases → AllByRecursion (λ t. IsOneLine (telling_line t)) more
     → AllByRecursion (λ t. IsOneLine (telling_line t)) (map telling_of cases ++ more)
@@ -116,8 +124,9 @@ each_line (c ∷ cases) more sound lines = (one_line (telling_of c) sound.0, eac
 
 pub json_is_its_lines : JsonIsItsLines
 json_is_its_lines cases sound few =
-    let counts = counts_of (verdicts_of cases) in
-    let fits : total counts < 2 ^ 32 = omega (arith, total-of cases, few) in (
+    let counts = counts_of (judgements_of cases) in
+    let fits : total counts < 2 ^ 32 = omega (arith, total-of cases, few) in
+    let errors : counts.errors < 2 ^ 32 = omega (arith, errors-of cases, few) in (
       one_line told.hello tt,
-      each_line cases (counts_told counts ∷ told.end ∷ []) sound (one_line (counts_told counts) (counts_sound counts fits), (one_line told.end tt, tt)),
+      each_line cases (counts_told counts ∷ told.end ∷ []) sound (one_line (counts_told counts) (counts_sound counts fits errors), (one_line told.end tt, tt)),
     )

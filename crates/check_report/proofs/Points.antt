@@ -3,7 +3,7 @@ use Rattle.std.proofs.Common.{◌≡◌, ◌+◌, ℕ, suc, List, [], ◌∷◌,
 use Rattle.check_report.specs.declared.report.Format.TheVariants as format
 use Rattle.check_report.specs.Junit.{head, junit_case, tail}
 use Rattle.check_report.specs.Laws.{ReportsAreTheirTexts}
-use Rattle.check_report.specs.Reports.{Case, cases_text, point_of, verdicts_of}
+use Rattle.check_report.specs.Reports.{Case, cases_text, point_of, judgements_of}
 use Rattle.check_report.specs.Tap.{plan_line, tap_point, tap_points, version_line}
 use Rattle.check_report.specs.Verdicts.{counts_of, total}
 use Rattle.check_report.specs.Words.{acceptance_text, accepted_counts_text, counts_text, verdict_text, whole_text}
@@ -36,11 +36,11 @@ points-length (c ∷ cases) = ap suc (points-length cases)
 
 pub are_their_texts : ReportsAreTheirTexts
 are_their_texts cases = (
-  ap (λ t. version_line ++ t ++ plan_line (total (counts_of (verdicts_of cases)))) (taps 1 cases)
+  ap (λ t. version_line ++ t ++ plan_line (total (counts_of (judgements_of cases)))) (taps 1 cases)
       ∙ ap (λ n. version_line ++ tap_points 1 (map point_of cases) ++ plan_line n) (total-of cases ∙ sym (points-length cases)),
   ap (λ t. head ++ t ++ tail) (junits 1 cases),
   json_report cases,
-  ap (λ t. t ++ counts_text (counts_of (verdicts_of cases))) (words 1 cases),
-  ap (λ t. t ++ counts_text (counts_of (verdicts_of cases))) (whole 1 cases),
-  ap (λ t. t ++ accepted_counts_text (counts_of (verdicts_of cases))) (accepted 1 cases),
+  ap (λ t. t ++ counts_text (counts_of (judgements_of cases))) (words 1 cases),
+  ap (λ t. t ++ counts_text (counts_of (judgements_of cases))) (whole 1 cases),
+  ap (λ t. t ++ accepted_counts_text (counts_of (judgements_of cases))) (accepted 1 cases),
 )

@@ -23,7 +23,7 @@ abbrev pub checked_told : Field → Option Answer → Option Reason → Verdict 
 checked_told field came lost v = told.checked field.id field.session (check_told field came lost v)
 
 abbrev pub counts_told : Counts → Telling
-counts_told counts = told.compared counts.same counts.differ counts.unanswered counts.left_out
+counts_told counts = told.compared counts.same counts.differ counts.unanswered counts.left_out counts.errors
 
 -- what stands first
 abbrev pub json_head : List ℕ

@@ -13,7 +13,7 @@ use Rattle.check_report.specs.declared.hunks.Hunk.{Hunk}
 use Rattle.check_report.specs.Hunks.{hunk_of, lines_added, some_lines, lines_removed, tail_start}
 use Rattle.check_report.specs.Points.{Point}
 use Rattle.check_report.specs.Json.{counts_told}
-use Rattle.check_report.specs.Reports.{Case, point_of, report_text, telling_of, verdicts_of}
+use Rattle.check_report.specs.Reports.{Case, point_of, report_text, telling_of, judgements_of}
 use Rattle.check_report.specs.Verdicts.{counts_of}
 use Rattle.check_report.specs.Words.{acceptance_text, accepted_counts_text, counts_text, verdict_text, whole_text}
 use Rattle.check_report.specs.Junit.{junit_text}
@@ -40,7 +40,7 @@ point_lines number (p ∷ points) = point_line number p.id p.session p.verdict �
 
 -- what a report tells in lines of JSON: first, of each case in their order, then the counts, and last that it came to its end
 abbrev pub report_tellings : List Case → List Telling
-report_tellings cases = told.hello ∷ (map telling_of cases ++ counts_told (counts_of (verdicts_of cases)) ∷ told.end ∷ [])
+report_tellings cases = told.hello ∷ (map telling_of cases ++ counts_told (counts_of (judgements_of cases)) ∷ told.end ∷ [])
 
 -- A report as TAP and one in JUnit's XML are those of its points, one as JSON is the lines of its tellings, and those in words have the texts of their cases and then the counts.
 abbrev pub ReportsAreTheirTexts : Type 0
@@ -48,9 +48,9 @@ ReportsAreTheirTexts = (cases : List Case)
     → (report_text format.Tap cases ≡ tap_text (map point_of cases))
     × (report_text format.Junit cases ≡ junit_text (map point_of cases))
     × (report_text format.Json cases ≡ tellings_text (report_tellings cases))
-    × (report_text format.Text cases ≡ flat_map (λ c. verdict_text c.field c.came c.verdict) cases ++ counts_text (counts_of (verdicts_of cases)))
-    × (report_text format.Whole cases ≡ flat_map (λ c. whole_text c.field c.came c.verdict) cases ++ counts_text (counts_of (verdicts_of cases)))
-    × (report_text format.Accepting cases ≡ flat_map (λ c. acceptance_text c.field c.came c.verdict) cases ++ accepted_counts_text (counts_of (verdicts_of cases)))
+    × (report_text format.Text cases ≡ flat_map (λ c. verdict_text c.field c.came c.verdict) cases ++ counts_text (counts_of (judgements_of cases)))
+    × (report_text format.Whole cases ≡ flat_map (λ c. whole_text c.field c.came c.verdict) cases ++ counts_text (counts_of (judgements_of cases)))
+    × (report_text format.Accepting cases ≡ flat_map (λ c. acceptance_text c.field c.came c.verdict) cases ++ accepted_counts_text (counts_of (judgements_of cases)))
 
 -- Without its comments a report as TAP has these lines, one by one: the version, a point for each field, numbered from 1, and the
 -- plan. So what an interpreter wrote is in comments alone.

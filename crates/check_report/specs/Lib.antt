@@ -1,4 +1,5 @@
 pub mod inside
+pub mod Errors
 pub mod Verdicts
 pub mod Chosen
 pub mod IdLists

@@ -9,9 +9,10 @@ use Rattle.check_report.specs.declared.report.Format.TheVariants as format
 use Rattle.check_report.specs.declared.report.ReportFault.{ReportFault}
 use Rattle.check_report.specs.declared.report.ReportFault.TheVariants as fault
 use Rattle.check_report.specs.declared.verdict.Counts.{Counts}
+use Rattle.check_report.specs.declared.verdict.Judgement.{Judgement}
 use Rattle.check_report.specs.declared.verdict.Verdict.{Verdict}
 use Rattle.check_report.specs.declared.verdict.Verdict.TheVariants as verdict
-use Rattle.check_report.specs.Verdicts.{counts_of, total}
+use Rattle.check_report.specs.Verdicts.{counts_of, judgement_of, total}
 use Rattle.check_report.specs.Points.{Point, point}
 use Rattle.check_report.specs.Words.{acceptance_text, accepted_counts_text, counts_text, verdict_text, whole_text}
 use Rattle.check_report.specs.Tap.{plan_line, tap_point, version_line}
@@ -35,8 +36,9 @@ case field came lost verdict = record { field = field; came = came; lost = lost;
 abbrev pub point_of : Case → Point
 point_of c = point c.field.id c.field.session c.field.input c.verdict (verdict_text c.field c.came c.verdict)
 
-abbrev pub verdicts_of : List Case → List Verdict
-verdicts_of cases = map (λ c. c.verdict) cases
+-- what cases are counted as
+abbrev pub judgements_of : List Case → List Judgement
+judgements_of cases = map (λ c. judgement_of c.came c.verdict) cases
 
 -- the same in JSON
 abbrev pub telling_of : Case → Telling
@@ -80,7 +82,7 @@ report_front F cases = opening_text F ++ cases_text F 1 cases
 
 -- a whole report
 abbrev pub report_text : Format → List Case → List ℕ
-report_text F cases = report_front F cases ++ closing_text F (counts_of (verdicts_of cases))
+report_text F cases = report_front F cases ++ closing_text F (counts_of (judgements_of cases))
 
 abbrev pub is_written_in_words : Verdict → Bool
 is_written_in_words verdict.Same = false

@@ -71,6 +71,10 @@ acceptance_text field came verdict.LeftOut = []
 abbrev pub left_out_part : ℕ → List ℕ
 left_out_part n = if nat_eq n 0 then [] else codes " left out " ++ decimal n
 
+-- how many answers are errors, where some are
+abbrev pub errors_part : ℕ → List ℕ
+errors_part n = if nat_eq n 0 then [] else codes " errors " ++ decimal n
+
 -- how many were compared, by what they came to
 abbrev pub compared_part : Counts → List ℕ
 compared_part counts = codes "same " ++ decimal counts.same ++ codes " differ " ++ decimal counts.differ ++ codes " unanswered " ++ decimal counts.unanswered
@@ -81,7 +85,7 @@ accepted_part counts = codes "same " ++ decimal counts.same ++ codes " accepted 
 
 -- the last line
 abbrev pub counts_text : Counts → List ℕ
-counts_text counts = compared_part counts ++ left_out_part counts.left_out ++ 10 ∷ []
+counts_text counts = compared_part counts ++ left_out_part counts.left_out ++ errors_part counts.errors ++ 10 ∷ []
 
 abbrev pub accepted_counts_text : Counts → List ℕ
-accepted_counts_text counts = accepted_part counts ++ left_out_part counts.left_out ++ 10 ∷ []
+accepted_counts_text counts = accepted_part counts ++ left_out_part counts.left_out ++ errors_part counts.errors ++ 10 ∷ []

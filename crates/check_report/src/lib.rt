@@ -3,6 +3,7 @@
 #![tactic(auto)]
 
 mod chosen;
+mod errors;
 mod hunks;
 mod ids;
 mod junit;
@@ -17,10 +18,11 @@ mod writing;
 mod xml;
 
 pub use chosen::{Chosen, Ids};
+pub use errors::{brings_error, tells_error};
 pub use ids::read_ids;
 pub use report::{
     Format, ReportFault, bring_out, close_report, is_written, open_report, report_case,
 };
 pub use request::{FieldWords, Request, RequestFault, read_request};
-pub use verdict::{Counts, Verdict};
+pub use verdict::{Counts, Judgement, Verdict};
 pub use words::acceptance_in_memory;

@@ -66,13 +66,15 @@ pub(crate) fn write_hello<W: Write>(out: &mut W) -> Result<(), WriteFault>
     )
 }
 
-/// Writes how many differ, and how many were left out.
+/// Writes how many differ, how many are errors, and how many were left out.
 #[tactic(auto, using(crate::proofs::Written::steps))]
 fn write_first_part<W: Write>(counts: Counts, out: &mut W) -> Result<(), WriteFault>
     ensures { OnOk result (Appends (W.contents out.old) (W.contents out.new) (first_part counts)) }
 {
     write_bytes(b"{\"differ\":", out)?;
     write_id(counts.differ, out)?;
+    write_bytes(b",\"errors\":", out)?;
+    write_id(counts.errors, out)?;
     write_bytes(b",\"left_out\":", out)?;
     write_id(counts.left_out, out)?;
     Ok(())

@@ -1,6 +1,7 @@
 //! What evaluations come to, and their counts.
-ghost use Rattle.std.specs.Prelude.{◌≡◌, ◌+◌, ◌<◌, ◌^◌};
+ghost use Rattle.std.specs.Prelude.{◌≡◌, ◌+◌, ◌≤◌, ◌<◌, ◌^◌};
 ghost use Rattle.check_report.specs.Verdicts.{Compared, counted_with, total};
+ghost use Rattle.check_report.specs.Verdicts as verdicts;
 
 use worksheet::Answer;
 
@@ -17,6 +18,15 @@ pub enum Verdict {
     LeftOut,
 }
 
+/// What another evaluation is counted as.
+#[derive(Clone, Copy, Debug, PartialEq, Eq)]
+pub struct Judgement {
+    /// What it came to.
+    pub verdict: Verdict,
+    /// Whether an answer came that is an error, or has one in it.
+    pub error: bool,
+}
+
 /// How many evaluations came to what: one for each field that shows an answer, so 10,000 at most.
 #[derive(Clone, Copy, Debug, PartialEq, Eq)]
 pub struct Counts {
@@ -28,25 +38,40 @@ pub struct Counts {
     pub unanswered: u32,
     /// Those that aren't compared.
     pub left_out: u32,
+    /// Those of which an answer came that is an error, or has one in it, whatever they came to.
+    pub errors: u32,
 }
 
 impl Counts {
     /// Of no evaluation.
     pub fn none() -> Counts
-        ensures { result ≡ record { same = 0; differ = 0; unanswered = 0; left_out = 0 } }
+        ensures { result ≡ record { same = 0; differ = 0; unanswered = 0; left_out = 0; errors = 0 } }
     {
         Counts {
             same: 0,
             differ: 0,
             unanswered: 0,
             left_out: 0,
+            errors: 0,
         }
     }
 
-    /// With one more.
-    pub fn with(self, verdict: Verdict) -> Counts
+    /// With one more error, where it is one.
+    fn with_error(self, error: bool) -> Counts
+        requires { self.errors < 2 ^ 31 }
+        ensures { result ≡ verdicts.with_error error self }
+    {
+        let mut counts = self;
+        if error {
+            counts.errors += 1;
+        }
+        counts
+    }
+
+    /// With one more that came to this.
+    fn with_verdict(self, verdict: Verdict) -> Counts
         requires { total self < 2 ^ 31 }
-        ensures { result ≡ counted_with verdict self }
+        ensures { result ≡ verdicts.with_verdict verdict self }
     {
         let mut counts = self;
         match verdict {
@@ -56,6 +81,19 @@ impl Counts {
             Verdict::LeftOut => counts.left_out += 1,
         }
         counts
+    }
+
+    /// With one more.
+    #[tactic(auto, using(crate::proofs::Totals::counting))]
+    pub fn with(self, judgement: Judgement) -> Counts
+        requires few { total self < 2 ^ 31 }
+        requires errors { self.errors ≤ total self }
+        ensures counted { result ≡ counted_with judgement self }
+        ensures bound { total result ≡ total self + 1 }
+        ensures errors { result.errors ≤ total result }
+    {
+        self.with_error(judgement.error)
+            .with_verdict(judgement.verdict)
     }
 
     /// Of how many evaluations they are.

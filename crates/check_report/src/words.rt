@@ -224,6 +224,17 @@ fn write_left_out<W: Write>(left_out: u32, writer: &mut W) -> Result<(), WriteFa
     }
 }
 
+/// Writes how many answers are errors, where some are.
+fn write_errors<W: Write>(errors: u32, writer: &mut W) -> Result<(), WriteFault>
+    ensures { OnOk result (Appends (W.contents writer.old) (W.contents writer.new)
+        (printed.errors_part errors)) }
+{
+    if errors == 0 {
+        return Ok(());
+    }
+    write!(writer, " errors {errors}").map_err(|_| WriteFault)
+}
+
 /// Writes how many were compared, by what they came to.
 fn write_compared<W: Write>(counts: Counts, writer: &mut W) -> Result<(), WriteFault>
     ensures { OnOk result (Appends (W.contents writer.old) (W.contents writer.new)
@@ -234,6 +245,7 @@ fn write_compared<W: Write>(counts: Counts, writer: &mut W) -> Result<(), WriteF
         differ,
         unanswered,
         left_out: _,
+        errors: _,
     } = counts;
     write!(
         writer,
@@ -252,6 +264,7 @@ fn write_accepted_part<W: Write>(counts: Counts, writer: &mut W) -> Result<(), W
         differ,
         unanswered,
         left_out: _,
+        errors: _,
     } = counts;
     write!(
         writer,
@@ -271,6 +284,7 @@ pub(crate) fn write_accepted_counts<W: Write>(
 {
     write_accepted_part(counts, writer)?;
     write_left_out(counts.left_out, writer)?;
+    write_errors(counts.errors, writer)?;
     write_bytes(b"\n", writer)?;
     Ok(())
 }
@@ -283,6 +297,7 @@ pub(crate) fn write_counts<W: Write>(counts: Counts, writer: &mut W) -> Result<(
 {
     write_compared(counts, writer)?;
     write_left_out(counts.left_out, writer)?;
+    write_errors(counts.errors, writer)?;
     write_bytes(b"\n", writer)?;
     Ok(())
 }

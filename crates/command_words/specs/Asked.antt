@@ -80,6 +80,7 @@ pub data TaskView : Type 0 where
   run : Text → RunView → TaskView
   live : Text → TaskView
   live_json : Text → TaskView
+  live_partial : Text → TaskView
   eval : Text → EvalView → TaskView
   show : Text → TaskView
   show_json : Text → TaskView
@@ -99,6 +100,7 @@ task_view (task.Create path) = create path.now
 task_view (task.Run path words) = run path.now (run_view words)
 task_view (task.Live path) = live path.now
 task_view (task.LiveJson path) = live_json path.now
+task_view (task.LivePartial path) = live_partial path.now
 task_view (task.Eval path words) = eval path.now (eval_view words)
 task_view (task.Show path) = show path.now
 task_view (task.ShowJson path) = show_json path.now
@@ -142,6 +144,13 @@ with_stream name = with_rule (new_app name) json_rule
 
 abbrev pub with_json : Text → App
 with_json name = with_rule (with_path name) json_rule
+
+-- and of `live`, with another flag after these
+abbrev pub partial_rule : Rule
+partial_rule = record (new_rule (codes "partial")) { long = Some (codes "partial"); action = Some SetTrue }
+
+abbrev pub with_live : Text → App
+with_live name = with_rule (with_json name) partial_rule
 
 -- and of `show`, and of `export`, with the number of a change after the others
 abbrev pub at_rule : Rule
@@ -290,7 +299,7 @@ bare_tmhost = let a = new_app (codes "tmhost") in record a { top = record a.top 
 abbrev pub tmhost : App
 tmhost = with_subcommand (with_subcommand (with_subcommand (with_subcommand (with_subcommand (with_subcommand (with_subcommand (with_subcommand (with_subcommand (with_subcommand (with_subcommand
     (with_subcommand bare_tmhost (with_stream (codes "blocks")).top)
-    (with_path (codes "create")).top) (with_run (codes "run")).top) (with_json (codes "live")).top) (with_eval (codes "eval")).top)
+    (with_path (codes "create")).top) (with_run (codes "run")).top) (with_live (codes "live")).top) (with_eval (codes "eval")).top)
     (with_show (codes "show")).top) (with_check (codes "check")).top) (with_paths (codes "rescue")).top) (with_export (codes "export")).top)
     (with_path (codes "history")).top) (with_restore (codes "restore")).top) (help_alone (codes "faults")).top
 
@@ -302,6 +311,7 @@ is_set (Some value) = bytes_eq value (codes "true")
 -- the flags and options, as contracts see them
 pub record FlagsView : Type 0 where
   pub json : Bool
+  pub partial : Bool
   pub at : Option Text
   pub changes : Option Text
   pub run : RunView
@@ -309,7 +319,7 @@ pub record FlagsView : Type 0 where
   pub check : CheckView
 
 abbrev pub flags_view : Flags → FlagsView
-flags_view flags = record { json = flags.json; at = option_map (λ text. text.now) flags.at; changes = option_map (λ text. text.now) flags.changes; run = run_view flags.run; eval = eval_view flags.eval; check = check_view flags.check }
+flags_view flags = record { json = flags.json; partial = flags.partial; at = option_map (λ text. text.now) flags.at; changes = option_map (λ text. text.now) flags.changes; run = run_view flags.run; eval = eval_view flags.eval; check = check_view flags.check }
 
 -- what the words of `run` ask for among these words
 abbrev pub run_in : List Row → RunView
@@ -353,15 +363,17 @@ eval_in rows = record {
 }
 
 abbrev pub flags_in : List Row → FlagsView
-flags_in rows = record { json = is_set (first_of (codes "json") rows); at = first_of (codes "at") rows; changes = first_of (codes "N") rows; run = run_in rows; eval = eval_in rows; check = check_in rows }
+flags_in rows = record { json = is_set (first_of (codes "json") rows); partial = is_set (first_of (codes "partial") rows); at = first_of (codes "at") rows; changes = first_of (codes "N") rows; run = run_in rows; eval = eval_in rows; check = check_in rows }
 
 abbrev pub blocks_by : Bool → TaskView
 blocks_by true = blocks_json
 blocks_by false = blocks
 
-abbrev pub live_by : Bool → Text → TaskView
-live_by true path = live_json path
-live_by false path = live path
+-- by whether it writes JSON, and whether also what is no answer yet, which is JSON too
+abbrev pub live_by : Bool → Bool → Text → TaskView
+live_by json true path = live_partial path
+live_by true false path = live_json path
+live_by false false path = live path
 
 abbrev pub show_by : Bool → Option Text → Text → TaskView
 show_by true None path = show_json path
@@ -382,7 +394,7 @@ restore_by path (Some changes) new = restore path changes new
 abbrev pub by_path : Text → Text → FlagsView → TaskView
 by_path name path flags = if bytes_eq name (codes "create") then create path
     else (if bytes_eq name (codes "run") then run path flags.run
-    else (if bytes_eq name (codes "live") then live_by flags.json path
+    else (if bytes_eq name (codes "live") then live_by flags.json flags.partial path
     else (if bytes_eq name (codes "eval") then eval path flags.eval
     else (if bytes_eq name (codes "show") then show_by flags.json flags.at path
     else (if bytes_eq name (codes "check") then check path flags.check

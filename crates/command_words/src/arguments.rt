@@ -79,6 +79,12 @@ const JSON: Word = Word {
     help: "Write lines of JSON, which programs read",
 };
 
+const PARTIAL: Word = Word {
+    name: "partial",
+    given: Given::Flag,
+    help: "Write lines of JSON, also of what interpreters write before it is an answer",
+};
+
 const STRICT: Word = Word {
     name: "strict",
     given: Given::Flag,
@@ -169,7 +175,7 @@ static CREATE: [Word; 1] = [PATH];
 
 static RUN: [Word; 4] = [PATH, STRICT, JSON, WAIT_TIMEOUT];
 
-static LIVE: [Word; 2] = [PATH, JSON];
+static LIVE: [Word; 3] = [PATH, JSON, PARTIAL];
 
 static SHOW: [Word; 3] = [PATH, JSON, AT];
 
@@ -215,7 +221,7 @@ pub(crate) fn words_of(shape: Shape) -> Option<&'static [Word]>
         Shape::Stream => Some(&STREAM),
         Shape::Path => Some(&CREATE),
         Shape::Run => Some(&RUN),
-        Shape::Json => Some(&LIVE),
+        Shape::Live => Some(&LIVE),
         Shape::Show => Some(&SHOW),
         Shape::Eval => Some(&EVAL),
         Shape::Check => Some(&CHECK),

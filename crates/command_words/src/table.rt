@@ -11,9 +11,9 @@ pub(crate) enum Shape {
     Path,
     /// PATH, and the flags of `run`.
     Run,
-    /// PATH, and the flag `--json`.
-    Json,
-    /// The same, and the number of a change.
+    /// PATH, and the flags `--json` and `--partial`.
+    Live,
+    /// PATH, the flag `--json`, and the number of a change.
     Show,
     /// PATH and numbers of fields, and the flags and options of an evaluation.
     Eval,
@@ -101,7 +101,9 @@ bytes at most, and `print ID`, `wait SECONDS`, `export FORMAT`, which writes wha
 `export` does, and `interrupt NAME`, which sends SIGINT to an interpreter that is\n\
 at something. A `wait` holds back the lines after it until no answer is awaited,\n\
 or its time is over. At the end of the input each interpreter is stopped.\n\n\
-With --json each line is one object, which programs read (docs/use/JSON.md).\n\n\
+With --json each line is one object, which programs read (docs/use/JSON.md). With\n\
+--partial it is too, and what an interpreter writes that ends no block is written\n\
+at once: nothing of it is kept, and it is no answer.\n\n\
 Status: 0 where the input came to its end, also where it had bad lines and refused\n\
 commands; 1 at a fault; 2 where the words are refused.\n\n\
 Example: printf 'print\\n' | tmhost live sheet";
@@ -320,7 +322,7 @@ pub(crate) fn row_at(at: usize) -> Row
         0 => listed("blocks", Shape::Stream, BLOCKS_ABOUT, BLOCKS_NOTES),
         1 => listed("create", Shape::Path, CREATE_ABOUT, CREATE_NOTES),
         2 => listed("run", Shape::Run, RUN_ABOUT, RUN_NOTES),
-        3 => listed("live", Shape::Json, LIVE_ABOUT, LIVE_NOTES),
+        3 => listed("live", Shape::Live, LIVE_ABOUT, LIVE_NOTES),
         4 => listed("eval", Shape::Eval, EVAL_ABOUT, EVAL_NOTES),
         5 => listed("show", Shape::Show, SHOW_ABOUT, SHOW_NOTES),
         6 => listed("check", Shape::Check, CHECK_ABOUT, CHECK_NOTES),

@@ -59,6 +59,8 @@ pub enum Task<'a> {
     Live(&'a str),
     /// The same, and write lines of JSON.
     LiveJson(&'a str),
+    /// The same, also of what interpreters write before it is an answer.
+    LivePartial(&'a str),
     /// Evaluate the fields of the worksheet at the path, as these words ask for it.
     Eval(&'a str, EvalWords<'a>),
     /// Write the worksheet at the path.
@@ -112,6 +114,7 @@ pub struct EvalWords<'a> {
 #[derive(Debug, Drop)]
 pub(crate) struct Flags<'a> {
     pub(crate) json: bool,
+    pub(crate) partial: bool,
     pub(crate) at: Option<&'a str>,
     pub(crate) changes: Option<&'a str>,
     pub(crate) run: RunWords<'a>,
@@ -137,10 +140,12 @@ fn task_of_blocks<'a>(json: bool) -> Task<'a>
 }
 
 /// The task of `live`.
-fn task_of_live<'a>(path: &'a str, json: bool) -> Task<'a>
-    ensures { task_view result ≡ asked.live_by json path.entry.now }
+fn task_of_live<'a>(path: &'a str, json: bool, partial: bool) -> Task<'a>
+    ensures { task_view result ≡ asked.live_by json partial path.entry.now }
 {
-    if json {
+    if partial {
+        Task::LivePartial(path)
+    } else if json {
         Task::LiveJson(path)
     } else {
         Task::Live(path)
@@ -199,7 +204,7 @@ fn task_with_path<'a>(name: &str, path: &'a str, flags: Flags<'a>) -> Task<'a>
     match name {
         "create" => Task::Create(path),
         "run" => Task::Run(path, flags.run),
-        "live" => task_of_live(path, flags.json),
+        "live" => task_of_live(path, flags.json, flags.partial),
         "eval" => Task::Eval(path, flags.eval),
         "show" => task_of_show(path, flags.json, flags.at),
         "history" => Task::History(path),
@@ -328,6 +333,7 @@ fn flags_of<'a>(alloc: Global, matches: &ArgMatches<'a>) -> Result<Flags<'a>, Al
     let check = check_words(alloc, matches)?;
     Ok(Flags {
         json: is_set(matches.get_str("json")),
+        partial: is_set(matches.get_str("partial")),
         at: matches.get_str("at"),
         changes: matches.get_str("N"),
         run: run_words(matches),

@@ -1,5 +1,4 @@
 pub mod Lasts
-pub mod Errors
 pub mod Meant
 pub mod Rounds
 pub mod Programs

@@ -4,7 +4,7 @@ use Rattle.std.specs.List.{list_any}
 use Rattle.worksheet.specs.Checks.{field_in}
 use Rattle.worksheet.specs.declared.field.Answer.{Answer}
 use Rattle.worksheet.specs.declared.field.Field.{Field}
-use Rattle.evaluation.specs.Errors.{tells_error}
+use Rattle.check_report.specs.Errors.{tells_error}
 use Rattle.tellings.specs.declared.note.Counts.{Counts}
 use Rattle.tellings.specs.declared.note.Overs.{Overs}
 use Rattle.evaluation.specs.Lasts.{last_asked}

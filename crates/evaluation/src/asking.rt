@@ -5,9 +5,9 @@ ghost use Rattle.evaluation.specs.Meant as meant;
 ghost use Rattle.evaluation.specs.inside.Beside as inside;
 
 use crate::choosing::is_answered;
-use crate::errors::tells_error;
 use crate::lasts::{Last, last_asked};
 use crate::plan::{Plan, Stand};
+use check_report::tells_error;
 use worksheet::{Field, Sheet};
 
 /// Whether this field shows no answer.

@@ -4,7 +4,6 @@
 pub mod asking;
 pub mod beside;
 pub mod choosing;
-mod errors;
 mod evaluating;
 mod fault;
 pub mod lasts;

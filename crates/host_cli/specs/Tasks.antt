@@ -85,6 +85,7 @@ module _ {Y D P S I W E Q : Type 0} where
   LeavesAlone old new (asked.run path words) = new.progress ≡ old.progress
   LeavesAlone old new (asked.live path) = new.progress ≡ old.progress
   LeavesAlone old new (asked.live_json path) = new.progress ≡ old.progress
+  LeavesAlone old new (asked.live_partial path) = new.progress ≡ old.progress
   LeavesAlone old new (asked.eval path words) = (new.input ≡ old.input) × (new.progress ≡ old.progress)
   LeavesAlone old new (asked.show path) = (new.sources ≡ old.sources) × (new.input ≡ old.input) × (new.progress ≡ old.progress)
   LeavesAlone old new (asked.show_json path) = (new.sources ≡ old.sources) × (new.input ≡ old.input) × (new.progress ≡ old.progress)
@@ -386,7 +387,7 @@ module _ {Y D P S I W E Q : Type 0} (o : OutsideView D P S I W E) where
   abbrev pub DoesRestore : Outside Y D P S I W E Q → Outside Y D P S I W E Q → Ending → Text → Text → Text → Type 0
   DoesRestore old new ending path changes to = MatchOption (number_written changes) (RefusesChanges old new ending) (RestoresAfter old new ending path to)
 
-  -- what is done, by the task
+  -- What is done, by the task. What `live --partial` writes beside that is kept nowhere, and no part of this.
   abbrev pub DoesTask : Outside Y D P S I W E Q → Outside Y D P S I W E Q → Ending → TaskView → Type 0
   DoesTask old new ending asked.blocks = DoesBlocks old new ending
   DoesTask old new ending asked.blocks_json = DoesBlocksInJson old new ending
@@ -394,6 +395,7 @@ module _ {Y D P S I W E Q : Type 0} (o : OutsideView D P S I W E) where
   DoesTask old new ending (asked.run path words) = DoesRun old new ending path words
   DoesTask old new ending (asked.live path) = DoesLive in_words old new ending path
   DoesTask old new ending (asked.live_json path) = DoesLive in_json old new ending path
+  DoesTask old new ending (asked.live_partial path) = DoesLive in_json old new ending path
   DoesTask old new ending (asked.eval path words) = DoesEval old new ending path words
   DoesTask old new ending (asked.show path) = DoesShow old new ending path
   DoesTask old new ending (asked.show_json path) = ExportsAs old new ending path formats.Json

@@ -1,7 +1,7 @@
 //! All that is outside of the program, as one value.
 use crate::Outlet;
-use arrivals::Sources;
 use offline_programs::Says;
+use partial_output::TellsPartial;
 use program_endings::Ending;
 use sheet_check::Progress;
 use sheet_files::{Close, Places};
@@ -14,7 +14,7 @@ pub trait System {
     /// Where disks are, each at a path.
     type Places: Places<Self::Disk> + Drop;
     /// Interpreters, whose turn it is of these and the input, and a clock.
-    type Sources: Sources + Drop;
+    type Sources: TellsPartial + Drop;
     /// Standard input.
     type Input: Read + Drop;
     /// Standard output.

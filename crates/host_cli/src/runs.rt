@@ -11,6 +11,7 @@ use crate::plans::read_limit;
 use crate::refusing::refuse_run_limit;
 use command_words::RunWords;
 use live::Manner;
+use partial_output::TellsPartial;
 use program_endings::{LiveEnding, end_unheld, run_live, run_script};
 use sheet_files::Places;
 use std::alloc::Global;
@@ -108,6 +109,20 @@ pub(crate) fn live_json_at<Y: System>(
         InJson { alloc },
         path,
     )
+}
+
+/// The same, and what interpreters write before it is an answer is written beside it.
+pub(crate) fn live_partial_at<Y: System>(
+    alloc: Global,
+    mut outside: Outside<Y>,
+    path: &str,
+) -> Performed<Y>
+    ensures does { DoesLive (outer Y.Places.Places (disks_seen Y.Disk.Disk Y.Disk.closed) (sources_seen Y.Sources.after Y.Sources.clock Y.Sources.wakes)
+        (streams_seen Y.Input.Read Y.Output.Write Y.Output.brought Y.Output.tried Y.Errors.Write Y.Errors.tried)) in_json outside result.outside result.ending path.now }
+    ensures leaves { result.outside.progress ≡ outside.progress }
+{
+    outside.sources.tell_partial();
+    live_json_at(alloc, outside, path)
 }
 
 /// `run` of the script on the input, in words and without a limit of time.

@@ -3,6 +3,7 @@
 use crate::{Outside, PatientInput, PatientOutput, System};
 use arrivals::Polled;
 use child_calls::Processes;
+use partial_output::Partial;
 use sheet_check::ProgressLine;
 use sheet_files::{Closed, FileDisk, FileNames, FilePlaces};
 use std::alloc::AllocError;
@@ -27,7 +28,10 @@ impl<'a> System for Real<'a> {
 
     type Places = FilePlaces<FileNames<&'a HostRuntime>>;
 
-    type Sources = Polled<Processes<&'a HostRuntime>, &'a HostRuntime>;
+    type Sources = Partial<
+        Polled<Processes<&'a HostRuntime>, &'a HostRuntime>,
+        PatientOutput<Stdout>,
+    >;
 
     type Input = PatientInput;
 
@@ -68,10 +72,11 @@ pub fn outside<'a>(rt: &'a HostRuntime) -> Result<Outside<Real<'a>>, AllocError>
         return Err(AllocError);
     };
     let children = Processes::new(rt, rt.alloc());
-    let sources = Polled::new(rt.alloc(), children, rt.stdin().as_raw_fd(), rt)?;
+    let polled = Polled::new(rt.alloc(), children, rt.stdin().as_raw_fd(), rt)?;
+    let partial = PatientOutput::new(rt.stdout());
     Ok(Outside {
         places: FilePlaces::new(FileNames::new(rt, closed), rt.alloc()),
-        sources,
+        sources: Partial::new(rt.alloc(), polled, partial),
         input: PatientInput::new(rt.stdin()),
         output,
         errors: PatientOutput::new(rt.stderr()),

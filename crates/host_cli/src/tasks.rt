@@ -17,7 +17,7 @@ use crate::outside::{Outside, Performed, System};
 use crate::pasts::{export_as_past, export_past_at, history_at, restore_at, show_past_at};
 use crate::plans::read_plan;
 use crate::refusing::{refuse_format, refuse_plan};
-use crate::runs::{live_at, live_json_at, run_at};
+use crate::runs::{live_at, live_json_at, live_partial_at, run_at};
 use crate::{refuse_unread_words, refuse_words};
 use command_words::{EvalWords, Task, read_words};
 use evaluation::Plan;
@@ -235,6 +235,7 @@ pub fn do_task<Y: System>(alloc: Global, task: Task<'_>, mut outside: Outside<Y>
         Task::Run(path, words) => run_at(alloc, outside, path, words),
         Task::Live(path) => live_at(alloc, outside, path),
         Task::LiveJson(path) => live_json_at(alloc, outside, path),
+        Task::LivePartial(path) => live_partial_at(alloc, outside, path),
         Task::Eval(path, words) => eval_at(alloc, outside, path, words),
         Task::Show(path) => Performed {
             ending: show_at(alloc, &mut outside, path),

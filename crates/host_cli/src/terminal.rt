@@ -21,9 +21,11 @@ fn paths_of<'a>(task: &Task<'a>) -> [Option<(&'a str, Use)>; 2] {
     match task {
         Task::Blocks | Task::BlocksJson => [None, None],
         Task::Create(path) => [Some((*path, Use::Makes)), None],
-        Task::Run(path, _) | Task::Live(path) | Task::LiveJson(path) | Task::Eval(path, _) => {
-            [Some((*path, Use::Writes)), None]
-        }
+        Task::Run(path, _)
+        | Task::Live(path)
+        | Task::LiveJson(path)
+        | Task::LivePartial(path)
+        | Task::Eval(path, _) => [Some((*path, Use::Writes)), None],
         Task::Check(path, asked) => {
             let use_of = if asked.accept {
                 Use::Writes

@@ -4,6 +4,7 @@ ghost use Rattle.std.specs.Io.KnownBytes.{Appends};
 ghost use Rattle.offline_programs.specs.declared.fault.RunFault.TheVariants as fault;
 ghost use Rattle.offline_programs.specs.Saying.{saying};
 ghost use Rattle.sheet_check.specs.declared.named.CheckFault.TheVariants as checks;
+ghost use Rattle.check_report.specs.Words.{errors_part};
 ghost use Rattle.program_endings.specs.Ending.{EndsAs};
 ghost use Rattle.program_endings.specs.Records.{streams, writing};
 ghost use Rattle.program_endings.specs.SeveralProgram.{IsBounded, TotalEnds, ending_of, faults_part, summed_part, total_of, total_text, worksheet_line};
@@ -33,6 +34,8 @@ pub struct Total {
     pub differ: u128,
     /// Fields to which no answer came.
     pub unanswered: u128,
+    /// Fields whose answer that came is an error, or has one in it.
+    pub errors: u128,
     /// Worksheets whose check met a fault; their fields aren't counted.
     pub faults: u64,
     /// Whether the check of each ended well.
@@ -52,6 +55,7 @@ impl Total {
             same: 0,
             differ: 0,
             unanswered: 0,
+            errors: 0,
             faults: 0,
             passed: true,
             told: true,
@@ -77,6 +81,7 @@ impl Total {
             same: self.same + u128::from(counts.same),
             differ: self.differ + u128::from(counts.differ),
             unanswered: self.unanswered + u128::from(counts.unanswered),
+            errors: self.errors + u128::from(counts.errors),
             faults: self.faults,
             passed: self.passes(ending),
             told: self.told && ending.told,
@@ -95,6 +100,7 @@ impl Total {
             same: self.same,
             differ: self.differ,
             unanswered: self.unanswered,
+            errors: self.errors,
             faults: self.faults + 1,
             passed: self.passes(ending),
             told: self.told && ending.told,
@@ -179,6 +185,16 @@ pub fn end_unwritten<E: Says>(errors: &mut E) -> CheckEnding
     }
 }
 
+/// Writes how many answers are errors, where some are.
+fn write_errors<W: Write>(errors: u128, out: &mut W) -> Result<(), WriteFault>
+    ensures { OnOk result (Appends (W.contents out.old) (W.contents out.new) (errors_part errors)) }
+{
+    if errors == 0 {
+        return Ok(());
+    }
+    write!(out, " errors {errors}").map_err(|_| WriteFault)
+}
+
 /// Writes how many worksheets met a fault, where some did.
 fn write_faults<W: Write>(faults: u64, out: &mut W) -> Result<(), WriteFault>
     ensures { OnOk result (Appends (W.contents out.old) (W.contents out.new) (faults_part faults)) }
@@ -198,6 +214,7 @@ fn write_summed<W: Write>(total: Total, out: &mut W) -> Result<(), WriteFault>
         same,
         differ,
         unanswered,
+        errors: _,
         faults: _,
         passed: _,
         told: _,
@@ -215,6 +232,7 @@ fn write_total<W: Write>(total: Total, out: &mut W) -> Result<(), WriteFault>
     ensures { OnOk result (Appends (W.contents out.old) (W.contents out.new) (total_text total)) }
 {
     write_summed(total, out)?;
+    write_errors(total.errors, out)?;
     write_faults(total.faults, out)?;
     bring_out(b"\n", out)?;
     Ok(())

@@ -47,6 +47,12 @@ made "$a"'new 0 a prompts\nnew 1 a y\nnew 2 a differs\neval 1\neval 2\neval 3\nw
 accepts 'a prompt with its answer' 0 '#3 a\na] differs\n- differs\n+ another\naccepted 3\nsame 2 accepted 1 unanswered 0\n' \
     '#1 a\na] prompts\nprompts\n#2 a\na] y\ny\n#3 a\nnew> differs\nanother\n'
 
+# Answers that are errors, by the interpreter of check.sh that has some.
+made "$e"'new 0 e fails\nnew 1 e mended\nnew 2 e bad\neval 1\neval 2\neval 3\nwait\n'
+accepts 'errors' 0 '#1 e\n> fails\n- error fails\n+ oops\naccepted 1\n#2 e\n> mended\n- mended\n+ fine\naccepted 2\nsame 1 accepted 2 unanswered 0 errors 2\n' \
+    '#1 e\n> fails\noops\n#2 e\n> mended\nfine\n#3 e\n> bad\nbad\n'
+checks 'errors that were accepted' 0 'same 3 differ 0 unanswered 0 errors 2\n'
+
 # Some of the fields.
 made "$a"'session b plain sh suite.sh b\nnew 0 a differs\nnew 1 b differs\neval 1\neval 2\nwait\n'
 accepts_none 'one that is left out' 0 'same 0 accepted 0 unanswered 0 left out 2\n' '#1 a\na] differs\ndiffers\n#2 b\nb] differs\ndiffers\n' --leave-out 1-2

@@ -9,6 +9,10 @@ and of those as well
 
     kill NUMBER             a signal to a process, or `kill NUMBER group` to several
 
+Where FAILS is `polls` none fails, and this is listed, too, of a processor whose system has it:
+
+    poll TIME               a wait for what comes, and its limit in milliseconds, -1 for none
+
 Where the system has no such filter of calls the status is 77, and the program isn't run."""
 
 from __future__ import annotations
@@ -26,7 +30,7 @@ import sys
 from typing import NoReturn, TextIO
 
 CALLS = {
-    "x86_64": {"seccomp": 317, "write": 1, "pwrite64": 18, "kill": 62, "flock": 73, "fsync": 74, "fdatasync": 75},
+    "x86_64": {"seccomp": 317, "write": 1, "poll": 7, "pwrite64": 18, "kill": 62, "flock": 73, "fsync": 74, "fdatasync": 75},
     "aarch64": {"seccomp": 277, "write": 64, "pwrite64": 68, "kill": 129, "flock": 32, "fsync": 82, "fdatasync": 83},
 }
 LOAD, EQUALS, RETURN = 0x20, 0x15, 0x06  # of the filter's language: a word of the call, a comparison, an answer
@@ -71,8 +75,10 @@ def mode_of(process: int, descriptor: int) -> str:
     return ("r", "w", "rw")[flags & 3]
 
 
-def listed(process: int, call: str, first: int, second: int) -> str | None:
+def listed(process: int, call: str, first: int, second: int, third: int) -> str | None:
     """A call as it is listed; nothing of a write that goes elsewhere."""
+    if call == "poll":
+        return f"poll {third if third < 1 << 31 else -1}"
     if call == "kill":
         return f"kill {second}" if 0 < first < 1 << 31 else f"kill {second} group"
     if call == "write":
@@ -87,7 +93,7 @@ class Failing:
 
     def __init__(self, given: str) -> None:
         self.call, self.left, self.error = "", 0, 0
-        if given != "-":
+        if given not in ("-", "polls"):
             self.call, at, error = given.split(":")
             self.left, self.error = int(at), getattr(errno, error)
 
@@ -102,8 +108,8 @@ def answer(asked: int, process: int, names: dict[int, str], failing: Failing, ou
     """Lists one call, and lets it go on or fail."""
     question = bytearray(80)
     fcntl.ioctl(asked, RECEIVE, question)
-    number, caller, _, call, _, _, first, second = struct.unpack_from("=QIIiIQQQ", question)
-    line = listed(process, names[call], first, second) if caller == process or names[call] == "kill" else None
+    number, caller, _, call, _, _, first, second, third = struct.unpack_from("=QIIiIQQQQ", question)
+    line = listed(process, names[call], first, second, third & 0xFFFFFFFF) if caller == process or names[call] == "kill" else None
     failure = failing.error if line is not None and failing.fails(line) else 0
     if line is not None:
         out.write(f"{line} {errno.errorcode[failure]}\n" if failure else line + "\n")
@@ -113,9 +119,9 @@ def answer(asked: int, process: int, names: dict[int, str], failing: Failing, ou
 def main() -> NoReturn:
     path, given, *words = sys.argv[1:]
     calls = CALLS.get(platform.machine())
-    if calls is None:
+    if calls is None or (given == "polls" and "poll" not in calls):
         sys.exit(77)
-    names = {number: name for name, number in calls.items() if name != "seccomp"}
+    names = {number: name for name, number in calls.items() if name != "seccomp" and (name != "poll" or given == "polls")}
     failing = Failing(given)
     here, there = socket.socketpair()
     process = os.fork()

@@ -148,7 +148,7 @@ read_at_once() {
     compare "a difference that is read at once, $1, $2" "$? $(cat text errors)" "$(printf '1 #1 a\na] differs\n- differs\n+ another\nsame %s differ 1 unanswered 0' "$3")"
 }
 made "$a"'session b plain sh suite.sh b\nnew 0 a differs\nnew 1 b not evaluated\nnew 2 a looks\neval 1\neval 3\nwait\n'
-for words in '' '--jobs 8' '--timeout 60'; do read_at_once 'one session' "$words" 1; done
+for words in '' '--jobs 8' '--timeout 60' --whole; do read_at_once 'one session' "$words" 1; done
 made "$a"'session b plain sh suite.sh b\nnew 0 a differs\nnew 1 b x\nnew 2 a looks\neval 1\neval 2\neval 3\nwait\n'
 read_at_once 'one of two sessions' '--only a' 1
 for words in '--jobs 1' '--timeout 60'; do read_at_once 'two sessions' "$words" 2; done
@@ -331,7 +331,7 @@ objects() {
 made "$a"
 objects 'no object' 0 <<'END_OF_JSON'
 {"format":1,"program":"tmhost","protocol":2,"type":"hello","version":"0.1.0"}
-{"differ":0,"left_out":0,"same":0,"type":"compared","unanswered":0}
+{"differ":0,"errors":0,"left_out":0,"same":0,"type":"compared","unanswered":0}
 {"type":"end"}
 END_OF_JSON
 made "$a"'new 0 a x\nnew 1 a differs\nnew 2 a tagged\nnew 3 a odd\nnew 4 a hangs\nnew 5 a prompts\nnew 6 a shorter\nnew 7 a not evaluated\neval 1\neval 2\neval 3\neval 4\neval 5\neval 6\neval 7\nwait\n'
@@ -344,7 +344,7 @@ objects 'an object for each field' 1 --leave-out 7 <<'END_OF_JSON'
 {"id":5,"input":"hangs","reason":"Ended","session":"a","shows":{"output":{"items":["hangs"],"kind":"format","tag":"verbatim"},"prompt":"a] ","shown":"hangs"},"type":"checked","verdict":"unanswered"}
 {"id":6,"session":"a","type":"checked","verdict":"same"}
 {"id":7,"session":"a","type":"checked","verdict":"left_out"}
-{"differ":3,"left_out":1,"same":2,"type":"compared","unanswered":1}
+{"differ":3,"errors":0,"left_out":1,"same":2,"type":"compared","unanswered":1}
 {"type":"end"}
 END_OF_JSON
 compare 'by the name of the format' "$(answer check --format json --leave-out 7 sheet </dev/null)" "$(cat wanted; echo 'status 1')"
@@ -352,12 +352,12 @@ made 'session c plain sh count.sh\nnew 0 c a\342\200\250b\neval 1\nwait\neval 1\
 objects 'an input of two lines' 1 --only c <<'END_OF_JSON'
 {"format":1,"program":"tmhost","protocol":2,"type":"hello","version":"0.1.0"}
 {"came":{"output":{"items":["1"],"kind":"format","tag":"verbatim"},"prompt":"> ","shown":"1"},"id":1,"input":"a\nb","session":"c","shows":{"output":{"items":["2"],"kind":"format","tag":"verbatim"},"prompt":"> ","shown":"2"},"type":"checked","verdict":"differs"}
-{"differ":1,"left_out":0,"same":0,"type":"compared","unanswered":0}
+{"differ":1,"errors":0,"left_out":0,"same":0,"type":"compared","unanswered":0}
 {"type":"end"}
 END_OF_JSON
 objects 'a session without a field' 1 --only b <<'END_OF_JSON'
 {"format":1,"program":"tmhost","protocol":2,"type":"hello","version":"0.1.0"}
-{"differ":0,"left_out":0,"same":0,"type":"compared","unanswered":0}
+{"differ":0,"errors":0,"left_out":0,"same":0,"type":"compared","unanswered":0}
 {"type":"end"}
 END_OF_JSON
 cp suite.sh gone.sh
@@ -368,7 +368,7 @@ rm -f gone.sh
 objects 'an interpreter that is gone' 1 <<'END_OF_JSON'
 {"format":1,"program":"tmhost","protocol":2,"type":"hello","version":"0.1.0"}
 {"id":1,"input":"x","reason":"StartRefused","session":"b","shows":{"output":{"items":["x"],"kind":"format","tag":"verbatim"},"prompt":"b] ","shown":"x"},"type":"checked","verdict":"unanswered"}
-{"differ":0,"left_out":0,"same":0,"type":"compared","unanswered":1}
+{"differ":0,"errors":0,"left_out":0,"same":0,"type":"compared","unanswered":1}
 {"type":"end"}
 END_OF_JSON
 made "$a"'new 0 a x\nnew 1 a kills\neval 1\neval 2\nwait\n'
@@ -418,7 +418,7 @@ objects 'the same as JSON' 1 --timeout 2 <<'END_OF_JSON'
 {"id":1,"session":"l","type":"checked","verdict":"same"}
 {"id":2,"input":"loop","reason":null,"session":"l","shows":{"output":{"items":["loop"],"kind":"format","tag":"verbatim"},"prompt":"> ","shown":"loop"},"type":"checked","verdict":"unanswered"}
 {"id":3,"session":"l","type":"checked","verdict":"same"}
-{"differ":0,"left_out":0,"same":2,"type":"compared","unanswered":1}
+{"differ":0,"errors":0,"left_out":0,"same":2,"type":"compared","unanswered":1}
 {"type":"end"}
 END_OF_JSON
 made "$l"'session a plain sh suite.sh a\nnew 0 l deaf\nnew 1 l y\nnew 2 a differs\neval 1\neval 2\neval 3\nwait\n'
@@ -429,7 +429,7 @@ objects 'the same that stalls, as JSON' 1 --timeout 2 --only l <<'END_OF_JSON'
 {"format":1,"program":"tmhost","protocol":2,"type":"hello","version":"0.1.0"}
 {"id":1,"input":"deaf","reason":"Stalled","session":"l","shows":{"output":{"items":["deaf"],"kind":"format","tag":"verbatim"},"prompt":"> ","shown":"deaf"},"type":"checked","verdict":"unanswered"}
 {"id":2,"session":"l","type":"checked","verdict":"same"}
-{"differ":0,"left_out":0,"same":1,"type":"compared","unanswered":1}
+{"differ":0,"errors":0,"left_out":0,"same":1,"type":"compared","unanswered":1}
 {"type":"end"}
 END_OF_JSON
 reports 'one session within its time' 1 '#3 a\na] differs\n- differs\n+ another\nsame 0 differ 1 unanswered 0\n' --timeout 1000000 --only a
@@ -516,6 +516,7 @@ words 'another, and one that differs' 1 'worksheet one\nsame 2 differ 0 unanswer
 words 'one worksheet twice' 0 'worksheet one\nsame 2 differ 0 unanswered 0\nworksheet one\nsame 2 differ 0 unanswered 0\ntotal of 2 worksheets: same 4 differ 0 unanswered 0\n' check one one
 words 'one of three that is not there' 1 'worksheet one\nsame 2 differ 0 unanswered 0\nworksheet nowhere\nworksheet two\nsame 1 differ 0 unanswered 0\ntotal of 3 worksheets: same 3 differ 0 unanswered 0 faults 1\nfault 32 Disk\n' check one nowhere two
 words 'two that are none' 1 'worksheet nowhere\nworksheet suite.sh\ntotal of 2 worksheets: same 0 differ 0 unanswered 0 faults 2\nfault 32 Disk\nfault 31 NotASheet\n' check nowhere suite.sh
+words 'a hundred worksheets' 1 "$(repeated 100 'worksheet nowhere@' | sed 's/@/\\n/g')total of 100 worksheets: same 0 differ 0 unanswered 0 faults 100\n$(repeated 100 'fault 32 Disk@' | sed 's/@/\\n/g')" check $(repeated 100 'nowhere ')
 words 'a path of two lines' 0 'worksheet a\\x0aworksheet b\nsame 1 differ 0 unanswered 0\nworksheet one\nsame 2 differ 0 unanswered 0\ntotal of 2 worksheets: same 3 differ 0 unanswered 0\n' check "a${line_feed}worksheet b" one
 talk_over live two
 say '# held\nprint 1\n'
@@ -582,8 +583,50 @@ compare 'an output that grew, json' "$({ "$tmhost" check --json sheet 2>&1; echo
     printf '"],"kind":"format","tag":"verbatim"},"prompt":"> ","shown":"'
     long
     printf '"},"id":1,"input":"x","session":"g","shows":{"output":{"items":["x"],"kind":"format","tag":"verbatim"},"prompt":"> ","shown":"x"},"type":"checked","verdict":"differs"}\n'
-    printf '{"differ":1,"left_out":0,"same":0,"type":"compared","unanswered":0}\n{"type":"end"}\nstatus 1\n'
+    printf '{"differ":1,"errors":0,"left_out":0,"same":0,"type":"compared","unanswered":0}\n{"type":"end"}\nstatus 1\n'
 } | cksum)"
+
+# Answers that are errors are counted beside what they came to: blocks of the channel `output` in another one, and of the channel `error`. They are those that
+# came, not those that fields show, and an unanswered field has none.
+cat >erring.sh <<'END_OF_CHILD'
+printf '\002verbatim:\005'
+while IFS= read -r line; do
+    if [ -e again ]; then
+        case $line in
+            fails) printf '\002output#\002output#oops\005\005'; continue ;;
+            mended) printf '\002output#fine\005'; continue ;;
+            ends) exit ;;
+        esac
+    fi
+    case $line in
+        bad | mended | ends) printf '\002output#\002output#%s\005\005' "$line" ;;
+        deep) printf '\002output#1\002verbatim:\002error#oops\005\005\005' ;;
+        *) printf '\002output#error %s\005' "$line" ;;
+    esac
+done
+END_OF_CHILD
+e='session e plain sh erring.sh\n'
+checked 'errors that are the same' "$e"'new 0 e x\nnew 1 e bad\nnew 2 e deep\neval 1\neval 2\neval 3\nwait\n' 0 'same 3 differ 0 unanswered 0 errors 2\n'
+checks 'errors that are left out' 0 'same 1 differ 0 unanswered 0 left out 2 errors 2\n' --leave-out 2-3
+checks 'no error of those of a session' 1 'same 0 differ 0 unanswered 0\n' --only f
+checked 'one that came, and one that is gone' "$e"'new 0 e fails\nnew 1 e mended\neval 1\neval 2\nwait\n' 1 \
+    '#1 e\n> fails\n- error fails\n+ oops\n#2 e\n> mended\n- mended\n+ fine\nsame 0 differ 2 unanswered 0 errors 1\n'
+checks 'the same as TAP' 1 'TAP version 13\nnot ok 1 - field 1 of e\n# #1 e\n# > fails\n# - error fails\n# + oops\nnot ok 2 - field 2 of e\n# #2 e\n# > mended\n# - mended\n# + fine\n1..2\n' --format tap
+checks 'the same, whole' 1 '#1 e\n> fails\n- error fails\n+ oops\n#2 e\n> mended\n- mended\n+ fine\nsame 0 differ 2 unanswered 0 errors 1\n' --whole
+checked 'an error that no field shows' "$e"'new 0 e fails\neval 1\nwait\n' 0 'same 0 differ 0 unanswered 0 left out 1 errors 1\n' --leave-out 1
+checked 'an error of an unanswered field' "$e"'new 0 e ends\nnew 1 e bad\neval 1\neval 2\nwait\n' 1 '#1 e\n> ends\n- ends\n+ ?\nsame 1 differ 0 unanswered 1 errors 1\n'
+objects 'objects of errors' 1 --leave-out 2 <<'END_OF_JSON'
+{"format":1,"program":"tmhost","protocol":2,"type":"hello","version":"0.1.0"}
+{"id":1,"input":"ends","reason":"Ended","session":"e","shows":{"output":{"items":[{"items":["ends"],"kind":"channel","tag":"output"}],"kind":"channel","tag":"output"},"prompt":"> ","shown":"ends"},"type":"checked","verdict":"unanswered"}
+{"id":2,"session":"e","type":"checked","verdict":"left_out"}
+{"differ":0,"errors":1,"left_out":1,"same":0,"type":"compared","unanswered":1}
+{"type":"end"}
+END_OF_JSON
+checked 'errors of two sessions, side by side' "$e"'session f plain sh erring.sh\nnew 0 e bad\nnew 1 f deep\nnew 2 f x\neval 1\neval 2\neval 3\nwait\n' 0 \
+    'same 3 differ 0 unanswered 0 errors 2\n' --jobs 2
+checks 'the same one after another' 0 'same 3 differ 0 unanswered 0 errors 2\n' --jobs 1
+words 'errors of two worksheets' 1 'worksheet sheet\nsame 3 differ 0 unanswered 0 errors 2\nworksheet nowhere\nworksheet sheet\nsame 3 differ 0 unanswered 0 errors 2\ntotal of 3 worksheets: same 6 differ 0 unanswered 0 errors 4 faults 1\nfault 32 Disk\n' \
+    check sheet nowhere sheet
 
 # A thousand fields, of which the last but one differs.
 {

@@ -21,6 +21,41 @@ banner='\002verbatim:\005'
 one='session a plain sh p.sh one\nnew 0 a x\neval 1\nwait\n'
 two='session a plain sh p.sh\nnew 0 a x\nnew 1 a y\neval 1\neval 2\nwait\n'
 
+# Beside the other cases: fifteen lines stay in the pipe of an interpreter, which has room for 4,096 bytes more. A request has more, and its rest waits for
+# room: until this interpreter reads, or for a second where it never does.
+cat >fills.py <<'END_OF_CHILD'
+import fcntl, os, sys, termios, time
+
+
+def filled(count):
+    while int.from_bytes(fcntl.ioctl(0, termios.FIONREAD, bytes(4)), sys.byteorder) < count:
+        time.sleep(0.001)
+
+
+os.write(1, b"\2verbatim:\5")
+for line in range(1, 16):
+    filled(4096 * line)
+    os.write(1, b"\2verbatim:A\5")
+filled(65536)
+time.sleep(0.05)
+while sys.argv[1] == "full_reads" and not os.read(0, 65536).endswith(b" 1)\n"):
+    pass
+if sys.argv[1] == "full_reads":
+    os.write(1, b'\2scheme:(tuple "x" "y")\5')
+time.sleep(20)
+END_OF_CHILD
+fills() {
+    "$tmhost" create "$1"
+    {
+        printf 'session t tab python3 fills.py %s\nnew 0 t %s\n' "$1" "$(repeated 4095 x)"
+        seq 15 | sed 's/.*/eval 1\nwait/'
+        printf 'complete 1 1 %s\nwait 30\n' "$(repeated 4095 x)"
+    } >"given.$1"
+    { timeout 30 "$tmhost" run "$1" <"given.$1" 2>&1; echo "status $?"; } >"$1.told" &
+}
+fills full_reads
+fills full_never
+
 # Which block answers which line.
 interpreter p '\002verbatim:Hello\002prompt#Input 1] \005\005' '\002verbatim:\002latex:$x^2$\005\002prompt#Input 2] \005\005'
 script 'prompts in the blocks' 'session a plain sh p.sh one two\nnew 0 a x^2\neval 1\nwait\nprint\n' \
@@ -355,6 +390,12 @@ compare 'the copy' "$(answer show copied)" "$(ending '#1 a\n> sheet\n?\n' 0)"
 printf '[ /proc/self/fd/2 -ef /dev/null ] && printf "\\002verbatim:\\005"\nread -r line\nprintf "\\002verbatim:null\\005"\nread -r line\n' >p.sh
 script 'the errors of a child' "$one" 'ok\nfield 1\nasked\nbanner a\nanswered 1\n' '#1 a\n> x\nnull\n'
 
+# It has the environment of its host.
+printf 'printf "\\002verbatim:\\005"\nread -r line\nprintf "\\002verbatim:%%s\\005" "$SAID_BY_A_CASE"\nread -r line\n' >p.sh
+export SAID_BY_A_CASE='so it is'
+script 'the environment of a child' "$one" 'ok\nfield 1\nasked\nbanner a\nanswered 1\n' '#1 a\n> x\nso it is\n'
+unset SAID_BY_A_CASE
+
 # Lines of `live` in a script.
 script 'fields that are printed' 'session a plain p\nnew 0 a x\nnew 1 a y\nprint 2\nprint 3\nprint 0\nprint\nprint 1' \
     'ok\nfield 1\nfield 2\n#2 a\n> y\n?\nrefused 2 NoField\nrefused 2 NoField\n#1 a\n> x\n?\n#2 a\n> y\n?\n#1 a\n> x\n?\n' '#1 a\n> x\n?\n#2 a\n> y\n?\n'
@@ -517,5 +558,9 @@ compare 'one that never reads' "$(timeout 10 "$tmhost" run sheet <given; echo "s
     "$(printf 'ok\nfield 1\nasked\nbanner a\nanswered 1\n'; seq 15 | sed 's/.*/asked\nanswered 1/'; printf 'asked\nended a SendFault lost 1\nstatus 0')"
 ended 'one that never reads' 1
 kill -9 $(cat lives) 2>/dev/null
+
+wait
+compare 'a long request waits for room' "$(tail -n 3 full_reads.told)" "$(printf 'asked\ncompleted 1 "x" "y"\nstatus 0')"
+compare 'a long request to one that never reads' "$(tail -n 3 full_never.told)" "$(printf 'asked\nended t SendFault lost 1\nstatus 0')"
 
 counted children

@@ -166,11 +166,30 @@ ended_so() {
     compare "$2" "$(cat "$1.told")" "$(ending "$4" "$3")"
     compare "$2, shown" "$(answer show "$1" </dev/null)" "$(ending "$5" 0)"
 }
+# Beside them, too: a limit is kept while the clock passes a moment at which a count of milliseconds may begin anew, one of 32 bits, or of a million or 20
+# bits. `passes COPY SECONDS` begins an evaluation whose clock has SECONDS half a second later; where the system gives none of its own, it has that of all.
+passes() {
+    cp sheet "$1"
+    cp sheet.alt "$1.alt"
+    {
+        begun=$(python3 -c 'import time; time.sleep(1.5 - time.monotonic() % 1); print(int(time.monotonic()))')
+        clock="unshare -U -T --monotonic $(($2 - 1 - begun))"
+        $clock true 2>/dev/null || clock=
+        $clock timeout 30 "$tmhost" eval --timeout 1 "$1" 5
+        echo "status $?"
+    } </dev/null >"$1.told" 2>&1 &
+}
+passes clock32 4294967
+passes clock20 16384000
 beside deaf --timeout 2
 beside going --timeout 2 --keep-going
 beside strictly --timeout 2 --strict
 beside as_json --timeout 2 --json
 wait
+for clock in clock32 clock20; do
+    ended_so $clock "a limit beside a turn of the clock, $clock" 1 'asked\nbanner a\nover 5\nended a Stalled lost 1\nanswered 3 unanswered 1\nover 1 passed 0\n' \
+        '#1 a\n> x\nx\n#5 a\n> deaf\n? Stalled\n#3 a\n> y\ny\n#4 b\n> z\nz 1\n'
+done
 ended_so deaf 'one that hears no interrupt stalls, and the fields after it keep what they show' 1 \
     'asked\nbanner a\nanswered 1\nasked\nover 5\nended a Stalled lost 1\nasked\nbanner b\nanswered 4\nanswered 3 unanswered 1\nover 1 passed 1\n' \
     '#1 a\n> x\nx\n#5 a\n> deaf\n? Stalled\n#3 a\n> y\ny\n#4 b\n> z\nz 1\n'
@@ -211,6 +230,26 @@ made 'session a plain env --default-signal=INT sh tells.sh\nnew 0 a x\n'
 : >text
 "$tmhost" eval --timeout 1 sheet >text 2>errors </dev/null
 compare 'a time that is over is told at once' "$? $(cat text errors)" "$(printf '1 asked\nbanner a\nover 1\nanswered 1\nanswered 1 unanswered 0\nover 1 passed 0')"
+# Each wait of the system has the limit that was given: none of these ends sooner, and each sleeps that long where nothing comes.
+python3 calls.py list polls true
+listing=$?
+limits_of() {
+    if [ $listing != 0 ]; then echo 'some 600 s, 0 others' && return; fi
+    python3 calls.py list polls "$tmhost" "$@" <given >text 2>errors
+    awk '$1 == "poll" && $2 > 570000 && $2 <= 600000 { some = "some 600 s" } $1 == "poll" && $2 > 0 && ($2 <= 570000 || $2 > 600000) { others++ }
+        END { print some ", " others + 0 " others" }' list
+    cat list >>polls
+}
+rm -f polls
+made 'session a plain sh count.sh\nnew 0 a x\n'
+printf 'eval 1\nwait 600\n' >given
+compare 'the limits of live' "$(limits_of live sheet)" 'some 600 s, 0 others'
+printf 'eval 1\nwait\n' >given
+for program in 'run --timeout 600' 'eval --timeout 600' 'check --timeout 600'; do
+    compare "the limits of $program" "$(limits_of $program sheet)" 'some 600 s, 0 others'
+done
+[ $listing = 0 ] || echo 'poll 1' >polls
+compare 'a clock of milliseconds' "$(awk '$1 == "poll" && $2 % 1000 > 0 { finer = "finer" } END { print finer }' polls)" finer
 for seconds in 0 1000001 x '' 1.5; do
     words "no time: $seconds" 2 "error: this is no time: SECONDS is a number from 1 to 1000000\n\nFor more information, try 'tmhost eval --help'.\n" eval --timeout "$seconds" sheet
 done
@@ -276,6 +315,19 @@ made 'session a plain env --default-signal=INT sh turns.sh\nsession b plain env 
 compare 'the time of both is over' "$(sorted 2 --jobs 2 --timeout 1)" \
     "$(printf 'status 1\nasked\nasked\n--\nanswered 1\nanswered 2\nanswered 2 unanswered 0\nasked\nasked\nbanner a\nbanner b\nover 1\nover 2\nover 2 passed 0')"
 compare 'both are interrupted before anything else is taken' "$(grep -A 1 '^over 1$' text)" "$(printf 'over 1\nover 2')"
+
+# Each of the most interpreters that there may be is heard.
+{
+    seq 64 | sed 's/.*/session s& plain sh echo.sh/'
+    seq 64 | sed 's/.*/new 0 s& x&/'
+} >given
+rm -f sheet sheet.alt
+"$tmhost" create sheet
+"$tmhost" run sheet <given >text
+compare '64 sessions side by side' "$(timeout 60 "$tmhost" eval --jobs 64 sheet </dev/null 2>&1 | LC_ALL=C sort)" \
+    "$({ echo 'answered 64 unanswered 0'; seq 64 | sed 's/.*/asked/'; seq 64 | sed 's/.*/banner s&/'; seq 64 | sed 's/.*/answered &/'; } | LC_ALL=C sort)"
+compare '64 sessions side by side, shown' "$(answer show sheet </dev/null)" "$(ending "$(seq 64 -1 1 | sed 's/.*/#& s&\\n> x&\\nx&\\n/' | tr -d '\n')" 0)"
+
 for jobs in 0 65 x '' 1.5; do
     words "no number of jobs: $jobs" 2 "error: this is no number of jobs: N is a number from 1 to 64\n\nFor more information, try 'tmhost eval --help'.\n" eval --jobs "$jobs" sheet
 done

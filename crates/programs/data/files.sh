@@ -36,6 +36,14 @@ for program in live 'run --strict'; do
     asks "the calls of $program" 0 'ok\n' "${written}told\n" - $program w
 done
 
+# Whose the new files may be is the umask's matter.
+for mask in 022 027 077; do
+    (umask $mask && "$tmhost" create "made.$mask" && "$tmhost" rescue "made.$mask" "saved.$mask" >text)
+done
+compare 'the permissions of new files' "$(stat -c '%n %a' made.* saved.* | sort | tr '\n' ' ')" \
+    'made.022 644 made.022.alt 644 made.027 640 made.027.alt 640 made.077 600 made.077.alt 600 saved.022 644 saved.022.alt 644 saved.027 640 saved.027.alt 640 saved.077 600 saved.077.alt 600 '
+rm -f made.* saved.*
+
 # A second file that is missing is made to write, and not to read.
 rm w.alt
 : >given
@@ -73,6 +81,25 @@ asks 'the calls of what is accepted' 0 '#1 a\n> x\n- A\n+ B\naccepted 1\nsame 0 
 asks 'the calls of an export' 0 'session a plain sh p.sh\nnew 0 a x\n' "$shown" - export script w
 rm -f w w.alt saved saved.alt banner answer
 
+# Each kind of command by itself: what it gives is on the disk before it is told, and nothing is told before. Behind a checkpoint all lies in the
+# second file.
+cat >p.sh <<'END_OF_CHILD'
+printf '\002verbatim:\005'
+while IFS= read -r line; do printf '\002verbatim:A\005'; done
+END_OF_CHILD
+for line in 'session a plain sh p.sh' 'new 0 a x' 'new 1 a y' 'set 1 z' 'move 1 2' 'eval 1' 'clear 1' 'remove 1' checkpoint 'new 0 a w' 'stop a'; do
+    printf '%s\nwait\n' "$line"
+done >given
+change='write w\nfdatasync w\nwrite w\nfdatasync w\ntold\n'
+alone="lock EX rw w\nlock EX rw w.alt\nfsync .\nfdatasync w\n$change$change$change$change$change${change}told\n$change$change$change"
+alone="${alone}write w.alt\nwrite w.alt\nfdatasync w.alt\nwrite w\nfdatasync w\ntold\n"
+alone="${alone}write w.alt\nfdatasync w.alt\nwrite w.alt\nfdatasync w.alt\ntold\nkill 9\ntold\n"
+for program in run 'run --strict' live; do
+    rm -f w w.alt
+    "$tmhost" create w
+    asks "each command alone, $program" 0 'ok\nfield 1\nfield 2\nok\nok\nasked\nbanner a\nanswered 1\nok\nok\nok\nfield 3\nended a Stopped lost 0\n' "$alone" - $program w
+done
+rm -f w w.alt
 # By a link, and from another folder: the second file is the one beside what the link leads to, and its folder is brought onto the disk.
 rm -rf far near
 mkdir far
@@ -170,6 +197,22 @@ END_OF_CHILD
 printf 'session a plain sh p.sh\nnew 0 a x\neval 1\nwait\n' >given
 compare 'a record over 8 MiB' "$(answer run w <given)" "$(ending 'ok\nfield 1\nasked\nbanner a\nanswered 1\n' 0)"
 compare 'a record over 8 MiB, shown' "$("$tmhost" show w </dev/null | cksum)" "$({ printf '#1 a\n> x\n'; head -c 9000000 /dev/zero | tr '\0' a; echo; } | cksum)"
+rm -f w w.alt
+
+# 3,001 fields of two sessions are checked side by side.
+cat >p.sh <<'END_OF_CHILD'
+printf '\002verbatim:\005'
+while IFS= read -r line; do printf '\002verbatim:A\005'; done
+END_OF_CHILD
+{
+    printf 'session a plain sh p.sh\nsession b plain sh p.sh\n'
+    seq 0 3000 | awk '{ print "new " $1 " " ($1 % 2 ? "a" : "b") " x" }'
+} >given
+"$tmhost" create w
+"$tmhost" run w <given >text
+"$tmhost" eval w </dev/null >text
+compare 'an evaluation of 3,001 fields' "$(tail -n 1 text)" 'answered 3001 unanswered 0'
+words 'a check of 3,001 fields' 0 'same 3001 differ 0 unanswered 0\n' check w
 rm -f w w.alt
 
 # A path of 300 bytes, of which another worksheet has the first 200.

@@ -263,6 +263,23 @@ say 'export script\n'
 hears 'an object of an export' '{"format":"script","line":11,"text":"session a plain sh p.sh\\nnew 0 a x\\nnew 1 a z\\n","type":"exported"}\n'
 hang_up 'a talk in JSON' '{"type":"end"}\n' '#1 a\n> x\nA\n#2 a\n> z\n?\n'
 
+# A worksheet of 3,000 fields is printed.
+{
+    echo 'session a plain p'
+    seq 0 2999 | awk '{ print "new " $1 " a x" $1 + 1 }'
+} >given
+rm -f sheet sheet.alt
+"$tmhost" create sheet
+"$tmhost" run sheet <given >text
+echo print >given
+compare '3,000 fields are printed in JSON' "$({ answer live --json sheet <given; } | cksum)" "$({
+    printf '{"format":1,"program":"tmhost","protocol":2,"type":"hello","version":"0.1.0"}\n'
+    seq 3000 | sed 's/.*/{"field":{"id":&,"input":"x&","session":"a","state":"empty"},"line":1,"more":true,"type":"field"}/'
+    printf '{"fields":[1'
+    seq 2 3000 | sed 's/^/,/' | tr -d '\n'
+    printf '],"line":1,"next":3001,"sessions":[{"life":null,"name":"a","tab":false,"waiting":0,"words":["p"]}],"type":"sheet"}\n{"type":"end"}\nstatus 0\n'
+} | cksum)"
+
 # Faults: before the worksheet is open it is the only object, and then the last one.
 faulty() {
     cat >wanted
@@ -320,4 +337,61 @@ cat >wanted <<'END_OF_JSON'
 status 0
 END_OF_JSON
 compare 'a worksheet as JSON' "$(answer export json sheet </dev/null)" "$(cat wanted)"
+
+# What comes of a block before its end, of an interpreter that ends it once that was written, or at once.
+cat >slow.sh <<'END'
+printf '\002verbatim:\005'
+while IFS= read -r l; do
+    printf '\002verbatim:%b' "$l"
+    until [ "$l" = 'at once' ] || grep -q '"type":"partial"' text; do sleep 0.01; done
+    printf ' done\005'
+done
+END
+
+# A case of it: NAME FLAGS LINE.
+partial() {
+    cat >wanted
+    rm -f sheet sheet.alt
+    "$tmhost" create sheet
+    printf 'session a plain sh slow.sh\nnew 0 a %s\neval 1\nwait\n' "$3" >given
+    "$tmhost" live $2 sheet <given >text 2>errors
+    compare "$1" "status $? $(cat text errors)" "status 0 $(cat wanted)"
+}
+
+for flags in '--json --partial' --partial; do
+    partial "a block that isn't complete, by $flags" "$flags" x <<'END_OF_JSON'
+{"format":1,"program":"tmhost","protocol":2,"type":"hello","version":"0.1.0"}
+{"line":1,"type":"done"}
+{"id":1,"line":2,"type":"made"}
+{"life":1,"line":3,"type":"asked"}
+{"life":1,"output":{"items":[],"kind":"format","tag":"verbatim"},"session":"a","shown":"","type":"banner"}
+{"bytes":"\u0002verbatim:x","life":1,"session":"a","type":"partial"}
+{"id":1,"life":1,"output":{"items":["x done"],"kind":"format","tag":"verbatim"},"prompt":"> ","session":"a","shown":"x done","type":"answered"}
+{"line":4,"over":"idle","type":"waited"}
+{"type":"end"}
+END_OF_JSON
+done
+
+partial "one that isn't UTF-8" --partial '\0377' <<'END_OF_JSON'
+{"format":1,"program":"tmhost","protocol":2,"type":"hello","version":"0.1.0"}
+{"line":1,"type":"done"}
+{"id":1,"line":2,"type":"made"}
+{"life":1,"line":3,"type":"asked"}
+{"life":1,"output":{"items":[],"kind":"format","tag":"verbatim"},"session":"a","shown":"","type":"banner"}
+{"bytes":{"base64":"AnZlcmJhdGltOv8="},"life":1,"session":"a","type":"partial"}
+{"id":1,"life":1,"output":{"items":[{"base64":"/yBkb25l"}],"kind":"format","tag":"verbatim"},"prompt":"> ","session":"a","shown":{"base64":"/yBkb25l"},"type":"answered"}
+{"line":4,"over":"idle","type":"waited"}
+{"type":"end"}
+END_OF_JSON
+
+partial "one that isn't complete, unasked" --json 'at once' <<'END_OF_JSON'
+{"format":1,"program":"tmhost","protocol":2,"type":"hello","version":"0.1.0"}
+{"line":1,"type":"done"}
+{"id":1,"line":2,"type":"made"}
+{"life":1,"line":3,"type":"asked"}
+{"life":1,"output":{"items":[],"kind":"format","tag":"verbatim"},"session":"a","shown":"","type":"banner"}
+{"id":1,"life":1,"output":{"items":["at once done"],"kind":"format","tag":"verbatim"},"prompt":"> ","session":"a","shown":"at once done","type":"answered"}
+{"line":4,"over":"idle","type":"waited"}
+{"type":"end"}
+END_OF_JSON
 counted json

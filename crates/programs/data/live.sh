@@ -169,6 +169,8 @@ hears 'its rest, and two lines at once' 'refused 2 NoField\n#2 a\n> y\n?\nrefuse
 compare 'run beside it' "$(printf 'new 0 a z\n' | answer run sheet)" "$(ending 'fault 35 InUse\n' 1)"
 compare 'live beside it' "$(printf 'new 0 a z\n' | answer live sheet)" "$(ending 'fault 35 InUse\n' 1)"
 compare 'show beside it' "$(answer show sheet </dev/null)" "$(ending 'fault 35 InUse\n' 1)"
+say 'export script\n'
+hears 'an export' 'session a plain sh p.sh\nnew 0 a x\nnew 1 a y\n'
 say 'eval 2\n'
 hears 'the next answer' 'asked\nanswered 2\n'
 say 'remove 1'
@@ -428,6 +430,22 @@ say 'session a plain sh p.sh\nnew 0 a x\neval 1\n'
 hears 'a line that is evaluated' 'ok\nfield 1\nasked\nbanner a\n'
 hang_up 'the end while a line is evaluated' '' '#1 a\n> x\n?\n'
 ended 'the end while a line is evaluated' 1
+
+# Where nothing comes, `live` waits for it in one call of the system: it takes no time of a processor, and counts nothing that may come to an end.
+interpreter p "$banner" '\002verbatim:A\005'
+sleeps_of() {
+    sleep "$1"
+    sed -n 's/^voluntary_ctxt_switches:[^0-9]*//p' "/proc/$(cat "/proc/$host/task/$host/children" | tr -d ' ')/status"
+}
+talk
+say 'session a plain sh p.sh\nnew 0 a x\neval 1\n'
+hears 'before nothing comes' 'ok\nfield 1\nasked\nbanner a\nanswered 1\n'
+before=$(sleeps_of 0.1)
+after=$(sleeps_of 0.4)
+compare 'nothing comes' "$([ $((after - before)) -le 1 ] && echo 'one sleep' || echo "$((after - before)) sleeps")" 'one sleep'
+say 'print 1\n'
+hears 'a line after nothing came' '#1 a\n> x\nA\n'
+hang_up 'nothing comes' '' '#1 a\n> x\nA\n'
 
 # What a wait of a script tells of its first session is there before its second one answers: that one answers once the first reply was
 # seen, or says that it came late.

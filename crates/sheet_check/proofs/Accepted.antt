@@ -27,10 +27,11 @@ use Rattle.offline_programs.specs.declared.fault.RunFault.TheVariants as fault
 use Rattle.check_report.specs.declared.chosen.Chosen.{Chosen}
 use Rattle.check_report.specs.declared.report.Format.TheVariants as format
 use Rattle.check_report.specs.declared.verdict.Counts.{Counts}
+use Rattle.check_report.specs.declared.verdict.Judgement.{Judgement}
 use Rattle.check_report.specs.declared.verdict.Verdict.{Verdict}
 use Rattle.check_report.specs.declared.verdict.Verdict.TheVariants as verdict
 use Rattle.check_report.specs.Chosen.{shown_by}
-use Rattle.check_report.specs.Reports.{Case, case, case_text, cases_text, report_front, verdicts_of}
+use Rattle.check_report.specs.Reports.{Case, case, case_text, cases_text, report_front, judgements_of}
 use Rattle.check_report.specs.Verdicts.{counts_of, total}
 use Rattle.live.specs.Records as records
 use Rattle.sheet_check.specs.Evaluated.{Evaluated, FieldsChecked, Way, came_if, checked, passed, reason_shown_in, shown_in}
@@ -39,7 +40,7 @@ use Rattle.sheet_check.specs.Accept.{accepted, accepted_answer, accepted_of, ans
 use Rattle.sheet_check.specs.inside.Accepting.{FieldBroke, FieldLast, FieldsBroke, FieldsTook, FieldsUpTo, Finds, GoesOn, NotPut, NotTaken, PutAll, ShownTook, broken, early, fault_of_acceptance, full, storing, unwritten}
 use Rattle.sheet_check.specs.inside.Accepting as inside
 use Rattle.sheet_check.specs.inside.Checking.{AskFailed, EvaluationBroke, FieldFailed, FieldWrote, FirstFailed, WaitBroke, counted_on, question}
-use Rattle.sheet_check.proofs.Counting.{cases-more, front-more}
+use Rattle.sheet_check.proofs.Counting.{as_judged, cases-more, front-more}
 use Rattle.sheet_check.proofs.Fields.{FieldsSoFar, fields-more, leaves-on}
 
 -- What is accepted takes no field away.
@@ -151,11 +152,11 @@ module _ {C : Type 0} (o : Way C) (chosen : Chosen) (field : Field) (s : At C) (
 -- A field.
 
 pub shown_took : {C : Type 0} (o : Way C) (chosen : Chosen) (field : Field) (shown : Answer) (s : At C) (h : HostView) (c : C) (a b : Option (List ℕ)) (ops more : List Op) (disk : DiskView) (store : StoreView)
-    (came : Option Answer) (t : World) (found : Finding) (v : Verdict) → Evaluated o field.id s came (at t c h.store.disk) → IsHost h t → Finds chosen field shown came found → v ≡ found.verdict
-    → Stores ops (more ++ answer_ops field.id found.answer) disk store → Appends a b found.text.items → ShownTook (to_accept o chosen) (question 0 field shown) s (records.left h c a b) (storing ops more disk store) v
-shown_took o chosen field shown s h c a b ops more disk store came t found v evaluated stands f is stores wrote =
+    (came : Option Answer) (t : World) (found : Finding) (j : Judgement) → Evaluated o field.id s came (at t c h.store.disk) → IsHost h t → Finds chosen field shown came found → j ≡ found.judgement
+    → Stores ops (more ++ answer_ops field.id found.answer) disk store → Appends a b found.text.items → ShownTook (to_accept o chosen) (question 0 field shown) s (records.left h c a b) (storing ops more disk store) j
+shown_took o chosen field shown s h c a b ops more disk store came t found j evaluated stands f is stores wrote =
     subst (ShownTook (to_accept o chosen) (question 0 field shown) s (records.left h c a b) (storing ops more disk store)) (sym is) (
-      (came, t, evaluated, stands, f.judged, subst (Appends a b) f.told wrote),
+      (came, t, evaluated, stands, f.judged, f.error, subst (Appends a b) f.told wrote),
       subst (λ (x : Option Answer). Stores ops (more ++ answer_ops field.id x) disk store) f.taken stores,
     )
 
@@ -165,12 +166,12 @@ passed_took o chosen field w h c a ops more disk store counts none stands stores
     (([], w, passed none, stands, refl, Appends-nil a), subst (λ (os : List Op). Stores ops os disk store) (sym (append-nil more)) stores)
 
 pub checked_took : {C : Type 0} (o : Way C) (chosen : Chosen) (field : Field) (shown : Answer) (s : At C) (h : HostView) (c : C) (a b : Option (List ℕ)) (ops more : List Op) (disk : DiskView) (store : StoreView)
-    (counts after : Counts) (v : Verdict) → shown_by chosen field ≡ Some shown → ShownTook (to_accept o chosen) (question 0 field shown) s (records.left h c a b) (storing ops more disk store) v → after ≡ counted_on (v ∷ []) counts
+    (counts after : Counts) (j : Judgement) → shown_by chosen field ≡ Some shown → ShownTook (to_accept o chosen) (question 0 field shown) s (records.left h c a b) (storing ops more disk store) j → after ≡ counted_on (j ∷ []) counts
     → (wrote : FieldWrote (to_accept o chosen) field s (records.left h c a b) counts after) × PutAll (storing ops more disk store) (accepted wrote.0)
-checked_took o chosen field shown s h c a b ops more disk store counts after v some p is =
+checked_took o chosen field shown s h c a b ops more disk store counts after j some p is =
     let q = p.0 in
-    let one = case field q.0 (reason_shown_in q.1 field.id) v in (
-      (one ∷ [], q.1, checked shown q.0 v (at q.1 c h.store.disk) some q.2 q.4, q.3, is, subst (Appends a b) (sym (append-nil (case_text format.Accepting 0 one))) q.5),
+    let one = case field q.0 (reason_shown_in q.1 field.id) j.verdict in (
+      (one ∷ [], q.1, checked shown q.0 j.verdict (at q.1 c h.store.disk) some q.2 q.4, q.3, is ∙ as_judged j q.0 counts q.5, subst (Appends a b) (sym (append-nil (case_text format.Accepting 0 one))) q.6),
       subst (λ (os : List Op). Stores ops (more ++ os) disk store) (sym (append-nil (accepted_of one))) p.1,
     )
 
@@ -220,7 +221,7 @@ module _ {C : Type 0} (o : Way C) (chosen : Chosen) (all left : List Field) (fie
           split = split-on;
           ran = fields-more (to_accept o chosen) taken.so.gone field s taken.so.cases (at taken.so.leads c h.store.disk) p.0 (at p.1 d g.store.disk) taken.so.ran p.2;
           stands = p.3;
-          counted = p.4 ∙ ap (λ x. counted_on (verdicts_of p.0) x) taken.so.counted ∙ sym (cases-more taken.so.cases p.0);
+          counted = p.4 ∙ ap (λ x. counted_on (judgements_of p.0) x) taken.so.counted ∙ sym (cases-more taken.so.cases p.0);
           wrote = subst (Appends a e) (sym (front-more format.Accepting taken.so.cases p.0 counts taken.so.counted))
               (Appends-trans a b e (report_front format.Accepting taken.so.cases) (cases_text format.Accepting (total counts + 1) p.0) taken.so.wrote p.5);
         };

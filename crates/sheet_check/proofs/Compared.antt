@@ -16,9 +16,10 @@ use Rattle.sheet_programs.proofs.Runs.{StopsIn, stops_behind}
 use Rattle.check_report.specs.declared.chosen.Chosen.{Chosen}
 use Rattle.check_report.specs.declared.report.Format.{Format}
 use Rattle.check_report.specs.declared.verdict.Counts.{Counts}
-use Rattle.check_report.specs.declared.verdict.Verdict.{Verdict}
+use Rattle.check_report.specs.declared.verdict.Judgement.{Judgement}
 use Rattle.check_report.specs.Chosen.{Judged, shown_by}
-use Rattle.check_report.specs.Reports.{Case, case, case_text, cases_text, closing_text, opening_text, report_front, verdicts_of}
+use Rattle.check_report.specs.Errors.{brings_error}
+use Rattle.check_report.specs.Reports.{Case, case, case_text, cases_text, closing_text, opening_text, report_front, judgements_of}
 use Rattle.check_report.specs.Verdicts.{counts_of, total}
 use Rattle.evaluation.specs.declared.plan.Plan.{Plan}
 use Rattle.evaluation.specs.Evaluation.{not_begun}
@@ -30,21 +31,21 @@ use Rattle.sheet_check.specs.Together as together
 use Rattle.sheet_check.specs.Together.{EvaluatedTogether, FieldCompared, FieldsCompared, SideBySide, TellsTogether, TogetherChecked, came_by, checked_ids, checking, checking_plan, cleared}
 use Rattle.sheet_check.specs.inside.Checking.{Untold, counted_on, unremembered, unwritten}
 use Rattle.sheet_check.specs.inside.Comparing.{BrokeTogether, CameTogether, Comparing, EndedTogether, FailedTogether, FieldReported, FieldsReported, LeavesReport, ReportBroke, ReportedTogether}
-use Rattle.sheet_check.proofs.Counting.{cases-more, front-more}
+use Rattle.sheet_check.proofs.Counting.{as_judged, cases-more, front-more}
 
 -- A field.
 
 pub one_passed : (m : Comparing) (field : Field) (a : Option (List ℕ)) (counts : Counts) → shown_by m.chosen field ≡ None → FieldReported m field a a counts counts
 one_passed m field a counts none = ([], together.passed none, refl, Appends-nil a)
 
-pub one_compared : (m : Comparing) (number : ℕ) (field : Field) (shown : Answer) (a b : Option (List ℕ)) (counts after : Counts) (verdict : Verdict) → shown_by m.chosen field ≡ Some shown
-    → Judged m.chosen field.id shown.output (came_by m.world m.late field.id) verdict
-    → Appends a b (case_text m.format number (case field (came_by m.world m.late field.id) (reason_shown_in m.world field.id) verdict)) → number ≡ total counts + 1 → after ≡ counted_on (verdict ∷ []) counts
+pub one_compared : (m : Comparing) (number : ℕ) (field : Field) (shown : Answer) (a b : Option (List ℕ)) (counts after : Counts) (j : Judgement) → shown_by m.chosen field ≡ Some shown
+    → Judged m.chosen field.id shown.output (came_by m.world m.late field.id) j.verdict → j.error ≡ brings_error (came_by m.world m.late field.id)
+    → Appends a b (case_text m.format number (case field (came_by m.world m.late field.id) (reason_shown_in m.world field.id) j.verdict)) → number ≡ total counts + 1 → after ≡ counted_on (j ∷ []) counts
     → FieldReported m field a b counts after
-one_compared m number field shown a b counts after verdict some judged wrote place is =
-    let one = case field (came_by m.world m.late field.id) (reason_shown_in m.world field.id) verdict in
+one_compared m number field shown a b counts after j some judged error wrote place is =
+    let one = case field (came_by m.world m.late field.id) (reason_shown_in m.world field.id) j.verdict in
     let whole : Appends a b (case_text m.format number one ++ []) = subst (Appends a b) (sym (append-nil (case_text m.format number one))) wrote in
-    (one ∷ [], together.compared shown verdict some judged, is, subst (λ n. Appends a b (cases_text m.format n (one ∷ []))) place whole)
+    (one ∷ [], together.compared shown j.verdict some judged, is ∙ as_judged j (came_by m.world m.late field.id) counts error, subst (λ n. Appends a b (cases_text m.format n (one ∷ []))) place whole)
 
 -- Fields.
 
@@ -60,7 +61,7 @@ pub record ComparedSoFar (m : Comparing) (all left : List Field) (a b : Option (
   pub cases : List Case
   pub split : all ≡ gone ++ left
   pub ran : FieldsCompared m.chosen m.world m.late gone cases
-  pub counted : counts ≡ counts_of (verdicts_of cases)
+  pub counted : counts ≡ counts_of (judgements_of cases)
   pub wrote : Appends a b (report_front m.format cases)
 
 pub none_compared : (m : Comparing) (all left : List Field) (a b : Option (List ℕ)) (counts : Counts) → left ≡ all → counts ≡ counts_of [] → Appends a b (opening_text m.format) → ComparedSoFar m all left a b counts
@@ -74,7 +75,7 @@ module _ (m : Comparing) (all left : List Field) (field : Field) (others : List 
     cases = so.cases ++ p.0;
     split = so.split ∙ ap (λ x. so.gone ++ x) is ∙ sym (append_assoc so.gone (field ∷ []) others);
     ran = compared-more m.chosen m.world m.late so.gone field so.cases p.0 so.ran p.1;
-    counted = p.2 ∙ ap (λ x. counted_on (verdicts_of p.0) x) so.counted ∙ sym (cases-more so.cases p.0);
+    counted = p.2 ∙ ap (λ x. counted_on (judgements_of p.0) x) so.counted ∙ sym (cases-more so.cases p.0);
     wrote = subst (Appends a e) (sym (front-more m.format so.cases p.0 counts so.counted)) (Appends-trans a b e (report_front m.format so.cases) (cases_text m.format (total counts + 1) p.0) so.wrote p.3);
   }
 
@@ -157,7 +158,7 @@ module _ {C : Type 0} (o : SideBySide C) (sheet : Contents) (c d : C) (a b : Opt
     cases = p.0;
     compared = p.1;
     counted = p.2;
-    wrote = Appends-trans a b e (report_front o.format p.0) (closing_text o.format (counts_of (verdicts_of p.0))) p.3 (subst (λ x. Appends b e (closing_text o.format x)) p.2 told);
+    wrote = Appends-trans a b e (report_front o.format p.0) (closing_text o.format (counts_of (judgements_of p.0))) p.3 (subst (λ x. Appends b e (closing_text o.format x)) p.2 told);
   }
 
   pub counts_unwritten : (e : Option (List ℕ)) (counts : Counts) (nothing : Type 0) (why : RunFault) → EndedTogether o sheet (passage c d a b) counts → why ≡ fault.Output → TellsTogether o sheet (passage c d a e) nothing why

@@ -14,7 +14,7 @@ use Rattle.offline_programs.specs.declared.fault.RunFault.{RunFault}
 use Rattle.offline_programs.specs.declared.fault.RunFault.TheVariants as fault
 use Rattle.sheet_programs.proofs.Runs.{StopsIn, stops_behind}
 use Rattle.check_report.specs.declared.verdict.Counts.{Counts}
-use Rattle.check_report.specs.Reports.{closing_text, report_front, verdicts_of}
+use Rattle.check_report.specs.Reports.{closing_text, report_front, judgements_of}
 use Rattle.check_report.specs.Verdicts.{counts_of}
 use Rattle.live.specs.Records as records
 use Rattle.sheet_check.specs.Evaluated.{OneByOne}
@@ -69,7 +69,7 @@ module _ {C : Type 0} (o : OneByOne C) (sheet : Contents) (w : World) (copy : Di
     checked = p.2;
     stops = p.3;
     counted = p.4;
-    wrote = Appends-trans a b e (report_front o.format p.0) (closing_text o.format (counts_of (verdicts_of p.0))) p.5 (subst (λ x. Appends b e (closing_text o.format x)) p.4 told);
+    wrote = Appends-trans a b e (report_front o.format p.0) (closing_text o.format (counts_of (judgements_of p.0))) p.5 (subst (λ x. Appends b e (closing_text o.format x)) p.4 told);
   }
 
   -- the counts couldn't be reported

@@ -11,16 +11,16 @@ use Rattle.sheet_programs.specs.Lines.{beats_text, whole}
 use Rattle.offline_programs.specs.declared.fault.RunFault.{RunFault}
 use Rattle.offline_programs.specs.declared.fault.RunFault.TheVariants as fault
 use Rattle.check_report.specs.declared.verdict.Counts.{Counts}
-use Rattle.check_report.specs.declared.verdict.Verdict.{Verdict}
+use Rattle.check_report.specs.declared.verdict.Judgement.{Judgement}
 use Rattle.check_report.specs.Chosen.{shown_by}
-use Rattle.check_report.specs.Reports.{Case, case, case_text, cases_text, opening_text, report_front, verdicts_of}
+use Rattle.check_report.specs.Reports.{Case, case, case_text, cases_text, opening_text, report_front, judgements_of}
 use Rattle.check_report.specs.Verdicts.{counts_of, total}
 use Rattle.live.specs.Records as records
 use Rattle.sheet_check.specs.Evaluated.{Evaluated, FieldChecked, FieldsChecked, OneByOne, WaitedBy, checked, eval_of, passed, reason_shown_in}
 use Rattle.sheet_check.specs.Check.{FirstLed, FirstShows, WaitLedBy, asking, in_eval, in_wait, still, waiting}
 use Rattle.sheet_check.specs.inside.Checking.{AskFailed, EvaluationBroke, FieldFailed, FieldWrote, FieldsFailed, FieldsWrote, FirstFailed, LeavesText, ShownWrote, Untold, WaitBroke, counted_on, question}
 use Rattle.sheet_check.specs.inside.Checking as inside
-use Rattle.sheet_check.proofs.Counting.{cases-more, front-more}
+use Rattle.sheet_check.proofs.Counting.{as_judged, cases-more, front-more}
 
 -- A field.
 
@@ -29,16 +29,16 @@ pub field_passed : {C : Type 0} (o : OneByOne C) (field : Field) (w : World) (h 
 field_passed o field w h c a counts none stands = ([], w, passed none, stands, refl, Appends-nil a)
 
 pub field_checked : {C : Type 0} (o : OneByOne C) (number : ℕ) (field : Field) (shown : Answer) (s : At C) (h : HostView) (c : C) (a b : Option (List ℕ)) (counts after : Counts)
-    (verdict : Verdict) → shown_by o.chosen field ≡ Some shown → ShownWrote o (question number field shown) s (records.left h c a b) verdict → number ≡ total counts + 1 → after ≡ counted_on (verdict ∷ []) counts
+    (j : Judgement) → shown_by o.chosen field ≡ Some shown → ShownWrote o (question number field shown) s (records.left h c a b) j → number ≡ total counts + 1 → after ≡ counted_on (j ∷ []) counts
     → FieldWrote o field s (records.left h c a b) counts after
-field_checked o number field shown s h c a b counts after verdict some p place is =
-    let one = case field p.0 (reason_shown_in p.1 field.id) verdict in
-    let wrote : Appends a b (case_text o.format number one ++ []) = subst (Appends a b) (sym (append-nil (case_text o.format number one))) p.5 in (
+field_checked o number field shown s h c a b counts after j some p place is =
+    let one = case field p.0 (reason_shown_in p.1 field.id) j.verdict in
+    let wrote : Appends a b (case_text o.format number one ++ []) = subst (Appends a b) (sym (append-nil (case_text o.format number one))) p.6 in (
       one ∷ [],
       p.1,
-      checked shown p.0 verdict (at p.1 c h.store.disk) some p.2 p.4,
+      checked shown p.0 j.verdict (at p.1 c h.store.disk) some p.2 p.4,
       p.3,
-      is,
+      is ∙ as_judged j p.0 counts p.5,
       subst (λ n. Appends a b (cases_text o.format n (one ∷ []))) place wrote,
     )
 
@@ -71,7 +71,7 @@ pub record FieldsSoFar {C : Type 0} (o : OneByOne C) (all left : List Field) (s 
   pub split : all ≡ gone ++ left
   pub ran : FieldsChecked o.way o.chosen gone s cases (at leads c h.store.disk)
   pub stands : IsHost h leads
-  pub counted : counts ≡ counts_of (verdicts_of cases)
+  pub counted : counts ≡ counts_of (judgements_of cases)
   pub wrote : Appends a b (report_front o.format cases)
 
 pub none_checked : {C : Type 0} (o : OneByOne C) (all left : List Field) (w : World) (h : HostView) (c : C) (a b : Option (List ℕ)) (counts : Counts) → left ≡ all → counts ≡ counts_of [] → IsHost h w
@@ -113,7 +113,7 @@ module _ {C : Type 0} (o : OneByOne C) (all left : List Field) (field : Field) (
     split = so.split ∙ ap (λ x. so.gone ++ x) is ∙ sym (append_assoc so.gone (field ∷ []) others);
     ran = fields-more o so.gone field s so.cases (at so.leads c h.store.disk) p.0 (at p.1 d g.store.disk) so.ran p.2;
     stands = p.3;
-    counted = p.4 ∙ ap (λ x. counted_on (verdicts_of p.0) x) so.counted ∙ sym (cases-more so.cases p.0);
+    counted = p.4 ∙ ap (λ x. counted_on (judgements_of p.0) x) so.counted ∙ sym (cases-more so.cases p.0);
     wrote = subst (Appends a e) (sym (front-more o.format so.cases p.0 counts so.counted)) (Appends-trans a b e (report_front o.format so.cases) (cases_text o.format (total counts + 1) p.0) so.wrote p.5);
   }
 

@@ -26,7 +26,7 @@ use Rattle.sheet_programs.proofs.Runs.{StopsIn}
 use Rattle.check_report.specs.declared.chosen.Chosen.{Chosen}
 use Rattle.check_report.specs.declared.report.Format.TheVariants as format
 use Rattle.check_report.specs.declared.verdict.Counts.{Counts}
-use Rattle.check_report.specs.Reports.{Case, closing_text, report_front, verdicts_of}
+use Rattle.check_report.specs.Reports.{Case, closing_text, report_front, judgements_of}
 use Rattle.check_report.specs.Verdicts.{counts_of}
 use Rattle.live.specs.Records as records
 use Rattle.sheet_check.specs.Accept.{AcceptLeft, FoundOn, SheetAccepts, accepted, filing, to_accept}
@@ -111,7 +111,7 @@ module _ {C : Type 0} (o : Way C) (chosen : Chosen) (sheet : Contents) (w : Worl
       checked = p.0.2;
       stops = p.0.3;
       counted = p.0.4;
-      wrote = Appends-trans a b e (report_front format.Accepting p.0.0) (closing_text format.Accepting (counts_of (verdicts_of p.0.0))) p.0.5 (subst (λ x. Appends b e (closing_text format.Accepting x)) p.0.4 told);
+      wrote = Appends-trans a b e (report_front format.Accepting p.0.0) (closing_text format.Accepting (counts_of (judgements_of p.0.0))) p.0.5 (subst (λ x. Appends b e (closing_text format.Accepting x)) p.0.4 told);
     },
     p.1.disk,
   )

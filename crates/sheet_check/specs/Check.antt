@@ -28,7 +28,7 @@ use Rattle.offline_programs.specs.declared.fault.RunFault.TheVariants as fault
 use Rattle.check_report.specs.declared.chosen.Chosen.{Chosen}
 use Rattle.check_report.specs.declared.verdict.Counts.{Counts}
 use Rattle.check_report.specs.Chosen.{shown_by}
-use Rattle.check_report.specs.Reports.{Case, report_front, report_text, verdicts_of}
+use Rattle.check_report.specs.Reports.{Case, report_front, report_text, judgements_of}
 use Rattle.check_report.specs.Verdicts.{counts_of}
 use Rattle.evaluation.specs.Within.{WaitInPart, WaitTooLong, WaitUnwatched, WaitUpTo, WaitedWithin}
 use Rattle.sheet_check.specs.Evaluated.{FieldsChecked, OneByOne, Way, eval_of, limited}
@@ -66,7 +66,7 @@ pub record SheetChecked {C : Type 0} (o : OneByOne C) (sheet : Contents) (q : Pa
   pub leads : At C
   pub checked : FieldsChecked o.way o.chosen sheet.fields (at start q.sources copy) cases leads
   pub stops : Stops o.way.after (running leads.world) leads.children q.left
-  pub counted : counts ≡ counts_of (verdicts_of cases)
+  pub counted : counts ≡ counts_of (judgements_of cases)
   pub wrote : Appends q.text q.written (report_text o.format cases)
 
 -- The first of these fields shows an answer, and its session is checked.

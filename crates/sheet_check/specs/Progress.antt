@@ -10,6 +10,7 @@ use Rattle.offline_programs.specs.declared.fault.RunFault.TheVariants as fault
 use Rattle.check_report.specs.declared.chosen.Chosen.{Chosen}
 use Rattle.check_report.specs.declared.report.Format.{Format}
 use Rattle.check_report.specs.declared.verdict.Counts.{Counts}
+use Rattle.check_report.specs.declared.verdict.Judgement.{Judgement}
 use Rattle.check_report.specs.declared.verdict.Verdict.{Verdict}
 use Rattle.check_report.specs.Chosen.{shown_by}
 use Rattle.check_report.specs.Reports.{is_written}
@@ -45,7 +46,7 @@ display F S = record { format = F; shows = S }
 -- Fields came to these counts, one after another: after each the line stands with the counts so far, of so many fields in all.
 pub data FieldsShow {P : Type 0} (m : Display P) (all : ℕ) (p : P) : Counts → P → Type 0 where
   none : FieldsShow m all p (counts_of []) p
-  more : (one : Verdict) (counts : Counts) (before free q : P) → FieldsShow m all p counts before → MakesRoom m.format m.shows one before free
+  more : (one : Judgement) (counts : Counts) (before free q : P) → FieldsShow m all p counts before → MakesRoom m.format m.shows one.verdict before free
       → m.shows free (sight.Line (counted_with one counts) all) q → FieldsShow m all p (counted_with one counts) q
 
 -- A field that wasn't counted leaves what was shown, or took the line away for what couldn't be reported.

@@ -27,7 +27,7 @@ use Rattle.check_report.specs.declared.report.Format.{Format}
 use Rattle.check_report.specs.declared.verdict.Counts.{Counts}
 use Rattle.check_report.specs.declared.verdict.Verdict.{Verdict}
 use Rattle.check_report.specs.Chosen.{Judged, shown_by}
-use Rattle.check_report.specs.Reports.{Case, case, report_front, report_text, verdicts_of}
+use Rattle.check_report.specs.Reports.{Case, case, report_front, report_text, judgements_of}
 use Rattle.check_report.specs.Verdicts.{counts_of}
 use Rattle.evaluation.specs.declared.plan.Plan.{Plan}
 use Rattle.evaluation.specs.declared.plan.Which.TheVariants as which
@@ -125,7 +125,7 @@ pub record TogetherChecked {C : Type 0} (o : SideBySide C) (sheet : Contents) (q
   pub evaluated : EvaluatedTogether o sheet q.sources q.left leads late
   pub cases : List Case
   pub compared : FieldsCompared o.chosen leads late sheet.fields cases
-  pub counted : counts ≡ counts_of (verdicts_of cases)
+  pub counted : counts ≡ counts_of (judgements_of cases)
   pub wrote : Appends q.text q.written (report_text o.format cases)
 
 -- The evaluation broke off, and then each life that goes on was stopped.

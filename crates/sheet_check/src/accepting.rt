@@ -18,7 +18,9 @@ use crate::progress::Progress;
 use crate::putting::{AcceptFault, accept};
 use crate::telling::make_room;
 use block_tree::OutOfMemory;
-use check_report::{Chosen, Format, Verdict, acceptance_in_memory, bring_out};
+use check_report::{
+    Chosen, Format, Judgement, Verdict, acceptance_in_memory, bring_out, brings_error,
+};
 use disk_model::Disk;
 use host_events::HostFault;
 use offline_programs::RunFault;
@@ -31,7 +33,7 @@ use worksheet::{Answer, Field};
 /// What a field came to, and all that takes memory of what is then done.
 #[derive(Drop)]
 pub(crate) struct Finding {
-    pub(crate) verdict: Verdict,
+    pub(crate) judgement: Judgement,
     /// The answer that is accepted, where one is.
     pub(crate) answer: Option<Answer>,
     /// What is reported.
@@ -86,7 +88,10 @@ fn find(
     };
     match acceptance_in_memory(alloc, field, came, verdict) {
         Some(text) => Some(Finding {
-            verdict,
+            judgement: Judgement {
+                verdict,
+                error: brings_error(came),
+            },
             answer,
             text,
         }),
@@ -165,24 +170,24 @@ pub(crate) fn take<D: Disk, W: Write, P: Progress>(
     found: Finding,
     progress: &mut P,
     writer: &mut W,
-) -> Result<Verdict, RunFault>
+) -> Result<Judgement, RunFault>
     requires open { store.old.closed ≡ false }
     requires there { has_field store.old.sheet.contents id ≡ true }
     requires short { HasShortPrompt found.answer }
     ensures written { store.old.gathers ≡ false → store.new.gathers ≡ false }
     ensures ok { (ops more : List Op) → (disk : DiskView) → Stores ops more disk store.old
-        → IfOk result (λ verdict. (verdict ≡ found.verdict)
+        → IfOk result (λ j. (j ≡ found.judgement)
         × Stores ops (more ++ answer_ops id found.answer) disk store.new
         × Appends (W.contents writer.old) (W.contents writer.new) found.text.items) }
     ensures err { (ops more : List Op) → (disk : DiskView) → Stores ops more disk store.old
         → IfErr result (NotTaken (storing ops more disk store.new) (answer_ops id found.answer)
         (W.contents writer.old) (W.contents writer.new)) }
-    ensures room { IfOk result (λ verdict.
-        MakesRoom formats.Accepting P.shows verdict progress.old progress.new) }
+    ensures room { IfOk result (λ j.
+        MakesRoom formats.Accepting P.shows j.verdict progress.old progress.new) }
     ensures left { IfErr result (λ _. LeavesLine P.shows progress.old progress.new) }
 {
     let Finding {
-        verdict,
+        judgement,
         answer,
         text,
     } = found;
@@ -190,8 +195,8 @@ pub(crate) fn take<D: Disk, W: Write, P: Progress>(
         Ok(()) => (),
         Err(why) => return Err(accept_fault(why)),
     }
-    match tell(verdict, text.as_slice(), progress, writer) {
-        Ok(()) => Ok(verdict),
+    match tell(judgement.verdict, text.as_slice(), progress, writer) {
+        Ok(()) => Ok(judgement),
         Err(fault) => Err(fault),
     }
 }

@@ -26,7 +26,7 @@ use crate::named::{CheckFault, check_named};
 use crate::progress::{Progress, Sight};
 use crate::telling::tell_what_came;
 use arrivals::Sources;
-use check_report::{Chosen, Counts, Format, Request, Verdict, close_report, open_report};
+use check_report::{Chosen, Counts, Format, Judgement, Request, close_report, open_report};
 use child_edge::stop_all;
 use disk_model::Disk;
 use journal::OpenFault;
@@ -48,7 +48,7 @@ fn check_shown<D: Disk, C: Sources, W: Write, P: Progress>(
     shown: &Answer,
     progress: &mut P,
     writer: &mut W,
-) -> Result<Verdict, RunFault>
+) -> Result<Judgement, RunFault>
     requires { shown_by request.now.chosen field.now ≡ Some shown.now }
     ensures ok { (w : World) → IsHost host.old w → IfOk result (ShownWrote
         (one_by_one (way C.after C.clock C.wakes request.now.limit) request.now.chosen request.now.format)
@@ -58,8 +58,8 @@ fn check_shown<D: Disk, C: Sources, W: Write, P: Progress>(
         (one_by_one (way C.after C.clock C.wakes request.now.limit) request.now.chosen request.now.format)
         field.now (at w sources.old host.old.store.disk)
         (left host.new sources.new (W.contents writer.old) (W.contents writer.new))) }
-    ensures room { IfOk result (λ verdict.
-        MakesRoom request.now.format P.shows verdict progress.old progress.new) }
+    ensures room { IfOk result (λ j.
+        MakesRoom request.now.format P.shows j.verdict progress.old progress.new) }
     ensures left { IfErr result (λ _. LeavesLine P.shows progress.old progress.new) }
 {
     let came = match evaluate(alloc, request.limit, host, sources, field.id) {
@@ -93,12 +93,14 @@ fn check_field<D: Disk, C: Sources, W: Write, P: Progress>(
     progress: &mut P,
     writer: &mut W,
 ) -> Result<Counts, RunFault>
-    requires { total counts < 2 ^ 31 }
+    requires few { total counts < 2 ^ 31 }
+    requires errors { counts.errors ≤ total counts }
     ensures ok { (w : World) → IsHost host.old w → IfOk result (FieldWrote
         (one_by_one (way C.after C.clock C.wakes request.now.limit) request.now.chosen request.now.format)
         field.now (at w sources.old host.old.store.disk)
         (left host.new sources.new (W.contents writer.old) (W.contents writer.new)) counts) }
     ensures bound { IfOk result (λ after. total after ≤ total counts + 1) }
+    ensures errors { IfOk result (λ after. after.errors ≤ total after) }
     ensures err { (w : World) → IsHost host.old w → IfErr result (FieldFailed
         (one_by_one (way C.after C.clock C.wakes request.now.limit) request.now.chosen request.now.format)
         field.now (at w sources.old host.old.store.disk)
@@ -113,7 +115,7 @@ fn check_field<D: Disk, C: Sources, W: Write, P: Progress>(
         Some(shown) => match check_shown(
             alloc, request, host, sources, number, field, shown, progress, writer,
         ) {
-            Ok(verdict) => Ok(show_counts(counts.with(verdict), all, progress)),
+            Ok(judgement) => Ok(show_counts(counts.with(judgement), all, progress)),
             Err(fault) => Err(fault),
         },
     }

@@ -46,11 +46,13 @@ fn compare_field<D: Disk, W: Write, P: Progress>(
     progress: &mut P,
     writer: &mut W,
 ) -> Result<Counts, RunFault>
-    requires { total counts < 2 ^ 31 }
+    requires few { total counts < 2 ^ 31 }
+    requires errors { counts.errors ≤ total counts }
     ensures ok { (w : World) → IsHost host.now w → IfOk result (FieldReported
         (comparing request.now.chosen request.now.format w late.now) field.now
         (W.contents writer.old) (W.contents writer.new) counts) }
     ensures bound { IfOk result (λ after. total after ≤ total counts + 1) }
+    ensures errors { IfOk result (λ after. after.errors ≤ total after) }
     ensures err { IfErr result (Untold (W.contents writer.old) (W.contents writer.new)) }
     ensures shown { IfOk result (λ after.
         FieldShown (display request.now.format P.shows) all counts after progress.old progress.new) }
@@ -63,7 +65,7 @@ fn compare_field<D: Disk, W: Write, P: Progress>(
         Some(shown) => match tell_what_came(
             alloc, request, host, number, field, shown, in_time, progress, writer,
         ) {
-            Ok(verdict) => Ok(show_counts(counts.with(verdict), all, progress)),
+            Ok(judgement) => Ok(show_counts(counts.with(judgement), all, progress)),
             Err(fault) => Err(fault),
         },
     }

@@ -31,7 +31,7 @@ use crate::evaluating::evaluate;
 use crate::named::{CheckFault, accept_named};
 use crate::progress::{Progress, Sight};
 use arrivals::Sources;
-use check_report::{Counts, Format, Request, Verdict};
+use check_report::{Counts, Format, Judgement, Request};
 use child_edge::stop_all;
 use disk_model::Disk;
 use journal::OpenFault;
@@ -53,7 +53,7 @@ fn accept_shown<D: Disk, S: Disk, C: Sources, W: Write, P: Progress>(
     shown: &Answer,
     progress: &mut P,
     writer: &mut W,
-) -> Result<Verdict, RunFault>
+) -> Result<Judgement, RunFault>
     requires shows { shown_by request.now.chosen field.now ≡ Some shown.now }
     requires stands { (w : World) × IsHost host.old w }
     requires open { store.old.closed ≡ false }
@@ -69,8 +69,8 @@ fn accept_shown<D: Disk, S: Disk, C: Sources, W: Write, P: Progress>(
         (to_accept (way C.after C.clock C.wakes request.now.limit) request.now.chosen)
         field.now (at w sources.old host.old.store.disk)
         (left host.new sources.new (W.contents writer.old) (W.contents writer.new)) (storing ops more disk store.new)) }
-    ensures room { IfOk result (λ verdict.
-        MakesRoom formats.Accepting P.shows verdict progress.old progress.new) }
+    ensures room { IfOk result (λ j.
+        MakesRoom formats.Accepting P.shows j.verdict progress.old progress.new) }
     ensures left { IfErr result (λ _. LeavesLine P.shows progress.old progress.new) }
 {
     worksheet::laws::ops_make_worksheets();
@@ -99,6 +99,7 @@ fn accept_field<D: Disk, S: Disk, C: Sources, W: Write, P: Progress>(
     writer: &mut W,
 ) -> Result<Counts, RunFault>
     requires few { total counts < 2 ^ 31 }
+    requires errors { counts.errors ≤ total counts }
     requires stands { (w : World) × IsHost host.old w }
     requires open { store.old.closed ≡ false }
     requires there { has_field store.old.sheet.contents field.now.id ≡ true }
@@ -110,6 +111,7 @@ fn accept_field<D: Disk, S: Disk, C: Sources, W: Write, P: Progress>(
         (left host.new sources.new (W.contents writer.old) (W.contents writer.new)) counts after)
         × PutAll (storing ops more disk store.new) (accepted wrote.0)) }
     ensures bound { IfOk result (λ after. total after ≤ total counts + 1) }
+    ensures errors { IfOk result (λ after. after.errors ≤ total after) }
     ensures err { (w : World) → IsHost host.old w → (ops more : List Op) → (disk : DiskView)
         → Stores ops more disk store.old → IfErr result (FieldBroke
         (to_accept (way C.after C.clock C.wakes request.now.limit) request.now.chosen)
@@ -124,7 +126,7 @@ fn accept_field<D: Disk, S: Disk, C: Sources, W: Write, P: Progress>(
         Some(shown) => match accept_shown(
             alloc, request, host, sources, store, field, shown, progress, writer,
         ) {
-            Ok(verdict) => Ok(show_counts(counts.with(verdict), all, progress)),
+            Ok(judgement) => Ok(show_counts(counts.with(judgement), all, progress)),
             Err(fault) => Err(fault),
         },
     }

@@ -4,6 +4,7 @@ ghost use Rattle.std.specs.Io.KnownBytes.{Appends};
 ghost use Rattle.session_engine.specs.World.{World};
 ghost use Rattle.session_engine.specs.Host.{IsHost};
 ghost use Rattle.check_report.specs.Chosen.{Judged};
+ghost use Rattle.check_report.specs.Errors as errors;
 ghost use Rattle.check_report.specs.Reports.{case as case_of, case_text};
 ghost use Rattle.sheet_check.specs.Evaluated.{came_if, reason_shown_in, shown_in};
 ghost use Rattle.sheet_check.specs.Progress.{LeavesLine, MakesRoom};
@@ -11,7 +12,9 @@ ghost use Rattle.sheet_check.specs.inside.Checking.{Untold};
 
 use crate::progress::{Progress, Sight};
 use block_tree::Reason;
-use check_report::{Format, ReportFault, Request, Verdict, is_written, report_case};
+use check_report::{
+    Format, Judgement, ReportFault, Request, Verdict, brings_error, is_written, report_case,
+};
 use disk_model::Disk;
 use offline_programs::RunFault;
 use session_engine::Host;
@@ -84,13 +87,14 @@ fn tell_verdict<W: Write, P: Progress>(
     lost: Option<Reason>,
     progress: &mut P,
     writer: &mut W,
-) -> Result<Verdict, RunFault>
-    ensures ok { IfOk result (λ verdict. Judged request.now.chosen field.now.id shown.now.output came.now verdict
+) -> Result<Judgement, RunFault>
+    ensures ok { IfOk result (λ j. Judged request.now.chosen field.now.id shown.now.output came.now j.verdict
+        × (j.error ≡ errors.brings_error came.now)
         × Appends (W.contents writer.old) (W.contents writer.new)
-        (case_text request.now.format number (case_of field.now came.now lost verdict))) }
+        (case_text request.now.format number (case_of field.now came.now lost j.verdict))) }
     ensures err { IfErr result (Untold (W.contents writer.old) (W.contents writer.new)) }
-    ensures room { IfOk result (λ verdict.
-        MakesRoom request.now.format P.shows verdict progress.old progress.new) }
+    ensures room { IfOk result (λ j.
+        MakesRoom request.now.format P.shows j.verdict progress.old progress.new) }
     ensures left { IfErr result (λ _. LeavesLine P.shows progress.old progress.new) }
 {
     let verdict = request.chosen.judge(field.id, shown, came);
@@ -105,7 +109,10 @@ fn tell_verdict<W: Write, P: Progress>(
         progress,
         writer,
     ) {
-        Ok(()) => Ok(verdict),
+        Ok(()) => Ok(Judgement {
+            verdict,
+            error: brings_error(came),
+        }),
         Err(fault) => Err(fault),
     }
 }
@@ -123,15 +130,16 @@ fn tell_shown<W: Write, P: Progress>(
     asked: bool,
     progress: &mut P,
     writer: &mut W,
-) -> Result<Verdict, RunFault>
-    ensures ok { IfOk result (λ verdict.
-        Judged request.now.chosen field.now.id shown.now.output (came_if asked now.now) verdict
+) -> Result<Judgement, RunFault>
+    ensures ok { IfOk result (λ j.
+        Judged request.now.chosen field.now.id shown.now.output (came_if asked now.now) j.verdict
+        × (j.error ≡ errors.brings_error (came_if asked now.now))
         × Appends (W.contents writer.old) (W.contents writer.new)
         (case_text request.now.format number
-        (case_of field.now (came_if asked now.now) lost verdict))) }
+        (case_of field.now (came_if asked now.now) lost j.verdict))) }
     ensures err { IfErr result (Untold (W.contents writer.old) (W.contents writer.new)) }
-    ensures room { IfOk result (λ verdict.
-        MakesRoom request.now.format P.shows verdict progress.old progress.new) }
+    ensures room { IfOk result (λ j.
+        MakesRoom request.now.format P.shows j.verdict progress.old progress.new) }
     ensures left { IfErr result (λ _. LeavesLine P.shows progress.old progress.new) }
 {
     if asked {
@@ -156,15 +164,16 @@ pub(crate) fn tell_what_came<D: Disk, W: Write, P: Progress>(
     asked: bool,
     progress: &mut P,
     writer: &mut W,
-) -> Result<Verdict, RunFault>
-    ensures ok { (w : World) → IsHost host.now w → IfOk result (λ verdict.
-        Judged request.now.chosen field.now.id shown.now.output (came_if asked (shown_in w field.now.id)) verdict
+) -> Result<Judgement, RunFault>
+    ensures ok { (w : World) → IsHost host.now w → IfOk result (λ j.
+        Judged request.now.chosen field.now.id shown.now.output (came_if asked (shown_in w field.now.id)) j.verdict
+        × (j.error ≡ errors.brings_error (came_if asked (shown_in w field.now.id)))
         × Appends (W.contents writer.old) (W.contents writer.new)
         (case_text request.now.format number
-        (case_of field.now (came_if asked (shown_in w field.now.id)) (reason_shown_in w field.now.id) verdict))) }
+        (case_of field.now (came_if asked (shown_in w field.now.id)) (reason_shown_in w field.now.id) j.verdict))) }
     ensures err { IfErr result (Untold (W.contents writer.old) (W.contents writer.new)) }
-    ensures room { IfOk result (λ verdict.
-        MakesRoom request.now.format P.shows verdict progress.old progress.new) }
+    ensures room { IfOk result (λ j.
+        MakesRoom request.now.format P.shows j.verdict progress.old progress.new) }
     ensures left { IfErr result (λ _. LeavesLine P.shows progress.old progress.new) }
 {
     match host.sheet().field(field.id) {

@@ -89,6 +89,7 @@ event_none session life (told.completed id given) = ap₂ (λ a b. a || (b || fa
 event_none session life (told.input line) = ap₂ (λ a b. a || (b || false)) (bytes_none session) (bytes_none line)
 event_none session life (told.ended why lost) = ap₂ (λ a b. a || (b || false)) (row_none lost_data lost_none lost) (bytes_none session)
 event_none session life (told.warned outcome) = ap (λ b. b || false) (bytes_none session)
+event_none session life (told.partial bytes) = ap₂ (λ a b. a || (b || false)) (bytes_none bytes) (bytes_none session)
 
 answer_none : (answer : Option Answer) → has_float (answer_data answer) ≡ false
 answer_none None = refl
@@ -127,7 +128,7 @@ none_told (told.over id outcome) = refl
 none_told (told.counted answered unanswered) = refl
 none_told (told.counted_in_time answered unanswered over passed) = refl
 none_told (told.checked id session c) = checked_none id session c
-none_told (told.compared same differ unanswered left_out) = refl
+none_told (told.compared same differ unanswered left_out errors) = refl
 none_told (told.no_field id) = refl
 none_told (told.no_program session) = ap (λ b. b || false) (bytes_none session)
 none_told told.end = refl

@@ -163,6 +163,7 @@ event_plain session life (told.input line) l s = an_object (a_member (a_count l)
 event_plain session life (told.ended why lost) l s =
     an_object (a_member (a_count l) (a_member (losts_plain lost s (omega arith)) (a_member a_text (a_member (some_bytes session) a_type))))
 event_plain session life (told.warned outcome) l s = an_object (a_member (a_count l) (a_member a_text (a_member (some_bytes session) a_type)))
+event_plain session life (told.partial bytes) l s = an_object (a_member (some_bytes bytes) (a_member (a_count l) (a_member (some_bytes session) a_type)))
 
 field_plain : (id : ℕ) (session input : List ℕ) (state : State) → Is64 id → IsSoundState state → IsPlain 66 (field_with id session input state)
 field_plain id session input (told.answered prompt output) i s =
@@ -226,8 +227,8 @@ tellings_are_plain (told.counted answered unanswered) s = an_object (a_member (a
 tellings_are_plain (told.counted_in_time answered unanswered over passed) s =
     an_object (a_member (a_count s.0) (a_member (a_count s.2) (a_member (a_count s.3) (a_member a_text (a_member (a_count s.1) no_more)))))
 tellings_are_plain (told.checked id session c) s = checked_plain id session c s.0 s.1
-tellings_are_plain (told.compared same differ unanswered left_out) s =
-    an_object (a_member (a_count s.1) (a_member (a_count s.3) (a_member (a_count s.0) (a_member a_text (a_member (a_count s.2) no_more)))))
+tellings_are_plain (told.compared same differ unanswered left_out errors) s =
+    an_object (a_member (a_count s.1) (a_member (a_count s.4) (a_member (a_count s.3) (a_member (a_count s.0) (a_member a_text (a_member (a_count s.2) no_more))))))
 tellings_are_plain (told.no_field id) s = an_object (a_member (a_count s) (a_member a_text (a_member (a_count (omega arith)) a_type)))
 tellings_are_plain (told.no_program session) s = an_object (a_member a_text (a_member (a_count (omega arith)) (a_member (some_bytes session) a_type)))
 tellings_are_plain told.end s = an_object a_type

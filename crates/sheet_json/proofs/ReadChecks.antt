@@ -44,4 +44,4 @@ checked_back id session (told.unanswered input shows why) are good =
     (ap (λ r. of (of (Some (λ x y. told.unanswered input x y)) r) (option_in reason_in (why_data why))) (answer_back shows good) ∙ ap (of (Some (λ y. told.unanswered input shows y))) (why_back why))
 
 pub checks_read_back : ChecksReadBack
-checks_read_back = (checked_back, (λ same differ unanswered left_out. refl), (λ id. refl), (λ session are. ap (option_map (λ s. told.no_program s)) (bytes_back session are)))
+checks_read_back = (checked_back, (λ same differ unanswered left_out errors. refl), (λ id. refl), (λ session are. ap (option_map (λ s. told.no_program s)) (bytes_back session are)))

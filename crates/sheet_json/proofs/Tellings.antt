@@ -123,3 +123,4 @@ events_read_back session life (told.ended why lost) are good =
     of_life session life (told.ended why lost) _ are
     (ap (λ r. of (option_map (λ w items. told.ended w items) r) (list_in lost_in (losts_data lost))) (reason_back why) ∙ ap (of (Some (λ items. told.ended why items))) (losts_back lost good))
 events_read_back session life (told.warned outcome) are good = of_life session life (told.warned outcome) (Some (told.warned outcome)) are refl
+events_read_back session life (told.partial bytes) are good = of_life session life (told.partial bytes) _ are (ap (option_map (λ b. told.partial b)) (bytes_back bytes good))

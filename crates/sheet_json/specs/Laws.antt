@@ -48,7 +48,7 @@ CountsReadBack = ((a u : ℕ) → counts_in (telling_data (told.counted a u)) �
 -- program isn't there.
 abbrev pub ChecksReadBack : Type 0
 ChecksReadBack = ((id : ℕ) (session : List ℕ) (c : CheckTold) → IsBytes session → CheckHasBytes c → checked_in (telling_data (told.checked id session c)) ≡ Some (told.checked id session c))
-    × ((same differ unanswered left_out : ℕ) → compared_in (telling_data (told.compared same differ unanswered left_out)) ≡ Some (told.compared same differ unanswered left_out))
+    × ((same differ unanswered left_out errors : ℕ) → compared_in (telling_data (told.compared same differ unanswered left_out errors)) ≡ Some (told.compared same differ unanswered left_out errors))
     × ((id : ℕ) → no_field_in (telling_data (told.no_field id)) ≡ Some (told.no_field id))
     × ((session : List ℕ) → IsBytes session → no_program_in (telling_data (told.no_program session)) ≡ Some (told.no_program session))
 

@@ -77,6 +77,8 @@ event_data session life (told.ended why lost) =
     object (member (codes "life") (count life) (member (codes "lost") (losts_data lost) (member (codes "reason") (string (reason_name why)) (member (codes "session") (bytes_data session) (typed (codes "ended"))))))
 event_data session life (told.warned outcome) =
     object (member (codes "life") (count life) (member (codes "outcome") (string outcome) (member (codes "session") (bytes_data session) (typed (codes "interrupted")))))
+event_data session life (told.partial bytes) =
+    object (member (codes "bytes") (bytes_data bytes) (member (codes "life") (count life) (member (codes "session") (bytes_data session) (typed (codes "partial")))))
 
 -- Worksheets.
 
@@ -166,8 +168,9 @@ telling_data (told.counted answered unanswered) = object (member (codes "answere
 telling_data (told.counted_in_time answered unanswered over passed) =
     object (member (codes "answered") (count answered) (member (codes "over") (count over) (member (codes "passed") (count passed) (member (codes "type") (string (codes "counted")) (member (codes "unanswered") (count unanswered) no_members)))))
 telling_data (told.checked id session c) = checked_data id session c
-telling_data (told.compared same differ unanswered left_out) =
-    object (member (codes "differ") (count differ) (member (codes "left_out") (count left_out) (member (codes "same") (count same) (member (codes "type") (string (codes "compared")) (member (codes "unanswered") (count unanswered) no_members)))))
+telling_data (told.compared same differ unanswered left_out errors) =
+    object (member (codes "differ") (count differ) (member (codes "errors") (count errors) (member (codes "left_out") (count left_out) (member (codes "same") (count same)
+    (member (codes "type") (string (codes "compared")) (member (codes "unanswered") (count unanswered) no_members))))))
 telling_data (told.no_field id) = object (member (codes "id") (count id) (member (codes "name") (string (codes "NoField")) (member (codes "number") (count 37) (typed (codes "fault")))))
 telling_data (told.no_program session) = object (member (codes "name") (string (codes "NoProgram")) (member (codes "number") (count 44) (member (codes "session") (bytes_data session) (typed (codes "fault")))))
 telling_data told.end = object (typed (codes "end"))

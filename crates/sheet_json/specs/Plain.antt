@@ -52,6 +52,7 @@ IsSoundEvent (told.completed id completions) = Is64 id
 IsSoundEvent (told.input line) = Unit {0}
 IsSoundEvent (told.ended why lost) = AllByRecursion IsSoundItem lost
 IsSoundEvent (told.warned outcome) = Unit {0}
+IsSoundEvent (told.partial bytes) = Unit {0}
 
 abbrev pub IsSoundState : State → Type 0
 IsSoundState (told.answered prompt output) = is_block output ≡ true
@@ -96,7 +97,7 @@ IsSoundTelling (told.over id outcome) = Is64 id
 IsSoundTelling (told.counted answered unanswered) = Is64 answered × Is64 unanswered
 IsSoundTelling (told.counted_in_time answered unanswered over passed) = Is64 answered × Is64 unanswered × Is64 over × Is64 passed
 IsSoundTelling (told.checked id session c) = Is64 id × IsSoundCheck c
-IsSoundTelling (told.compared same differ unanswered left_out) = Is64 same × Is64 differ × Is64 unanswered × Is64 left_out
+IsSoundTelling (told.compared same differ unanswered left_out errors) = Is64 same × Is64 differ × Is64 unanswered × Is64 left_out × Is64 errors
 IsSoundTelling (told.no_field id) = Is64 id
 IsSoundTelling (told.no_program session) = Unit {0}
 IsSoundTelling told.end = Unit {0}

@@ -51,6 +51,8 @@ pub data EventTold : Type 0 where
   ended : Reason → List Item → EventTold
   -- a limit of time was over, and it was interrupted: what came of that, as a word
   warned : List ℕ → EventTold
+  -- what it wrote that ends no block; it is kept nowhere, and no answer
+  partial : List ℕ → EventTold
 
 -- What another evaluation of a field came to. Where that isn't the same output: its input, the answer that it shows, and the one that
 -- came, or the reason that it shows for none.
@@ -87,8 +89,9 @@ pub data Telling : Type 0 where
   counted_in_time : ℕ → ℕ → ℕ → ℕ → Telling
   -- a field with this number, of this session, that a check evaluated again
   checked : ℕ → List ℕ → CheckTold → Telling
-  -- at the end of a check, how many outputs were the same, how many differed, and how many fields were unanswered and left out
-  compared : ℕ → ℕ → ℕ → ℕ → Telling
+  -- at the end of a check, how many outputs were the same, how many differed, how many fields were unanswered and left out, and how many answers
+  -- came that have an error
+  compared : ℕ → ℕ → ℕ → ℕ → ℕ → Telling
   -- the fault that no field has this number
   no_field : ℕ → Telling
   -- the fault that the program of this session isn't there

@@ -112,7 +112,8 @@ event_named name d =
     (cond (bytes_eq name (codes "completed")) (of (option_map (λ id told_ones. told.completed id told_ones) (member_in count_in (codes "id") d)) (member_in (option_in completions_in) (codes "told") d))
     (cond (bytes_eq name (codes "default")) (option_map (λ line. told.input line) (member_in bytes_in (codes "text") d))
     (cond (bytes_eq name (codes "ended")) (of (option_map (λ why items. told.ended why items) (member_in reason_in (codes "reason") d)) (member_in (list_in lost_in) (codes "lost") d))
-    (cond (bytes_eq name (codes "interrupted")) (option_map (λ outcome. told.warned outcome) (member_in as_str (codes "outcome") d)) None)))))
+    (cond (bytes_eq name (codes "interrupted")) (option_map (λ outcome. told.warned outcome) (member_in as_str (codes "outcome") d))
+    (cond (bytes_eq name (codes "partial")) (option_map (λ bytes. told.partial bytes) (member_in bytes_in (codes "bytes") d)) None))))))
 
 -- a reply has a line, and what comes of an interpreter has none
 abbrev pub with_line : Option ℕ → List ℕ → Data → Option Telling
@@ -160,8 +161,8 @@ checked_in d = of (of (option_map (λ id session c. told.checked id session c) (
 -- the counts of a check
 abbrev pub compared_in : Data → Option Telling
 compared_in d =
-    of (of (of (option_map (λ same differ unanswered left_out. told.compared same differ unanswered left_out) (member_in count_in (codes "same") d)) (member_in count_in (codes "differ") d))
-    (member_in count_in (codes "unanswered") d)) (member_in count_in (codes "left_out") d)
+    of (of (of (of (option_map (λ same differ unanswered left_out errors. told.compared same differ unanswered left_out errors) (member_in count_in (codes "same") d)) (member_in count_in (codes "differ") d))
+    (member_in count_in (codes "unanswered") d)) (member_in count_in (codes "left_out") d)) (member_in count_in (codes "errors") d)
 
 -- the number that no field has
 abbrev pub no_field_in : Data → Option Telling
@@ -194,6 +195,7 @@ EventHasBytes (told.completed id completions) = CompletionsHaveBytes completions
 EventHasBytes (told.input line) = IsBytes line
 EventHasBytes (told.ended why items) = AllByRecursion ItemHasBytes items
 EventHasBytes (told.warned outcome) = Unit {0}
+EventHasBytes (told.partial bytes) = IsBytes bytes
 
 abbrev pub StateHasBytes : State → Type 0
 StateHasBytes (told.answered prompt output) = IsBytes prompt × HasBytes output

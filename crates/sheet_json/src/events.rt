@@ -215,6 +215,23 @@ pub fn warned_value(
         .typed("interrupted")
 }
 
+/// What the interpreter of a life wrote that ends no block. It is kept nowhere, and it is no answer.
+pub fn partial_value(
+    alloc: Global,
+    session: &[u8],
+    life: u32,
+    bytes: &[u8],
+) -> Result<Value, AllocError>
+    ensures { IfOk result (λ value. view value
+        ≡ telling_data (told.event session.now life (told.partial bytes.now))) }
+{
+    Members::new(alloc)
+        .bytes("bytes", bytes)?
+        .count("life", life as u64)?
+        .bytes("session", session)?
+        .typed("partial")
+}
+
 /// A life was ended by a line, and these items were lost.
 pub fn stopped_value(
     alloc: Global,

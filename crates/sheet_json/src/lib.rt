@@ -23,8 +23,8 @@ pub use ends::{
     no_program_value, over_value,
 };
 pub use events::{
-    answered_value, banner_value, completed_value, default_value, ended_value, stopped_value,
-    warned_value,
+    answered_value, banner_value, completed_value, default_value, ended_value, partial_value,
+    stopped_value, warned_value,
 };
 pub use fields::{asked_field_value, part_value, shown_field_value};
 pub use lines::{line_bytes, told_bytes};

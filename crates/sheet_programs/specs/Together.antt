@@ -46,13 +46,13 @@ pub record Joins (lines : List (List ℕ)) (events : List Event) : Type 0 where
 
 -- the most commands that are taken together
 abbrev pub most_commands : ℕ
-most_commands = 1024
+most_commands = 65536
 
 -- an event without an effect, so no child was called
 abbrev pub Alone : Beat → Type 0
 Alone b = (b.outcome.effect ≡ None) × (b.answer ≡ None)
 
--- Lines with at most 1,024 commands were taken together. Their commands went through one after another, and no child was called. What they
+-- Lines with at most 65,536 commands were taken together. Their commands went through one after another, and no child was called. What they
 -- gave became durable at once: a crash left the worksheet from before them, or that after all of them.
 pub record GroupTaken {C : Type 0} (lines : List (List ℕ)) (s : At C) (beats : List Beat) (t : At C) : Type 0 where
   pub joins : Joins lines (events_of beats)

@@ -85,7 +85,7 @@ pub fn run_read<W: Write, D: Disk, C: Children>(
 /// the lines, docs/dev/EDGE.md what comes of a command and of a wait.) It gives the disk back.
 ///
 /// The script is read whole before the disk is opened. Commands one after another that only change the
-/// worksheet are taken together, up to 1,024 of them or 1 MiB of lines: all that they give is durable at
+/// worksheet are taken together, up to 65,536 of them or 1 MiB of lines: all that they give is durable at
 /// once, and then their replies are written and flushed. What any other line gives is written and flushed
 /// before the next line is taken. So whoever reads `ok` can rely on it. At the end of the script, and at a
 /// fault, each life that goes on is stopped, in the order in which their sessions were made, and nothing

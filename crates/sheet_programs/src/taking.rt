@@ -70,7 +70,7 @@ fn goes_wrong(already: bool, replies: &[Reply]) -> bool
 }
 
 /// Takes a command and all that comes of it, and writes and flushes the replies. Whether it went wrong.
-fn take_command<D: Disk, C: Children, W: Write>(
+pub(crate) fn take_command<D: Disk, C: Children, W: Write>(
     alloc: Global,
     host: &mut Host<D>,
     children: &mut C,

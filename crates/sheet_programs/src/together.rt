@@ -21,7 +21,6 @@ use crate::groups::{number_if, take_group};
 use crate::taking::{run_line, take_command};
 use bstr::ByteSlice;
 use child_calls::Children;
-use child_edge::MOST_TOGETHER;
 use disk_model::Disk;
 use host_events::{Command, Event};
 use offline_programs::RunFault;
@@ -30,6 +29,9 @@ use sheet_text::{ScriptLine, read_line};
 use std::alloc::Global;
 use std::io::Write;
 use std::mem;
+
+/// The most commands that are taken together. Each wants memory for its event and for what it gives.
+const MOST_COMMANDS: usize = 65_536;
 
 /// The most bytes that lines have before they are taken.
 const MOST_BYTES: usize = 1_048_576;
@@ -182,7 +184,7 @@ fn take_all<D: Disk, C: Children, W: Write>(
 fn is_full(stretch: &Stretch) -> bool
     ensures few { result ≡ false → length stretch.now.events.items < most_commands }
 {
-    stretch.events.len() >= MOST_TOGETHER || stretch.bytes >= MOST_BYTES
+    stretch.events.len() >= MOST_COMMANDS || stretch.bytes >= MOST_BYTES
 }
 
 /// Does a line that isn't held back. Its number, where the run stops after it.
@@ -252,7 +254,7 @@ fn take_line<D: Disk, C: Children, W: Write>(
 }
 
 /// Does the lines of a script, one after another, in a strict run up to the first one that goes wrong, of which
-/// it gives the number. Commands that only change the worksheet, one after another, are taken together, 1,024 or
+/// it gives the number. Commands that only change the worksheet, one after another, are taken together, 65,536 or
 /// 1 MiB of lines at a time: a crash leaves all that such a stretch gives, or nothing.
 pub(crate) fn run_lines<D: Disk, C: Children, W: Write>(
     alloc: Global,

@@ -3,9 +3,9 @@ use Rattle.std.specs.Prelude.{ℕ, List, ◌++◌, codes}
 use Rattle.std.specs.Fmt.{decimal}
 use Rattle.check_report.specs.declared.verdict.Counts.{Counts}
 
--- how many differ and were left out, and then the other counts and what stands last
+-- how many differ, are errors and were left out, and then the other counts and what stands last
 abbrev pub first_part : Counts → List ℕ
-first_part counts = codes "{\"differ\":" ++ decimal counts.differ ++ codes ",\"left_out\":" ++ decimal counts.left_out
+first_part counts = codes "{\"differ\":" ++ decimal counts.differ ++ codes ",\"errors\":" ++ decimal counts.errors ++ codes ",\"left_out\":" ++ decimal counts.left_out
 
 abbrev pub second_part : Counts → List ℕ
 second_part counts = codes ",\"same\":" ++ decimal counts.same ++ codes ",\"type\":\"compared\",\"unanswered\":" ++ decimal counts.unanswered ++ codes "}\n{\"type\":\"end\"}\n"

@@ -10,7 +10,7 @@ rows =
     (codes "blocks", shape.Stream)
     ∷ (codes "create", shape.Path)
     ∷ (codes "run", shape.Run)
-    ∷ (codes "live", shape.Json)
+    ∷ (codes "live", shape.Live)
     ∷ (codes "eval", shape.Eval)
     ∷ (codes "show", shape.Show)
     ∷ (codes "check", shape.Check)

@@ -11,6 +11,7 @@ with_counts counts ending total = record {
   same = total.same + counts.same;
   differ = total.differ + counts.differ;
   unanswered = total.unanswered + counts.unanswered;
+  errors = total.errors + counts.errors;
   faults = total.faults;
   passed = total.passed && (ending.status == 0);
   told = total.told && ending.told;
@@ -23,6 +24,7 @@ with_fault ending total = record {
   same = total.same;
   differ = total.differ;
   unanswered = total.unanswered;
+  errors = total.errors;
   faults = total.faults + 1;
   passed = total.passed && (ending.status == 0);
   told = total.told && ending.told;

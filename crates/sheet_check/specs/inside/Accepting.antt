@@ -19,9 +19,10 @@ use Rattle.offline_programs.specs.declared.fault.RunFault.{RunFault}
 use Rattle.offline_programs.specs.declared.fault.RunFault.TheVariants as fault
 use Rattle.check_report.specs.declared.chosen.Chosen.{Chosen}
 use Rattle.check_report.specs.declared.verdict.Counts.{Counts}
-use Rattle.check_report.specs.declared.verdict.Verdict.{Verdict}
+use Rattle.check_report.specs.declared.verdict.Judgement.{Judgement}
 use Rattle.check_report.specs.Chosen.{Judged}
 use Rattle.check_report.specs.Reports.{Case, case, report_front}
+use Rattle.check_report.specs.Errors.{brings_error}
 use Rattle.check_report.specs.Words.{acceptance_text}
 use Rattle.live.specs.Records.{Left}
 use Rattle.sheet_check.specs.Evaluated.{FieldChecked, FieldsChecked, OneByOne, reason_shown_in}
@@ -32,9 +33,10 @@ use Rattle.sheet_check.specs.inside.Checking.{FieldFailed, FieldsEnded, FieldsFa
 
 -- what a field came to by the answer that it shows and the one that came
 pub record Finds (chosen : Chosen) (field : Field) (shown : Answer) (came : Option Answer) (found : Finding) : Type 0 where
-  pub judged : Judged chosen field.id shown.output came found.verdict
-  pub taken : found.answer ≡ accepted_answer came found.verdict
-  pub told : found.text.items ≡ acceptance_text field came found.verdict
+  pub judged : Judged chosen field.id shown.output came found.judgement.verdict
+  pub error : found.judgement.error ≡ brings_error came
+  pub taken : found.answer ≡ accepted_answer came found.judgement.verdict
+  pub told : found.text.items ≡ acceptance_text field came found.judgement.verdict
 
 -- the fault of a check by why an answer wasn't accepted
 abbrev pub fault_of_acceptance : AcceptFault → RunFault
@@ -83,8 +85,8 @@ pub record GoesOn (sheet : Contents) (store : StoreView) : Type 0 where
   pub stores : Stores ops (accepted cases) disk store
 
 -- A field that shows this answer was checked, what is to be reported is written, and what is accepted of it was put.
-abbrev pub ShownTook : {C : Type 0} → OneByOne C → Question → At C → Left C → Storing → Verdict → Type 0
-ShownTook o one s l x v = (wrote : ShownWrote o one s l v) × PutAll x (accepted_of (case one.field wrote.0 (reason_shown_in wrote.1 one.field.id) v))
+abbrev pub ShownTook : {C : Type 0} → OneByOne C → Question → At C → Left C → Storing → Judgement → Type 0
+ShownTook o one s l x j = (wrote : ShownWrote o one s l j) × PutAll x (accepted_of (case one.field wrote.0 (reason_shown_in wrote.1 one.field.id) j.verdict))
 
 -- the same of fields
 abbrev pub FieldsTook : {C : Type 0} → OneByOne C → List Field → At C → Left C → Storing → Counts → Type 0

@@ -22,10 +22,11 @@ use Rattle.sheet_programs.specs.Told.{StandsOrStopped}
 use Rattle.offline_programs.specs.declared.fault.RunFault.{RunFault}
 use Rattle.offline_programs.specs.declared.fault.RunFault.TheVariants as fault
 use Rattle.check_report.specs.declared.verdict.Counts.{Counts}
-use Rattle.check_report.specs.declared.verdict.Verdict.{Verdict}
+use Rattle.check_report.specs.declared.verdict.Judgement.{Judgement}
 use Rattle.check_report.specs.Chosen.{Judged}
-use Rattle.check_report.specs.Reports.{Case, case, case_text, cases_text, report_front, verdicts_of}
+use Rattle.check_report.specs.Reports.{Case, case, case_text, cases_text, report_front, judgements_of}
 use Rattle.check_report.specs.Verdicts.{counted_with, counts_of, total}
+use Rattle.check_report.specs.Errors.{brings_error}
 use Rattle.live.specs.Records.{Left}
 use Rattle.sheet_check.specs.Evaluated.{Evaluated, FieldChecked, FieldsChecked, OneByOne, Way, eval_of, reason_shown_in}
 use Rattle.worksheet.specs.Contents.{Contents}
@@ -78,20 +79,20 @@ abbrev pub question : ℕ → Field → Answer → Question
 question number field shown = record { number = number; field = field; shown = shown }
 
 -- A field that shows this answer was evaluated, what came was judged, and what is to be reported is written.
-abbrev pub ShownWrote : {C : Type 0} → OneByOne C → Question → At C → Left C → Verdict → Type 0
-ShownWrote o one s l verdict = (came : Option Answer) × (t : World) × Evaluated o.way one.field.id s came (at t l.sources l.host.store.disk)
-    × IsHost l.host t × Judged o.chosen one.field.id one.shown.output came verdict
-    × Appends l.out l.now (case_text o.format one.number (case one.field came (reason_shown_in t one.field.id) verdict))
+abbrev pub ShownWrote : {C : Type 0} → OneByOne C → Question → At C → Left C → Judgement → Type 0
+ShownWrote o one s l j = (came : Option Answer) × (t : World) × Evaluated o.way one.field.id s came (at t l.sources l.host.store.disk)
+    × IsHost l.host t × Judged o.chosen one.field.id one.shown.output came j.verdict × (j.error ≡ brings_error came)
+    × Appends l.out l.now (case_text o.format one.number (case one.field came (reason_shown_in t one.field.id) j.verdict))
 
--- with these verdicts more
-abbrev pub counted_on : List Verdict → Counts → Counts
+-- with these more
+abbrev pub counted_on : List Judgement → Counts → Counts
 counted_on [] counts = counts
 counted_on (one ∷ others) counts = counted_with one (counted_on others counts)
 
 -- A field was checked after those that are counted, and what is to be reported is written.
 abbrev pub FieldWrote : {C : Type 0} → OneByOne C → Field → At C → Left C → Counts → Counts → Type 0
 FieldWrote o field s l counts after = (cases : List Case) × (t : World) × FieldChecked o.way o.chosen field s cases (at t l.sources l.host.store.disk)
-    × IsHost l.host t × (after ≡ counted_on (verdicts_of cases) counts) × Appends l.out l.now (cases_text o.format (total counts + 1) cases)
+    × IsHost l.host t × (after ≡ counted_on (judgements_of cases) counts) × Appends l.out l.now (cases_text o.format (total counts + 1) cases)
 
 -- The first of these fields was evaluated up to the event at which the host had a fault, or to where the host stands, or has stopped; of
 -- it nothing is written.
@@ -118,7 +119,7 @@ FieldFailed o field s l why = ((others : List Field) → FirstFailed o (field �
 -- These fields were checked, and what is to be reported is written.
 abbrev pub FieldsWrote : {C : Type 0} → OneByOne C → List Field → At C → Left C → Counts → Type 0
 FieldsWrote o fields s l counts = (cases : List Case) × (t : World) × FieldsChecked o.way o.chosen fields s cases (at t l.sources l.host.store.disk)
-    × IsHost l.host t × (counts ≡ counts_of (verdicts_of cases)) × Appends l.out l.now (report_front o.format cases)
+    × IsHost l.host t × (counts ≡ counts_of (judgements_of cases)) × Appends l.out l.now (report_front o.format cases)
 
 -- The first of these fields were checked, which are these cases, and perhaps a part of the next one.
 pub record FieldsFailed {C : Type 0} (o : OneByOne C) (fields : List Field) (s : At C) (l : Left C) (why : RunFault) : Type 0 where
@@ -135,7 +136,7 @@ pub record FieldsFailed {C : Type 0} (o : OneByOne C) (fields : List Field) (s :
 -- stopped.
 abbrev pub FieldsEnded : {C : Type 0} → OneByOne C → List Field → World → DiskView → Passage C → Counts → Type 0
 FieldsEnded {C = C} o fields w copy q counts = (cases : List Case) × (t : At C) × FieldsChecked o.way o.chosen fields (at w q.sources copy) cases t
-    × Stops o.way.after (running t.world) t.children q.left × (counts ≡ counts_of (verdicts_of cases)) × Appends q.text q.written (report_front o.format cases)
+    × Stops o.way.after (running t.world) t.children q.left × (counts ≡ counts_of (judgements_of cases)) × Appends q.text q.written (report_front o.format cases)
 
 -- From there the first of them were checked, which are these cases, and perhaps a part of the next one, and each life that goes on was
 -- stopped.
@@ -152,7 +153,7 @@ pub record FieldsStopped {C : Type 0} (o : OneByOne C) (fields : List Field) (w 
 -- A field was passed over, and nothing shown, or it came to a verdict, and the line stands with the counts after it.
 abbrev pub FieldShown : {P : Type 0} → Display P → ℕ → Counts → Counts → P → P → Type 0
 FieldShown {P = P} m all counts after p q = ((after ≡ counts) × (q ≡ p))
-    ⊎ ((one : Verdict) × (free : P) × (after ≡ counted_with one counts) × MakesRoom m.format m.shows one p free × m.shows free (sight.Line after all) q)
+    ⊎ ((one : Judgement) × (free : P) × (after ≡ counted_with one counts) × MakesRoom m.format m.shows one.verdict p free × m.shows free (sight.Line after all) q)
 
 -- The worksheet was checked on a copy of it, and each life that goes on was stopped.
 abbrev pub OnCopy : {C : Type 0} → OneByOne C → Contents → Passage C → Result Counts RunFault → Type 0

@@ -11,7 +11,7 @@ use Rattle.offline_programs.specs.declared.fault.RunFault.TheVariants as fault
 use Rattle.check_report.specs.declared.chosen.Chosen.{Chosen}
 use Rattle.check_report.specs.declared.report.Format.{Format}
 use Rattle.check_report.specs.declared.verdict.Counts.{Counts}
-use Rattle.check_report.specs.Reports.{Case, cases_text, report_front, verdicts_of}
+use Rattle.check_report.specs.Reports.{Case, cases_text, report_front, judgements_of}
 use Rattle.check_report.specs.Verdicts.{counts_of, total}
 use Rattle.evaluation.specs.Silently.{EvaluatedSilently, SilentlyBroke}
 use Rattle.live.specs.Records.{Left}
@@ -33,12 +33,12 @@ comparing chosen F w late = record { chosen = chosen; format = F; world = w; lat
 -- A field was compared after those that are counted, and what is to be reported is written.
 abbrev pub FieldReported : Comparing → Field → Option (List ℕ) → Option (List ℕ) → Counts → Counts → Type 0
 FieldReported m field a b counts after =
-    (cases : List Case) × FieldCompared m.chosen m.world m.late field cases × (after ≡ counted_on (verdicts_of cases) counts) × Appends a b (cases_text m.format (total counts + 1) cases)
+    (cases : List Case) × FieldCompared m.chosen m.world m.late field cases × (after ≡ counted_on (judgements_of cases) counts) × Appends a b (cases_text m.format (total counts + 1) cases)
 
 -- These fields were compared, and what is to be reported is written.
 abbrev pub FieldsReported : Comparing → List Field → Option (List ℕ) → Option (List ℕ) → Counts → Type 0
 FieldsReported m fields a b counts =
-    (cases : List Case) × FieldsCompared m.chosen m.world m.late fields cases × (counts ≡ counts_of (verdicts_of cases)) × Appends a b (report_front m.format cases)
+    (cases : List Case) × FieldsCompared m.chosen m.world m.late fields cases × (counts ≡ counts_of (judgements_of cases)) × Appends a b (report_front m.format cases)
 
 -- what a report leaves of the output that broke off after these cases
 abbrev pub LeavesReport : Format → List Case → Option (List ℕ) → Option (List ℕ) → RunFault → Type 0
@@ -76,7 +76,7 @@ FailedTogether o fields s l why =
 abbrev pub EndedTogether : {C : Type 0} → SideBySide C → Contents → Passage C → Counts → Type 0
 EndedTogether o sheet q counts =
     (leads : World) × (late : List ℕ) × EvaluatedTogether o sheet q.sources q.left leads late
-    × ((cases : List Case) × FieldsCompared o.chosen leads late sheet.fields cases × (counts ≡ counts_of (verdicts_of cases)) × Appends q.text q.written (report_front o.format cases))
+    × ((cases : List Case) × FieldsCompared o.chosen leads late sheet.fields cases × (counts ≡ counts_of (judgements_of cases)) × Appends q.text q.written (report_front o.format cases))
 
 -- the same on a copy
 abbrev pub OnCleared : {C : Type 0} → SideBySide C → Contents → Passage C → Result Counts RunFault → Type 0

@@ -1,14 +1,13 @@
 use Rattle.std.proofs.Common.{◌∷◌, ◌++◌, []}
-use Rattle.std.proofs.KnownBytes.{Appends-nil}
 use Rattle.meta_format.specs.Limits.{limits}
 use Rattle.meta_format.specs.Stream.{Outer}
 use Rattle.meta_format.specs.Faults.{bad_tag, too_deep, too_long}
 use Rattle.stream_json.proofs.Written.{nothing_read}
-use Rattle.program_endings.proofs.Lines.{line_more, end_printed, open_printed, fault_printed}
+use Rattle.program_endings.proofs.Lines.{held_none, line_more, end_printed, open_printed, fault_printed}
 use Rattle.program_endings.proofs.block_lines.write_stream.Goals as goal
 
 pub loop-start-init : goal.loop-start-init
-loop-start-init g c = ([], nothing_read limits c.args.stream.now, Appends-nil (g.W.Write.contents c.args.out.now))
+loop-start-init g c = ([], nothing_read limits c.args.stream.now, held_none (g.W.Write.contents c.args.out.now) c.args.room.now c.requires.none_held)
 
 pub write_outer-requires : goal.write_outer-requires
 write_outer-requires g c =
@@ -31,7 +30,7 @@ returns-in-Open-clause-printed g c =
 pub returns-in-End-clause-printed : goal.returns-in-End-clause-printed
 returns-in-End-clause-printed g c =
     let so = c.loop-start.invariant in
-    end_printed limits c.args.stream.now so.0 _ _ (c.in-End.ensures.next so.0 so.1) so.2
+    end_printed limits c.args.stream.now so.0 _ _ _ (c.in-End.ensures.next so.0 so.1) so.2 c.in_ok-write_held-in-End.ensures.ok
 
 pub returns-in-BadTag-clause-printed : goal.returns-in-BadTag-clause-printed
 returns-in-BadTag-clause-printed g c =

@@ -1,5 +1,6 @@
 use Rattle.std.proofs.Common.{[], ap, inl, length, arith, refl}
 use Rattle.child_edge.specs.Faithful.{at}
+use Rattle.check_report.specs.declared.verdict.Counts.{Counts}
 use Rattle.check_report.specs.Verdicts.{counts_of, total}
 use Rattle.sheet_check.specs.Evaluated.{one_by_one, way}
 use Rattle.sheet_check.specs.Progress.{none}
@@ -13,18 +14,23 @@ loop-field-init g c =
     let none = ap total c.none-counts.ensures in
     record {
       few = omega (arith, all, none);
+      errors = omega (arith, none, ap (λ (n : Counts). n.errors) c.none-counts.ensures);
       shown = none_shown c.args.request.now.format g.P.Progress.shows c.args.all c.args.progress.now c.none-counts.result c.none-counts.ensures;
       runs = λ w h. none_checked (one_by_one (way g.C.Children.after g.C.Sources.clock g.C.Sources.wakes c.args.request.now.limit) c.args.request.now.chosen c.args.request.now.format) c.args.sheet.now.contents.fields _ w c.args.host.now c.args.sources.now (g.W.Write.contents c.args.writer.now) (g.W.Write.contents c.tell_opening.new.writer) c.none-counts.result c.fields-fields.ensures c.none-counts.ensures h c.in_default.ensures.ok;
     }
 
-pub check_field-requires : goal.check_field-requires
-check_field-requires g c = omega (arith, c.loop-field.invariant.few, c.requires)
+pub check_field-requires-clause-few : goal.check_field-requires-clause-few
+check_field-requires-clause-few g c = omega (arith, c.loop-field.invariant.few, c.requires)
+
+pub check_field-requires-clause-errors : goal.check_field-requires-clause-errors
+check_field-requires-clause-errors g c = c.loop-field.invariant.errors
 
 pub loop-field-preserved : goal.loop-field-preserved
 loop-field-preserved g c =
     let one = ap length c.in-Some.ensures.steps in
     record {
       few = omega (arith, one, c.loop-field.invariant.few, c.in-Ok.ensures.bound);
+      errors = c.in-Ok.ensures.errors;
       shown = one_shown c.args.request.now.format g.P.Progress.shows c.args.all c.args.progress.now c.loop-field.counts c.in-Ok.after c.loop-field.progress c.check_field.new.progress c.loop-field.invariant.shown c.in-Ok.ensures.shown;
       runs = λ w h.
           let so = c.loop-field.invariant.runs w h in

@@ -13,7 +13,7 @@ pub returns-clause-ok : goal.returns-clause-ok
 returns-clause-ok g c = λ w h.
     let q = c.in-Ok.ensures.ok w h in
     IfOk-weaker c.tell_what_came.result _ _
-    (λ verdict p. (came_if c.in-Ok.came (shown_in q.0 c.args.field.now.id), q.0, q.1, q.2, p.0, p.1))
+    (λ j p. (came_if c.in-Ok.came (shown_in q.0 c.args.field.now.id), q.0, q.1, q.2, p.0, p.1, p.2))
     (c.tell_what_came.ensures.ok q.0 q.2)
 
 pub returns-clause-err : goal.returns-clause-err

@@ -1,4 +1,5 @@
 use Rattle.std.proofs.Common.{[], ap, inl, length, arith, refl}
+use Rattle.check_report.specs.declared.verdict.Counts.{Counts}
 use Rattle.check_report.specs.Verdicts.{counts_of, total}
 use Rattle.sheet_check.specs.Progress.{none}
 use Rattle.sheet_check.specs.inside.Comparing.{comparing}
@@ -12,19 +13,24 @@ loop-field-init g c =
     let none = ap total c.none-counts.ensures in
     record {
       few = omega (arith, all, none);
+      errors = omega (arith, none, ap (λ (n : Counts). n.errors) c.none-counts.ensures);
       shown = none_shown c.args.request.now.format g.P.Progress.shows c.args.all c.args.progress.now c.none-counts.result c.none-counts.ensures;
       runs = λ w h. none_compared (comparing c.args.request.now.chosen c.args.request.now.format w c.args.late.now) c.args.sheet.now.contents.fields _ (g.W.Write.contents c.args.writer.now) (g.W.Write.contents c.tell_opening.new.writer) c.none-counts.result c.fields-fields.ensures
           c.none-counts.ensures c.in_default.ensures.ok;
     }
 
-pub compare_field-requires : goal.compare_field-requires
-compare_field-requires g c = omega (arith, c.loop-field.invariant.few, c.requires)
+pub compare_field-requires-clause-few : goal.compare_field-requires-clause-few
+compare_field-requires-clause-few g c = omega (arith, c.loop-field.invariant.few, c.requires)
+
+pub compare_field-requires-clause-errors : goal.compare_field-requires-clause-errors
+compare_field-requires-clause-errors g c = c.loop-field.invariant.errors
 
 pub loop-field-preserved : goal.loop-field-preserved
 loop-field-preserved g c =
     let one = ap length c.in-Some.ensures.steps in
     record {
       few = omega (arith, one, c.loop-field.invariant.few, c.in-Ok.ensures.bound);
+      errors = c.in-Ok.ensures.errors;
       shown = one_shown c.args.request.now.format g.P.Progress.shows c.args.all c.args.progress.now c.loop-field.counts c.in-Ok.after c.loop-field.progress c.compare_field.new.progress c.loop-field.invariant.shown c.in-Ok.ensures.shown;
       runs = λ w h.
           more_compared (comparing c.args.request.now.chosen c.args.request.now.format w c.args.late.now) c.args.sheet.now.contents.fields c.loop-field.fields c.in-Some.field.now c.next.new.self (g.W.Write.contents c.args.writer.now) (g.W.Write.contents c.loop-field.writer) (g.W.Write.contents c.compare_field.new.writer)

@@ -13,14 +13,14 @@ returns-in-None-clause-ok g c = λ w h ops more disk stores.
 pub returns-in-Ok-clause-ok : goal.returns-in-Ok-clause-ok
 returns-in-Ok-clause-ok g c = λ w h ops more disk stores.
     checked_took (way g.C.Children.after g.C.Sources.clock g.C.Sources.wakes c.args.request.now.limit) c.args.request.now.chosen c.args.field.now c.in-Some.shown.now (at w c.args.sources.now c.args.host.now.store.disk) c.accept_shown.new.host c.accept_shown.new.sources (g.W.Write.contents c.args.writer.now)
-    (g.W.Write.contents c.accept_shown.new.writer) ops more disk c.accept_shown.new.store c.args.counts c.show_counts.result c.in-Ok.verdict (sym c.shown.ensures ∙ ap option_copied c.in-Some.is) (c.in-Ok.ensures.ok w h ops more disk stores)
-    (c.show_counts.ensures.same ∙ c.with.ensures)
+    (g.W.Write.contents c.accept_shown.new.writer) ops more disk c.accept_shown.new.store c.args.counts c.show_counts.result c.in-Ok.judgement (sym c.shown.ensures ∙ ap option_copied c.in-Some.is) (c.in-Ok.ensures.ok w h ops more disk stores)
+    (c.show_counts.ensures.same ∙ c.with.ensures.counted)
 
 pub returns-in-Ok-clause-shown : goal.returns-in-Ok-clause-shown
 returns-in-Ok-clause-shown g c = inr (
-  c.in-Ok.verdict,
+  c.in-Ok.judgement,
   c.accept_shown.new.progress,
-  c.show_counts.ensures.same ∙ c.with.ensures,
+  c.show_counts.ensures.same ∙ c.with.ensures.counted,
   c.in-Ok.ensures.room,
   subst (λ x. g.P.Progress.shows c.accept_shown.new.progress (sight.Line x c.args.all) c.show_counts.new.progress) (sym c.show_counts.ensures.same) c.show_counts.ensures.shown,
 )

@@ -2,6 +2,7 @@ use Rattle.std.proofs.Common.{◌∙◌, ◌∷◌, ◌++◌, [], List, ap, appe
 use Rattle.worksheet.specs.declared.field.Field.{Field}
 use Rattle.child_edge.specs.Faithful.{at}
 use Rattle.check_report.specs.declared.report.Format.TheVariants as format
+use Rattle.check_report.specs.declared.verdict.Counts.{Counts}
 use Rattle.check_report.specs.Verdicts.{total}
 use Rattle.sheet_check.specs.Evaluated.{way}
 use Rattle.sheet_check.specs.Accept.{accepted}
@@ -15,6 +16,7 @@ loop-field-init g c =
     let none = ap total c.none-counts.ensures in
     record {
       few = omega (arith, all, none);
+      errors = omega (arith, none, ap (λ (n : Counts). n.errors) c.none-counts.ensures);
       shown = none_shown format.Accepting g.P.Progress.shows c.args.all c.args.progress.now c.none-counts.result c.none-counts.ensures;
       rest = ([], sym c.fields-fields.ensures);
       stands = c.requires.stands;
@@ -25,6 +27,9 @@ loop-field-init g c =
 
 pub accept_field-requires-clause-few : goal.accept_field-requires-clause-few
 accept_field-requires-clause-few g c = omega (arith, c.loop-field.invariant.few, c.requires.few, ap length c.in-Some.ensures.steps)
+
+pub accept_field-requires-clause-errors : goal.accept_field-requires-clause-errors
+accept_field-requires-clause-errors g c = c.loop-field.invariant.errors
 
 pub accept_field-requires-clause-there : goal.accept_field-requires-clause-there
 accept_field-requires-clause-there g c =
@@ -39,6 +44,7 @@ loop-field-preserved g c =
     let took = c.in-Ok.ensures.ok was.stands.0 was.stands.1 was.goes.ops (accepted was.goes.cases) was.goes.disk was.goes.stores in
     record {
       few = omega (arith, one, was.few, c.in-Ok.ensures.bound);
+      errors = c.in-Ok.ensures.errors;
       shown = one_shown format.Accepting g.P.Progress.shows c.args.all c.args.progress.now c.loop-field.counts c.in-Ok.after c.loop-field.progress c.accept_field.new.progress was.shown c.in-Ok.ensures.shown;
       rest = (gone ++ c.in-Some.field.now ∷ [], was.rest.1 ∙ ap (λ (fs : List Field). gone ++ fs) c.in-Some.ensures.steps ∙ sym (append_assoc gone (c.in-Some.field.now ∷ []) c.next.new.self));
       stands = (took.0.1, took.0.3);

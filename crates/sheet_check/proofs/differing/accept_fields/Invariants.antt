@@ -17,6 +17,7 @@ use Rattle.sheet_check.proofs.differing.accept_fields.Given as goal
 abbrev pub invariant-loop-field : goal.invariant-loop-field
 invariant-loop-field g l = record {
   few : total l.counts + length l.fields ≤ length l.fn.sheet.contents.fields;
+  errors : l.counts.errors ≤ total l.counts;
   shown : FieldsShow (display format.Accepting g.P.Progress.shows) l.fn.all l.fn.progress l.counts l.progress;
   rest : (gone : List Field) × (l.fn.sheet.contents.fields ≡ gone ++ l.fields);
   stands : (w : World) × IsHost l.host w;

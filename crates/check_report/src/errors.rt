@@ -1,10 +1,11 @@
 //! Whether an output is an error, or has one in it.
 ghost use Rattle.std.specs.Prelude.{◌≡◌};
 ghost use Rattle.block_tree.specs.View.{tree_of};
-ghost use Rattle.evaluation.specs.Errors as errors;
+ghost use Rattle.check_report.specs.Errors as errors;
 
 use block_tree::{Block, Item, Node};
 use sheet_notebook::{is_error_tag, is_output_tag};
+use worksheet::Answer;
 
 /// Whether an error stands in the node, at any depth, which is one of the channel of answers or not.
 fn has_error(node: &Node, in_output: bool) -> bool
@@ -21,9 +22,19 @@ fn has_error(node: &Node, in_output: bool) -> bool
 }
 
 /// Whether an output is an error, or has one in it (docs/use/PROTOCOL.md, "Errors").
-pub(crate) fn tells_error(output: &Block) -> bool
+pub fn tells_error(output: &Block) -> bool
     ensures { result ≡ errors.tells_error output.now }
 {
     let node = output.node();
     is_error_tag(&node.tag, false) || has_error(node, is_output_tag(&node.tag))
+}
+
+/// Whether an answer came that is an error, or has one in it.
+pub fn brings_error(came: &Option<Answer>) -> bool
+    ensures { result ≡ errors.brings_error came.now }
+{
+    match came {
+        None => false,
+        Some(answer) => tells_error(&answer.output),
+    }
 }

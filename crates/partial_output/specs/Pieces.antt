@@ -1,0 +1,17 @@
+-- Which pieces of an interpreter's output are written out before its block is complete. (docs/use/PROTOCOL.md.)
+use Rattle.std.specs.Prelude.{ℕ, ◌==◌, Bool, List}
+use Rattle.std.specs.List.{list_any}
+use Rattle.sheet_json.specs.Sheets.{telling_line}
+use Rattle.sheet_json.specs.Tellings as told
+
+-- the byte DATA_END of the protocol
+abbrev pub is_end : ℕ → Bool
+is_end byte = byte == 5
+
+-- a byte stands in these that ends a block, or would if none escaped it
+abbrev pub has_end : List ℕ → Bool
+has_end bytes = list_any is_end bytes
+
+-- the line of these, which the interpreter of the life with this number in this session wrote (docs/use/JSON.md)
+unfoldable pub partial_text : List ℕ → ℕ → List ℕ → List ℕ
+partial_text name life bytes = telling_line (told.event name life (told.partial bytes))

@@ -1,0 +1,8 @@
+//! What interpreters write before it is an answer, written out as it comes.
+#![tactic(auto)]
+
+mod piece;
+mod sources;
+
+pub use piece::write_partial;
+pub use sources::{Partial, TellsPartial};

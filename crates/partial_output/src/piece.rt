@@ -1,0 +1,52 @@
+//! A piece of an interpreter's output, as an object of JSON.
+ghost use Rattle.std.specs.Prelude.{◌≡◌, IfSome, true};
+ghost use Rattle.std.specs.Io.KnownBytes.{Appends};
+ghost use Rattle.partial_output.specs.Pieces as piece;
+
+use child_calls::Seat;
+use sheet_json::{partial_value, told_bytes};
+use std::alloc::Global;
+use std::io::Write;
+use worksheet::Name;
+
+/// The byte that ends a block. (TeXmacs manual, interfacing: `DATA_END`.)
+const BLOCK_END: u8 = 5;
+
+fn is_end(byte: u8) -> bool
+    ensures { result ≡ piece.is_end byte }
+{
+    byte == BLOCK_END
+}
+
+/// Whether a byte is there that ends a block, or would, if none escaped it.
+pub(crate) fn has_end(bytes: &[u8]) -> bool
+    ensures { result ≡ piece.has_end bytes.now }
+{
+    bytes.iter().any(|byte| is_end(*byte))
+}
+
+/// A piece of the output of a life as a line of JSON. None where there is no memory for it.
+fn partial_line(alloc: Global, name: Name, life: u32, bytes: &[u8]) -> Option<Vec<u8>>
+    ensures { IfSome result (λ line. line.items ≡ piece.partial_text name life bytes.now) }
+{
+    let Ok(value) = partial_value(alloc, name.as_slice(), life, bytes) else {
+        return None;
+    };
+    match told_bytes(alloc, &value) {
+        Ok(line) => Some(line),
+        Err(_) => None,
+    }
+}
+
+/// Writes a piece of the output of a life as a line of JSON. Whether all of it went out: else there was no memory for it, or
+/// the writer failed.
+pub fn write_partial<W: Write>(alloc: Global, seat: Seat, bytes: &[u8], writer: &mut W) -> bool
+    ensures { result ≡ true → Appends (W.contents writer.old) (W.contents writer.new)
+        (piece.partial_text seat.name seat.life bytes.now) }
+{
+    let Seat { name, life } = seat;
+    match partial_line(alloc, name, life, bytes) {
+        Some(line) => writer.write_all(line.as_slice()).is_ok(),
+        None => false,
+    }
+}
