@@ -34,7 +34,7 @@ class Example(Case):
         with open(os.path.join(self.folder, "../python.py"), "w", encoding="utf-8") as file:
             file.write(text.replace("repr(value)", "str(value)"))
         ran = self.run_suite("python.md")
-        told = 'differs: python.md:32 "a" + "b"\n  @@ -1 +1 @@\n  -\'ab\'\n  +ab\n10 ok, 1 xfail, 1 skip, 1 differs'
+        told = 'differs: python.md:33 "a" + "b"\n  @@ -1 +1 @@\n  -\'ab\'\n  +ab\n10 ok, 1 xfail, 1 skip, 1 differs'
         self.assertEqual((ran.status, ran.output.partition(" in ")[0]), (1, told))
 
     def run_nightly(self, command: str, **variables: str) -> str:
@@ -54,10 +54,10 @@ class Example(Case):
 
     def test_its_night_on_github(self) -> None:
         command = command_in("nightly.github.yml", "- run:")
-        self.assertIn("::error file=examples/suite/python.md,line=118,", self.run_nightly(command, GITHUB_WORKSPACE=self.top))
+        self.assertIn("::error file=examples/suite/python.md,line=119,", self.run_nightly(command, GITHUB_WORKSPACE=self.top))
 
     def test_its_night_on_gitlab(self) -> None:
         command = command_in("nightly.gitlab.yml", "- ").partition(" ")[2]
         self.run_nightly(command, CI_PROJECT_DIR=self.top)
         with open(os.path.join(self.folder, "quality.json"), encoding="utf-8") as file:
-            self.assertIn({"path": "examples/suite/python.md", "lines": {"begin": 118}}, [one["location"] for one in json.load(file)])
+            self.assertIn({"path": "examples/suite/python.md", "lines": {"begin": 119}}, [one["location"] for one in json.load(file)])

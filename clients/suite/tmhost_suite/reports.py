@@ -129,7 +129,7 @@ def tap_points(shown: List[Told], troubles: List[Trouble]) -> Iterator[str]:
             yield f"  verdict: {told.verdict}"
             yield f"  duration_ms: {told.seconds * 1000:.3f}"
             if told.diff:
-                yield "  diff: |2"
+                yield "  diff: |"  # whose first line is `--- wanted`: `prove` knows no indentation in numbers
                 yield from ("    " + readable(line) for line in told.diff)
             yield "  ..."
     for number, trouble in enumerate(troubles, len(shown) + 1):
