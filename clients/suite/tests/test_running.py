@@ -177,6 +177,11 @@ class Chosen(Case):
     def test_by_tags(self) -> None:
         self.assertEqual(self.titles(self.path, "--tags", "quick,none"), ["say s", "say 3"])
 
+    def test_what_is_skipped_is_chosen_too(self) -> None:
+        self.write(case("say 1", "1"), case("say 2", "2", "a {skip}"), case("say 3", "3", "a {skip} {tags quick}"))
+        self.assertEqual(self.verdicts(self.path, "--only", "say 1"), ["ok"])
+        self.assertEqual(self.verdicts(self.path, "--tags", "quick"), ["skip"])
+
     def test_by_name_and_line(self) -> None:
         self.assertEqual(self.titles(self.path, "--only", "say [23]"), ["say s", "say 2", "say 3"])
         self.assertEqual(self.titles(self.path, "--only", "17"), ["say s", "say 1"])

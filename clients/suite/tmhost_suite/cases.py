@@ -63,6 +63,7 @@ class Suite:
     timeout: Optional[float]
     cases: Tuple[Case, ...]
     after: str = ""  # the prose behind the last case, of a suite of another form
+    doubts: Tuple[str, ...] = ()  # what may not be meant as it stands
     folder: Optional[str] = None  # in which its interpreters are started; None: where tmhost-suite was
 
     def rules_of(self, case: Case) -> Rules:

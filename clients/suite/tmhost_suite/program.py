@@ -130,6 +130,7 @@ class Runner:
         self.given, self.teller = given, teller
         self.slots, self.ended, self.is_broken_off = threading.Semaphore(given.jobs), threading.Event(), threading.Event()
         self.sheets: List[Worksheet] = []  # those of suites that have begun
+        self.accepted: List[str] = []  # what is said of texts that were changed
         self.chosen = 0  # how many cases were to be run
         self.troubles: List[reports.Trouble] = []  # why suites weren't run to their end; the others are
         self.seed = str(random.randrange(10**6)) if given.random == "new" else given.random
@@ -144,6 +145,8 @@ class Runner:
             os.makedirs(self.given.runs, exist_ok=True)
         paths = self.given.suites[number - 1 :: parts]
         suites = [found for found in map(self._read, paths) if found is not None]
+        for doubt in (doubt for suite, _ in suites for doubt in suite.doubts):
+            self.teller.say(doubt)
         self.teller.begin(sum(len(suite.cases) for suite, _ in suites))
         if self.given.random:
             self.teller.say(f"in the order of --random {self.seed}")
@@ -206,7 +209,7 @@ class Runner:
             self.sheets.append(kept.sheet)
             plan = Plan(chosen, self.given.seconds, self.slots, self.ended, self.is_broken_off, self.given.fail_fast, self.seed)
             run(kept, plan, lambda at: self.teller.one_more())
-        told = told_of(suite, kept.results)
+        told = told_of(suite, kept.results, chosen)
         if self.given.accept:
             with self._told_of(suite.path):
                 self._accept(text, told)
@@ -233,7 +236,7 @@ class Runner:
             if file.read() != "".join(text.lines).encode("utf-8"):
                 raise Trouble("the text was changed while it was run: nothing is accepted")
         put(os.path.realpath(text.suite.path), new.encode("utf-8"))
-        self.teller.say(f"{text.suite.path}: {len(accepted)} accepted")
+        self.accepted.append(f"{text.suite.path}: {len(accepted)} accepted")
 
     def _is_wanted(self, told: Told) -> bool:
         self.teller.end_progress()
@@ -256,6 +259,8 @@ class Runner:
         self.teller.tell_silent_sessions(told)
         self.teller.tell_idle_rules(told)
         self.teller.tell_counts(told, taken)
+        for line in self.accepted:
+            self.teller.say(line)
 
     def _write_reports(self, told: List[Told]) -> None:
         for name, write in FORMATS.items():

@@ -185,7 +185,7 @@ def read_notebook(path: str, text: str, session: Session) -> Suite:
         raise Trouble("it is no notebook of Jupyter") from None
     if language != "python" and session == PYTHON:
         raise Trouble(f"the notebook is in {language}: --words names the interpreter of its cells")
-    return Suite(path, dict([session]), Rules(without=frozenset([PICTURES])), None, tuple(cases), after, os.path.dirname(os.path.abspath(path)))
+    return Suite(path, dict([session]), Rules(without=frozenset([PICTURES])), None, tuple(cases), after, folder=os.path.dirname(os.path.abspath(path)))
 
 
 def notebook_case(session: str, cell: Dict[str, Any], language: str, number: int, before: str) -> Optional[Case]:

@@ -4,7 +4,7 @@ import hashlib
 import json
 import os
 import re
-from typing import Dict, Iterator, List, NamedTuple, Optional
+from typing import Callable, Dict, Iterator, List, NamedTuple, Optional
 from xml.sax.saxutils import escape, quoteattr
 
 from .cases import Case, Suite
@@ -104,11 +104,11 @@ def of_path(all_told: List[Told], path: str) -> List[Told]:
     return [told for told in all_told if told.suite.path == path]
 
 
-def told_of(suite: Suite, results: "dict[int, Result]") -> List[Told]:
+def told_of(suite: Suite, results: "dict[int, Result]", is_chosen: Callable[[int, Case], bool]) -> List[Told]:
     told: List[Told] = []
     for at, case in enumerate(suite.cases):
         result = results.get(at)
-        verdict = "skip" if case.marks.skip is not None else result.verdict if result else "out"
+        verdict = "skip" if case.marks.skip is not None and is_chosen(at, case) else result.verdict if result else "out"
         told.append(Told(suite, case, verdict, result))
     return told
 

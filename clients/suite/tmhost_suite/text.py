@@ -1,6 +1,7 @@
 """The text form of a suite: CommonMark, whose fences of sessions are cases, each with a fence `answer` behind it for what is wanted, and one
 `error` where errors are compared apart."""
 import dataclasses
+import difflib
 import os
 import re
 from decimal import Decimal
@@ -16,6 +17,7 @@ from .marks import read_marks, seconds, session_in
 from .rules import FORMULAS, PICTURES, Normal, Rules, allowance, normal_of
 
 ANSWER, ERROR = "answer", "error"
+WORDS = ("sessions", "normal", "tolerance", "timeout", "spaces", "columns", "without", "errors", "folder")
 RUN = re.compile("`+")
 COLUMNS = re.compile(r"[1-9][0-9]{0,5}", re.ASCII)
 
@@ -107,6 +109,12 @@ def timeout_in(front: Dict[str, Any]) -> Optional[float]:
         raise Trouble("`timeout` is no number of seconds") from None
 
 
+def doubts_in(front: Dict[str, Any], path: str) -> Tuple[str, ...]:
+    """Words of the front matter that look like one of a suite's. The others are for who else reads it."""
+    near = ((name, difflib.get_close_matches(str(name), WORDS, 1, 0.75)) for name in front if name not in WORDS)
+    return tuple(f"{path}: the front matter has {ascii(name)}: is {found[0]} meant?" for name, found in near if found)
+
+
 def folder_in(front: Dict[str, Any], path: str) -> Optional[str]:
     """Where the interpreters are started: a folder that is named from that of the text."""
     name = front.get("folder")
@@ -145,7 +153,7 @@ class Text:
         self.cases: List[Case] = []
         self.spans: List[Dict[str, Span]] = []
         self._read(contents, blocks_of(contents, first))
-        self.suite = Suite(path, self.sessions, rules_in(front), timeout_in(front), tuple(self.cases), folder=folder_in(front, path))
+        self.suite = Suite(path, self.sessions, rules_in(front), timeout_in(front), tuple(self.cases), "", doubts_in(front, path), folder_in(front, path))
 
     def _read(self, lines: List[str], blocks: List[Block]) -> None:
         at = 0
