@@ -103,7 +103,7 @@ class Whole(Case):
         self.assertEqual(self.verdicts(self.path), ["new", "differs", "ok", "ok"])
         self.assertEqual(self.read(), before)
         accepted = self.run_suite("--accept", self.path)
-        self.assertEqual((accepted.status, accepted.output.split("\n")[0]), (1, f"{self.path}: 2 accepted"))
+        self.assertEqual((accepted.status, accepted.output.split("\n")[-2]), (1, f"{self.path}: 2 accepted"))
         self.assertEqual(self.verdicts(self.path), ["ok", "ok", "ok", "ok"])
 
     def test_an_answer_that_reads_as_a_pattern_is_accepted_as_it_is(self) -> None:
