@@ -54,6 +54,10 @@ class Reading(unittest.TestCase):
         found = read("```a\nx\n```\n", FRONT[:-4] + "tolerence: 1\ntitle: x\nauthor: y\ndate: z\nsession: q\noutput: none\nformat: html\n---\n").suite.doubts
         self.assertEqual(found, ("suite.md: the front matter has 'tolerence': is tolerance meant?", "suite.md: the front matter has 'session': is sessions meant?"))
 
+    def test_a_session_that_may_be_mistyped(self) -> None:
+        found = read("```a\nx\n```\n\n```aa {setup}\ny\n```\n\n```c {hide}\nz\n```\n\n```python {'}\n```\n").suite.doubts
+        self.assertEqual(found, ("suite.md: line 8: no session has the name 'aa' of this fence, which is no case",))
+
     def test_front_matter_that_is_refused(self) -> None:
         for more, why in (
             ("normal: {'[': x}\n", "`normal` has the pattern"),

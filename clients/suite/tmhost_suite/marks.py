@@ -102,6 +102,14 @@ READERS: Dict[str, Tuple[str, Callable[[str], object]]] = {
 IDLE = ("hide", "fold")
 
 
+def has_marks(info: str) -> bool:
+    """Whether an info string has a word that is meant for a case."""
+    try:
+        return any(name in READERS for name, _ in marks_in(info.strip()))
+    except ValueError:
+        return False
+
+
 def read_marks(info: str, line: int) -> Marks:
     info = info.strip()
     found: Dict[str, object] = {}

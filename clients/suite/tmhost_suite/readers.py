@@ -154,7 +154,7 @@ def output_of(output: Dict[str, Any], language: str) -> str:
     languages than Python's name it in their own words, in which it is what stands behind the last colon."""
     kind = output.get("output_type")
     if kind == "stream":
-        return text_in(output.get("text")).rstrip("\n")
+        return text_in(output.get("text")).replace("\r\n", "\n").rstrip("\n")  # some kernels speak by a terminal
     if kind == "error":
         if language == "python":
             return f"{ANY_LINES}\n{output.get('ename')}: {output.get('evalue')}"

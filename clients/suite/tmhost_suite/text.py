@@ -13,7 +13,7 @@ from tmhost_fences.front import front_of, matter_end
 from tmhost_fences.troubles import Trouble, needed
 
 from .cases import Case, Suite
-from .marks import read_marks, seconds, session_in
+from .marks import has_marks, read_marks, seconds, session_in
 from .rules import FORMULAS, PICTURES, Normal, Rules, allowance, normal_of
 
 ANSWER, ERROR = "answer", "error"
@@ -109,10 +109,10 @@ def timeout_in(front: Dict[str, Any]) -> Optional[float]:
         raise Trouble("`timeout` is no number of seconds") from None
 
 
-def doubts_in(front: Dict[str, Any], path: str) -> Tuple[str, ...]:
+def doubts_in(front: Dict[str, Any], path: str) -> List[str]:
     """Words of the front matter that look like one of a suite's. The others are for who else reads it."""
     near = ((name, difflib.get_close_matches(str(name), WORDS, 1, 0.75)) for name in front if name not in WORDS)
-    return tuple(f"{path}: the front matter has {ascii(name)}: is {found[0]} meant?" for name, found in near if found)
+    return [f"{path}: the front matter has {ascii(name)}: is {found[0]} meant?" for name, found in near if found]
 
 
 def folder_in(front: Dict[str, Any], path: str) -> Optional[str]:
@@ -150,10 +150,12 @@ class Text:
         first = matter_end(contents)
         yaml = needed("yaml", "python3-yaml")
         front = yaml.load("\n".join(contents[1 : first - 1]), Loader=yaml.BaseLoader)
+        self.path = path
         self.cases: List[Case] = []
+        self.doubts: List[str] = doubts_in(front, path)
         self.spans: List[Dict[str, Span]] = []
         self._read(contents, blocks_of(contents, first))
-        self.suite = Suite(path, self.sessions, rules_in(front), timeout_in(front), tuple(self.cases), "", doubts_in(front, path), folder_in(front, path))
+        self.suite = Suite(path, self.sessions, rules_in(front), timeout_in(front), tuple(self.cases), "", tuple(self.doubts), folder_in(front, path))
 
     def _read(self, lines: List[str], blocks: List[Block]) -> None:
         at = 0
@@ -164,6 +166,8 @@ class Text:
             if name in (ANSWER, ERROR) and name not in self.sessions:
                 raise Trouble(f"line {block.begin + 1}: an {name} stands behind no case")
             if name is None or name not in self.sessions:
+                if name and has_marks(block.info_text):
+                    self.doubts.append(f"{self.path}: line {block.begin + 1}: no session has the name {ascii(name)} of this fence, which is no case")
                 continue
             found: Dict[str, Block] = {}
             while at < len(blocks) and is_behind(blocks[at - 1], blocks[at], lines):
