@@ -5,7 +5,7 @@ from typing import List, Optional, Sequence, Tuple
 from .rules import ANY_LINES, Rules, line_matches
 
 CONTEXT = 2  # lines
-MOST = 250_000  # comparisons; a longer difference has only lines that are the same as common ones
+MOST = 40_000  # comparisons; a longer difference has only lines that are the same as common ones
 
 Line = Tuple[str, str]  # as it is shown, and as it is compared
 

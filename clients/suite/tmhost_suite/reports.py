@@ -1,5 +1,6 @@
 """What came of a run, for programs: TAP, JUnit's XML, lines of JSON, remarks for GitHub and GitLab."""
 import dataclasses
+import functools
 import hashlib
 import json
 import os
@@ -74,7 +75,7 @@ class Told:
         """Whether it isn't only in its errors, where these are apart, that it differs."""
         return not self.suite.rules_of(self.case).is_wanted(self.case.wanted, self.got, set())
 
-    @property
+    @functools.cached_property
     def diff(self) -> List[str]:
         """From what was wanted to what came, and behind that the same of errors that are apart."""
         if not self.is_wrong or self.verdict == "xpass":
