@@ -22,6 +22,13 @@ class Differences(unittest.TestCase):
         self.assertEqual(changed("0x1\n1.0\nx[0-9] (re)\nq\n*.c (glob)", "0x2\n1.0000001\nx7\nz\na.c"), ["-q", "+z"])
         self.assertEqual(diff("0x1\nq", "0x2\nz", RULES, "")[3:], [" 0x2", "-q", "+z"])
 
+    def test_long_ones(self) -> None:
+        came = [f"0x{at}" for at in range(1000)]
+        wanted = [f"0x{at + 1}" for at in range(1000)]
+        wanted[100], wanted[900] = "first", "last"
+        self.assertEqual(changed("\n".join(wanted), "\n".join(came)), ["-first", "+0x100", "-last", "+0x900"])
+        self.assertEqual(len(changed("\n".join(wanted[:901]), "\n".join(came))), 2 + 101)
+
     def test_any_lines(self) -> None:
         self.assertEqual(changed("...\nZeroDivisionError: .* (re)", "Traceback\n  1/0\nTypeError: no"), ["-ZeroDivisionError: .* (re)", "+TypeError: no"])
         self.assertEqual(changed("a\n...\nb\n...\nc", "x\n1\nb\n2\n3\nc"), ["-a", "+x"])

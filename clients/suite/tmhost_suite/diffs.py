@@ -5,7 +5,7 @@ from typing import List, Optional, Sequence, Tuple
 from .rules import ANY_LINES, Rules, line_matches
 
 CONTEXT = 2  # lines
-MOST = 40_000  # comparisons; a longer difference has only lines that are the same as common ones
+MOST = 40_000  # comparisons; of longer texts each line goes with the one at its place
 
 Line = Tuple[str, str]  # as it is shown, and as it is compared
 
@@ -42,7 +42,7 @@ def stretch(lines: List[Line], others: List[Line], rules: Rules) -> List[str]:
     first = ends_alike(lines, others, rules)
     last = ends_alike(lines[first:][::-1], others[first:][::-1], rules)
     middle, came = lines[first : len(lines) - last], others[first : len(others) - last]
-    found = middle_of(middle, came, rules) if len(middle) * len(came) <= MOST else [shown for shown, _ in middle]
+    found = middle_of(middle, came, rules) if len(middle) * len(came) <= MOST else line_by_line(middle, came, rules)
     return [shown for shown, _ in others[:first]] + found + [shown for shown, _ in others[len(others) - last :]]
 
 
@@ -68,6 +68,12 @@ def middle_of(lines: List[Line], others: List[Line], rules: Rules) -> List[str]:
             ways += [lonely[at + 1][other + 1]] if at < len(lines) and other < len(others) and alike[at][other] else []
             lonely[at][other] = min(ways, default=0)
     return way_through(lines, others, alike, lonely)
+
+
+def line_by_line(lines: List[Line], others: List[Line], rules: Rules) -> List[str]:
+    """The same where each line is compared with that at its place."""
+    at_places = [*others[: len(lines)], *[None] * (len(lines) - len(others))]
+    return [other[0] if other and line_matches(wanted, other[1], rules) else shown for (shown, wanted), other in zip(lines, at_places)]
 
 
 def way_through(lines: List[Line], others: List[Line], alike: List[List[bool]], lonely: List[List[int]]) -> List[str]:
