@@ -6,9 +6,10 @@ use offline_programs::{RunFault, show};
 use sheet_programs::{Ran, run};
 use std::alloc::Global;
 
-/// How many fields the script makes. Its first group is the session and 1,023 of them.
+/// How many fields the scripts make.
 pub(super) const FIELDS: u32 = 1_100;
 
+/// How many of them are in the first group of the script with a long remark, which the session begins.
 const FIRST: u32 = 1_023;
 
 /// What a crash leaves of the ranges that were being written.
@@ -23,6 +24,20 @@ pub(super) fn script(alloc: Global, fields: u32) -> Vec<u8> {
     let mut text = Vec::new(alloc);
     let _ = text.extend_from_slice(b"# fields\nsession a plain p\n\n");
     for _ in 0..fields {
+        let _ = text.extend_from_slice(b"new 0 a x\n");
+    }
+    text
+}
+
+// The same of all fields, with a remark between them of the bytes that a group has at most.
+fn script_with_a_long_remark(alloc: Global) -> Vec<u8> {
+    let mut text = script(alloc, FIRST);
+    let _ = text.extend_from_slice(b"# ");
+    for _ in 0..1_024u32 {
+        let _ = text.extend_from_slice(&[b'x'; 1_024]);
+    }
+    let _ = text.extend_from_slice(b"\n");
+    for _ in FIRST..FIELDS {
         let _ = text.extend_from_slice(b"new 0 a x\n");
     }
     text
@@ -102,7 +117,7 @@ fn is_whole_or_absent(alloc: Global) -> Option<bool> {
     let disk = disk_of(
         alloc,
         created(alloc)?,
-        script(alloc, FIELDS).as_slice(),
+        script_with_a_long_remark(alloc).as_slice(),
         lines,
     )?;
     let (first, all) = (FIRST as usize, FIELDS as usize);
