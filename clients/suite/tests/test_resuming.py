@@ -16,6 +16,11 @@ WRITER = "import itertools, sys; from tmhost_weave.files import put; print('writ
 KILLS = int(os.environ.get("TMHOST_KILLS", "20"))
 
 
+def heeds_interrupts() -> None:
+    """Where a shell started the tests behind itself, they pass interrupts over."""
+    signal.signal(signal.SIGINT, signal.SIG_DFL)
+
+
 class Resuming(Case):
     def setUp(self) -> None:
         super().setUp()
@@ -70,7 +75,8 @@ class Resuming(Case):
     def test_an_interrupt_ends_it_and_it_goes_on(self) -> None:
         self.write(case("say 1", "1"), case("sleep 20"), case("sleep 20", info="b"))
         run = subprocess.Popen(
-            words(self.path, "--jobs", "1"), stdout=subprocess.DEVNULL, stderr=subprocess.PIPE, text=True, env=environment(), cwd=self.folder, start_new_session=True
+            words(self.path, "--jobs", "1"), stdout=subprocess.DEVNULL, stderr=subprocess.PIPE, text=True, env=environment(), cwd=self.folder, start_new_session=True,
+            preexec_fn=heeds_interrupts,
         )
         until = time.monotonic() + 30
         while self.log("a")[-1:] != ["sleep 20"] and time.monotonic() < until:
