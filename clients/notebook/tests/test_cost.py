@@ -157,8 +157,8 @@ class Opening(Costs):
         before = self.settled(browser.process.pid)
         tab.ask("Page.addScriptToEvaluateOnNewDocument", {"source": SEEN})
         tab.ask("Page.navigate", {"url": server.address})
-        while not self.is_ready(tab):  # who asks more often spends its processor time
-            time.sleep(1)
+        while not self.is_ready(tab):  # behind it cells that aren't seen get their parts; who asks more often spends the browser's time
+            time.sleep(0.1)
         after = times_of(browser.process.pid)
         page = sum(spent - before.get(pid, 0.0) for pid, spent in after.items())
         own = time_of(server.process.pid)
