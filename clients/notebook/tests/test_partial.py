@@ -198,7 +198,7 @@ class InThePage(Telling, PageCase):
         tab.until(SHOWN, [[f"cell-{first}", "one é <b>\n"]])
         self.assertEqual(tab.value(MARKS), ["not yet an answer, and kept nowhere:"])
         self.assertEqual(tab.value(LOOKS), ["output", "off", True, True])
-        self.tell(b"\x02latex:$x$\x05\xe2\x80\xae", "t")
+        self.tell(b"\x02latex:$x$\x05", "t")
         self.tell("\x02verbatim:\u202etwo\x1b[31m".encode(), "t")
         tab.until(SHOWN, [[f"cell-{first}", "one é <b>\n"], [f"cell-{second}", "{latex:$x$}\\u202etwo\\x1b[31m"]])
         tab.reload()
