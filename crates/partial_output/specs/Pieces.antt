@@ -1,5 +1,5 @@
 -- Which pieces of an interpreter's output are written out before its block is complete. (docs/use/PROTOCOL.md.)
-use Rattle.std.specs.Prelude.{ℕ, ◌==◌, Bool, List}
+use Rattle.std.specs.Prelude.{ℕ, ◌==◌, Bool, List, [], if◌then◌else◌}
 use Rattle.std.specs.List.{list_any}
 use Rattle.sheet_json.specs.Sheets.{telling_line}
 use Rattle.sheet_json.specs.Tellings as told
@@ -15,3 +15,7 @@ has_end bytes = list_any is_end bytes
 -- the line of these, which the interpreter of the life with this number in this session wrote (docs/use/JSON.md)
 unfoldable pub partial_text : List ℕ → ℕ → List ℕ → List ℕ
 partial_text name life bytes = telling_line (told.event name life (told.partial bytes))
+
+-- what is written out of a piece: its line, or nothing where a byte stands in it that ends a block
+abbrev pub told_text : List ℕ → ℕ → List ℕ → List ℕ
+told_text name life bytes = if has_end bytes then [] else partial_text name life bytes

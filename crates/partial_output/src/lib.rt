@@ -4,5 +4,5 @@
 mod piece;
 mod sources;
 
-pub use piece::write_partial;
+pub use piece::{Beside, write_partial};
 pub use sources::{Partial, TellsPartial};

@@ -1,5 +1,5 @@
 //! A piece of an interpreter's output, as an object of JSON.
-ghost use Rattle.std.specs.Prelude.{◌≡◌, IfSome, true};
+ghost use Rattle.std.specs.Prelude.{◌≡◌, IfSome, false, true};
 ghost use Rattle.std.specs.Io.KnownBytes.{Appends};
 ghost use Rattle.partial_output.specs.Pieces as piece;
 
@@ -19,7 +19,7 @@ fn is_end(byte: u8) -> bool
 }
 
 /// Whether a byte is there that ends a block, or would, if none escaped it.
-pub(crate) fn has_end(bytes: &[u8]) -> bool
+fn has_end(bytes: &[u8]) -> bool
     ensures { result ≡ piece.has_end bytes.now }
 {
     bytes.iter().any(|byte| is_end(*byte))
@@ -48,5 +48,47 @@ pub fn write_partial<W: Write>(alloc: Global, seat: Seat, bytes: &[u8], writer: 
     match partial_line(alloc, name, life, bytes) {
         Some(line) => writer.write_all(line.as_slice()).is_ok(),
         None => false,
+    }
+}
+
+/// A writer of pieces, and whether it gets any.
+#[derive(Drop)]
+pub struct Beside<W: Write + Drop> {
+    alloc: Global,
+    writer: W,
+    tells: bool,
+}
+
+impl<W: Write + Drop> Beside<W> {
+    /// This writer, which gets nothing yet.
+    pub fn new(alloc: Global, writer: W) -> Beside<W>
+        ensures silent { result.tells ≡ false }
+        ensures writer { result.writer ≡ writer }
+    {
+        Beside {
+            alloc,
+            writer,
+            tells: false,
+        }
+    }
+
+    /// From now on it gets pieces.
+    pub fn begin(&mut self)
+        ensures writer { self.new.writer ≡ self.old.writer }
+    {
+        self.tells = true;
+    }
+
+    /// Writes a piece of the output of a life out, where pieces are wanted and it ends no block. Where not all of it goes out, no more
+    /// of them do.
+    #[tactic(auto, using(crate::proofs::Nothing::nothing))]
+    pub fn tell(&mut self, seat: Seat, bytes: &[u8])
+        ensures wrote { self.new.tells ≡ true → Appends (W.contents self.old.writer) (W.contents self.new.writer)
+            (piece.told_text seat.name seat.life bytes.now) }
+        ensures silent { self.old.tells ≡ false → self.new ≡ self.old }
+    {
+        if self.tells && !has_end(bytes) {
+            self.tells = write_partial(self.alloc, seat, bytes, &mut self.writer);
+        }
     }
 }

@@ -1,7 +1,7 @@
 //! Sources whose interpreters are listened to.
 ghost use Rattle.std.specs.Prelude.{◌≡◌};
 
-use crate::piece::{has_end, write_partial};
+use crate::piece::Beside;
 use arrivals::{Input, Sources, WatchFault, Woken};
 use block_tree::Octets;
 use child_calls::{ChildFault, Children, ReceiveFault, Received, Seat};
@@ -24,10 +24,8 @@ pub trait TellsPartial: Sources {
 /// there is no memory for a line, or the writer fails, nothing more is written.
 #[derive(Drop)]
 pub struct Partial<S: Sources + Drop, W: Write + Drop> {
-    alloc: Global,
     sources: S,
-    writer: W,
-    tells: bool,
+    beside: Beside<W>,
 }
 
 impl<S: Sources + Drop, W: Write + Drop> Model for Partial<S, W> {
@@ -42,19 +40,8 @@ impl<S: Sources + Drop, W: Write + Drop> Partial<S, W> {
         ensures { result ≡ sources }
     {
         Partial {
-            alloc,
             sources,
-            writer,
-            tells: false,
-        }
-    }
-
-    /// Writes a piece out, where that was asked for and it ends no block.
-    fn tell(&mut self, seat: Seat, bytes: &[u8])
-        ensures { self.new ≡ self.old }
-    {
-        if self.tells && !has_end(bytes) {
-            self.tells = write_partial(self.alloc, seat, bytes, &mut self.writer);
+            beside: Beside::new(alloc, writer),
         }
     }
 
@@ -63,7 +50,7 @@ impl<S: Sources + Drop, W: Write + Drop> Partial<S, W> {
         ensures { self.new ≡ self.old }
     {
         match received {
-            Ok(Received::Piece(piece)) => self.tell(seat, piece.as_slice()),
+            Ok(Received::Piece(piece)) => self.beside.tell(seat, piece.as_slice()),
             Ok(Received::End) | Err(_) => {}
         }
     }
@@ -71,7 +58,7 @@ impl<S: Sources + Drop, W: Write + Drop> Partial<S, W> {
 
 impl<S: Sources + Drop, W: Write + Drop> TellsPartial for Partial<S, W> {
     fn tell_partial(&mut self) {
-        self.tells = true;
+        self.beside.begin();
     }
 }
 
