@@ -41,6 +41,9 @@ erring = codes ",\"errors\":"
 abbrev second : List ℕ
 second = codes ",\"left_out\":"
 
+abbrev adding : List ℕ
+adding = codes ",\"new\":"
+
 abbrev third : List ℕ
 third = codes ",\"same\":"
 
@@ -51,8 +54,8 @@ abbrev behind : List ℕ
 behind = codes "}\n{\"type\":\"end\"}\n"
 
 -- the parts, each with all that follows it
-abbrev row : (a e b c d rest : List ℕ) → List ℕ
-row a e b c d rest = first ++ (a ++ (erring ++ (e ++ (second ++ (b ++ (third ++ (c ++ (fourth ++ (d ++ rest)))))))))
+abbrev row : (a e b n c d rest : List ℕ) → List ℕ
+row a e b n c d rest = first ++ (a ++ (erring ++ (e ++ (second ++ (b ++ (adding ++ (n ++ (third ++ (c ++ (fourth ++ (d ++ rest)))))))))))
 
 to_the_right : (p a q b more : List ℕ) → p ++ a ++ q ++ b ++ more ≡ p ++ (a ++ (q ++ (b ++ more)))
 to_the_right p a q b more = append_assoc (p ++ a ++ q) b more ∙ append_assoc (p ++ a) q (b ++ more) ∙ append_assoc p a (q ++ (b ++ more))
@@ -61,15 +64,19 @@ three_to_the_right : (p a q b r c more : List ℕ) → p ++ a ++ q ++ b ++ r ++ 
 three_to_the_right p a q b r c more = append_assoc (p ++ a ++ q ++ b ++ r) c more ∙ append_assoc (p ++ a ++ q ++ b) r (c ++ more) ∙ to_the_right p a q b (r ++ (c ++ more))
 
 -- a row of parts with more after it
-further : (a e b c d x more : List ℕ) → row a e b c d x ++ more ≡ row a e b c d (x ++ more)
-further a e b c d x more =
-    ap (λ t. first ++ t) (part a (erring ++ (e ++ (second ++ (b ++ (third ++ (c ++ (fourth ++ (d ++ x)))))))) more (erring ++ (e ++ (second ++ (b ++ (third ++ (c ++ (fourth ++ (d ++ (x ++ more)))))))))
-    (ap (λ t. erring ++ t) (part e (second ++ (b ++ (third ++ (c ++ (fourth ++ (d ++ x)))))) more (second ++ (b ++ (third ++ (c ++ (fourth ++ (d ++ (x ++ more)))))))
-    (ap (λ t. second ++ t) (part b (third ++ (c ++ (fourth ++ (d ++ x)))) more (third ++ (c ++ (fourth ++ (d ++ (x ++ more)))))
-    (ap (λ t. third ++ t) (part c (fourth ++ (d ++ x)) more (fourth ++ (d ++ (x ++ more)))
-    (ap (λ t. fourth ++ t) (part d x more (x ++ more) refl)))))))))
+further : (a e b n c d x more : List ℕ) → row a e b n c d x ++ more ≡ row a e b n c d (x ++ more)
+further a e b n c d x more =
+    let last = fourth ++ (d ++ x) in
+    let longer = fourth ++ (d ++ (x ++ more)) in
+    ap (λ t. first ++ t) (part a (erring ++ (e ++ (second ++ (b ++ (adding ++ (n ++ (third ++ (c ++ last)))))))) more (erring ++ (e ++ (second ++ (b ++ (adding ++ (n ++ (third ++ (c ++ longer))))))))
+    (ap (λ t. erring ++ t) (part e (second ++ (b ++ (adding ++ (n ++ (third ++ (c ++ last)))))) more (second ++ (b ++ (adding ++ (n ++ (third ++ (c ++ longer))))))
+    (ap (λ t. second ++ t) (part b (adding ++ (n ++ (third ++ (c ++ last)))) more (adding ++ (n ++ (third ++ (c ++ longer))))
+    (ap (λ t. adding ++ t) (part n (third ++ (c ++ last)) more (third ++ (c ++ longer))
+    (ap (λ t. third ++ t) (part c last more longer
+    (ap (λ t. fourth ++ t) (part d x more (x ++ more) refl)))))))))))
 
-counts_are : (counts : Counts) → compact_text (telling_data (counts_told counts)) ≡ row (decimal counts.differ) (decimal counts.errors) (decimal counts.left_out) (decimal counts.same) (decimal counts.unanswered) (125 ∷ [])
+counts_are : (counts : Counts) → compact_text (telling_data (counts_told counts))
+    ≡ row (decimal counts.differ) (decimal counts.errors) (decimal counts.left_out) (decimal counts.new) (decimal counts.same) (decimal counts.unanswered) (125 ∷ [])
 unfolding escape_byte
 counts_are counts = refl
 
@@ -82,12 +89,13 @@ closing_is counts =
     let a = decimal counts.differ in
     let e = decimal counts.errors in
     let b = decimal counts.left_out in
+    let n = decimal counts.new in
     let c = decimal counts.same in
     let d = decimal counts.unanswered in
     let last = codes "{\"type\":\"end\"}\n" in
-    three_to_the_right first a erring e second b (second_part counts) ∙ ap (λ t. first ++ (a ++ (erring ++ (e ++ (second ++ (b ++ t)))))) (to_the_right third c fourth d behind)
-    ∙ sym (ap (λ t. (t ++ 10 ∷ []) ++ telling_line told.end) (counts_are counts) ∙ ap (λ t. (row a e b c d (125 ∷ []) ++ 10 ∷ []) ++ t) end_is
-    ∙ ap (λ t. t ++ last) (further a e b c d (125 ∷ []) (10 ∷ [])) ∙ further a e b c d (125 ∷ 10 ∷ []) last)
+    three_to_the_right first a erring e second b (second_part counts) ∙ ap (λ t. first ++ (a ++ (erring ++ (e ++ (second ++ (b ++ t)))))) (three_to_the_right adding n third c fourth d behind)
+    ∙ sym (ap (λ t. (t ++ 10 ∷ []) ++ telling_line told.end) (counts_are counts) ∙ ap (λ t. (row a e b n c d (125 ∷ []) ++ 10 ∷ []) ++ t) end_is
+    ∙ ap (λ t. t ++ last) (further a e b n c d (125 ∷ []) (10 ∷ [])) ∙ further a e b n c d (125 ∷ 10 ∷ []) last)
 
 -- The report is the lines of its tellings.
 
@@ -115,7 +123,7 @@ within : (n : ℕ) → n < 2 ^ 32 → n < 2 ^ 64
 within n h = omega (arith, h)
 
 counts_sound : (counts : Counts) → total counts < 2 ^ 32 → counts.errors < 2 ^ 32 → IsSoundTelling (counts_told counts)
-counts_sound counts h e = (omega (arith, h), omega (arith, h), omega (arith, h), omega (arith, h), within counts.errors e)
+counts_sound counts h e = (omega (arith, h), omega (arith, h), omega (arith, h), omega (arith, h), within counts.errors e, omega (arith, h))
 
 each_line : (cases : List Case) (more : List Telling) → AllByRecursion (λ c. IsSoundTelling (telling_of c)) cases → AllByRecursion (λ t. IsOneLine (telling_line t)) more
     → AllByRecursion (λ t. IsOneLine (telling_line t)) (map telling_of cases ++ more)

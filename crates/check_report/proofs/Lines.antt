@@ -7,7 +7,7 @@ use Rattle.std.proofs.lemmas.List.{get_or_append_left}
 use Rattle.std.proofs.Math.Seq.{get_or-append_seam}
 use Rattle.bstr.specs.Text.{lines_of}
 use Rattle.bstr.proofs.lemmas.LineLemmas.{lines-append, lines-one}
-use Rattle.check_report.specs.Laws.{is_no_comment}
+use Rattle.check_report.specs.Laws.{is_tap_line}
 
 -- no line feed
 abbrev pub stays : ℕ → Bool
@@ -42,10 +42,10 @@ line-first line rest h =
 
 -- the lines of a text that are no comments
 abbrev pub told : List ℕ → List (List ℕ)
-told text = filter is_no_comment (lines_of text)
+told text = filter is_tap_line (lines_of text)
 
-pub told-first : (line rest : List ℕ) → list_all stays line ≡ true → is_no_comment (line ++ 10 ∷ []) ≡ true → told ((line ++ 10 ∷ []) ++ rest) ≡ (line ++ 10 ∷ []) ∷ told rest
-told-first line rest h t = ap (filter is_no_comment) (line-first line rest h) ∙ ap (λ b. cond b ((line ++ 10 ∷ []) ∷ told rest) (told rest)) t
+pub told-first : (line rest : List ℕ) → list_all stays line ≡ true → is_tap_line (line ++ 10 ∷ []) ≡ true → told ((line ++ 10 ∷ []) ++ rest) ≡ (line ++ 10 ∷ []) ∷ told rest
+told-first line rest h t = ap (filter is_tap_line) (line-first line rest h) ∙ ap (λ b. cond b ((line ++ 10 ∷ []) ∷ told rest) (told rest)) t
 
-pub comment-first : (line rest : List ℕ) → list_all stays line ≡ true → is_no_comment (line ++ 10 ∷ []) ≡ false → told ((line ++ 10 ∷ []) ++ rest) ≡ told rest
-comment-first line rest h t = ap (filter is_no_comment) (line-first line rest h) ∙ ap (λ b. cond b ((line ++ 10 ∷ []) ∷ told rest) (told rest)) t
+pub comment-first : (line rest : List ℕ) → list_all stays line ≡ true → is_tap_line (line ++ 10 ∷ []) ≡ false → told ((line ++ 10 ∷ []) ++ rest) ≡ told rest
+comment-first line rest h t = ap (filter is_tap_line) (line-first line rest h) ∙ ap (λ b. cond b ((line ++ 10 ∷ []) ∷ told rest) (told rest)) t

@@ -6,7 +6,7 @@ use Rattle.check_report.specs.declared.verdict.Verdict.{Verdict}
 use Rattle.check_report.specs.declared.verdict.Verdict.TheVariants as verdict
 use Rattle.check_report.specs.Points.{Point}
 use Rattle.check_report.specs.Xml.{xml_text}
-use Rattle.check_report.specs.Junit.{case_start, case_title, head, junit_case, junit_text, result_end, result_start, tail}
+use Rattle.check_report.specs.Junit.{case_start, case_title, head, junit_case, junit_text, result_end, result_start, tail, time_part}
 use Rattle.check_report.specs.Laws.{TextsAreNoTags, tag_behind, tags, untold}
 use Rattle.check_report.proofs.Lines.{both-first, both-second}
 use Rattle.check_report.proofs.NoMarks.{no_marks, passes}
@@ -50,46 +50,48 @@ text-opens (byte ∷ text) h =
     let none = opens-none byte (both-first (passes byte) (list_all passes text) h) in
     ap (λ b. open_behind b text) none ∙ text-opens text (both-second (passes byte) (list_all passes text) h)
 
-closed : (inside : Bool) → open_behind inside (codes "\">") ≡ false
+closed : (inside : Bool) → open_behind inside (codes ">") ≡ false
 closed true = refl
 closed false = refl
 
-start-closed : (id : ℕ) (session input : List ℕ) → open_behind false (case_start id session input) ≡ false
-start-closed id session input =
-    let front = codes "<testcase classname=\"" ++ xml_text session ++ codes "\" name=\"" ++ case_title id input in
-    open-append false front (codes "\">") ∙ closed (open_behind false front)
+start-closed : (p : Point) → open_behind false (case_start p.id p.session p.input p.took) ≡ false
+start-closed p =
+    let front = codes "<testcase classname=\"" ++ xml_text p.session ++ codes "\" name=\"" ++ case_title p.id p.input ++ codes "\"" ++ time_part p.took in
+    open-append false front (codes ">") ∙ closed (open_behind false front)
 
 result_start-closed : (v : Verdict) → open_behind false (result_start v) ≡ false
 result_start-closed verdict.Same = refl
 result_start-closed verdict.Differs = refl
 result_start-closed verdict.Unanswered = refl
 result_start-closed verdict.LeftOut = refl
+result_start-closed verdict.New = refl
 
 result_end-closed : (v : Verdict) → open_behind false (result_end v) ≡ false
 result_end-closed verdict.Same = refl
 result_end-closed verdict.Differs = refl
 result_end-closed verdict.Unanswered = refl
 result_end-closed verdict.LeftOut = refl
+result_end-closed verdict.New = refl
 
-front-closed : (p : Point) → open_behind false (case_start p.id p.session p.input ++ result_start p.verdict) ≡ false
+front-closed : (p : Point) → open_behind false (case_start p.id p.session p.input p.took ++ result_start p.verdict) ≡ false
 front-closed p =
-    open-append false (case_start p.id p.session p.input) (result_start p.verdict) ∙ ap (λ b. open_behind b (result_start p.verdict)) (start-closed p.id p.session p.input)
+    open-append false (case_start p.id p.session p.input p.took) (result_start p.verdict) ∙ ap (λ b. open_behind b (result_start p.verdict)) (start-closed p)
     ∙ result_start-closed p.verdict
 
-told-closed : (p : Point) → open_behind false (case_start p.id p.session p.input ++ result_start p.verdict ++ xml_text p.told) ≡ false
+told-closed : (p : Point) → open_behind false (case_start p.id p.session p.input p.took ++ result_start p.verdict ++ xml_text p.told) ≡ false
 told-closed p =
-    open-append false (case_start p.id p.session p.input ++ result_start p.verdict) (xml_text p.told) ∙ ap (λ b. open_behind b (xml_text p.told)) (front-closed p)
+    open-append false (case_start p.id p.session p.input p.took ++ result_start p.verdict) (xml_text p.told) ∙ ap (λ b. open_behind b (xml_text p.told)) (front-closed p)
     ∙ text-opens (xml_text p.told) (no_marks p.told).0
 
 case-closed : (p : Point) → open_behind false (junit_case p) ≡ false
 case-closed p =
-    open-append false (case_start p.id p.session p.input ++ result_start p.verdict ++ xml_text p.told) (result_end p.verdict)
+    open-append false (case_start p.id p.session p.input p.took ++ result_start p.verdict ++ xml_text p.told) (result_end p.verdict)
     ∙ ap (λ b. open_behind b (result_end p.verdict)) (told-closed p) ∙ result_end-closed p.verdict
 
 -- the tags of a case, without what is reported
-case-tags : (p : Point) → tags false (junit_case p) ≡ tags false (case_start p.id p.session p.input ++ result_start p.verdict) ++ tags false (result_end p.verdict)
+case-tags : (p : Point) → tags false (junit_case p) ≡ tags false (case_start p.id p.session p.input p.took ++ result_start p.verdict) ++ tags false (result_end p.verdict)
 case-tags p =
-    let front = case_start p.id p.session p.input ++ result_start p.verdict in
+    let front = case_start p.id p.session p.input p.took ++ result_start p.verdict in
     tags-append false (front ++ xml_text p.told) (result_end p.verdict)
     ∙ ap (λ b. tags false (front ++ xml_text p.told) ++ tags b (result_end p.verdict)) (told-closed p)
     ∙ ap (λ t. t ++ tags false (result_end p.verdict)) (tags-append false front (xml_text p.told)

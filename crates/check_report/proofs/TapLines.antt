@@ -1,5 +1,5 @@
 -- The lines of a report as TAP.
-use Rattle.std.proofs.Common.{◌≡◌, ℕ, ◌+◌, ◌%◌, ◌<◌, ◌≤◌, ◌^◌, Bool, true, false, List, [], ◌∷◌, ◌++◌, length, refl, ap, sym, subst, ◌∙◌, arith, append_assoc, append-nil}
+use Rattle.std.proofs.Common.{◌≡◌, ℕ, ◌+◌, ◌%◌, ◌<◌, ◌≤◌, ◌^◌, Bool, true, false, List, [], ◌∷◌, ◌++◌, length, refl, ap, sym, subst, ◌∙◌, arith, append_assoc, append-nil, Option, Some, None}
 use Rattle.std.specs.Prelude.{◌==◌, ◌&&◌, ◌||◌, codes, nat_le, not}
 use Rattle.std.specs.Fmt.{decimal}
 use Rattle.std.specs.List.{filter, list_all}
@@ -13,8 +13,9 @@ use Rattle.worksheet.specs.Names.{is_name}
 use Rattle.check_report.specs.declared.verdict.Verdict.{Verdict}
 use Rattle.check_report.specs.declared.verdict.Verdict.TheVariants as verdict
 use Rattle.check_report.specs.Points.{Point}
-use Rattle.check_report.specs.Tap.{comments, comments_behind, description, directive, plan_line, point_line, result_words, tap_point, tap_points, version_line}
-use Rattle.check_report.specs.Laws.{ArePoints, IsPoint, TapIsItsPoints, is_no_comment, point_lines}
+use Rattle.check_report.specs.Tap.{comments, comments_behind, description, directive, duration_line, plan_line, point_line, result_words, started_line, tap_point, tap_points, took_block, version_line}
+use Rattle.check_report.specs.Laws.{ArePoints, IsPoint, IsTook, TapIsItsPoints, is_tap_line, point_lines}
+use Rattle.sheet_json.specs.declared.checks.Took.{Took}
 use Rattle.check_report.proofs.Lines.{both-first, both-second, comment-first, stays, told, told-first}
 
 all : (xs ys : List ℕ) → list_all stays xs ≡ true → list_all stays ys ≡ true → list_all stays (xs ++ ys) ≡ true
@@ -77,6 +78,32 @@ decimal-stays = decimal_by_steps (λ n ds. list_all stays ds ≡ true) one more
     more : (n : ℕ) (ds : List ℕ) → 10 ≤ n → list_all stays ds ≡ true → list_all stays (ds ++ ((48 + n % 10) ∷ [])) ≡ true
     more n ds h p = all ds ((48 + n % 10) ∷ []) p (digit (n % 10) (omega arith))
 
+-- What an evaluation took is no line that is reported.
+
+-- a line that begins with a space
+passed-over : (line rest : List ℕ) → list_all stays line ≡ true → told (((32 ∷ line) ++ 10 ∷ []) ++ rest) ≡ told rest
+passed-over line rest h = comment-first (32 ∷ line) rest h refl
+
+duration-unheard : (millis : ℕ) (rest : List ℕ) → millis < 2 ^ 64 → told (duration_line millis ++ rest) ≡ told rest
+duration-unheard millis rest low = passed-over (codes " duration_ms: " ++ decimal millis) rest (all (codes " duration_ms: ") (decimal millis) refl (decimal-stays millis low))
+
+started-unheard : (started : Bool) (rest : List ℕ) → told (started_line started ++ rest) ≡ told rest
+started-unheard true rest = passed-over (codes " started: true") rest refl
+started-unheard false rest = passed-over (codes " started: false") rest refl
+
+took-unheard : (took : Option Took) (rest : List ℕ) → IsTook took → told (took_block took ++ rest) ≡ told rest
+took-unheard None rest fits = refl
+took-unheard (Some took) rest fits =
+    let opening = codes "  ---\n" in
+    let duration = duration_line took.millis in
+    let started = started_line took.started in
+    let closing = codes "  ...\n" in
+    ap told (append_assoc (opening ++ duration ++ started) closing rest ∙ append_assoc (opening ++ duration) started (closing ++ rest) ∙ append_assoc opening duration (started ++ (closing ++ rest)))
+    ∙ passed-over (codes " ---") (duration ++ (started ++ (closing ++ rest))) refl
+    ∙ duration-unheard took.millis (started ++ (closing ++ rest)) fits
+    ∙ started-unheard took.started (closing ++ rest)
+    ∙ passed-over (codes " ...") rest refl
+
 -- a byte of a name
 abbrev of_name : ℕ → Bool
 of_name byte = (nat_le 48 byte && nat_le byte 57) || (nat_le 65 byte && nat_le byte 90) || (nat_le 97 byte && nat_le byte 122) || (byte == 95) || (byte == 45)
@@ -104,6 +131,7 @@ directive_words verdict.Same = []
 directive_words verdict.Differs = []
 directive_words verdict.Unanswered = []
 directive_words verdict.LeftOut = codes " # SKIP left out"
+directive_words verdict.New = codes " # SKIP new"
 
 directive-is : (v : Verdict) → directive v ≡ directive_words v ++ 10 ∷ []
 unfolding directive_words
@@ -111,6 +139,7 @@ directive-is verdict.Same = refl
 directive-is verdict.Differs = refl
 directive-is verdict.Unanswered = refl
 directive-is verdict.LeftOut = refl
+directive-is verdict.New = refl
 
 directive-stays : (v : Verdict) → list_all stays (directive_words v) ≡ true
 unfolding directive_words
@@ -118,18 +147,21 @@ directive-stays verdict.Same = refl
 directive-stays verdict.Differs = refl
 directive-stays verdict.Unanswered = refl
 directive-stays verdict.LeftOut = refl
+directive-stays verdict.New = refl
 
 result-stays : (v : Verdict) → list_all stays (result_words v) ≡ true
 result-stays verdict.Same = refl
 result-stays verdict.Differs = refl
 result-stays verdict.Unanswered = refl
 result-stays verdict.LeftOut = refl
+result-stays verdict.New = refl
 
-result-told : (v : Verdict) (more : List ℕ) → is_no_comment (result_words v ++ more) ≡ true
+result-told : (v : Verdict) (more : List ℕ) → is_tap_line (result_words v ++ more) ≡ true
 result-told verdict.Same more = refl
 result-told verdict.Differs more = refl
 result-told verdict.Unanswered more = refl
 result-told verdict.LeftOut more = refl
+result-told verdict.New more = refl
 
 module _ (number : ℕ) (p : Point) (is : IsPoint p) (low : number < 2 ^ 64) where
   named : List ℕ
@@ -160,11 +192,13 @@ module _ (number : ℕ) (p : Point) (is : IsPoint p) (low : number < 2 ^ 64) whe
   point-told rest =
       let line = result_words p.verdict ++ named in
       let all_stay = all (result_words p.verdict) named (result-stays p.verdict) named-stays in
-      let heard : is_no_comment (line ++ 10 ∷ []) ≡ true = ap is_no_comment (append_assoc (result_words p.verdict) named (10 ∷ [])) ∙ result-told p.verdict (named ++ 10 ∷ []) in
-      ap told (append_assoc (point_line number p.id p.session p.verdict) (comments p.told) rest)
-      ∙ ap (λ l. told (l ++ (comments p.told ++ rest))) point_line-is
-      ∙ told-first line (comments p.told ++ rest) all_stay heard
-      ∙ ap (λ t. (line ++ 10 ∷ []) ∷ t) (comments-unheard p.told rest)
+      let heard : is_tap_line (line ++ 10 ∷ []) ≡ true = ap is_tap_line (append_assoc (result_words p.verdict) named (10 ∷ [])) ∙ result-told p.verdict (named ++ 10 ∷ []) in
+      let point = point_line number p.id p.session p.verdict in
+      let further = took_block p.took ++ (comments p.told ++ rest) in
+      ap told (append_assoc (point ++ took_block p.took) (comments p.told) rest ∙ append_assoc point (took_block p.took) (comments p.told ++ rest))
+      ∙ ap (λ l. told (l ++ further)) point_line-is
+      ∙ told-first line further all_stay heard
+      ∙ ap (λ t. (line ++ 10 ∷ []) ∷ t) (took-unheard p.took (comments p.told ++ rest) is.took ∙ comments-unheard p.told rest)
       ∙ ap (λ l. l ∷ told rest) (sym point_line-is)
 
 points-told : (points : List Point) (number : ℕ) (rest : List ℕ) → ArePoints points → number + length points < 2 ^ 64 → told (tap_points number points ++ rest) ≡ point_lines number points ++ told rest
@@ -178,7 +212,7 @@ plan-told : (count : ℕ) → count < 2 ^ 64 → told (plan_line count) ≡ plan
 plan-told count low =
     let line = codes "1.." ++ decimal count in
     ap told (sym (append-nil (line ++ 10 ∷ []))) ∙ told-first line [] (all (codes "1..") (decimal count) refl (decimal-stays count low)) refl
-    ∙ ap (λ t. plan_line count ∷ t) (ap (λ ls. filter is_no_comment ls) lines-nil)
+    ∙ ap (λ t. plan_line count ∷ t) (ap (λ ls. filter is_tap_line ls) lines-nil)
 
 pub tap_is_points : TapIsItsPoints
 tap_is_points points are few =

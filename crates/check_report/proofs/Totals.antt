@@ -14,12 +14,14 @@ total-verdict verdict.Same counts = omega arith
 total-verdict verdict.Differs counts = omega arith
 total-verdict verdict.Unanswered counts = omega arith
 total-verdict verdict.LeftOut counts = omega arith
+total-verdict verdict.New counts = omega arith
 
 errors-verdict : (v : Verdict) (counts : Counts) → (with_verdict v counts).errors ≡ counts.errors
 errors-verdict verdict.Same counts = refl
 errors-verdict verdict.Differs counts = refl
 errors-verdict verdict.Unanswered counts = refl
 errors-verdict verdict.LeftOut counts = refl
+errors-verdict verdict.New counts = refl
 
 -- an error more, or none
 

@@ -1,8 +1,7 @@
 -- Which fields are checked, and which of those are compared.
-use Rattle.std.specs.Prelude.{◌≡◌, ◌&&◌, ◌||◌, not, ℕ, Bool, true, false, List, Option, Some, None, nat_le, if◌then◌else◌}
+use Rattle.std.specs.Prelude.{◌≡◌, ◌&&◌, ◌||◌, not, ℕ, Bool, true, false, List, Option, Some, None, is_some, nat_le}
 use Rattle.std.specs.List.{list_any}
 use Rattle.std.specs.Str.{bytes_eq}
-use Rattle.block_tree.specs.Tree.{Tree}
 use Rattle.worksheet.specs.declared.field.Answer.{Answer}
 use Rattle.worksheet.specs.declared.field.Field.{Field}
 use Rattle.check_report.specs.declared.chosen.Chosen.{Chosen}
@@ -16,9 +15,9 @@ abbrev pub is_session_asked : Option (List ℕ) → List ℕ → Bool
 is_session_asked None session = true
 is_session_asked (Some name) session = bytes_eq name session
 
--- the answer that a field shows, where it is of a session that is checked
-abbrev pub shown_by : Chosen → Field → Option Answer
-shown_by chosen field = if is_session_asked chosen.only field.session then field.answer else None
+-- A field is checked where its session is, and it shows an answer or all fields are asked for.
+abbrev pub is_chosen : Chosen → Field → Bool
+is_chosen chosen field = is_session_asked chosen.only field.session && (chosen.all || is_some field.answer)
 
 -- whether a number is one of these
 abbrev pub has_id : ℕ → Ids → Bool
@@ -33,8 +32,7 @@ is_among (Some ids) id = list_any (has_id id) ids
 abbrev pub is_left_out : Chosen → ℕ → Bool
 is_left_out chosen id = list_any (has_id id) chosen.left_out || not (is_among chosen.compared id)
 
--- What another evaluation of the field with this number comes to, by the output that it shows and the answer that came: what is left out
--- isn't compared.
-pub data Judged (chosen : Chosen) (id : ℕ) (shown : Tree) (came : Option Answer) (v : Verdict) : Type 0 where
-  left_out : is_left_out chosen id ≡ true → v ≡ verdict.LeftOut → Judged chosen id shown came v
-  compared : is_left_out chosen id ≡ false → Compared shown came v → Judged chosen id shown came v
+-- What an evaluation of a field comes to, by the answer that it shows and the one that came: what is left out isn't compared.
+pub data Judged (chosen : Chosen) (field : Field) (came : Option Answer) (v : Verdict) : Type 0 where
+  left_out : is_left_out chosen field.id ≡ true → v ≡ verdict.LeftOut → Judged chosen field came v
+  compared : is_left_out chosen field.id ≡ false → Compared field.answer came v → Judged chosen field came v

@@ -1,5 +1,5 @@
 -- Laws of the definitions.
-use Rattle.std.specs.Prelude.{ℕ, ◌+◌, Bool, List, [], ◌∷◌, ◌++◌, ◌≡◌, ◌<◌, ◌^◌, ◌==◌, ◌||◌, ◌&&◌, not, nat_eq, true, false, codes, cond, drop, length, map, take, slice_index}
+use Rattle.std.specs.Prelude.{ℕ, ◌+◌, Bool, List, [], ◌∷◌, ◌++◌, Option, Some, None, ◌≡◌, ◌<◌, ◌^◌, ◌==◌, ◌||◌, ◌&&◌, not, nat_eq, true, false, codes, cond, drop, length, map, take, slice_index}
 use Rattle.std.specs.List.{AllByRecursion, filter, flat_map, list_all, list_any, starts_with}
 use Rattle.bstr.specs.Text.{lines_of}
 use Rattle.worksheet.specs.Names.{is_name}
@@ -8,6 +8,7 @@ use Rattle.sheet_json.specs.Plain.{IsSoundTelling}
 use Rattle.sheet_json.specs.Sheets.{telling_line, tellings_text}
 use Rattle.sheet_json.specs.Tellings.{Telling}
 use Rattle.sheet_json.specs.Tellings as told
+use Rattle.sheet_json.specs.declared.checks.Took.{Took}
 use Rattle.check_report.specs.declared.report.Format.TheVariants as format
 use Rattle.check_report.specs.declared.hunks.Hunk.{Hunk}
 use Rattle.check_report.specs.Hunks.{hunk_of, lines_added, some_lines, lines_removed, tail_start}
@@ -20,18 +21,24 @@ use Rattle.check_report.specs.Junit.{junit_text}
 use Rattle.check_report.specs.Tap.{plan_line, point_line, tap_text, version_line}
 use Rattle.check_report.specs.Xml.{stays_in_xml, xml_text}
 
--- a point of a field: its number fits, and its session has a name
+-- a number of milliseconds fits
+abbrev pub IsTook : Option Took → Type 0
+IsTook None = Unit {0}
+IsTook (Some took) = took.millis < 2 ^ 64
+
+-- a point of a field: its number fits, its session has a name, and the milliseconds of what it took fit
 pub record IsPoint (p : Point) : Type 0 where
   pub id : p.id < 2 ^ 32
+  pub took : IsTook p.took
   pub session : is_name p.session ≡ true
 
 abbrev pub ArePoints : List Point → Type 0
 ArePoints [] = Unit {0}
 ArePoints (p ∷ points) = IsPoint p × ArePoints points
 
--- a line that a parser of TAP takes for no comment: it doesn't begin with '#'
-abbrev pub is_no_comment : List ℕ → Bool
-is_no_comment line = not (slice_index line 0 == 35)
+-- a line that a parser of TAP takes for neither a comment nor a part of a block of YAML: it begins with no '#' and no space
+abbrev pub is_tap_line : List ℕ → Bool
+is_tap_line line = not (slice_index line 0 == 35 || slice_index line 0 == 32)
 
 -- the lines of points, of which the first has this number
 abbrev pub point_lines : ℕ → List Point → List (List ℕ)
@@ -52,11 +59,11 @@ ReportsAreTheirTexts = (cases : List Case)
     × (report_text format.Whole cases ≡ flat_map (λ c. whole_text c.field c.came c.verdict) cases ++ counts_text (counts_of (judgements_of cases)))
     × (report_text format.Accepting cases ≡ flat_map (λ c. acceptance_text c.field c.came c.verdict) cases ++ accepted_counts_text (counts_of (judgements_of cases)))
 
--- Without its comments a report as TAP has these lines, one by one: the version, a point for each field, numbered from 1, and the
+-- Without its comments and blocks of YAML a report as TAP has these lines, one by one: the version, a point for each field, numbered from 1, and the
 -- plan. So what an interpreter wrote is in comments alone.
 abbrev pub TapIsItsPoints : Type 0
 TapIsItsPoints = (points : List Point) → ArePoints points → length points < 2 ^ 32
-    → filter is_no_comment (lines_of (tap_text points)) ≡ version_line ∷ (point_lines 1 points ++ plan_line (length points) ∷ [])
+    → filter is_tap_line (lines_of (tap_text points)) ≡ version_line ∷ (point_lines 1 points ++ plan_line (length points) ∷ [])
 
 -- Each telling of a report as JSON is one line, whatever an interpreter wrote, where the numbers of its fields fit and its outputs are
 -- blocks. That it reads back as what it tells is `ChecksReadBack` of `sheet_json`.

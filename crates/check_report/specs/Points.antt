@@ -1,14 +1,17 @@
 -- What a report says of a field that was evaluated again.
-use Rattle.std.specs.Prelude.{ℕ, List}
+use Rattle.std.specs.Prelude.{ℕ, List, Option}
+use Rattle.sheet_json.specs.declared.checks.Took.{Took}
 use Rattle.check_report.specs.declared.verdict.Verdict.{Verdict}
 
--- Its number, the name of its session, its input, what it came to, and the lines that say how what came differs: none where nothing differs.
+-- Its number, the name of its session, its input, what it came to, what that took, where it is known, and the lines that say how what came
+-- differs: none where nothing differs.
 pub record Point : Type 0 where
   pub id : ℕ
   pub session : List ℕ
   pub input : List ℕ
   pub verdict : Verdict
+  pub took : Option Took
   pub told : List ℕ
 
-abbrev pub point : ℕ → List ℕ → List ℕ → Verdict → List ℕ → Point
-point id session input verdict told = record { id = id; session = session; input = input; verdict = verdict; told = told }
+abbrev pub point : ℕ → List ℕ → List ℕ → Verdict → Option Took → List ℕ → Point
+point id session input verdict took told = record { id = id; session = session; input = input; verdict = verdict; took = took; told = told }

@@ -20,21 +20,23 @@ use Rattle.check_report.specs.Junit.{head, junit_case, tail}
 use Rattle.check_report.specs.Json.{checked_told, json_head, json_tail}
 use Rattle.sheet_json.specs.Sheets.{telling_line}
 use Rattle.sheet_json.specs.Tellings.{Telling}
+use Rattle.sheet_json.specs.declared.checks.Took.{Took}
 
--- A field that was evaluated again: the answer that came, or none; the reason that the field then shows for none, where it shows one;
--- and what that came to.
+-- A field that was evaluated: the answer that came, or none; the reason that the field then shows for none, where it shows one; what that
+-- came to; and what it took, where that is known.
 pub record Case : Type 0 where
   pub field : Field
   pub came : Option Answer
   pub lost : Option Reason
   pub verdict : Verdict
+  pub took : Option Took
 
-abbrev pub case : Field → Option Answer → Option Reason → Verdict → Case
-case field came lost verdict = record { field = field; came = came; lost = lost; verdict = verdict }
+abbrev pub case : Field → Option Answer → Option Reason → Verdict → Option Took → Case
+case field came lost verdict took = record { field = field; came = came; lost = lost; verdict = verdict; took = took }
 
 -- what is said of it in a format that programs read
 abbrev pub point_of : Case → Point
-point_of c = point c.field.id c.field.session c.field.input c.verdict (verdict_text c.field c.came c.verdict)
+point_of c = point c.field.id c.field.session c.field.input c.verdict c.took (verdict_text c.field c.came c.verdict)
 
 -- what cases are counted as
 abbrev pub judgements_of : List Case → List Judgement
@@ -42,7 +44,7 @@ judgements_of cases = map (λ c. judgement_of c.came c.verdict) cases
 
 -- the same in JSON
 abbrev pub telling_of : Case → Telling
-telling_of c = checked_told c.field c.came c.lost c.verdict
+telling_of c = checked_told c.field c.came c.lost c.verdict c.took
 
 -- what stands first
 abbrev pub opening_text : Format → List ℕ
@@ -89,8 +91,9 @@ is_written_in_words verdict.Same = false
 is_written_in_words verdict.Differs = true
 is_written_in_words verdict.Unanswered = true
 is_written_in_words verdict.LeftOut = false
+is_written_in_words verdict.New = true
 
--- In words a field is written where an output differs or didn't come, and in the formats that programs read always.
+-- In words a field is written where an output differs, is new or didn't come, and in the formats that programs read always.
 abbrev pub is_written : Format → Verdict → Bool
 is_written format.Text v = is_written_in_words v
 is_written format.Whole v = is_written_in_words v

@@ -94,21 +94,23 @@ abbrev pub compared_asked : Option (List ℕ) → Option (Option (List Ids))
 compared_asked None = Some None
 compared_asked (Some text) = some_ids (ids_named text)
 
--- the words that say which fields: the session that they are of, and the numbers of those that are left out, and of those that are compared
+-- the words that say which fields: the session that they are of, the numbers of those that are left out, and of those that are compared, and
+-- whether those that show no answer are checked too
 pub record FieldView : Type 0 where
   pub only : Option (List ℕ)
   pub left_out : Option (List ℕ)
   pub compared : Option (List ℕ)
+  pub all : Bool
 
-abbrev pub field_words : Option (List ℕ) → Option (List ℕ) → Option (List ℕ) → FieldView
-field_words only left_out compared = record { only = only; left_out = left_out; compared = compared }
+abbrev pub field_words : Option (List ℕ) → Option (List ℕ) → Option (List ℕ) → Bool → FieldView
+field_words only left_out compared all = record { only = only; left_out = left_out; compared = compared; all = all }
 
 -- they name these fields
 abbrev pub fields_view : FieldWords → FieldView
-fields_view words = field_words (option_map (λ text. text.now) words.only) (option_map (λ text. text.now) words.left_out) (option_map (λ text. text.now) words.compared)
+fields_view words = field_words (option_map (λ text. text.now) words.only) (option_map (λ text. text.now) words.left_out) (option_map (λ text. text.now) words.compared) words.all
 
 abbrev pub AsksFields : FieldView → Chosen → Type 0
-AsksFields words chosen = (session_asked words.only ≡ Some chosen.only) × (ids_asked words.left_out ≡ Some chosen.left_out) × (compared_asked words.compared ≡ Some chosen.compared)
+AsksFields words chosen = (session_asked words.only ≡ Some chosen.only) × (ids_asked words.left_out ≡ Some chosen.left_out) × (compared_asked words.compared ≡ Some chosen.compared) × (chosen.all ≡ words.all)
 
 -- all that is asked for has a form
 abbrev pub Asks : ReportWords → FieldView → Request → Type 0

@@ -1,9 +1,10 @@
 -- A report as TAP, version 13: the Test Anything Protocol.
-use Rattle.std.specs.Prelude.{ℕ, ◌+◌, ◌==◌, Bool, true, List, [], ◌∷◌, ◌++◌, codes, cond, length}
+use Rattle.std.specs.Prelude.{ℕ, ◌+◌, ◌==◌, Bool, true, false, List, [], ◌∷◌, ◌++◌, Option, Some, None, codes, cond, length}
 use Rattle.std.specs.Fmt.{decimal}
 use Rattle.check_report.specs.declared.verdict.Verdict.{Verdict}
 use Rattle.check_report.specs.declared.verdict.Verdict.TheVariants as verdict
 use Rattle.check_report.specs.Points.{Point}
+use Rattle.sheet_json.specs.declared.checks.Took.{Took}
 
 abbrev pub version_line : List ℕ
 version_line = codes "TAP version 13\n"
@@ -14,6 +15,7 @@ result_words verdict.Same = codes "ok "
 result_words verdict.Differs = codes "not ok "
 result_words verdict.Unanswered = codes "not ok "
 result_words verdict.LeftOut = codes "ok "
+result_words verdict.New = codes "ok "
 
 -- the number of a field and its session
 abbrev pub description : ℕ → List ℕ → List ℕ
@@ -25,10 +27,24 @@ directive verdict.Same = 10 ∷ []
 directive verdict.Differs = 10 ∷ []
 directive verdict.Unanswered = 10 ∷ []
 directive verdict.LeftOut = codes " # SKIP left out\n"
+directive verdict.New = codes " # SKIP new\n"
 
 -- the line of the point with this number, of a field and its session
 abbrev pub point_line : ℕ → ℕ → List ℕ → Verdict → List ℕ
 point_line number id session v = result_words v ++ decimal number ++ description id session ++ directive v
+
+-- what the evaluation took: how many milliseconds, and whether an interpreter was started for it
+abbrev pub duration_line : ℕ → List ℕ
+duration_line millis = codes "  duration_ms: " ++ decimal millis ++ codes "\n"
+
+abbrev pub started_line : Bool → List ℕ
+started_line true = codes "  started: true\n"
+started_line false = codes "  started: false\n"
+
+-- the same as a block of YAML, where it is known
+abbrev pub took_block : Option Took → List ℕ
+took_block None = []
+took_block (Some took) = codes "  ---\n" ++ duration_line took.millis ++ started_line took.started ++ codes "  ...\n"
 
 -- a byte of comments: `# ` stands in front of the first one of each line
 abbrev pub comment_byte : Bool → ℕ → List ℕ
@@ -47,9 +63,9 @@ comments_behind begins (byte ∷ rest) = comment_byte begins byte ++ comments_be
 abbrev pub comments : List ℕ → List ℕ
 comments text = comments_behind true text
 
--- a point, and what is reported of it
+-- a point, what it took, and what is reported of it
 abbrev pub tap_point : ℕ → Point → List ℕ
-tap_point number p = point_line number p.id p.session p.verdict ++ comments p.told
+tap_point number p = point_line number p.id p.session p.verdict ++ took_block p.took ++ comments p.told
 
 -- points, of which the first has this number
 abbrev pub tap_points : ℕ → List Point → List ℕ

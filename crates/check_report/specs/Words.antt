@@ -42,12 +42,21 @@ change_between field shown came = change_of (hunk_of (lines_of shown) (lines_of 
 abbrev pub change_text : Field → Option Answer → List ℕ
 change_text field came = change_between field (output_lines field.answer None) (output_lines came None)
 
+-- the lines of a field, and those of an output with their mark
+abbrev pub addition_of : Field → List ℕ → List ℕ
+addition_of field came = number_line field ++ (input_line field ++ marked (codes "+ ") came)
+
+-- A field that shows no answer, and the one that came: its lines as `print` has them, but those of the output with `+ ` in front.
+abbrev pub new_text : Field → Option Answer → List ℕ
+new_text field came = addition_of field (output_lines came None)
+
 -- what is written of a field that came to this, with whole outputs
 abbrev pub whole_text : Field → Option Answer → Verdict → List ℕ
 whole_text field came verdict.Same = []
 whole_text field came verdict.Differs = difference_text field came
 whole_text field came verdict.Unanswered = difference_text field came
 whole_text field came verdict.LeftOut = []
+whole_text field came verdict.New = new_text field came
 
 -- what is written of a field that came to this
 abbrev pub verdict_text : Field → Option Answer → Verdict → List ℕ
@@ -55,6 +64,7 @@ verdict_text field came verdict.Same = []
 verdict_text field came verdict.Differs = change_text field came
 verdict_text field came verdict.Unanswered = difference_text field came
 verdict_text field came verdict.LeftOut = []
+verdict_text field came verdict.New = new_text field came
 
 -- the line that says that the answer which came to this field is accepted
 abbrev pub accepted_line : ℕ → List ℕ
@@ -66,6 +76,7 @@ acceptance_text field came verdict.Same = []
 acceptance_text field came verdict.Differs = change_text field came ++ accepted_line field.id
 acceptance_text field came verdict.Unanswered = difference_text field came
 acceptance_text field came verdict.LeftOut = []
+acceptance_text field came verdict.New = new_text field came ++ accepted_line field.id
 
 -- how many were left out, where some were
 abbrev pub left_out_part : ℕ → List ℕ
@@ -74,6 +85,10 @@ left_out_part n = if nat_eq n 0 then [] else codes " left out " ++ decimal n
 -- how many answers are errors, where some are
 abbrev pub errors_part : ℕ → List ℕ
 errors_part n = if nat_eq n 0 then [] else codes " errors " ++ decimal n
+
+-- how many answers came to fields that show none, where some did
+abbrev pub new_part : ℕ → List ℕ
+new_part n = if nat_eq n 0 then [] else codes " new " ++ decimal n
 
 -- how many were compared, by what they came to
 abbrev pub compared_part : Counts → List ℕ
@@ -85,7 +100,7 @@ accepted_part counts = codes "same " ++ decimal counts.same ++ codes " accepted 
 
 -- the last line
 abbrev pub counts_text : Counts → List ℕ
-counts_text counts = compared_part counts ++ left_out_part counts.left_out ++ errors_part counts.errors ++ 10 ∷ []
+counts_text counts = compared_part counts ++ left_out_part counts.left_out ++ errors_part counts.errors ++ new_part counts.new ++ 10 ∷ []
 
 abbrev pub accepted_counts_text : Counts → List ℕ
-accepted_counts_text counts = accepted_part counts ++ left_out_part counts.left_out ++ errors_part counts.errors ++ 10 ∷ []
+accepted_counts_text counts = accepted_part counts ++ left_out_part counts.left_out ++ errors_part counts.errors ++ new_part counts.new ++ 10 ∷ []

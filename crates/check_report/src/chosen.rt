@@ -1,7 +1,6 @@
 //! Which fields are checked, and which of those are compared.
-ghost use Rattle.std.specs.Prelude.{◌≡◌, [], None, IfSome};
+ghost use Rattle.std.specs.Prelude.{◌≡◌, [], None, false};
 ghost use Rattle.std.specs.List.{list_any};
-ghost use Rattle.std.specs.Option.{option_copied};
 ghost use Rattle.check_report.specs.Chosen as choice;
 
 use crate::verdict::{Verdict, compare};
@@ -32,7 +31,7 @@ fn have(left_out: &[Ids], id: u32) -> bool
     left_out.iter().any(|ids| ids.has(id))
 }
 
-/// Which fields are checked: those that show an answer, of one session or of all.
+/// Which fields are checked, of one session or of all.
 #[derive(Debug, Drop)]
 pub struct Chosen {
     /// The session whose fields are checked. None: all of them are.
@@ -41,19 +40,23 @@ pub struct Chosen {
     pub left_out: Sequence<Ids>,
     /// The fields whose outputs are compared. None: those of all that aren't left out.
     pub compared: Option<Sequence<Ids>>,
+    /// Whether fields that show no answer are checked too.
+    pub all: bool,
 }
 
 impl Chosen {
-    /// All fields.
+    /// All fields that show an answer.
     pub fn all(alloc: Global) -> Chosen
         ensures only { result.only ≡ None }
         ensures left_out { result.left_out ≡ [] }
         ensures compared { result.compared ≡ None }
+        ensures all { result.all ≡ false }
     {
         Chosen {
             only: Option::None,
             left_out: Sequence::new(alloc),
             compared: Option::None,
+            all: false,
         }
     }
 
@@ -67,15 +70,11 @@ impl Chosen {
         }
     }
 
-    /// The answer that a field shows, where it is of a session that is checked.
-    pub fn shown<'a>(&self, field: &'a Field) -> Option<&'a Answer>
-        ensures { option_copied result ≡ choice.shown_by self.now field.now }
+    /// Whether a field is checked.
+    pub fn has(&self, field: &Field) -> bool
+        ensures { result ≡ choice.is_chosen self.now field.now }
     {
-        if self.is_of(&field.session) {
-            field.answer.as_ref()
-        } else {
-            Option::None
-        }
+        self.is_of(&field.session) && (self.all || field.answer.is_some())
     }
 
     /// Whether a field is one of those that are to be compared.
@@ -95,15 +94,14 @@ impl Chosen {
         have(self.left_out.as_slice(), id) || !self.compares(id)
     }
 
-    /// What another evaluation of the field with this number comes to, by the answer that it shows and the
-    /// one that came.
-    pub fn judge(&self, id: u32, shown: &Answer, came: &Option<Answer>) -> Verdict
-        ensures { choice.Judged self.now id shown.now.output came.now result }
+    /// What an evaluation of a field comes to, by the answer that it shows and the one that came.
+    pub fn judge(&self, field: &Field, came: &Option<Answer>) -> Verdict
+        ensures { choice.Judged self.now field.now came.now result }
     {
-        if self.leaves_out(id) {
+        if self.leaves_out(field.id) {
             Verdict::LeftOut
         } else {
-            compare(shown, came)
+            compare(&field.answer, came)
         }
     }
 }

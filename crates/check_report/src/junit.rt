@@ -5,8 +5,9 @@ ghost use Rattle.check_report.specs.Points.{point};
 ghost use Rattle.check_report.specs.Junit as junit;
 
 use crate::verdict::Verdict;
-use crate::writing::{write_bytes, write_id};
+use crate::writing::{write_bytes, write_id, write_number};
 use crate::xml::write_text;
+use sheet_json::Took;
 use sheet_text::WriteFault;
 use std::io::Write;
 
@@ -42,22 +43,54 @@ fn write_title<W: Write>(id: u32, input: &[u8], out: &mut W) -> Result<(), Write
     Ok(())
 }
 
-/// Writes what begins a case: the name of its session, and its own.
+/// Writes milliseconds as seconds, with three digits after the point.
+#[tactic(auto, using(crate::proofs::Written::steps))]
+fn write_seconds<W: Write>(millis: u64, out: &mut W) -> Result<(), WriteFault>
+    ensures { OnOk result (Appends (W.contents out.old) (W.contents out.new)
+        (junit.seconds_text millis)) }
+{
+    write_number(millis / 1000, out)?;
+    write_bytes(b".", out)?;
+    write_number(millis / 100 % 10, out)?;
+    write_number(millis / 10 % 10, out)?;
+    write_number(millis % 10, out)?;
+    Ok(())
+}
+
+/// Writes the seconds that a case took, where they are known.
+#[tactic(auto, using(crate::proofs::Written::steps))]
+fn write_time<W: Write>(took: Option<Took>, out: &mut W) -> Result<(), WriteFault>
+    ensures { OnOk result (Appends (W.contents out.old) (W.contents out.new)
+        (junit.time_part took)) }
+{
+    let Some(took) = took else {
+        return Ok(());
+    };
+    write_bytes(b" time=\"", out)?;
+    write_seconds(took.millis, out)?;
+    write_bytes(b"\"", out)?;
+    Ok(())
+}
+
+/// Writes what begins a case: the name of its session, its own, and what it took.
 #[tactic(auto, using(crate::proofs::Written::steps))]
 fn write_start<W: Write>(
     id: u32,
     session: &[u8],
     input: &[u8],
+    took: Option<Took>,
     out: &mut W,
 ) -> Result<(), WriteFault>
     ensures { OnOk result (Appends (W.contents out.old) (W.contents out.new)
-        (junit.case_start id session.now input.now)) }
+        (junit.case_start id session.now input.now took)) }
 {
     write_bytes(b"<testcase classname=\"", out)?;
     write_text(session, out)?;
     write_bytes(b"\" name=\"", out)?;
     write_title(id, input, out)?;
-    write_bytes(b"\">", out)?;
+    write_bytes(b"\"", out)?;
+    write_time(took, out)?;
+    write_bytes(b">", out)?;
     Ok(())
 }
 
@@ -71,6 +104,7 @@ fn write_result_start<W: Write>(verdict: Verdict, out: &mut W) -> Result<(), Wri
         Verdict::Differs => write_bytes(b"<failure message=\"differs\">", out),
         Verdict::Unanswered => write_bytes(b"<error message=\"unanswered\">", out),
         Verdict::LeftOut => write_bytes(b"<skipped message=\"left out\">", out),
+        Verdict::New => write_bytes(b"<skipped message=\"new\">", out),
     }
 }
 
@@ -83,7 +117,7 @@ fn write_result_end<W: Write>(verdict: Verdict, out: &mut W) -> Result<(), Write
         Verdict::Same => write_bytes(b"</testcase>\n", out),
         Verdict::Differs => write_bytes(b"</failure></testcase>\n", out),
         Verdict::Unanswered => write_bytes(b"</error></testcase>\n", out),
-        Verdict::LeftOut => write_bytes(b"</skipped></testcase>\n", out),
+        Verdict::LeftOut | Verdict::New => write_bytes(b"</skipped></testcase>\n", out),
     }
 }
 
@@ -94,13 +128,14 @@ pub(crate) fn write_case<W: Write>(
     session: &[u8],
     input: &[u8],
     verdict: Verdict,
+    took: Option<Took>,
     told: &[u8],
     out: &mut W,
 ) -> Result<(), WriteFault>
     ensures { OnOk result (Appends (W.contents out.old) (W.contents out.new)
-        (junit.junit_case (point id session.now input.now verdict told.now))) }
+        (junit.junit_case (point id session.now input.now verdict took told.now))) }
 {
-    write_start(id, session, input, out)?;
+    write_start(id, session, input, took, out)?;
     write_result_start(verdict, out)?;
     write_text(told, out)?;
     write_result_end(verdict, out)?;

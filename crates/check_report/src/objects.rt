@@ -11,7 +11,9 @@ use crate::verdict::{Counts, Verdict};
 use crate::writing::{write_bytes, write_id};
 use block_tree::Reason;
 use serde_json::Value;
-use sheet_json::{differs_value, left_out_value, same_value, told_bytes, unanswered_value};
+use sheet_json::{
+    Took, differs_value, left_out_value, new_value, same_value, told_bytes, unanswered_value,
+};
 use sheet_text::WriteFault;
 use std::alloc::{AllocError, Global};
 use std::io::Write;
@@ -24,15 +26,17 @@ fn case_value(
     came: &Option<Answer>,
     lost: Option<Reason>,
     verdict: Verdict,
+    took: Option<Took>,
 ) -> Result<Value, AllocError>
     ensures { IfOk result (λ value. view value
-        ≡ telling_data (checked_told field.now came.now lost verdict)) }
+        ≡ telling_data (checked_told field.now came.now lost verdict took)) }
 {
     match verdict {
-        Verdict::Same => same_value(alloc, field),
-        Verdict::Differs => differs_value(alloc, field, came),
-        Verdict::Unanswered => unanswered_value(alloc, field, lost),
-        Verdict::LeftOut => left_out_value(alloc, field),
+        Verdict::Same => same_value(alloc, field, took),
+        Verdict::Differs => differs_value(alloc, field, came, took),
+        Verdict::Unanswered => unanswered_value(alloc, field, lost, took),
+        Verdict::LeftOut => left_out_value(alloc, field, took),
+        Verdict::New => new_value(alloc, field, came, took),
     }
 }
 
@@ -43,11 +47,12 @@ pub(crate) fn case_in_memory(
     came: &Option<Answer>,
     lost: Option<Reason>,
     verdict: Verdict,
+    took: Option<Took>,
 ) -> Option<Vec<u8>>
     ensures { IfSome result (λ line. line.items
-        ≡ telling_line (checked_told field.now came.now lost verdict)) }
+        ≡ telling_line (checked_told field.now came.now lost verdict took)) }
 {
-    let Ok(value) = case_value(alloc, field, came, lost, verdict) else {
+    let Ok(value) = case_value(alloc, field, came, lost, verdict, took) else {
         return Option::None;
     };
     match told_bytes(alloc, &value) {
@@ -80,11 +85,13 @@ fn write_first_part<W: Write>(counts: Counts, out: &mut W) -> Result<(), WriteFa
     Ok(())
 }
 
-/// Writes the other counts, and what stands last.
+/// Writes the other counts, how many answers are new first, and what stands last.
 #[tactic(auto, using(crate::proofs::Written::steps))]
 fn write_second_part<W: Write>(counts: Counts, out: &mut W) -> Result<(), WriteFault>
     ensures { OnOk result (Appends (W.contents out.old) (W.contents out.new) (second_part counts)) }
 {
+    write_bytes(b",\"new\":", out)?;
+    write_id(counts.new, out)?;
     write_bytes(b",\"same\":", out)?;
     write_id(counts.same, out)?;
     write_bytes(b",\"type\":\"compared\",\"unanswered\":", out)?;

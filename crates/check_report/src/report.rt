@@ -15,11 +15,12 @@ use crate::objects::{case_in_memory, write_end, write_hello};
 use crate::tap::{write_plan, write_point, write_version};
 use crate::verdict::{Counts, Verdict};
 use crate::words::{
-    Outputs, acceptance_in_memory, outputs_in_memory, verdict_in_memory, write_accepted_counts,
-    write_change, write_counts, write_difference,
+    Outputs, acceptance_in_memory, new_output, outputs_in_memory, verdict_in_memory,
+    write_accepted_counts, write_addition, write_change, write_counts, write_difference,
 };
 use crate::writing::write_bytes;
 use block_tree::Reason;
+use sheet_json::Took;
 use sheet_text::WriteFault;
 use std::alloc::Global;
 use std::io::Write;
@@ -97,7 +98,10 @@ pub fn close_report<W: Write>(
 fn is_written_in_words(verdict: Verdict) -> bool
     ensures { result ≡ is_written_words verdict }
 {
-    matches!(verdict, Verdict::Differs | Verdict::Unanswered)
+    matches!(
+        verdict,
+        Verdict::Differs | Verdict::Unanswered | Verdict::New
+    )
 }
 
 /// Whether anything is written of a field that came to this.
@@ -183,6 +187,36 @@ fn report_change<W: Write>(
     }
 }
 
+/// Writes in words a field that shows no output, and the one that came, and brings it out.
+fn write_added<W: Write>(field: &Field, came: &[u8], writer: &mut W) -> Result<(), WriteFault>
+    ensures { OnOk result (Appends (W.contents writer.old) (W.contents writer.new)
+        (printed.addition_of field.now came.now)) }
+{
+    write_addition(field, came, writer)?;
+    writer.flush().map_err(|_| WriteFault)?;
+    Ok(())
+}
+
+/// Tells in words the answer that came to a field which shows none.
+fn report_addition<W: Write>(
+    alloc: Global,
+    field: &Field,
+    came: &Option<Answer>,
+    writer: &mut W,
+) -> Result<(), ReportFault>
+    ensures ok { OnOk result (Appends (W.contents writer.old) (W.contents writer.new)
+        (printed.new_text field.now came.now)) }
+    ensures err { IfErr result (Unreported (W.contents writer.old) (W.contents writer.new)) }
+{
+    let Some(came) = new_output(alloc, came) else {
+        return Err(ReportFault::OutOfMemory);
+    };
+    match write_added(field, came.as_slice(), writer) {
+        Ok(()) => Ok(()),
+        Err(_) => Err(ReportFault::Output),
+    }
+}
+
 /// Tells a field in words, with whole outputs.
 fn report_whole<W: Write>(
     alloc: Global,
@@ -198,6 +232,7 @@ fn report_whole<W: Write>(
     match verdict {
         Verdict::Same | Verdict::LeftOut => Ok(()),
         Verdict::Differs | Verdict::Unanswered => report_difference(alloc, field, came, writer),
+        Verdict::New => report_addition(alloc, field, came, writer),
     }
 }
 
@@ -217,6 +252,7 @@ fn report_words<W: Write>(
         Verdict::Same | Verdict::LeftOut => Ok(()),
         Verdict::Differs => report_change(alloc, field, came, writer),
         Verdict::Unanswered => report_difference(alloc, field, came, writer),
+        Verdict::New => report_addition(alloc, field, came, writer),
     }
 }
 
@@ -225,17 +261,19 @@ fn write_as_point<W: Write>(
     number: u64,
     field: &Field,
     verdict: Verdict,
+    took: Option<Took>,
     told: &[u8],
     writer: &mut W,
 ) -> Result<(), WriteFault>
     ensures { OnOk result (Appends (W.contents writer.old) (W.contents writer.new)
-        (taps.tap_point number (point field.now.id field.now.session field.now.input verdict told.now))) }
+        (taps.tap_point number (point field.now.id field.now.session field.now.input verdict took told.now))) }
 {
     write_point(
         number,
         field.id,
         field.session.as_slice(),
         verdict,
+        took,
         told,
         writer,
     )?;
@@ -247,17 +285,19 @@ fn write_as_point<W: Write>(
 fn write_as_case<W: Write>(
     field: &Field,
     verdict: Verdict,
+    took: Option<Took>,
     told: &[u8],
     writer: &mut W,
 ) -> Result<(), WriteFault>
     ensures { OnOk result (Appends (W.contents writer.old) (W.contents writer.new)
-        (junits.junit_case (point field.now.id field.now.session field.now.input verdict told.now))) }
+        (junits.junit_case (point field.now.id field.now.session field.now.input verdict took told.now))) }
 {
     write_case(
         field.id,
         field.session.as_slice(),
         field.input.as_bytes(),
         verdict,
+        took,
         told,
         writer,
     )?;
@@ -272,17 +312,18 @@ fn report_point<W: Write>(
     field: &Field,
     came: &Option<Answer>,
     verdict: Verdict,
+    took: Option<Took>,
     writer: &mut W,
 ) -> Result<(), ReportFault>
     ensures ok { OnOk result (Appends (W.contents writer.old) (W.contents writer.new)
-        (taps.tap_point number (point field.now.id field.now.session field.now.input verdict
+        (taps.tap_point number (point field.now.id field.now.session field.now.input verdict took
         (printed.verdict_text field.now came.now verdict)))) }
     ensures err { IfErr result (Unreported (W.contents writer.old) (W.contents writer.new)) }
 {
     let Some(told) = verdict_in_memory(alloc, field, came, verdict) else {
         return Err(ReportFault::OutOfMemory);
     };
-    match write_as_point(number, field, verdict, told.as_slice(), writer) {
+    match write_as_point(number, field, verdict, took, told.as_slice(), writer) {
         Ok(()) => Ok(()),
         Err(_) => Err(ReportFault::Output),
     }
@@ -294,17 +335,18 @@ fn report_junit<W: Write>(
     field: &Field,
     came: &Option<Answer>,
     verdict: Verdict,
+    took: Option<Took>,
     writer: &mut W,
 ) -> Result<(), ReportFault>
     ensures ok { OnOk result (Appends (W.contents writer.old) (W.contents writer.new)
-        (junits.junit_case (point field.now.id field.now.session field.now.input verdict
+        (junits.junit_case (point field.now.id field.now.session field.now.input verdict took
         (printed.verdict_text field.now came.now verdict)))) }
     ensures err { IfErr result (Unreported (W.contents writer.old) (W.contents writer.new)) }
 {
     let Some(told) = verdict_in_memory(alloc, field, came, verdict) else {
         return Err(ReportFault::OutOfMemory);
     };
-    match write_as_case(field, verdict, told.as_slice(), writer) {
+    match write_as_case(field, verdict, took, told.as_slice(), writer) {
         Ok(()) => Ok(()),
         Err(_) => Err(ReportFault::Output),
     }
@@ -326,13 +368,14 @@ fn report_json<W: Write>(
     came: &Option<Answer>,
     lost: Option<Reason>,
     verdict: Verdict,
+    took: Option<Took>,
     writer: &mut W,
 ) -> Result<(), ReportFault>
     ensures ok { OnOk result (Appends (W.contents writer.old) (W.contents writer.new)
-        (telling_line (checked_told field.now came.now lost verdict))) }
+        (telling_line (checked_told field.now came.now lost verdict took))) }
     ensures err { IfErr result (Unreported (W.contents writer.old) (W.contents writer.new)) }
 {
-    let Some(line) = case_in_memory(alloc, field, came, lost, verdict) else {
+    let Some(line) = case_in_memory(alloc, field, came, lost, verdict, took) else {
         return Err(ReportFault::OutOfMemory);
     };
     match bring_out(line.as_slice(), writer) {
@@ -372,18 +415,19 @@ pub fn report_case<W: Write>(
     came: &Option<Answer>,
     lost: Option<Reason>,
     verdict: Verdict,
+    took: Option<Took>,
     writer: &mut W,
 ) -> Result<(), ReportFault>
     ensures ok { OnOk result (Appends (W.contents writer.old) (W.contents writer.new)
-        (case_text format number (case_of field.now came.now lost verdict))) }
+        (case_text format number (case_of field.now came.now lost verdict took))) }
     ensures err { IfErr result (Unreported (W.contents writer.old) (W.contents writer.new)) }
 {
     match format {
         Format::Text => report_words(alloc, field, came, verdict, writer),
         Format::Whole => report_whole(alloc, field, came, verdict, writer),
-        Format::Tap => report_point(alloc, number, field, came, verdict, writer),
-        Format::Junit => report_junit(alloc, field, came, verdict, writer),
-        Format::Json => report_json(alloc, field, came, lost, verdict, writer),
+        Format::Tap => report_point(alloc, number, field, came, verdict, took, writer),
+        Format::Junit => report_junit(alloc, field, came, verdict, took, writer),
+        Format::Json => report_json(alloc, field, came, lost, verdict, took, writer),
         Format::Accepting => report_accepting(alloc, field, came, verdict, writer),
     }
 }

@@ -111,7 +111,7 @@ fn read_report(
         (asked.report_words accept whole json (option_map (λ text. text.now) name.entry))) }
     ensures err { IfErr result (asked.AsksFor
         (asked.report_words accept whole json (option_map (λ text. text.now) name.entry))
-        (asked.field_words None None None)) }
+        (asked.field_words None None None false)) }
 {
     let format = match read_format(json, name) {
         Ok(format) => format,
@@ -153,7 +153,7 @@ fn read_left_out(alloc: Global, text: Option<&str>) -> Result<Sequence<Ids>, Req
     ensures ok { IfOk result (λ ids.
         asked.ids_asked (option_map (λ text. text.now) text.entry) ≡ Some ids) }
     ensures err { IfErr result (asked.AsksFor (asked.report_words false false false None)
-        (asked.field_words None (option_map (λ text. text.now) text.entry) None)) }
+        (asked.field_words None (option_map (λ text. text.now) text.entry) None false)) }
 {
     let Some(text) = text else {
         return Ok(Sequence::new(alloc));
@@ -170,7 +170,7 @@ fn read_compared(alloc: Global, text: Option<&str>) -> Result<Option<Sequence<Id
     ensures ok { IfOk result (λ ids.
         asked.compared_asked (option_map (λ text. text.now) text.entry) ≡ Some ids) }
     ensures err { IfErr result (asked.AsksFor (asked.report_words false false false None)
-        (asked.field_words None None (option_map (λ text. text.now) text.entry))) }
+        (asked.field_words None None (option_map (λ text. text.now) text.entry) false)) }
 {
     let Some(text) = text else {
         return Ok(None);
@@ -191,6 +191,8 @@ pub struct FieldWords<'a> {
     pub left_out: Option<&'a str>,
     /// The numbers of those that are compared.
     pub compared: Option<&'a str>,
+    /// Whether those that show no answer are checked too.
+    pub all: bool,
 }
 
 /// The fields that the words ask for.
@@ -212,6 +214,7 @@ fn read_chosen(alloc: Global, words: FieldWords<'_>) -> Result<Chosen, RequestFa
             only,
             left_out,
             compared,
+            all: words.all,
         }),
         Err(why) => Err(why),
     }

@@ -6,6 +6,7 @@ ghost use Rattle.check_report.specs.Tap as tap;
 
 use crate::verdict::Verdict;
 use crate::writing::{write_bytes, write_id, write_number};
+use sheet_json::Took;
 use sheet_text::WriteFault;
 use std::io::Write;
 
@@ -33,7 +34,7 @@ fn write_result<W: Write>(verdict: Verdict, out: &mut W) -> Result<(), WriteFaul
         (Appends (W.contents out.old) (W.contents out.new) (tap.result_words verdict)) }
 {
     match verdict {
-        Verdict::Same | Verdict::LeftOut => write_bytes(b"ok ", out),
+        Verdict::Same | Verdict::LeftOut | Verdict::New => write_bytes(b"ok ", out),
         Verdict::Differs | Verdict::Unanswered => write_bytes(b"not ok ", out),
     }
 }
@@ -45,6 +46,7 @@ fn write_directive<W: Write>(verdict: Verdict, out: &mut W) -> Result<(), WriteF
 {
     match verdict {
         Verdict::LeftOut => write_bytes(b" # SKIP left out\n", out),
+        Verdict::New => write_bytes(b" # SKIP new\n", out),
         Verdict::Same | Verdict::Differs | Verdict::Unanswered => write_bytes(b"\n", out),
     }
 }
@@ -123,20 +125,62 @@ fn write_comments<W: Write>(text: &[u8], out: &mut W) -> Result<(), WriteFault>
     Ok(())
 }
 
-/// Writes a test point, and what is reported of it as comments.
+/// Writes how many milliseconds an evaluation took.
+#[tactic(auto, using(crate::proofs::Written::steps))]
+fn write_duration<W: Write>(millis: u64, out: &mut W) -> Result<(), WriteFault>
+    ensures { OnOk result (Appends (W.contents out.old) (W.contents out.new)
+        (tap.duration_line millis)) }
+{
+    write_bytes(b"  duration_ms: ", out)?;
+    write_number(millis, out)?;
+    write_bytes(b"\n", out)?;
+    Ok(())
+}
+
+/// Writes whether an interpreter was started for it.
+fn write_started<W: Write>(started: bool, out: &mut W) -> Result<(), WriteFault>
+    ensures { OnOk result (Appends (W.contents out.old) (W.contents out.new)
+        (tap.started_line started)) }
+{
+    if started {
+        write_bytes(b"  started: true\n", out)
+    } else {
+        write_bytes(b"  started: false\n", out)
+    }
+}
+
+/// Writes what an evaluation took as a block of YAML, where it is known.
+#[tactic(auto, using(crate::proofs::Written::steps))]
+fn write_took<W: Write>(took: Option<Took>, out: &mut W) -> Result<(), WriteFault>
+    ensures { OnOk result (Appends (W.contents out.old) (W.contents out.new)
+        (tap.took_block took)) }
+{
+    let Some(took) = took else {
+        return Ok(());
+    };
+    write_bytes(b"  ---\n", out)?;
+    write_duration(took.millis, out)?;
+    write_started(took.started, out)?;
+    write_bytes(b"  ...\n", out)?;
+    Ok(())
+}
+
+/// Writes a test point, what it took, and what is reported of it as comments.
 #[tactic(auto, using(crate::proofs::Written::steps))]
 pub(crate) fn write_point<W: Write>(
     number: u64,
     id: u32,
     session: &[u8],
     verdict: Verdict,
+    took: Option<Took>,
     told: &[u8],
     out: &mut W,
 ) -> Result<(), WriteFault>
     ensures { OnOk result (Appends (W.contents out.old) (W.contents out.new)
-        (tap.tap_point number (point id session.now [] verdict told.now))) }
+        (tap.tap_point number (point id session.now [] verdict took told.now))) }
 {
     write_point_line(number, id, session, verdict, out)?;
+    write_took(took, out)?;
     write_comments(told, out)?;
     Ok(())
 }

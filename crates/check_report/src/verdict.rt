@@ -1,5 +1,5 @@
 //! What evaluations come to, and their counts.
-ghost use Rattle.std.specs.Prelude.{◌≡◌, ◌+◌, ◌≤◌, ◌<◌, ◌^◌};
+ghost use Rattle.std.specs.Prelude.{◌≡◌, ◌+◌, ◌≤◌, ◌<◌, ◌^◌, Some};
 ghost use Rattle.check_report.specs.Verdicts.{Compared, counted_with, total};
 ghost use Rattle.check_report.specs.Verdicts as verdicts;
 
@@ -16,6 +16,8 @@ pub enum Verdict {
     Unanswered,
     /// What came isn't compared.
     LeftOut,
+    /// An answer came to a field that shows none.
+    New,
 }
 
 /// What another evaluation is counted as.
@@ -27,7 +29,7 @@ pub struct Judgement {
     pub error: bool,
 }
 
-/// How many evaluations came to what: one for each field that shows an answer, so 10,000 at most.
+/// How many evaluations came to what: one for each field that is checked, so 10,000 at most.
 #[derive(Clone, Copy, Debug, PartialEq, Eq)]
 pub struct Counts {
     /// Those whose output is the one that the field shows.
@@ -40,12 +42,14 @@ pub struct Counts {
     pub left_out: u32,
     /// Those of which an answer came that is an error, or has one in it, whatever they came to.
     pub errors: u32,
+    /// Those of fields that show no answer, to which one came.
+    pub new: u32,
 }
 
 impl Counts {
     /// Of no evaluation.
     pub fn none() -> Counts
-        ensures { result ≡ record { same = 0; differ = 0; unanswered = 0; left_out = 0; errors = 0 } }
+        ensures { result ≡ record { same = 0; differ = 0; unanswered = 0; left_out = 0; errors = 0; new = 0 } }
     {
         Counts {
             same: 0,
@@ -53,6 +57,7 @@ impl Counts {
             unanswered: 0,
             left_out: 0,
             errors: 0,
+            new: 0,
         }
     }
 
@@ -79,6 +84,7 @@ impl Counts {
             Verdict::Differs => counts.differ += 1,
             Verdict::Unanswered => counts.unanswered += 1,
             Verdict::LeftOut => counts.left_out += 1,
+            Verdict::New => counts.new += 1,
         }
         counts
     }
@@ -104,16 +110,28 @@ impl Counts {
             + u64::from(self.differ)
             + u64::from(self.unanswered)
             + u64::from(self.left_out)
+            + u64::from(self.new)
     }
 }
 
 /// Compares the output of the answer that a field shows with that of the answer that came.
-pub(crate) fn compare(shown: &Answer, came: &Option<Answer>) -> Verdict
-    ensures { Compared shown.now.output came.now result }
+fn compare_outputs(shown: &Answer, came: &Answer) -> Verdict
+    ensures { Compared (Some shown.now) (Some came.now) result }
 {
-    match came {
-        None => Verdict::Unanswered,
-        Some(came) if came.output == shown.output => Verdict::Same,
-        Some(_) => Verdict::Differs,
+    if came.output == shown.output {
+        Verdict::Same
+    } else {
+        Verdict::Differs
+    }
+}
+
+/// Compares the answer that a field shows, where it shows one, with the one that came.
+pub(crate) fn compare(shown: &Option<Answer>, came: &Option<Answer>) -> Verdict
+    ensures { Compared shown.now came.now result }
+{
+    match (shown, came) {
+        (_, None) => Verdict::Unanswered,
+        (None, Some(_)) => Verdict::New,
+        (Some(shown), Some(came)) => compare_outputs(shown, came),
     }
 }

@@ -156,6 +156,45 @@ fn difference_in_memory(alloc: Global, field: &Field, came: &Option<Answer>) -> 
     }
 }
 
+/// The output that came to a field which shows none, in memory.
+pub(crate) fn new_output(alloc: Global, came: &Option<Answer>) -> Option<Vec<u8>>
+    ensures { IfSome result (λ text. text.items ≡ output_lines came.now None) }
+{
+    match output_in_memory(alloc, came) {
+        Ok(text) => Some(text),
+        Err(_) => Option::None,
+    }
+}
+
+/// Writes a field that shows no output, and the one that came.
+pub(crate) fn write_addition<W: Write>(
+    field: &Field,
+    came: &[u8],
+    writer: &mut W,
+) -> Result<(), WriteFault>
+    ensures { OnOk result (Appends (W.contents writer.old) (W.contents writer.new)
+        (printed.addition_of field.now came.now)) }
+{
+    write_number(field, writer)?;
+    write_input(field, writer)?;
+    write_marked(b"+ ", came, writer)?;
+    Ok(())
+}
+
+/// The same in memory.
+fn addition_in_memory(alloc: Global, field: &Field, came: &Option<Answer>) -> Option<Vec<u8>>
+    ensures { IfSome result (λ text. text.items ≡ printed.new_text field.now came.now) }
+{
+    let Some(came) = new_output(alloc, came) else {
+        return Option::None;
+    };
+    let mut text = Vec::new(alloc);
+    match write_addition(field, came.as_slice(), &mut text) {
+        Ok(()) => Some(text),
+        Err(_) => Option::None,
+    }
+}
+
 /// What is written of a field that came to this, in memory. None where there is none for it.
 pub(crate) fn verdict_in_memory(
     alloc: Global,
@@ -170,6 +209,7 @@ pub(crate) fn verdict_in_memory(
         Verdict::Same | Verdict::LeftOut => Some(Vec::new(alloc)),
         Verdict::Differs => change_in_memory(alloc, field, came),
         Verdict::Unanswered => difference_in_memory(alloc, field, came),
+        Verdict::New => addition_in_memory(alloc, field, came),
     }
 }
 
@@ -210,6 +250,10 @@ pub fn acceptance_in_memory(
             Some(text) => with_accepted(text, field.id),
             None => Option::None,
         },
+        Verdict::New => match addition_in_memory(alloc, field, came) {
+            Some(text) => with_accepted(text, field.id),
+            None => Option::None,
+        },
     }
 }
 
@@ -235,6 +279,17 @@ fn write_errors<W: Write>(errors: u32, writer: &mut W) -> Result<(), WriteFault>
     write!(writer, " errors {errors}").map_err(|_| WriteFault)
 }
 
+/// Writes how many answers came to fields that show none, where some did.
+fn write_new<W: Write>(new: u32, writer: &mut W) -> Result<(), WriteFault>
+    ensures { OnOk result (Appends (W.contents writer.old) (W.contents writer.new)
+        (printed.new_part new)) }
+{
+    if new == 0 {
+        return Ok(());
+    }
+    write!(writer, " new {new}").map_err(|_| WriteFault)
+}
+
 /// Writes how many were compared, by what they came to.
 fn write_compared<W: Write>(counts: Counts, writer: &mut W) -> Result<(), WriteFault>
     ensures { OnOk result (Appends (W.contents writer.old) (W.contents writer.new)
@@ -246,6 +301,7 @@ fn write_compared<W: Write>(counts: Counts, writer: &mut W) -> Result<(), WriteF
         unanswered,
         left_out: _,
         errors: _,
+        new: _,
     } = counts;
     write!(
         writer,
@@ -265,6 +321,7 @@ fn write_accepted_part<W: Write>(counts: Counts, writer: &mut W) -> Result<(), W
         unanswered,
         left_out: _,
         errors: _,
+        new: _,
     } = counts;
     write!(
         writer,
@@ -285,6 +342,7 @@ pub(crate) fn write_accepted_counts<W: Write>(
     write_accepted_part(counts, writer)?;
     write_left_out(counts.left_out, writer)?;
     write_errors(counts.errors, writer)?;
+    write_new(counts.new, writer)?;
     write_bytes(b"\n", writer)?;
     Ok(())
 }
@@ -298,6 +356,7 @@ pub(crate) fn write_counts<W: Write>(counts: Counts, writer: &mut W) -> Result<(
     write_compared(counts, writer)?;
     write_left_out(counts.left_out, writer)?;
     write_errors(counts.errors, writer)?;
+    write_new(counts.new, writer)?;
     write_bytes(b"\n", writer)?;
     Ok(())
 }

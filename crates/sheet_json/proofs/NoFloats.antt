@@ -11,7 +11,7 @@ use Rattle.serde_json.specs.Written.{has_float, items_have_float}
 use Rattle.sheet_json.specs.Bytes.{base64_data, bytes_data}
 use Rattle.sheet_json.specs.Blocks.{block_object, items_data, tree_data}
 use Rattle.sheet_json.specs.Lines.{json_line}
-use Rattle.sheet_json.specs.Objects.{answer_data, checked_data, completions_data, count, event_data, export_data, field_with, life_data, lost_data, reply_data, session_data, shown_data, telling_data, why_data}
+use Rattle.sheet_json.specs.Objects.{answer_data, checked_data, completions_data, count, event_data, export_data, field_with, life_data, lost_data, reply_data, session_data, shown_data, telling_data, took_data, why_data}
 use Rattle.sheet_json.specs.Sheets.{telling_line}
 use Rattle.sheet_json.specs.Shown.{still_field, whole_of}
 use Rattle.worksheet.specs.Contents.{Contents}
@@ -20,6 +20,7 @@ use Rattle.worksheet.specs.declared.field.Answer.{Answer}
 use Rattle.worksheet.specs.declared.field.Field.{Field}
 use Rattle.sheet_json.specs.Tellings.{CheckTold, EventTold, FieldShown, Reply, SessionShown, State, Telling}
 use Rattle.sheet_json.specs.Tellings as told
+use Rattle.sheet_json.specs.declared.checks.Took.{Took}
 
 bytes_none : (b : List ℕ) → has_float (bytes_data b) ≡ false
 bytes_none b = elim (is_utf8 b) as (λ t. has_float (cond t (json.string b) (base64_data b)) ≡ false) [ true ↦ refl | false ↦ refl ]
@@ -99,13 +100,19 @@ why_none : (why : Option Reason) → has_float (why_data why) ≡ false
 why_none None = refl
 why_none (Some why) = refl
 
-checked_none : (id : ℕ) (session : List ℕ) (c : CheckTold) → has_float (checked_data id session c) ≡ false
-checked_none id session told.same = ap (λ b. b || false) (bytes_none session)
-checked_none id session told.left_out = ap (λ b. b || false) (bytes_none session)
-checked_none id session (told.differs input shows came) =
-    two (has_float (answer_data came)) (has_float (bytes_data session)) _ (answer_none came) (bytes_none session) (ap (λ b. b || false) (answer_none shows))
-checked_none id session (told.unanswered input shows why) =
-    two (has_float (why_data why)) (has_float (bytes_data session)) _ (why_none why) (bytes_none session) (ap (λ b. b || false) (answer_none shows))
+took_none : (took : Option Took) → has_float (took_data took) ≡ false
+took_none None = refl
+took_none (Some took) = refl
+
+checked_none : (id : ℕ) (session : List ℕ) (took : Option Took) (c : CheckTold) → has_float (checked_data id session took c) ≡ false
+checked_none id session took told.same = ap₂ (λ a b. a || (b || false)) (bytes_none session) (took_none took)
+checked_none id session took told.left_out = ap₂ (λ a b. a || (b || false)) (bytes_none session) (took_none took)
+checked_none id session took (told.differs input shows came) =
+    two (has_float (answer_data came)) (has_float (bytes_data session)) _ (answer_none came) (bytes_none session) (ap₂ (λ a b. a || (b || false)) (answer_none shows) (took_none took))
+checked_none id session took (told.unanswered input shows why) =
+    two (has_float (why_data why)) (has_float (bytes_data session)) _ (why_none why) (bytes_none session) (ap₂ (λ a b. a || (b || false)) (answer_none shows) (took_none took))
+checked_none id session took (told.new input came) =
+    two (has_float (answer_data came)) (has_float (bytes_data session)) _ (answer_none came) (bytes_none session) (ap (λ b. b || false) (took_none took))
 
 export_none : (given : Option (List ℕ)) → (has_float (export_data given) || false) ≡ false
 export_none None = refl
@@ -127,8 +134,8 @@ none_told (told.fault n name (Some offset)) = refl
 none_told (told.over id outcome) = refl
 none_told (told.counted answered unanswered) = refl
 none_told (told.counted_in_time answered unanswered over passed) = refl
-none_told (told.checked id session c) = checked_none id session c
-none_told (told.compared same differ unanswered left_out errors) = refl
+none_told (told.checked id session took c) = checked_none id session took c
+none_told (told.compared same differ unanswered left_out errors new) = refl
 none_told (told.no_field id) = refl
 none_told (told.no_program session) = ap (λ b. b || false) (bytes_none session)
 none_told told.end = refl

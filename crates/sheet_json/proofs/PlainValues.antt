@@ -19,10 +19,11 @@ use Rattle.serde_json.specs.Data as json
 use Rattle.serde_json.specs.View.{items_of}
 use Rattle.sheet_json.specs.Bytes.{base64_data, bytes_data}
 use Rattle.sheet_json.specs.Blocks.{block_object, items_data, tree_data}
-use Rattle.sheet_json.specs.Objects.{answer_data, checked_data, completions_data, count, event_data, export_data, field_with, ids_data, life_data, lost_data, losts_data, reply_data, session_data, sessions_data, telling_data, texts_data, typed, why_data}
-use Rattle.sheet_json.specs.Plain.{ArePlain, HasPlain, Is64, IsPlain, IsSoundAnswer, IsSoundCheck, IsSoundTelling, IsSoundEvent, IsSoundItem, IsSoundLife, IsSoundReply, IsSoundSession, IsSoundState}
+use Rattle.sheet_json.specs.Objects.{answer_data, checked_data, completions_data, count, event_data, export_data, field_with, ids_data, life_data, lost_data, losts_data, reply_data, session_data, sessions_data, telling_data, texts_data, took_data, typed, why_data}
+use Rattle.sheet_json.specs.Plain.{ArePlain, HasPlain, Is64, IsPlain, IsSoundAnswer, IsSoundCheck, IsSoundTelling, IsSoundEvent, IsSoundItem, IsSoundLife, IsSoundReply, IsSoundSession, IsSoundState, IsSoundTook}
 use Rattle.sheet_json.specs.Tellings.{CheckTold, Telling, Reply, EventTold, FieldShown, SessionShown, State}
 use Rattle.sheet_json.specs.Tellings as told
+use Rattle.sheet_json.specs.declared.checks.Took.{Took}
 
 a_text : {n : ℕ} {s : List ℕ} → IsPlain n (string s)
 a_text = record { floats = refl; nests = omega arith; counts = tt }
@@ -194,13 +195,19 @@ why_plain : {n : ℕ} (why : Option Reason) → IsPlain n (why_data why)
 why_plain None = no_value
 why_plain (Some why) = a_text
 
-checked_plain : (id : ℕ) (session : List ℕ) (c : CheckTold) → Is64 id → IsSoundCheck c → IsPlain 67 (checked_data id session c)
-checked_plain id session told.same i s = an_object (a_member (a_count i) (a_member (some_bytes session) (a_member a_text (a_member a_text no_more))))
-checked_plain id session told.left_out i s = an_object (a_member (a_count i) (a_member (some_bytes session) (a_member a_text (a_member a_text no_more))))
-checked_plain id session (told.differs input shows came) i s =
-    an_object (a_member (answer_plain came s.1) (a_member (a_count i) (a_member a_text (a_member (some_bytes session) (a_member (answer_plain shows s.0) (a_member a_text (a_member a_text no_more)))))))
-checked_plain id session (told.unanswered input shows why) i s =
-    an_object (a_member (a_count i) (a_member a_text (a_member (why_plain why) (a_member (some_bytes session) (a_member (answer_plain shows s) (a_member a_text (a_member a_text no_more)))))))
+took_plain : (took : Option Took) → IsSoundTook took → IsPlain 66 (took_data took)
+took_plain None s = no_value
+took_plain (Some took) s = an_object (a_member (a_count s) (a_member a_flag no_more))
+
+checked_plain : (id : ℕ) (session : List ℕ) (took : Option Took) (c : CheckTold) → Is64 id → IsSoundTook took → IsSoundCheck c → IsPlain 67 (checked_data id session took c)
+checked_plain id session took told.same i k s = an_object (a_member (a_count i) (a_member (some_bytes session) (a_member (took_plain took k) (a_member a_text (a_member a_text no_more)))))
+checked_plain id session took told.left_out i k s = an_object (a_member (a_count i) (a_member (some_bytes session) (a_member (took_plain took k) (a_member a_text (a_member a_text no_more)))))
+checked_plain id session took (told.differs input shows came) i k s =
+    an_object (a_member (answer_plain came s.1) (a_member (a_count i) (a_member a_text (a_member (some_bytes session) (a_member (answer_plain shows s.0) (a_member (took_plain took k) (a_member a_text (a_member a_text no_more))))))))
+checked_plain id session took (told.unanswered input shows why) i k s =
+    an_object (a_member (a_count i) (a_member a_text (a_member (why_plain why) (a_member (some_bytes session) (a_member (answer_plain shows s) (a_member (took_plain took k) (a_member a_text (a_member a_text no_more))))))))
+checked_plain id session took (told.new input came) i k s =
+    an_object (a_member (answer_plain came s) (a_member (a_count i) (a_member a_text (a_member (some_bytes session) (a_member (took_plain took k) (a_member a_text (a_member a_text no_more)))))))
 
 export_plain : (given : Option (List ℕ)) → IsPlain 66 (export_data given)
 export_plain None = no_value
@@ -226,9 +233,9 @@ tellings_are_plain (told.over id outcome) s = an_object (a_member (a_count s) (a
 tellings_are_plain (told.counted answered unanswered) s = an_object (a_member (a_count s.0) (a_member a_text (a_member (a_count s.1) no_more)))
 tellings_are_plain (told.counted_in_time answered unanswered over passed) s =
     an_object (a_member (a_count s.0) (a_member (a_count s.2) (a_member (a_count s.3) (a_member a_text (a_member (a_count s.1) no_more)))))
-tellings_are_plain (told.checked id session c) s = checked_plain id session c s.0 s.1
-tellings_are_plain (told.compared same differ unanswered left_out errors) s =
-    an_object (a_member (a_count s.1) (a_member (a_count s.4) (a_member (a_count s.3) (a_member (a_count s.0) (a_member a_text (a_member (a_count s.2) no_more))))))
+tellings_are_plain (told.checked id session took c) s = checked_plain id session took c s.0 s.1 s.2
+tellings_are_plain (told.compared same differ unanswered left_out errors new) s =
+    an_object (a_member (a_count s.1) (a_member (a_count s.4) (a_member (a_count s.3) (a_member (a_count s.5) (a_member (a_count s.0) (a_member a_text (a_member (a_count s.2) no_more)))))))
 tellings_are_plain (told.no_field id) s = an_object (a_member (a_count s) (a_member a_text (a_member (a_count (omega arith)) a_type)))
 tellings_are_plain (told.no_program session) s = an_object (a_member a_text (a_member (a_count (omega arith)) (a_member (some_bytes session) a_type)))
 tellings_are_plain told.end s = an_object a_type

@@ -13,6 +13,7 @@ use Rattle.sheet_json.specs.Plain.{IsPlain, IsSoundTelling}
 use Rattle.sheet_json.specs.Reading.{bytes_in, tree_in, HasBytes}
 use Rattle.sheet_json.specs.Tellings.{CheckTold, EventTold, FieldShown, Reply, SessionShown, Telling}
 use Rattle.sheet_json.specs.Tellings as told
+use Rattle.sheet_json.specs.declared.checks.Took.{Took}
 use Rattle.sheet_json.specs.Told.{checked_in, compared_in, counts_in, exported_in, field_read, no_field_in, no_program_in, over_in, session_in, told_in, CheckHasBytes, EventHasBytes, StateHasBytes}
 
 -- Bytes read back, whatever they are.
@@ -47,8 +48,8 @@ CountsReadBack = ((a u : ℕ) → counts_in (telling_data (told.counted a u)) �
 -- What a field that was evaluated again came to reads back, and so do the counts of a check, the number that no field has, and the session whose
 -- program isn't there.
 abbrev pub ChecksReadBack : Type 0
-ChecksReadBack = ((id : ℕ) (session : List ℕ) (c : CheckTold) → IsBytes session → CheckHasBytes c → checked_in (telling_data (told.checked id session c)) ≡ Some (told.checked id session c))
-    × ((same differ unanswered left_out errors : ℕ) → compared_in (telling_data (told.compared same differ unanswered left_out errors)) ≡ Some (told.compared same differ unanswered left_out errors))
+ChecksReadBack = ((id : ℕ) (session : List ℕ) (took : Option Took) (c : CheckTold) → IsBytes session → CheckHasBytes c → checked_in (telling_data (told.checked id session took c)) ≡ Some (told.checked id session took c))
+    × ((same differ unanswered left_out errors new : ℕ) → compared_in (telling_data (told.compared same differ unanswered left_out errors new)) ≡ Some (told.compared same differ unanswered left_out errors new))
     × ((id : ℕ) → no_field_in (telling_data (told.no_field id)) ≡ Some (told.no_field id))
     × ((session : List ℕ) → IsBytes session → no_program_in (telling_data (told.no_program session)) ≡ Some (told.no_program session))
 

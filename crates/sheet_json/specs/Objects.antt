@@ -15,6 +15,7 @@ use Rattle.sheet_json.specs.Bytes.{bytes_data}
 use Rattle.sheet_json.specs.Blocks.{tree_data}
 use Rattle.sheet_json.specs.Tellings.{CheckTold, Telling, Reply, EventTold, FieldShown, SessionShown, State}
 use Rattle.sheet_json.specs.Tellings as told
+use Rattle.sheet_json.specs.declared.checks.Took.{Took}
 
 abbrev pub count : ℕ → Data
 count n = number (unsigned n)
@@ -124,19 +125,27 @@ abbrev pub why_data : Option Reason → Data
 why_data None = null
 why_data (Some why) = string (reason_name why)
 
--- the members `type` and `verdict`, and none after them
-abbrev pub judged : List ℕ → Members
-judged verdict = member (codes "type") (string (codes "checked")) (member (codes "verdict") (string verdict) no_members)
+-- what an evaluation took; null where it isn't known
+abbrev pub took_data : Option Took → Data
+took_data None = null
+took_data (Some took) = object (member (codes "millis") (count took.millis) (member (codes "started") (boolean took.started) no_members))
 
-abbrev pub checked_data : ℕ → List ℕ → CheckTold → Data
-checked_data id session told.same = object (member (codes "id") (count id) (member (codes "session") (bytes_data session) (judged (codes "same"))))
-checked_data id session told.left_out = object (member (codes "id") (count id) (member (codes "session") (bytes_data session) (judged (codes "left_out"))))
-checked_data id session (told.differs input shows came) =
+-- the members `took`, `type` and `verdict`, and none after them
+abbrev pub judged : Option Took → List ℕ → Members
+judged took verdict = member (codes "took") (took_data took) (member (codes "type") (string (codes "checked")) (member (codes "verdict") (string verdict) no_members))
+
+abbrev pub checked_data : ℕ → List ℕ → Option Took → CheckTold → Data
+checked_data id session took told.same = object (member (codes "id") (count id) (member (codes "session") (bytes_data session) (judged took (codes "same"))))
+checked_data id session took told.left_out = object (member (codes "id") (count id) (member (codes "session") (bytes_data session) (judged took (codes "left_out"))))
+checked_data id session took (told.differs input shows came) =
     object (member (codes "came") (answer_data came) (member (codes "id") (count id) (member (codes "input") (string input) (member (codes "session") (bytes_data session)
-    (member (codes "shows") (answer_data shows) (judged (codes "differs")))))))
-checked_data id session (told.unanswered input shows why) =
+    (member (codes "shows") (answer_data shows) (judged took (codes "differs")))))))
+checked_data id session took (told.unanswered input shows why) =
     object (member (codes "id") (count id) (member (codes "input") (string input) (member (codes "reason") (why_data why) (member (codes "session") (bytes_data session)
-    (member (codes "shows") (answer_data shows) (judged (codes "unanswered")))))))
+    (member (codes "shows") (answer_data shows) (judged took (codes "unanswered")))))))
+checked_data id session took (told.new input came) =
+    object (member (codes "came") (answer_data came) (member (codes "id") (count id) (member (codes "input") (string input) (member (codes "session") (bytes_data session)
+    (judged took (codes "new"))))))
 
 -- Worksheets in a format.
 
@@ -167,10 +176,10 @@ telling_data (told.over id outcome) = object (member (codes "id") (count id) (me
 telling_data (told.counted answered unanswered) = object (member (codes "answered") (count answered) (member (codes "type") (string (codes "counted")) (member (codes "unanswered") (count unanswered) no_members)))
 telling_data (told.counted_in_time answered unanswered over passed) =
     object (member (codes "answered") (count answered) (member (codes "over") (count over) (member (codes "passed") (count passed) (member (codes "type") (string (codes "counted")) (member (codes "unanswered") (count unanswered) no_members)))))
-telling_data (told.checked id session c) = checked_data id session c
-telling_data (told.compared same differ unanswered left_out errors) =
-    object (member (codes "differ") (count differ) (member (codes "errors") (count errors) (member (codes "left_out") (count left_out) (member (codes "same") (count same)
-    (member (codes "type") (string (codes "compared")) (member (codes "unanswered") (count unanswered) no_members))))))
+telling_data (told.checked id session took c) = checked_data id session took c
+telling_data (told.compared same differ unanswered left_out errors new) =
+    object (member (codes "differ") (count differ) (member (codes "errors") (count errors) (member (codes "left_out") (count left_out) (member (codes "new") (count new) (member (codes "same") (count same)
+    (member (codes "type") (string (codes "compared")) (member (codes "unanswered") (count unanswered) no_members)))))))
 telling_data (told.no_field id) = object (member (codes "id") (count id) (member (codes "name") (string (codes "NoField")) (member (codes "number") (count 37) (typed (codes "fault")))))
 telling_data (told.no_program session) = object (member (codes "name") (string (codes "NoProgram")) (member (codes "number") (count 44) (member (codes "session") (bytes_data session) (typed (codes "fault")))))
 telling_data told.end = object (typed (codes "end"))

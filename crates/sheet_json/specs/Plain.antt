@@ -10,6 +10,7 @@ use Rattle.serde_json.specs.Written.{has_float, items_have_float, members_have_f
 use Rattle.sheet_json.specs.Lines.{HasCounts, ItemsHaveCounts, MembersHaveCounts}
 use Rattle.sheet_json.specs.Tellings.{CheckTold, Telling, Reply, EventTold, FieldShown, SessionShown, State}
 use Rattle.sheet_json.specs.Tellings as told
+use Rattle.sheet_json.specs.declared.checks.Took.{Took}
 
 pub record IsPlain (n : ℕ) (d : Data) : Type 0 where
   pub floats : has_float d ≡ false
@@ -79,6 +80,11 @@ IsSoundCheck told.same = Unit {0}
 IsSoundCheck told.left_out = Unit {0}
 IsSoundCheck (told.differs input shows came) = IsSoundAnswer shows × IsSoundAnswer came
 IsSoundCheck (told.unanswered input shows why) = IsSoundAnswer shows
+IsSoundCheck (told.new input came) = IsSoundAnswer came
+
+abbrev pub IsSoundTook : Option Took → Type 0
+IsSoundTook None = Unit {0}
+IsSoundTook (Some took) = Is64 took.millis
 
 abbrev pub IsSoundTelling : Telling → Type 0
 IsSoundTelling told.hello = Unit {0}
@@ -96,8 +102,8 @@ IsSoundTelling (told.fault n name (Some offset)) = Is64 n × Is64 offset
 IsSoundTelling (told.over id outcome) = Is64 id
 IsSoundTelling (told.counted answered unanswered) = Is64 answered × Is64 unanswered
 IsSoundTelling (told.counted_in_time answered unanswered over passed) = Is64 answered × Is64 unanswered × Is64 over × Is64 passed
-IsSoundTelling (told.checked id session c) = Is64 id × IsSoundCheck c
-IsSoundTelling (told.compared same differ unanswered left_out errors) = Is64 same × Is64 differ × Is64 unanswered × Is64 left_out × Is64 errors
+IsSoundTelling (told.checked id session took c) = Is64 id × IsSoundTook took × IsSoundCheck c
+IsSoundTelling (told.compared same differ unanswered left_out errors new) = Is64 same × Is64 differ × Is64 unanswered × Is64 left_out × Is64 errors × Is64 new
 IsSoundTelling (told.no_field id) = Is64 id
 IsSoundTelling (told.no_program session) = Unit {0}
 IsSoundTelling told.end = Unit {0}

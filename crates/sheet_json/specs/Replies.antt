@@ -1,4 +1,4 @@
--- What is told of what closed, and of an end.
+-- What is said of what closed, and of an end.
 use Rattle.std.specs.Prelude.{ℕ, Option, Some, None}
 use Rattle.std.specs.Result.{result_ok}
 use Rattle.worksheet.specs.Checks.{field_in}

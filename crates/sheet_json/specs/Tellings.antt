@@ -6,6 +6,7 @@ use Rattle.worksheet.specs.declared.field.Answer.{Answer}
 use Rattle.worksheet.specs.declared.refusal.Refusal.{Refusal}
 use Rattle.scheme_text.specs.declared.answer.Completions.{Completions}
 use Rattle.plugin_core.specs.declared.item.Item.{Item}
+use Rattle.sheet_json.specs.declared.checks.Took.{Took}
 
 -- how a field stands: what it was answered, with the prompt of that; why its line was lost; that its line waits; or none of these
 pub data State : Type 0 where
@@ -61,6 +62,8 @@ pub data CheckTold : Type 0 where
   left_out : CheckTold
   differs : List ℕ → Option Answer → Option Answer → CheckTold
   unanswered : List ℕ → Option Answer → Option Reason → CheckTold
+  -- it showed none: its input, and the answer that came
+  new : List ℕ → Option Answer → CheckTold
 
 pub data Telling : Type 0 where
   hello : Telling
@@ -87,11 +90,11 @@ pub data Telling : Type 0 where
   counted : ℕ → ℕ → Telling
   -- the same, and for how many fields the limit of time was over, and how many were passed over
   counted_in_time : ℕ → ℕ → ℕ → ℕ → Telling
-  -- a field with this number, of this session, that a check evaluated again
-  checked : ℕ → List ℕ → CheckTold → Telling
-  -- at the end of a check, how many outputs were the same, how many differed, how many fields were unanswered and left out, and how many answers
-  -- came that have an error
-  compared : ℕ → ℕ → ℕ → ℕ → ℕ → Telling
+  -- a field with this number, of this session, that a check evaluated, and what that took, where it is known
+  checked : ℕ → List ℕ → Option Took → CheckTold → Telling
+  -- at the end of a check, how many outputs were the same, how many differed, how many fields were unanswered and left out, how many answers
+  -- came that have an error, and how many to fields that showed none
+  compared : ℕ → ℕ → ℕ → ℕ → ℕ → ℕ → Telling
   -- the fault that no field has this number
   no_field : ℕ → Telling
   -- the fault that the program of this session isn't there

@@ -17,6 +17,7 @@ use Rattle.serde_json.specs.Find.{get, as_bool, as_str}
 use Rattle.sheet_json.specs.Reading.{bytes_in, tree_in, HasBytes}
 use Rattle.sheet_json.specs.Tellings.{CheckTold, Telling, Reply, EventTold, FieldShown, SessionShown, State}
 use Rattle.sheet_json.specs.Tellings as told
+use Rattle.sheet_json.specs.declared.checks.Took.{Took}
 
 abbrev pub count_in : Data → Option ℕ
 count_in (number (unsigned n)) = Some n
@@ -153,16 +154,25 @@ abbrev pub check_named : List ℕ → Data → Option CheckTold
 check_named name d =
     cond (bytes_eq name (codes "same")) (Some told.same) (cond (bytes_eq name (codes "left_out")) (Some told.left_out)
     (cond (bytes_eq name (codes "differs")) (of (of (option_map (λ input shows came. told.differs input shows came) (member_in as_str (codes "input") d)) (member_in answer_in (codes "shows") d)) (member_in answer_in (codes "came") d))
-    (cond (bytes_eq name (codes "unanswered")) (of (of (option_map (λ input shows why. told.unanswered input shows why) (member_in as_str (codes "input") d)) (member_in answer_in (codes "shows") d)) (member_in (option_in reason_in) (codes "reason") d)) None)))
+    (cond (bytes_eq name (codes "unanswered")) (of (of (option_map (λ input shows why. told.unanswered input shows why) (member_in as_str (codes "input") d)) (member_in answer_in (codes "shows") d)) (member_in (option_in reason_in) (codes "reason") d))
+    (cond (bytes_eq name (codes "new")) (of (option_map (λ input came. told.new input came) (member_in as_str (codes "input") d)) (member_in answer_in (codes "came") d)) None))))
+
+-- what its evaluation took, or that it isn't known
+abbrev pub some_took_in : Data → Option Took
+some_took_in d = of (option_map (λ millis started. record { millis = millis; started = started }) (member_in count_in (codes "millis") d)) (member_in as_bool (codes "started") d)
+
+abbrev pub took_in : Data → Option (Option Took)
+took_in d = option_in some_took_in d
 
 abbrev pub checked_in : Data → Option Telling
-checked_in d = of (of (option_map (λ id session c. told.checked id session c) (member_in count_in (codes "id") d)) (member_in bytes_in (codes "session") d)) (option_and_then (λ name. check_named name d) (member_in as_str (codes "verdict") d))
+checked_in d = of (of (of (option_map (λ id session took c. told.checked id session took c) (member_in count_in (codes "id") d)) (member_in bytes_in (codes "session") d)) (member_in took_in (codes "took") d))
+    (option_and_then (λ name. check_named name d) (member_in as_str (codes "verdict") d))
 
 -- the counts of a check
 abbrev pub compared_in : Data → Option Telling
 compared_in d =
-    of (of (of (of (option_map (λ same differ unanswered left_out errors. told.compared same differ unanswered left_out errors) (member_in count_in (codes "same") d)) (member_in count_in (codes "differ") d))
-    (member_in count_in (codes "unanswered") d)) (member_in count_in (codes "left_out") d)) (member_in count_in (codes "errors") d)
+    of (of (of (of (of (option_map (λ same differ unanswered left_out errors new. told.compared same differ unanswered left_out errors new) (member_in count_in (codes "same") d)) (member_in count_in (codes "differ") d))
+    (member_in count_in (codes "unanswered") d)) (member_in count_in (codes "left_out") d)) (member_in count_in (codes "errors") d)) (member_in count_in (codes "new") d)
 
 -- the number that no field has
 abbrev pub no_field_in : Data → Option Telling
@@ -212,3 +222,4 @@ CheckHasBytes told.same = Unit {0}
 CheckHasBytes told.left_out = Unit {0}
 CheckHasBytes (told.differs input shows came) = AnswerHasBytes shows × AnswerHasBytes came
 CheckHasBytes (told.unanswered input shows why) = AnswerHasBytes shows
+CheckHasBytes (told.new input came) = AnswerHasBytes came

@@ -1,4 +1,4 @@
-//! Fields that a check evaluated again, as JSON.
+//! Fields that a check evaluated, as JSON.
 ghost use Rattle.std.specs.Prelude.{◌≡◌, IfOk, codes};
 ghost use Rattle.serde_json.specs.Data.{put as with_member};
 ghost use Rattle.serde_json.specs.View.{members_view, view};
@@ -13,6 +13,15 @@ use serde_json::{Value, json};
 use sheet_text::reason_name;
 use std::alloc::{AllocError, Global};
 use worksheet::{Answer, Field};
+
+/// What the evaluation of a field took.
+#[derive(Clone, Copy, Debug, PartialEq, Eq)]
+pub struct Took {
+    /// Milliseconds from when it was asked to when its answer was there, or known not to come.
+    pub millis: u64,
+    /// Whether no interpreter of its session was there when it was asked, so that one was to be started.
+    pub started: bool,
+}
 
 /// An answer, or that there is none.
 fn answer_value(alloc: Global, answer: &Option<Answer>) -> Result<Value, AllocError>
@@ -56,46 +65,78 @@ fn why_value(alloc: Global, why: Option<Reason>) -> Result<Value, AllocError>
     }
 }
 
-/// A field to which the output came that it shows.
-pub fn same_value(alloc: Global, field: &Field) -> Result<Value, AllocError>
-    ensures { IfOk result (λ value. view value
-        ≡ telling_data (told.checked field.now.id field.now.session told.same)) }
+/// What an evaluation took, where it is known.
+fn took_value(alloc: Global, took: Option<Took>) -> Result<Value, AllocError>
+    ensures { IfOk result (λ value. view value ≡ json.took_data took) }
 {
-    Members::new(alloc)
+    match took {
+        None => Ok(Value::Null),
+        Some(took) => {
+            let members = Members::new(alloc)
+                .count("millis", took.millis)?
+                .with("started", Value::Bool(took.started))?;
+            Ok(members.done())
+        }
+    }
+}
+
+/// Members with what an evaluation took.
+fn with_took(alloc: Global, members: Members, took: Option<Took>) -> Result<Members, AllocError>
+    ensures { IfOk result (λ more. members_view more.map.entries
+        ≡ with_member (codes "took") (json.took_data took) (members_view members.map.entries)) }
+{
+    let took = took_value(alloc, took)?;
+    members.with("took", took)
+}
+
+/// A field to which the output came that it shows.
+pub fn same_value(alloc: Global, field: &Field, took: Option<Took>) -> Result<Value, AllocError>
+    ensures { IfOk result (λ value. view value
+        ≡ telling_data (told.checked field.now.id field.now.session took told.same)) }
+{
+    let members = Members::new(alloc)
         .count("id", field.id as u64)?
-        .bytes("session", field.session.as_slice())?
+        .bytes("session", field.session.as_slice())?;
+    with_took(alloc, members, took)?
         .text("verdict", "same")?
         .typed("checked")
 }
 
 /// A field that isn't compared.
-pub fn left_out_value(alloc: Global, field: &Field) -> Result<Value, AllocError>
+pub fn left_out_value(
+    alloc: Global,
+    field: &Field,
+    took: Option<Took>,
+) -> Result<Value, AllocError>
     ensures { IfOk result (λ value. view value
-        ≡ telling_data (told.checked field.now.id field.now.session told.left_out)) }
+        ≡ telling_data (told.checked field.now.id field.now.session took told.left_out)) }
 {
-    Members::new(alloc)
+    let members = Members::new(alloc)
         .count("id", field.id as u64)?
-        .bytes("session", field.session.as_slice())?
+        .bytes("session", field.session.as_slice())?;
+    with_took(alloc, members, took)?
         .text("verdict", "left_out")?
         .typed("checked")
 }
 
-/// A field to which another output came; its input has a line feed for each U+2028, as in the next one.
+/// A field to which another output came; its input has a line feed for each U+2028, as in the next ones.
 pub fn differs_value(
     alloc: Global,
     field: &Field,
     came: &Option<Answer>,
+    took: Option<Took>,
 ) -> Result<Value, AllocError>
     ensures { IfOk result (λ value. view value
-        ≡ telling_data (told.checked field.now.id field.now.session
+        ≡ telling_data (told.checked field.now.id field.now.session took
         (told.differs (unfolded field.now.input) field.now.answer came.now))) }
 {
     let came = answer_value(alloc, came)?;
     let members = Members::new(alloc).with("came", came)?;
-    with_answer(alloc, members, &field.answer)?
+    let members = with_answer(alloc, members, &field.answer)?
         .count("id", field.id as u64)?
         .input(field.input.as_str())?
-        .bytes("session", field.session.as_slice())?
+        .bytes("session", field.session.as_slice())?;
+    with_took(alloc, members, took)?
         .text("verdict", "differs")?
         .typed("checked")
 }
@@ -105,17 +146,41 @@ pub fn unanswered_value(
     alloc: Global,
     field: &Field,
     why: Option<Reason>,
+    took: Option<Took>,
 ) -> Result<Value, AllocError>
     ensures { IfOk result (λ value. view value
-        ≡ telling_data (told.checked field.now.id field.now.session
+        ≡ telling_data (told.checked field.now.id field.now.session took
         (told.unanswered (unfolded field.now.input) field.now.answer why))) }
 {
     let reason = why_value(alloc, why)?;
     let members = Members::new(alloc).with("reason", reason)?;
-    with_answer(alloc, members, &field.answer)?
+    let members = with_answer(alloc, members, &field.answer)?
         .count("id", field.id as u64)?
         .input(field.input.as_str())?
-        .bytes("session", field.session.as_slice())?
+        .bytes("session", field.session.as_slice())?;
+    with_took(alloc, members, took)?
         .text("verdict", "unanswered")?
+        .typed("checked")
+}
+
+/// A field that shows no answer, and the one that came.
+pub fn new_value(
+    alloc: Global,
+    field: &Field,
+    came: &Option<Answer>,
+    took: Option<Took>,
+) -> Result<Value, AllocError>
+    ensures { IfOk result (λ value. view value
+        ≡ telling_data (told.checked field.now.id field.now.session took
+        (told.new (unfolded field.now.input) came.now))) }
+{
+    let came = answer_value(alloc, came)?;
+    let members = Members::new(alloc)
+        .with("came", came)?
+        .count("id", field.id as u64)?
+        .input(field.input.as_str())?
+        .bytes("session", field.session.as_slice())?;
+    with_took(alloc, members, took)?
+        .text("verdict", "new")?
         .typed("checked")
 }

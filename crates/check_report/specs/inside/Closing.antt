@@ -8,4 +8,4 @@ abbrev pub first_part : Counts → List ℕ
 first_part counts = codes "{\"differ\":" ++ decimal counts.differ ++ codes ",\"errors\":" ++ decimal counts.errors ++ codes ",\"left_out\":" ++ decimal counts.left_out
 
 abbrev pub second_part : Counts → List ℕ
-second_part counts = codes ",\"same\":" ++ decimal counts.same ++ codes ",\"type\":\"compared\",\"unanswered\":" ++ decimal counts.unanswered ++ codes "}\n{\"type\":\"end\"}\n"
+second_part counts = codes ",\"new\":" ++ decimal counts.new ++ codes ",\"same\":" ++ decimal counts.same ++ codes ",\"type\":\"compared\",\"unanswered\":" ++ decimal counts.unanswered ++ codes "}\n{\"type\":\"end\"}\n"
