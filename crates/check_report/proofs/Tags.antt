@@ -6,7 +6,7 @@ use Rattle.check_report.specs.declared.verdict.Verdict.{Verdict}
 use Rattle.check_report.specs.declared.verdict.Verdict.TheVariants as verdict
 use Rattle.check_report.specs.Points.{Point}
 use Rattle.check_report.specs.Xml.{xml_text}
-use Rattle.check_report.specs.Junit.{case_start, case_title, head, junit_case, junit_text, result_end, result_start, tail, time_part}
+use Rattle.check_report.specs.Junit.{case_names, case_start, head, junit_case, junit_text, result_end, result_start, tail, time_part}
 use Rattle.check_report.specs.Laws.{TextsAreNoTags, tag_behind, tags, untold}
 use Rattle.check_report.proofs.Lines.{both-first, both-second}
 use Rattle.check_report.proofs.NoMarks.{no_marks, passes}
@@ -56,7 +56,7 @@ closed false = refl
 
 start-closed : (p : Point) → open_behind false (case_start p.id p.session p.input p.took) ≡ false
 start-closed p =
-    let front = codes "<testcase classname=\"" ++ xml_text p.session ++ codes "\" name=\"" ++ case_title p.id p.input ++ codes "\"" ++ time_part p.took in
+    let front = case_names p.id p.session p.input ++ time_part p.took in
     open-append false front (codes ">") ∙ closed (open_behind false front)
 
 result_start-closed : (v : Verdict) → open_behind false (result_start v) ≡ false

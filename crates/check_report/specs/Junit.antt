@@ -29,9 +29,13 @@ abbrev pub time_part : Option Took → List ℕ
 time_part None = []
 time_part (Some took) = codes " time=\"" ++ seconds_text took.millis ++ codes "\""
 
--- what begins a case: the name of its session, its own, and what it took
+-- the name of a case's session, and its own
+abbrev pub case_names : ℕ → List ℕ → List ℕ → List ℕ
+case_names id session input = codes "<testcase classname=\"" ++ xml_text session ++ codes "\" name=\"" ++ case_title id input ++ codes "\""
+
+-- what begins a case: its names, and what it took
 abbrev pub case_start : ℕ → List ℕ → List ℕ → Option Took → List ℕ
-case_start id session input took = codes "<testcase classname=\"" ++ xml_text session ++ codes "\" name=\"" ++ case_title id input ++ codes "\"" ++ time_part took ++ codes ">"
+case_start id session input took = case_names id session input ++ time_part took ++ codes ">"
 
 -- in front of what is reported of a case
 abbrev pub result_start : Verdict → List ℕ

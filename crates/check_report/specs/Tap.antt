@@ -41,10 +41,14 @@ abbrev pub started_line : Bool → List ℕ
 started_line true = codes "  started: true\n"
 started_line false = codes "  started: false\n"
 
--- the same as a block of YAML, where it is known
+-- both as a block of YAML
+abbrev pub yaml_block : Took → List ℕ
+yaml_block took = codes "  ---\n" ++ duration_line took.millis ++ started_line took.started ++ codes "  ...\n"
+
+-- where they are known
 abbrev pub took_block : Option Took → List ℕ
 took_block None = []
-took_block (Some took) = codes "  ---\n" ++ duration_line took.millis ++ started_line took.started ++ codes "  ...\n"
+took_block (Some took) = yaml_block took
 
 -- a byte of comments: `# ` stands in front of the first one of each line
 abbrev pub comment_byte : Bool → ℕ → List ℕ

@@ -72,7 +72,26 @@ fn write_time<W: Write>(took: Option<Took>, out: &mut W) -> Result<(), WriteFaul
     Ok(())
 }
 
-/// Writes what begins a case: the name of its session, its own, and what it took.
+/// Writes the name of a case's session, and its own.
+#[tactic(auto, using(crate::proofs::Written::steps))]
+fn write_names<W: Write>(
+    id: u32,
+    session: &[u8],
+    input: &[u8],
+    out: &mut W,
+) -> Result<(), WriteFault>
+    ensures { OnOk result (Appends (W.contents out.old) (W.contents out.new)
+        (junit.case_names id session.now input.now)) }
+{
+    write_bytes(b"<testcase classname=\"", out)?;
+    write_text(session, out)?;
+    write_bytes(b"\" name=\"", out)?;
+    write_title(id, input, out)?;
+    write_bytes(b"\"", out)?;
+    Ok(())
+}
+
+/// Writes what begins a case: its names, and what it took.
 #[tactic(auto, using(crate::proofs::Written::steps))]
 fn write_start<W: Write>(
     id: u32,
@@ -84,11 +103,7 @@ fn write_start<W: Write>(
     ensures { OnOk result (Appends (W.contents out.old) (W.contents out.new)
         (junit.case_start id session.now input.now took)) }
 {
-    write_bytes(b"<testcase classname=\"", out)?;
-    write_text(session, out)?;
-    write_bytes(b"\" name=\"", out)?;
-    write_title(id, input, out)?;
-    write_bytes(b"\"", out)?;
+    write_names(id, session, input, out)?;
     write_time(took, out)?;
     write_bytes(b">", out)?;
     Ok(())

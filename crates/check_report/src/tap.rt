@@ -149,20 +149,29 @@ fn write_started<W: Write>(started: bool, out: &mut W) -> Result<(), WriteFault>
     }
 }
 
-/// Writes what an evaluation took as a block of YAML, where it is known.
+/// Writes what an evaluation took as a block of YAML.
 #[tactic(auto, using(crate::proofs::Written::steps))]
-fn write_took<W: Write>(took: Option<Took>, out: &mut W) -> Result<(), WriteFault>
+fn write_yaml<W: Write>(took: Took, out: &mut W) -> Result<(), WriteFault>
     ensures { OnOk result (Appends (W.contents out.old) (W.contents out.new)
-        (tap.took_block took)) }
+        (tap.yaml_block took)) }
 {
-    let Some(took) = took else {
-        return Ok(());
-    };
     write_bytes(b"  ---\n", out)?;
     write_duration(took.millis, out)?;
     write_started(took.started, out)?;
     write_bytes(b"  ...\n", out)?;
     Ok(())
+}
+
+/// The same, where it is known.
+#[tactic(auto, using(crate::proofs::Written::steps))]
+fn write_took<W: Write>(took: Option<Took>, out: &mut W) -> Result<(), WriteFault>
+    ensures { OnOk result (Appends (W.contents out.old) (W.contents out.new)
+        (tap.took_block took)) }
+{
+    match took {
+        None => Ok(()),
+        Some(took) => write_yaml(took, out),
+    }
 }
 
 /// Writes a test point, what it took, and what is reported of it as comments.

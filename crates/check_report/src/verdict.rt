@@ -126,12 +126,21 @@ fn compare_outputs(shown: &Answer, came: &Answer) -> Verdict
 }
 
 /// Compares the answer that a field shows, where it shows one, with the one that came.
+fn compare_answers(shown: &Option<Answer>, came: &Answer) -> Verdict
+    ensures { Compared shown.now (Some came.now) result }
+{
+    match shown {
+        None => Verdict::New,
+        Some(shown) => compare_outputs(shown, came),
+    }
+}
+
+/// The same, where one came.
 pub(crate) fn compare(shown: &Option<Answer>, came: &Option<Answer>) -> Verdict
     ensures { Compared shown.now came.now result }
 {
-    match (shown, came) {
-        (_, None) => Verdict::Unanswered,
-        (None, Some(_)) => Verdict::New,
-        (Some(shown), Some(came)) => compare_outputs(shown, came),
+    match came {
+        None => Verdict::Unanswered,
+        Some(came) => compare_answers(shown, came),
     }
 }

@@ -103,11 +103,7 @@ pub fn same_value(alloc: Global, field: &Field, took: Option<Took>) -> Result<Va
 }
 
 /// A field that isn't compared.
-pub fn left_out_value(
-    alloc: Global,
-    field: &Field,
-    took: Option<Took>,
-) -> Result<Value, AllocError>
+pub fn left_out_value(alloc: Global, field: &Field, took: Option<Took>) -> Result<Value, AllocError>
     ensures { IfOk result (λ value. view value
         ≡ telling_data (told.checked field.now.id field.now.session took told.left_out)) }
 {
