@@ -31,6 +31,7 @@ pub record CheckView : Type 0 where
   pub timeout : Option Text
   pub accept : Bool
   pub whole : Bool
+  pub all : Bool
   pub jobs : Option Text
 
 abbrev pub check_view : CheckWords → CheckView
@@ -44,6 +45,7 @@ check_view words = record {
   timeout = option_map (λ text. text.now) words.timeout;
   accept = words.accept;
   whole = words.whole;
+  all = words.all;
   jobs = option_map (λ text. text.now) words.jobs;
 }
 
@@ -160,7 +162,7 @@ abbrev pub with_show : Text → App
 with_show name = with_rule (with_json name) at_rule
 
 -- and of the one with as many paths as there are, and with options: whether it writes JSON, the format of its report, the session that it is about, the fields
--- that aren't compared, those that alone are, the time that a field may take, whether answers that differ are accepted, whether outputs are whole, and how many sessions go side by side
+-- that aren't compared, those that alone are, the time that a field may take, whether answers that differ are accepted, whether outputs are whole, whether fields that show no answer are checked too, and how many sessions go side by side
 abbrev pub paths_rule : Rule
 paths_rule = record (new_rule (codes "PATH")) { required = true; action = Some Append }
 
@@ -212,8 +214,14 @@ whole_rule = record (new_rule (codes "whole")) { long = Some (codes "whole"); ac
 abbrev pub with_whole : Text → App
 with_whole name = with_rule (with_accept name) whole_rule
 
+abbrev pub all_rule : Rule
+all_rule = record (new_rule (codes "all")) { long = Some (codes "all"); action = Some SetTrue }
+
+abbrev pub with_all : Text → App
+with_all name = with_rule (with_whole name) all_rule
+
 abbrev pub with_check : Text → App
-with_check name = with_rule (with_whole name) jobs_rule
+with_check name = with_rule (with_all name) jobs_rule
 
 -- and of `eval`, with flags, the time that a field may take, the number of the first field, how many sessions go side by side, and numbers of
 -- fields after the path
@@ -341,6 +349,7 @@ check_in rows = record {
   timeout = first_of (codes "timeout") rows;
   accept = is_set (first_of (codes "accept") rows);
   whole = is_set (first_of (codes "whole") rows);
+  all = is_set (first_of (codes "all") rows);
   jobs = first_of (codes "jobs") rows;
 }
 

@@ -121,6 +121,12 @@ const WHOLE: Word = Word {
     help: "Write both outputs whole where they differ",
 };
 
+const ALL: Word = Word {
+    name: "all",
+    given: Given::Flag,
+    help: "Check fields that show no answer, too",
+};
+
 const WAIT_TIMEOUT: Word = Word {
     name: "timeout",
     given: Given::Value("SECONDS"),
@@ -192,7 +198,7 @@ static EVAL: [Word; 10] = [
     IDS,
 ];
 
-static CHECK: [Word; 10] = [
+static CHECK: [Word; 11] = [
     PATHS,
     JSON,
     REPORT,
@@ -202,6 +208,7 @@ static CHECK: [Word; 10] = [
     FIELD_TIMEOUT,
     ACCEPT,
     WHOLE,
+    ALL,
     JOBS,
 ];
 

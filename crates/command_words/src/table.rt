@@ -163,9 +163,12 @@ are written: with `- ` what it shows, with `+ ` what came, three lines around th
 where no answer came, all that it shows, and `+ ?`. With --whole, in words alone and\n\
 without --accept, both outputs are written whole. Prompts aren't compared. The last\n\
 line has the counts, as `same 4 differ 1 unanswered 0`.\n\n\
+With --all fields that show no answer are evaluated too, in their places. An answer\n\
+to one of them is new: it is written with `+ `, and counted as `new 2` at the end.\n\n\
 With --format it reports each field as a test: as a point of TAP 13, or as a case\n\
 in JUnit's XML. With --json, which is --format json, each is one object, which\n\
-programs read (docs/use/JSON.md). --only names the one session whose fields are\n\
+programs read (docs/use/JSON.md). Where fields go one after another, as with --jobs 1,\n\
+these say what each took. --only names the one session whose fields are\n\
 evaluated. The outputs of the fields that --leave-out names aren't compared, as of\n\
 3, 7, 8 and 9 by --leave-out 3,7-9, and with --compare 3,7-9 theirs alone are; all\n\
 are evaluated all the same, and counted as left out. Where no field has one of these\n\
@@ -175,7 +178,7 @@ With --timeout SECONDS (1 to 1,000,000) the interpreter of a field that takes\n\
 longer is sent SIGINT, and is stopped where it hasn't answered two seconds later.\n\
 No answer came then, whatever came after SIGINT, and the next field is checked.\n\
 Without it a field that computes without an end holds the check back for ever.\n\n\
-With --accept each answer that differs is put into its field of the worksheet,\n\
+With --accept each answer that differs or is new is put into its field of the worksheet,\n\
 which is opened to write. Then its difference is written, with `accepted ID` below,\n\
 and the last line is as `same 4 accepted 1 unanswered 0`. It goes with no format\n\
 but text.\n\n\
@@ -190,10 +193,10 @@ a line `worksheet PATH`; at a fault of one the next is checked all the same. The
 last line is their total, as `total of 3 worksheets: same 9 differ 1 unanswered 0`,\n\
 with `faults 1` at its end where one had a fault. They go with no format but text,\n\
 with no --accept, --leave-out or --compare.\n\n\
-Status: 0 where all outputs that are compared are the same, or were accepted; 1\n\
+Status: 0 where all outputs that are compared are the same, new, or were accepted; 1\n\
 where one differs or didn't come, where the session that --only names has no field\n\
-that shows an answer (with several PATHs: in one of them), or at a fault; 2 where\n\
-the words are refused.\n\n\
+that is checked (with several PATHs: in one of them), or at a fault; 2 where the\n\
+words are refused.\n\n\
 Example: tmhost check --format junit sheet >report.xml";
 
 const RESCUE_ABOUT: &str = "Write what stands before a damage to a new worksheet";

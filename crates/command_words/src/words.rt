@@ -29,6 +29,8 @@ pub struct CheckWords<'a> {
     pub accept: bool,
     /// It writes both outputs whole where they differ.
     pub whole: bool,
+    /// Fields that show no answer are checked too.
+    pub all: bool,
     /// In how many sessions fields wait at a time.
     pub jobs: Option<&'a str>,
 }
@@ -303,6 +305,7 @@ fn check_words<'a>(alloc: Global, matches: &ArgMatches<'a>) -> Result<CheckWords
         timeout: matches.get_str("timeout"),
         accept: is_set(matches.get_str("accept")),
         whole: is_set(matches.get_str("whole")),
+        all: is_set(matches.get_str("all")),
         jobs: matches.get_str("jobs"),
     })
 }

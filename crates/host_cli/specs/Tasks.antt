@@ -236,9 +236,9 @@ module _ {Y D P S I W E Q : Type 0} (o : OutsideView D P S I W E) where
 
   -- `check` by what its words name, within these bounds
   abbrev pub ChecksWithin : Outside Y D P S I W E Q → Outside Y D P S I W E Q → Ending → Text → CheckView → CheckBounds → Type 0
-  ChecksWithin old new ending path words b = (read : Result Request RequestFault) × IfOk read (Asks (report_words words.accept words.whole words.json words.format) (field_words words.only words.leave_out words.compare))
+  ChecksWithin old new ending path words b = (read : Result Request RequestFault) × IfOk read (Asks (report_words words.accept words.whole words.json words.format) (field_words words.only words.leave_out words.compare words.all))
       × IfOk read (λ request. request.limit ≡ b.limit)
-      × IfErr read (AsksFor (report_words words.accept words.whole words.json words.format) (field_words words.only words.leave_out words.compare))
+      × IfErr read (AsksFor (report_words words.accept words.whole words.json words.format) (field_words words.only words.leave_out words.compare words.all))
       × MatchResult read (λ request. ChecksPaths old new ending path words (check_plan request b.jobs)) (ChecksNone old new ending)
 
   abbrev pub ChecksJobs : Outside Y D P S I W E Q → Outside Y D P S I W E Q → Ending → Text → CheckView → Option ℕ → Type 0

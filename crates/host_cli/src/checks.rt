@@ -208,6 +208,7 @@ pub(crate) fn check_at<Y: System>(
             only: words.only,
             left_out: words.leave_out,
             compared: words.compare,
+            all: words.all,
         },
         words.accept,
         words.whole,

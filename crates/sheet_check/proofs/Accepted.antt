@@ -30,7 +30,8 @@ use Rattle.check_report.specs.declared.verdict.Counts.{Counts}
 use Rattle.check_report.specs.declared.verdict.Judgement.{Judgement}
 use Rattle.check_report.specs.declared.verdict.Verdict.{Verdict}
 use Rattle.check_report.specs.declared.verdict.Verdict.TheVariants as verdict
-use Rattle.check_report.specs.Chosen.{shown_by}
+use Rattle.sheet_json.specs.declared.checks.Took.{Took}
+use Rattle.check_report.specs.Chosen.{is_chosen}
 use Rattle.check_report.specs.Reports.{Case, case, case_text, cases_text, report_front, judgements_of}
 use Rattle.check_report.specs.Verdicts.{counts_of, total}
 use Rattle.live.specs.Records as records
@@ -109,6 +110,7 @@ short-accepted verdict.Same came short = tt
 short-accepted verdict.Differs came short = short
 short-accepted verdict.Unanswered came short = tt
 short-accepted verdict.LeftOut came short = tt
+short-accepted verdict.New came short = short
 
 pub short_in : OpsMakeWorksheets → (h : HostView) (w : World) → IsHost h w → (asked : Bool) (id : ℕ) (v : Verdict) → HasShortPrompt (accepted_answer (came_if asked (shown_in w id)) v)
 short_in law h w host asked id v = short-accepted v (came_if asked (shown_in w id)) (short-if asked (shown_in w id) (found-short (sheet_of w.ops).fields (law w.ops host.stands.allowed).fields id))
@@ -151,27 +153,27 @@ module _ {C : Type 0} (o : Way C) (chosen : Chosen) (field : Field) (s : At C) (
 
 -- A field.
 
-pub shown_took : {C : Type 0} (o : Way C) (chosen : Chosen) (field : Field) (shown : Answer) (s : At C) (h : HostView) (c : C) (a b : Option (List ℕ)) (ops more : List Op) (disk : DiskView) (store : StoreView)
-    (came : Option Answer) (t : World) (found : Finding) (j : Judgement) → Evaluated o field.id s came (at t c h.store.disk) → IsHost h t → Finds chosen field shown came found → j ≡ found.judgement
-    → Stores ops (more ++ answer_ops field.id found.answer) disk store → Appends a b found.text.items → ShownTook (to_accept o chosen) (question 0 field shown) s (records.left h c a b) (storing ops more disk store) j
-shown_took o chosen field shown s h c a b ops more disk store came t found j evaluated stands f is stores wrote =
-    subst (ShownTook (to_accept o chosen) (question 0 field shown) s (records.left h c a b) (storing ops more disk store)) (sym is) (
-      (came, t, evaluated, stands, f.judged, f.error, subst (Appends a b) f.told wrote),
+pub shown_took : {C : Type 0} (o : Way C) (chosen : Chosen) (field : Field) (s : At C) (h : HostView) (c : C) (a b : Option (List ℕ)) (ops more : List Op) (disk : DiskView) (store : StoreView)
+    (came : Option Answer) (took : Took) (t : World) (found : Finding) (j : Judgement) → Evaluated o field s came took (at t c h.store.disk) → IsHost h t → Finds chosen field came found → j ≡ found.judgement
+    → Stores ops (more ++ answer_ops field.id found.answer) disk store → Appends a b found.text.items → ShownTook (to_accept o chosen) (question 0 field) s (records.left h c a b) (storing ops more disk store) j
+shown_took o chosen field s h c a b ops more disk store came took t found j evaluated stands f is stores wrote =
+    subst (ShownTook (to_accept o chosen) (question 0 field) s (records.left h c a b) (storing ops more disk store)) (sym is) (
+      (came, t, took, evaluated, stands, f.judged, f.error, subst (Appends a b) f.told wrote),
       subst (λ (x : Option Answer). Stores ops (more ++ answer_ops field.id x) disk store) f.taken stores,
     )
 
 pub passed_took : {C : Type 0} (o : Way C) (chosen : Chosen) (field : Field) (w : World) (h : HostView) (c : C) (a : Option (List ℕ)) (ops more : List Op) (disk : DiskView) (store : StoreView) (counts : Counts)
-    → shown_by chosen field ≡ None → IsHost h w → Stores ops more disk store → (wrote : FieldWrote (to_accept o chosen) field (at w c h.store.disk) (records.left h c a a) counts counts) × PutAll (storing ops more disk store) (accepted wrote.0)
+    → is_chosen chosen field ≡ false → IsHost h w → Stores ops more disk store → (wrote : FieldWrote (to_accept o chosen) field (at w c h.store.disk) (records.left h c a a) counts counts) × PutAll (storing ops more disk store) (accepted wrote.0)
 passed_took o chosen field w h c a ops more disk store counts none stands stores =
     (([], w, passed none, stands, refl, Appends-nil a), subst (λ (os : List Op). Stores ops os disk store) (sym (append-nil more)) stores)
 
-pub checked_took : {C : Type 0} (o : Way C) (chosen : Chosen) (field : Field) (shown : Answer) (s : At C) (h : HostView) (c : C) (a b : Option (List ℕ)) (ops more : List Op) (disk : DiskView) (store : StoreView)
-    (counts after : Counts) (j : Judgement) → shown_by chosen field ≡ Some shown → ShownTook (to_accept o chosen) (question 0 field shown) s (records.left h c a b) (storing ops more disk store) j → after ≡ counted_on (j ∷ []) counts
+pub checked_took : {C : Type 0} (o : Way C) (chosen : Chosen) (field : Field) (s : At C) (h : HostView) (c : C) (a b : Option (List ℕ)) (ops more : List Op) (disk : DiskView) (store : StoreView)
+    (counts after : Counts) (j : Judgement) → is_chosen chosen field ≡ true → ShownTook (to_accept o chosen) (question 0 field) s (records.left h c a b) (storing ops more disk store) j → after ≡ counted_on (j ∷ []) counts
     → (wrote : FieldWrote (to_accept o chosen) field s (records.left h c a b) counts after) × PutAll (storing ops more disk store) (accepted wrote.0)
-checked_took o chosen field shown s h c a b ops more disk store counts after j some p is =
+checked_took o chosen field s h c a b ops more disk store counts after j some p is =
     let q = p.0 in
-    let one = case field q.0 (reason_shown_in q.1 field.id) j.verdict in (
-      (one ∷ [], q.1, checked shown q.0 j.verdict (at q.1 c h.store.disk) some q.2 q.4, q.3, is ∙ as_judged j q.0 counts q.5, subst (Appends a b) (sym (append-nil (case_text format.Accepting 0 one))) q.6),
+    let one = case field q.0 (reason_shown_in q.1 field.id) j.verdict (Some q.2) in (
+      (one ∷ [], q.1, checked q.0 q.2 j.verdict (at q.1 c h.store.disk) some q.3 q.5, q.4, is ∙ as_judged j q.0 counts q.6, subst (Appends a b) (sym (append-nil (case_text format.Accepting 0 one))) q.7),
       subst (λ (os : List Op). Stores ops (more ++ os) disk store) (sym (append-nil (accepted_of one))) p.1,
     )
 

@@ -1,5 +1,5 @@
 -- Fields that were evaluated together, compared one after another, and where such a check ends.
-use Rattle.std.proofs.Common.{◌≡◌, ◌+◌, inl, inr, ℕ, List, [], ◌∷◌, ◌++◌, Option, Some, None, refl, ap, sym, ◌∙◌, subst, append_assoc, append-nil}
+use Rattle.std.proofs.Common.{◌≡◌, ◌+◌, inl, inr, ℕ, true, false, List, [], ◌∷◌, ◌++◌, Option, Some, None, refl, ap, sym, ◌∙◌, subst, append_assoc, append-nil}
 use Rattle.std.proofs.KnownBytes.{Appends-trans, Appends-nil}
 use Rattle.std.specs.Io.KnownBytes.{Appends}
 use Rattle.worksheet.specs.declared.field.Answer.{Answer}
@@ -17,7 +17,7 @@ use Rattle.check_report.specs.declared.chosen.Chosen.{Chosen}
 use Rattle.check_report.specs.declared.report.Format.{Format}
 use Rattle.check_report.specs.declared.verdict.Counts.{Counts}
 use Rattle.check_report.specs.declared.verdict.Judgement.{Judgement}
-use Rattle.check_report.specs.Chosen.{Judged, shown_by}
+use Rattle.check_report.specs.Chosen.{Judged, is_chosen}
 use Rattle.check_report.specs.Errors.{brings_error}
 use Rattle.check_report.specs.Reports.{Case, case, case_text, cases_text, closing_text, opening_text, report_front, judgements_of}
 use Rattle.check_report.specs.Verdicts.{counts_of, total}
@@ -35,17 +35,17 @@ use Rattle.sheet_check.proofs.Counting.{as_judged, cases-more, front-more}
 
 -- A field.
 
-pub one_passed : (m : Comparing) (field : Field) (a : Option (List ℕ)) (counts : Counts) → shown_by m.chosen field ≡ None → FieldReported m field a a counts counts
+pub one_passed : (m : Comparing) (field : Field) (a : Option (List ℕ)) (counts : Counts) → is_chosen m.chosen field ≡ false → FieldReported m field a a counts counts
 one_passed m field a counts none = ([], together.passed none, refl, Appends-nil a)
 
-pub one_compared : (m : Comparing) (number : ℕ) (field : Field) (shown : Answer) (a b : Option (List ℕ)) (counts after : Counts) (j : Judgement) → shown_by m.chosen field ≡ Some shown
-    → Judged m.chosen field.id shown.output (came_by m.world m.late field.id) j.verdict → j.error ≡ brings_error (came_by m.world m.late field.id)
-    → Appends a b (case_text m.format number (case field (came_by m.world m.late field.id) (reason_shown_in m.world field.id) j.verdict)) → number ≡ total counts + 1 → after ≡ counted_on (j ∷ []) counts
+pub one_compared : (m : Comparing) (number : ℕ) (field : Field) (a b : Option (List ℕ)) (counts after : Counts) (j : Judgement) → is_chosen m.chosen field ≡ true
+    → Judged m.chosen field (came_by m.world m.late field.id) j.verdict → j.error ≡ brings_error (came_by m.world m.late field.id)
+    → Appends a b (case_text m.format number (case field (came_by m.world m.late field.id) (reason_shown_in m.world field.id) j.verdict None)) → number ≡ total counts + 1 → after ≡ counted_on (j ∷ []) counts
     → FieldReported m field a b counts after
-one_compared m number field shown a b counts after j some judged error wrote place is =
-    let one = case field (came_by m.world m.late field.id) (reason_shown_in m.world field.id) j.verdict in
+one_compared m number field a b counts after j some judged error wrote place is =
+    let one = case field (came_by m.world m.late field.id) (reason_shown_in m.world field.id) j.verdict None in
     let whole : Appends a b (case_text m.format number one ++ []) = subst (Appends a b) (sym (append-nil (case_text m.format number one))) wrote in
-    (one ∷ [], together.compared shown j.verdict some judged, is ∙ as_judged j (came_by m.world m.late field.id) counts error, subst (λ n. Appends a b (cases_text m.format n (one ∷ []))) place whole)
+    (one ∷ [], together.compared j.verdict some judged, is ∙ as_judged j (came_by m.world m.late field.id) counts error, subst (λ n. Appends a b (cases_text m.format n (one ∷ []))) place whole)
 
 -- Fields.
 

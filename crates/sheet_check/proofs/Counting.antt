@@ -17,18 +17,27 @@ verdicts-swapped verdict.Same verdict.Same counts = refl
 verdicts-swapped verdict.Same verdict.Differs counts = refl
 verdicts-swapped verdict.Same verdict.Unanswered counts = refl
 verdicts-swapped verdict.Same verdict.LeftOut counts = refl
+verdicts-swapped verdict.Same verdict.New counts = refl
 verdicts-swapped verdict.Differs verdict.Same counts = refl
 verdicts-swapped verdict.Differs verdict.Differs counts = refl
 verdicts-swapped verdict.Differs verdict.Unanswered counts = refl
 verdicts-swapped verdict.Differs verdict.LeftOut counts = refl
+verdicts-swapped verdict.Differs verdict.New counts = refl
 verdicts-swapped verdict.Unanswered verdict.Same counts = refl
 verdicts-swapped verdict.Unanswered verdict.Differs counts = refl
 verdicts-swapped verdict.Unanswered verdict.Unanswered counts = refl
 verdicts-swapped verdict.Unanswered verdict.LeftOut counts = refl
+verdicts-swapped verdict.Unanswered verdict.New counts = refl
 verdicts-swapped verdict.LeftOut verdict.Same counts = refl
 verdicts-swapped verdict.LeftOut verdict.Differs counts = refl
 verdicts-swapped verdict.LeftOut verdict.Unanswered counts = refl
 verdicts-swapped verdict.LeftOut verdict.LeftOut counts = refl
+verdicts-swapped verdict.LeftOut verdict.New counts = refl
+verdicts-swapped verdict.New verdict.Same counts = refl
+verdicts-swapped verdict.New verdict.Differs counts = refl
+verdicts-swapped verdict.New verdict.Unanswered counts = refl
+verdicts-swapped verdict.New verdict.LeftOut counts = refl
+verdicts-swapped verdict.New verdict.New counts = refl
 
 errors-swapped : (a b : Bool) (counts : Counts) → with_error a (with_error b counts) ≡ with_error b (with_error a counts)
 errors-swapped false b counts = refl
@@ -41,6 +50,7 @@ both-swapped verdict.Same true counts = refl
 both-swapped verdict.Differs true counts = refl
 both-swapped verdict.Unanswered true counts = refl
 both-swapped verdict.LeftOut true counts = refl
+both-swapped verdict.New true counts = refl
 
 swapped : (a b : Judgement) (counts : Counts) → counted_with a (counted_with b counts) ≡ counted_with b (counted_with a counts)
 swapped a b counts =

@@ -1,5 +1,5 @@
 -- Fields that are checked, one after another.
-use Rattle.std.proofs.Common.{◌≡◌, ◌+◌, inl, inr, ℕ, Bool, List, [], ◌∷◌, ◌++◌, Option, Some, None, refl, ap, sym, ◌∙◌, subst, append_assoc, append-nil}
+use Rattle.std.proofs.Common.{◌≡◌, ◌+◌, inl, inr, ℕ, Bool, true, false, List, [], ◌∷◌, ◌++◌, Option, Some, None, refl, ap, sym, ◌∙◌, subst, append_assoc, append-nil}
 use Rattle.std.proofs.KnownBytes.{Appends-trans, Appends-nil}
 use Rattle.std.specs.Io.KnownBytes.{Appends}
 use Rattle.worksheet.specs.declared.field.Answer.{Answer}
@@ -12,33 +12,34 @@ use Rattle.offline_programs.specs.declared.fault.RunFault.{RunFault}
 use Rattle.offline_programs.specs.declared.fault.RunFault.TheVariants as fault
 use Rattle.check_report.specs.declared.verdict.Counts.{Counts}
 use Rattle.check_report.specs.declared.verdict.Judgement.{Judgement}
-use Rattle.check_report.specs.Chosen.{shown_by}
+use Rattle.sheet_json.specs.declared.checks.Took.{Took}
+use Rattle.check_report.specs.Chosen.{is_chosen}
 use Rattle.check_report.specs.Reports.{Case, case, case_text, cases_text, opening_text, report_front, judgements_of}
 use Rattle.check_report.specs.Verdicts.{counts_of, total}
 use Rattle.live.specs.Records as records
 use Rattle.sheet_check.specs.Evaluated.{Evaluated, FieldChecked, FieldsChecked, OneByOne, WaitedBy, checked, eval_of, passed, reason_shown_in}
-use Rattle.sheet_check.specs.Check.{FirstLed, FirstShows, WaitLedBy, asking, in_eval, in_wait, still, waiting}
+use Rattle.sheet_check.specs.Check.{FirstLed, FirstChosen, WaitLedBy, asking, in_eval, in_wait, still, waiting}
 use Rattle.sheet_check.specs.inside.Checking.{AskFailed, EvaluationBroke, FieldFailed, FieldWrote, FieldsFailed, FieldsWrote, FirstFailed, LeavesText, ShownWrote, Untold, WaitBroke, counted_on, question}
 use Rattle.sheet_check.specs.inside.Checking as inside
 use Rattle.sheet_check.proofs.Counting.{as_judged, cases-more, front-more}
 
 -- A field.
 
-pub field_passed : {C : Type 0} (o : OneByOne C) (field : Field) (w : World) (h : HostView) (c : C) (a : Option (List ℕ)) (counts : Counts) → shown_by o.chosen field ≡ None → IsHost h w
+pub field_passed : {C : Type 0} (o : OneByOne C) (field : Field) (w : World) (h : HostView) (c : C) (a : Option (List ℕ)) (counts : Counts) → is_chosen o.chosen field ≡ false → IsHost h w
     → FieldWrote o field (at w c h.store.disk) (records.left h c a a) counts counts
 field_passed o field w h c a counts none stands = ([], w, passed none, stands, refl, Appends-nil a)
 
-pub field_checked : {C : Type 0} (o : OneByOne C) (number : ℕ) (field : Field) (shown : Answer) (s : At C) (h : HostView) (c : C) (a b : Option (List ℕ)) (counts after : Counts)
-    (j : Judgement) → shown_by o.chosen field ≡ Some shown → ShownWrote o (question number field shown) s (records.left h c a b) j → number ≡ total counts + 1 → after ≡ counted_on (j ∷ []) counts
+pub field_checked : {C : Type 0} (o : OneByOne C) (number : ℕ) (field : Field) (s : At C) (h : HostView) (c : C) (a b : Option (List ℕ)) (counts after : Counts)
+    (j : Judgement) → is_chosen o.chosen field ≡ true → ShownWrote o (question number field) s (records.left h c a b) j → number ≡ total counts + 1 → after ≡ counted_on (j ∷ []) counts
     → FieldWrote o field s (records.left h c a b) counts after
-field_checked o number field shown s h c a b counts after j some p place is =
-    let one = case field p.0 (reason_shown_in p.1 field.id) j.verdict in
-    let wrote : Appends a b (case_text o.format number one ++ []) = subst (Appends a b) (sym (append-nil (case_text o.format number one))) p.6 in (
+field_checked o number field s h c a b counts after j some p place is =
+    let one = case field p.0 (reason_shown_in p.1 field.id) j.verdict (Some p.2) in
+    let wrote : Appends a b (case_text o.format number one ++ []) = subst (Appends a b) (sym (append-nil (case_text o.format number one))) p.7 in (
       one ∷ [],
       p.1,
-      checked shown p.0 j.verdict (at p.1 c h.store.disk) some p.2 p.4,
-      p.3,
-      is ∙ as_judged j p.0 counts p.5,
+      checked p.0 p.2 j.verdict (at p.1 c h.store.disk) some p.3 p.5,
+      p.4,
+      is ∙ as_judged j p.0 counts p.6,
       subst (λ n. Appends a b (cases_text o.format n (one ∷ []))) place wrote,
     )
 
@@ -141,9 +142,9 @@ all_checked o all left s h c a b counts e so =
 
 -- Where a field's evaluation broke off, or couldn't be reported.
 
-module _ {C : Type 0} (o : OneByOne C) (field : Field) (shown : Answer) (shows : shown_by o.chosen field ≡ Some shown) (s : At C) (h : HostView) (c : C) where
-  first : (others : List Field) → FirstShows o.chosen (field ∷ others) field
-  first others = record { others = others; is = refl; shown = shown; shows = shows }
+module _ {C : Type 0} (o : OneByOne C) (field : Field) (is_one : is_chosen o.chosen field ≡ true) (s : At C) (h : HostView) (c : C) where
+  first : (others : List Field) → FirstChosen o.chosen (field ∷ others) field
+  first others = record { others = others; is = refl; chosen_is = is_one }
 
   ask-first : (others : List Field) (why : RunFault) → AskFailed o.way.after field.id s h c why → FirstFailed o (field ∷ others) s h c why
   ask-first others why (inside.stopped f beats e t d up broke other) = inside.stopped f e t d (in_eval field beats (first others) up) broke other
@@ -167,8 +168,8 @@ module _ {C : Type 0} (o : OneByOne C) (field : Field) (shown : Answer) (shows :
   waited-led (Some seconds) mid in_time t p = inl (in_time, p)
 
   -- the field was evaluated, and what came of it couldn't be reported
-  pub tell_failed : (came : Option Answer) (t : World) → Evaluated o.way field.id s came (at t c h.store.disk) → IsHost h t → (a b : Option (List ℕ)) (why : RunFault) → Untold a b why → FieldFailed o field s (records.left h c a b) why
-  tell_failed came t e stands a b why p = go p
+  pub tell_failed : (came : Option Answer) (took : Took) (t : World) → Evaluated o.way field s came took (at t c h.store.disk) → IsHost h t → (a b : Option (List ℕ)) (why : RunFault) → Untold a b why → FieldFailed o field s (records.left h c a b) why
+  tell_failed came took t e stands a b why p = go p
     where
       led : (others : List Field) → FirstLed o.way o.chosen (field ∷ others) s (at t c h.store.disk)
       led others = waiting field e.first e.asked (first others) e.served (waited-led o.way.limit e.asked e.in_time (at t c h.store.disk) e.waited)

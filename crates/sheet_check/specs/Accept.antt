@@ -30,12 +30,13 @@ use Rattle.sheet_check.specs.declared.named.CheckFault.TheVariants as checks
 abbrev pub to_accept : {C : Type 0} → Way C → Chosen → OneByOne C
 to_accept o chosen = one_by_one o chosen format.Accepting
 
--- the answer that is accepted, of the one that came: where its output differs, that one
+-- the answer that is accepted, of the one that came: where its output differs or is new, that one
 abbrev pub accepted_answer : Option Answer → Verdict → Option Answer
 accepted_answer came verdict.Same = None
 accepted_answer came verdict.Differs = came
 accepted_answer came verdict.Unanswered = None
 accepted_answer came verdict.LeftOut = None
+accepted_answer came verdict.New = came
 
 -- the op that puts an answer into a field, where there is one
 abbrev pub answer_ops : ℕ → Option Answer → List Op
@@ -46,7 +47,7 @@ answer_ops id (Some answer) = answer_op id answer ∷ []
 abbrev pub accepted_of : Case → List Op
 accepted_of c = answer_ops c.field.id (accepted_answer c.came c.verdict)
 
--- what is accepted of fields: the answers that differ, in their order
+-- what is accepted of fields: the answers that differ or are new, in their order
 abbrev pub accepted : List Case → List Op
 accepted cases = flat_map accepted_of cases
 

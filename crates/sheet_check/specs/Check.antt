@@ -1,8 +1,7 @@
 -- What `check` leaves: on the copy a faithful run of the evaluations, of the disk that was given reads alone.
-use Rattle.std.specs.Prelude.{◌≡◌, ◌⊎◌, IsTrue, ℕ, Bool, List, ◌∷◌, ◌++◌, Option, Some, None, Result, Ok, Err}
+use Rattle.std.specs.Prelude.{◌≡◌, ◌⊎◌, IsTrue, ℕ, Bool, true, List, ◌∷◌, ◌++◌, Option, Some, None, Result, Ok, Err}
 use Rattle.std.specs.Io.KnownBytes.{Appends}
 use Rattle.disk_model.specs.Disk.{DiskView, InModel, Looks, SameDisk, bytes_on, greatest_room}
-use Rattle.worksheet.specs.declared.field.Answer.{Answer}
 use Rattle.worksheet.specs.declared.field.Field.{Field}
 use Rattle.worksheet.specs.Contents.{Contents}
 use Rattle.journal.specs.declared.opening.OpenCause.{OpenCause}
@@ -27,7 +26,7 @@ use Rattle.offline_programs.specs.declared.fault.RunFault.{RunFault}
 use Rattle.offline_programs.specs.declared.fault.RunFault.TheVariants as fault
 use Rattle.check_report.specs.declared.chosen.Chosen.{Chosen}
 use Rattle.check_report.specs.declared.verdict.Counts.{Counts}
-use Rattle.check_report.specs.Chosen.{shown_by}
+use Rattle.check_report.specs.Chosen.{is_chosen}
 use Rattle.check_report.specs.Reports.{Case, report_front, report_text, judgements_of}
 use Rattle.check_report.specs.Verdicts.{counts_of}
 use Rattle.evaluation.specs.Within.{WaitInPart, WaitTooLong, WaitUnwatched, WaitUpTo, WaitedWithin}
@@ -69,12 +68,11 @@ pub record SheetChecked {C : Type 0} (o : OneByOne C) (sheet : Contents) (q : Pa
   pub counted : counts ≡ counts_of (judgements_of cases)
   pub wrote : Appends q.text q.written (report_text o.format cases)
 
--- The first of these fields shows an answer, and its session is checked.
-pub record FirstShows (chosen : Chosen) (fields : List Field) (field : Field) : Type 0 where
+-- The first of these fields is one of those that are checked.
+pub record FirstChosen (chosen : Chosen) (fields : List Field) (field : Field) : Type 0 where
   pub others : List Field
   pub is : fields ≡ field ∷ others
-  pub shown : Answer
-  pub shows : shown_by chosen field ≡ Some shown
+  pub chosen_is : is_chosen chosen field ≡ true
 
 -- A wait for the answer to this field, in whole or in part.
 abbrev pub WaitLedBy : {C : Type 0} → Option ℕ → Way C → ℕ → At C → At C → Type 0
@@ -94,18 +92,18 @@ UnwatchedBy limit o id s t = (seconds : ℕ) × (limit ≡ Some seconds) × Wait
 abbrev pub TooLongBy : {C : Type 0} → Option ℕ → Way C → ℕ → At C → At C → Type 0
 TooLongBy limit o id s t = (seconds : ℕ) × (limit ≡ Some seconds) × WaitTooLong (limited o seconds) id s t
 
--- The first of these fields, which shows an answer, was evaluated up to here: nothing was done, or its `eval`, or the wait for its answer,
+-- The first of these fields, which is checked, was evaluated up to here: nothing was done, or its `eval`, or the wait for its answer,
 -- in whole or in part.
 pub data FirstLed {C : Type 0} (o : Way C) (chosen : Chosen) (fields : List Field) (s t : At C) : Type 0 where
   still : t ≡ s → FirstLed o chosen fields s t
-  asking : (field : Field) → FirstShows chosen fields field → LineLed o.after (Some (line.Command (command.Eval field.id))) s t → FirstLed o chosen fields s t
-  waiting : (field : Field) (beats : List Beat) (mid : At C) → FirstShows chosen fields field → Served o.after s (eval_of field.id) beats mid
+  asking : (field : Field) → FirstChosen chosen fields field → LineLed o.after (Some (line.Command (command.Eval field.id))) s t → FirstLed o chosen fields s t
+  waiting : (field : Field) (beats : List Beat) (mid : At C) → FirstChosen chosen fields field → Served o.after s (eval_of field.id) beats mid
       → WaitLedBy o.limit o field.id mid t → FirstLed o chosen fields s t
 
 -- The line of the first of these fields was sent, and this came of the wait for its answer.
 abbrev pub FirstWaits : {C : Type 0} → Way C → Chosen → List Field → At C → (ℕ → At C → Type 0) → Type 0
 FirstWaits {C = C} o chosen fields s Came =
-    (field : Field) × (beats : List Beat) × (mid : At C) × FirstShows chosen fields field × Served o.after s (eval_of field.id) beats mid × Came field.id mid
+    (field : Field) × (beats : List Beat) × (mid : At C) × FirstChosen chosen fields field × Served o.after s (eval_of field.id) beats mid × Came field.id mid
 
 abbrev pub FirstUnwatched : {C : Type 0} → Way C → Chosen → List Field → At C → At C → Type 0
 FirstUnwatched o chosen fields s t = FirstWaits o chosen fields s (λ id mid. UnwatchedBy o.limit o id mid t)
@@ -127,10 +125,10 @@ pub record SheetLed {C : Type 0} (o : OneByOne C) (sheet : Contents) (c d : C) (
   pub led : Led left mid leads
   pub stops : Stops o.way.after (running leads.world) leads.children d
 
--- The first of these fields, which shows an answer, was evaluated up to this event, which its `eval` or the wait for its answer came to.
+-- The first of these fields, which is checked, was evaluated up to this event, which its `eval` or the wait for its answer came to.
 pub data FirstUpTo {C : Type 0} (o : Way C) (chosen : Chosen) (fields : List Field) (s : At C) (e : Event) (t : At C) : Type 0 where
-  in_eval : (field : Field) (beats : List Beat) → FirstShows chosen fields field → ServedUpTo o.after s (eval_of field.id) beats e t → FirstUpTo o chosen fields s e t
-  in_wait : (field : Field) (beats : List Beat) (mid : At C) → FirstShows chosen fields field → Served o.after s (eval_of field.id) beats mid
+  in_eval : (field : Field) (beats : List Beat) → FirstChosen chosen fields field → ServedUpTo o.after s (eval_of field.id) beats e t → FirstUpTo o chosen fields s e t
+  in_wait : (field : Field) (beats : List Beat) (mid : At C) → FirstChosen chosen fields field → Served o.after s (eval_of field.id) beats mid
       → WaitUpToBy o.limit o field.id mid e t → FirstUpTo o chosen fields s e t
 
 -- a fault that isn't one of the disk: the copy lies in memory, and that its disk failed is reported as lack of memory

@@ -1,5 +1,5 @@
--- The fields of a worksheet evaluated again, one after another.
-use Rattle.std.specs.Prelude.{◌≡◌, ◌&&◌, ℕ, Bool, true, false, List, [], ◌∷◌, ◌++◌, Option, Some, None}
+-- The fields of a worksheet evaluated, one after another.
+use Rattle.std.specs.Prelude.{◌≡◌, ◌&&◌, ◌-◌, not, ℕ, Bool, true, false, List, [], ◌∷◌, ◌++◌, Option, Some, None, is_some}
 use Rattle.std.specs.Option.{option_map_or}
 use Rattle.block_tree.specs.declared.reason.Reason.{Reason}
 use Rattle.worksheet.specs.Checks.{field_in}
@@ -11,7 +11,7 @@ use Rattle.host_events.specs.declared.event.Event.{Event}
 use Rattle.host_events.specs.declared.event.Event.TheVariants as event
 use Rattle.host_events.specs.declared.reply.Reply.{Reply}
 use Rattle.host_events.specs.declared.reply.Reply.TheVariants as reply
-use Rattle.session_engine.specs.World.{World, sheet_in}
+use Rattle.session_engine.specs.World.{World, life_of, sheet_in}
 use Rattle.host_events.specs.declared.outcome.HostFault.TheVariants as hosts
 use Rattle.child_edge.specs.Limits.{most_turns}
 use Rattle.child_edge.specs.Faithful.{Relation, At, Beat, Served, Waited}
@@ -21,10 +21,11 @@ use Rattle.evaluation.specs.Steps.{Setting}
 use Rattle.evaluation.specs.Within.{WaitedWithin, waiting}
 use Rattle.offline_programs.specs.declared.fault.RunFault.{RunFault}
 use Rattle.offline_programs.specs.declared.fault.RunFault.TheVariants as fault
+use Rattle.sheet_json.specs.declared.checks.Took.{Took}
 use Rattle.check_report.specs.declared.chosen.Chosen.{Chosen}
 use Rattle.check_report.specs.declared.report.Format.{Format}
 use Rattle.check_report.specs.declared.verdict.Verdict.{Verdict}
-use Rattle.check_report.specs.Chosen.{Judged, shown_by}
+use Rattle.check_report.specs.Chosen.{Judged, is_chosen}
 use Rattle.check_report.specs.Reports.{Case, case}
 
 -- How fields are evaluated again: what may come of the calls on the children, of their clock and of a watch of them, and how many seconds
@@ -98,24 +99,33 @@ abbrev pub WaitedBy : {C : Type 0} → Option ℕ → Way C → ℕ → At C →
 WaitedBy None o id s in_time t = (beats : List Beat) × Waited o.after most_turns s beats t × (in_time ≡ true)
 WaitedBy (Some seconds) o id s in_time t = WaitedWithin (limited o seconds) id s in_time t
 
--- The field with this number was evaluated: an `eval`, for which there was memory, and all that came of it, and then a wait for the
--- answer. This answer came, or none.
-pub record Evaluated {C : Type 0} (o : Way C) (id : ℕ) (s : At C) (came : Option Answer) (t : At C) : Type 0 where
+-- What an evaluation took by what the clock read before it and after it, and whether no interpreter of the field's session was there before.
+abbrev pub took_between : World → Field → ℕ → ℕ → Took
+took_between w field begun ended = record { millis = ended - begun; started = not (is_some (life_of w field.session)) }
+
+-- A field was evaluated: an `eval`, for which there was memory, and all that came of it, and then a wait for the answer. This answer came,
+-- or none, and this is what that took.
+pub record Evaluated {C : Type 0} (o : Way C) (field : Field) (s : At C) (came : Option Answer) (took : Took) (t : At C) : Type 0 where
   pub asked : At C
   pub first : List Beat
-  pub served : Served o.after s (eval_of id) first asked
+  pub served : Served o.after s (eval_of field.id) first asked
   pub remembered : begins_for_memory (told first) ≡ false
   pub in_time : Bool
-  pub waited : WaitedBy o.limit o id asked in_time t
-  pub came_is : came ≡ came_if (begins_asked (told first) && in_time) (shown_in t.world id)
+  pub waited : WaitedBy o.limit o field.id asked in_time t
+  pub came_is : came ≡ came_if (begins_asked (told first) && in_time) (shown_in t.world field.id)
+  pub begun : ℕ
+  pub reads_begun : o.clock s.children begun
+  pub ended : ℕ
+  pub reads_ended : o.clock t.children ended
+  pub took_is : took ≡ took_between s.world field begun ended
 
--- A field was checked: where it shows an answer, and its session is checked, it was evaluated, and what came was judged by that answer.
--- The case that this is, where it is one, and where that led.
+-- A field was checked: where it is one of those that are, it was evaluated, and what came was judged by the answer that it shows. The case
+-- that this is, where it is one, and where that led.
 pub data FieldChecked {C : Type 0} (o : Way C) (chosen : Chosen) (field : Field) (s : At C) : List Case → At C → Type 0 where
-  passed : shown_by chosen field ≡ None → FieldChecked o chosen field s [] s
-  checked : (shown : Answer) (came : Option Answer) (verdict : Verdict) (t : At C) → shown_by chosen field ≡ Some shown
-      → Evaluated o field.id s came t → Judged chosen field.id shown.output came verdict
-      → FieldChecked o chosen field s (case field came (reason_shown_in t.world field.id) verdict ∷ []) t
+  passed : is_chosen chosen field ≡ false → FieldChecked o chosen field s [] s
+  checked : (came : Option Answer) (took : Took) (verdict : Verdict) (t : At C) → is_chosen chosen field ≡ true
+      → Evaluated o field s came took t → Judged chosen field came verdict
+      → FieldChecked o chosen field s (case field came (reason_shown_in t.world field.id) verdict (Some took) ∷ []) t
 
 -- fields were checked, one after another
 abbrev pub FieldsChecked : {C : Type 0} → Way C → Chosen → List Field → At C → List Case → At C → Type 0

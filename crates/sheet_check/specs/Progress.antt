@@ -1,5 +1,5 @@
 -- What is to be seen while a check goes on.
-use Rattle.std.specs.Prelude.{◌≡◌, ◌+◌, ◌⊎◌, ℕ, Bool, true, false, List, [], ◌∷◌, Result, Ok, Err, is_some, if◌then◌else◌}
+use Rattle.std.specs.Prelude.{◌≡◌, ◌+◌, ◌⊎◌, ℕ, Bool, true, false, List, [], ◌∷◌, Result, Ok, Err, if◌then◌else◌}
 use Rattle.disk_model.specs.Disk.{DiskView, InModel, bytes_on}
 use Rattle.worksheet.specs.declared.field.Field.{Field}
 use Rattle.worksheet.specs.Contents.{Contents}
@@ -12,7 +12,7 @@ use Rattle.check_report.specs.declared.report.Format.{Format}
 use Rattle.check_report.specs.declared.verdict.Counts.{Counts}
 use Rattle.check_report.specs.declared.verdict.Judgement.{Judgement}
 use Rattle.check_report.specs.declared.verdict.Verdict.{Verdict}
-use Rattle.check_report.specs.Chosen.{shown_by}
+use Rattle.check_report.specs.Chosen.{is_chosen}
 use Rattle.check_report.specs.Reports.{is_written}
 use Rattle.sheet_check.specs.declared.progress.Sight.{Sight}
 use Rattle.sheet_check.specs.declared.progress.Sight.TheVariants as sight
@@ -24,7 +24,7 @@ use Rattle.sheet_check.specs.declared.named.CheckFault.TheVariants as checks
 -- how many of these fields show an answer, and are of a session that is checked
 abbrev pub answered : Chosen → List Field → ℕ
 answered chosen [] = 0
-answered chosen (field ∷ fields) = (if is_some (shown_by chosen field) then 1 else 0) + answered chosen fields
+answered chosen (field ∷ fields) = (if is_chosen chosen field then 1 else 0) + answered chosen fields
 
 -- the line is taken away, or left
 abbrev pub TakesLine : {P : Type 0} → Bool → (P → Sight → P → Type 0) → P → P → Type 0

@@ -1,6 +1,6 @@
 -- What a check leaves whose fields are evaluated side by side: an evaluation in silence of those fields on a copy, and then their report in
 -- the worksheet's order. One whose fields are all of one session goes one after another. (docs/use/CHECK.md, "Side by side".)
-use Rattle.std.specs.Prelude.{◌≡◌, ◌==◌, ◌&&◌, ℕ, Bool, false, true, not, List, [], ◌∷◌, ◌++◌, Option, Some, None, find, is_some, Result, Ok, Err}
+use Rattle.std.specs.Prelude.{◌≡◌, ◌==◌, ◌&&◌, ℕ, Bool, false, true, not, List, [], ◌∷◌, ◌++◌, Option, Some, None, find, Result, Ok, Err}
 use Rattle.std.specs.Bool.{MatchBool}
 use Rattle.std.specs.List.{list_any}
 use Rattle.std.specs.Str.{bytes_eq}
@@ -26,7 +26,7 @@ use Rattle.check_report.specs.declared.chosen.Chosen.{Chosen}
 use Rattle.check_report.specs.declared.report.Format.{Format}
 use Rattle.check_report.specs.declared.verdict.Counts.{Counts}
 use Rattle.check_report.specs.declared.verdict.Verdict.{Verdict}
-use Rattle.check_report.specs.Chosen.{Judged, shown_by}
+use Rattle.check_report.specs.Chosen.{Judged, is_chosen}
 use Rattle.check_report.specs.Reports.{Case, case, report_front, report_text, judgements_of}
 use Rattle.check_report.specs.Verdicts.{counts_of}
 use Rattle.evaluation.specs.declared.plan.Plan.{Plan}
@@ -50,15 +50,15 @@ pub record SideBySide (C : Type 0) : Type 1 where
 abbrev pub side_by_side : {C : Type 0} → Way C → ℕ → Chosen → Format → SideBySide C
 side_by_side o jobs chosen F = record { way = o; jobs = jobs; chosen = chosen; format = F }
 
--- a number, where its field shows an answer
-abbrev pub id_of_shown : Option Answer → ℕ → List ℕ
-id_of_shown None id = []
-id_of_shown (Some shown) id = id ∷ []
+-- a number, where its field is checked
+abbrev pub id_of_chosen : Bool → ℕ → List ℕ
+id_of_chosen false id = []
+id_of_chosen true id = id ∷ []
 
 -- the numbers of the fields that are checked, in the worksheet's order
 abbrev pub checked_ids : Chosen → List Field → List ℕ
 checked_ids chosen [] = []
-checked_ids chosen (field ∷ fields) = id_of_shown (shown_by chosen field) field.id ++ checked_ids chosen fields
+checked_ids chosen (field ∷ fields) = id_of_chosen (is_chosen chosen field) field.id ++ checked_ids chosen fields
 
 -- a worksheet after the field with this number was cleared, where it has one
 abbrev pub cleared_if : Option Refusal → Contents → ℕ → Contents
@@ -69,14 +69,14 @@ cleared_if (Some why) sheet id = sheet
 abbrev pub refusal_of : Contents → ℕ → Option Refusal
 refusal_of sheet id = first_refusal sheet (op.Clear id)
 
-abbrev pub cleared_at : Option Answer → Contents → ℕ → Contents
-cleared_at None sheet id = sheet
-cleared_at (Some shown) sheet id = cleared_if (refusal_of sheet id) sheet id
+abbrev pub cleared_at : Bool → Contents → ℕ → Contents
+cleared_at false sheet id = sheet
+cleared_at true sheet id = cleared_if (refusal_of sheet id) sheet id
 
 -- The worksheet after those of these fields that are checked were cleared, one after another, so that they show nothing.
 abbrev pub cleared : Chosen → List Field → Contents → Contents
 cleared chosen [] sheet = sheet
-cleared chosen (field ∷ fields) sheet = cleared chosen fields (cleared_at (shown_by chosen field) sheet field.id)
+cleared chosen (field ∷ fields) sheet = cleared chosen fields (cleared_at (is_chosen chosen field) sheet field.id)
 
 -- all of these fields, up to the end: a field after one that shows no answer is asked, too
 abbrev pub checking_plan : List ℕ → Option ℕ → ℕ → Plan
@@ -94,12 +94,12 @@ is_late late id = list_any (λ one. one == id) late
 abbrev pub came_by : World → List ℕ → ℕ → Option Answer
 came_by w late id = came_if (not (is_late late id)) (shown_in w id)
 
--- A field was compared: where it shows an answer, and its session is checked, what came was judged by that answer. The case that this is,
--- where it is one.
+-- A field was compared: where it is one of those that are checked, what came was judged by the answer that it shows. The case that this is,
+-- where it is one; what its evaluation took isn't known.
 pub data FieldCompared (chosen : Chosen) (w : World) (late : List ℕ) (field : Field) : List Case → Type 0 where
-  passed : shown_by chosen field ≡ None → FieldCompared chosen w late field []
-  compared : (shown : Answer) (verdict : Verdict) → shown_by chosen field ≡ Some shown → Judged chosen field.id shown.output (came_by w late field.id) verdict
-      → FieldCompared chosen w late field (case field (came_by w late field.id) (reason_shown_in w field.id) verdict ∷ [])
+  passed : is_chosen chosen field ≡ false → FieldCompared chosen w late field []
+  compared : (verdict : Verdict) → is_chosen chosen field ≡ true → Judged chosen field (came_by w late field.id) verdict
+      → FieldCompared chosen w late field (case field (came_by w late field.id) (reason_shown_in w field.id) verdict None ∷ [])
 
 -- fields were compared, one after another
 abbrev pub FieldsCompared : Chosen → World → List ℕ → List Field → List Case → Type 0
@@ -163,13 +163,9 @@ abbrev pub TogetherTells : {C : Type 0} → SideBySide C → Contents → Passag
 TogetherTells o sheet q nothing (Ok counts) = TogetherChecked o sheet q counts
 TogetherTells o sheet q nothing (Err why) = TellsTogether o sheet q nothing why
 
--- whether a field is checked
-abbrev pub is_checked : Chosen → Field → Bool
-is_checked chosen field = is_some (shown_by chosen field)
-
--- whether it is, and isn't of this session
+-- whether a field is checked, and isn't of this session
 abbrev pub is_checked_beside : Chosen → List ℕ → Field → Bool
-is_checked_beside chosen session field = is_checked chosen field && not (bytes_eq field.session session)
+is_checked_beside chosen session field = is_chosen chosen field && not (bytes_eq field.session session)
 
 -- whether one of these fields is checked that isn't of the session of this one
 abbrev pub any_beside : Chosen → List Field → Option Field → Bool
@@ -178,7 +174,7 @@ any_beside chosen fields (Some first) = list_any (is_checked_beside chosen first
 
 -- Whether those of these fields that are checked are of several sessions: one of them isn't of the session of the first.
 abbrev pub have_several : Chosen → List Field → Bool
-have_several chosen fields = any_beside chosen fields (find (is_checked chosen) fields)
+have_several chosen fields = any_beside chosen fields (find (is_chosen chosen) fields)
 
 -- What becomes of a check of this worksheet: they go side by side where they are of several sessions, and else one after another, each
 -- reported when it is known.

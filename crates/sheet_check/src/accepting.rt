@@ -62,27 +62,21 @@ fn copy_what_came(came: &Option<Answer>) -> Result<Option<Answer>, OutOfMemory>
     }
 }
 
-/// The answer that is accepted, where the one that came differs.
+/// The answer that is accepted, where the one that came differs or is new.
 fn answer_to_accept(came: &Option<Answer>, verdict: Verdict) -> Result<Option<Answer>, OutOfMemory>
     ensures { IfOk result (λ answer. answer ≡ accepted_answer came.now verdict) }
 {
     match verdict {
-        Verdict::Differs => copy_what_came(came),
+        Verdict::Differs | Verdict::New => copy_what_came(came),
         Verdict::Same | Verdict::Unanswered | Verdict::LeftOut => Ok(None),
     }
 }
 
 /// What a field came to by the answer that came. None where there is no memory for it.
-fn find(
-    alloc: Global,
-    chosen: &Chosen,
-    field: &Field,
-    shown: &Answer,
-    came: &Option<Answer>,
-) -> Option<Finding>
-    ensures { IfSome result (Finds chosen.now field.now shown.now came.now) }
+fn find(alloc: Global, chosen: &Chosen, field: &Field, came: &Option<Answer>) -> Option<Finding>
+    ensures { IfSome result (Finds chosen.now field.now came.now) }
 {
-    let verdict = chosen.judge(field.id, shown, came);
+    let verdict = chosen.judge(field, came);
     let Ok(answer) = answer_to_accept(came, verdict) else {
         return None;
     };
@@ -105,18 +99,17 @@ pub(crate) fn find_on_copy<D: Disk>(
     chosen: &Chosen,
     host: &Host<D>,
     field: &Field,
-    shown: &Answer,
     asked: bool,
 ) -> Option<Finding>
-    ensures { (w : World) → IsHost host.now w → IfSome result (Finds chosen.now field.now shown.now
+    ensures { (w : World) → IsHost host.now w → IfSome result (Finds chosen.now field.now
         (came_if asked (shown_in w field.now.id))) }
 {
     if !asked {
-        return find(alloc, chosen, field, shown, &None);
+        return find(alloc, chosen, field, &None);
     }
     match host.sheet().field(field.id) {
-        None => find(alloc, chosen, field, shown, &None),
-        Some(now) => find(alloc, chosen, field, shown, &now.answer),
+        None => find(alloc, chosen, field, &None),
+        Some(now) => find(alloc, chosen, field, &now.answer),
     }
 }
 

@@ -1,5 +1,5 @@
 //! The check of a worksheet.
-ghost use Rattle.std.specs.Prelude.{◌≡◌, ◌+◌, ◌≤◌, ◌<◌, ◌^◌, List, Err, IfErr, IfNone, IfOk, IfSome, OnOk, Some, length};
+ghost use Rattle.std.specs.Prelude.{◌≡◌, ◌+◌, ◌≤◌, ◌<◌, ◌^◌, List, Err, IfErr, IfNone, IfOk, IfSome, OnOk, length, true};
 ghost use Rattle.std.specs.Io.KnownBytes.{Appends};
 ghost use Rattle.worksheet.specs.declared.op.Op.{Op};
 ghost use Rattle.recovery.specs.Sheets.{Makes};
@@ -9,7 +9,7 @@ ghost use Rattle.child_edge.specs.Faithful.{at};
 ghost use Rattle.disk_model.specs.Disk.{Rises};
 ghost use Rattle.offline_programs.specs.declared.fault.RunFault.TheVariants as told;
 ghost use Rattle.journal.specs.declared.opening.OpenCause.TheVariants as opens;
-ghost use Rattle.check_report.specs.Chosen.{shown_by};
+ghost use Rattle.check_report.specs.Chosen.{is_chosen};
 ghost use Rattle.check_report.specs.Reports.{closing_text, opening_text};
 ghost use Rattle.check_report.specs.Verdicts.{total};
 ghost use Rattle.sheet_check.specs.Evaluated.{one_by_one, way};
@@ -35,9 +35,9 @@ use recovery::Store;
 use session_engine::Host;
 use std::alloc::Global;
 use std::io::Write;
-use worksheet::{Answer, Field, Sheet};
+use worksheet::{Field, Sheet};
 
-/// Evaluates a field that shows this answer, and tells what that came to, as the case of this number.
+/// Evaluates a field that is checked, and tells what that came to, as the case of this number.
 fn check_shown<D: Disk, C: Sources, W: Write, P: Progress>(
     alloc: Global,
     request: &Request,
@@ -45,14 +45,13 @@ fn check_shown<D: Disk, C: Sources, W: Write, P: Progress>(
     sources: &mut C,
     number: u64,
     field: &Field,
-    shown: &Answer,
     progress: &mut P,
     writer: &mut W,
 ) -> Result<Judgement, RunFault>
-    requires { shown_by request.now.chosen field.now ≡ Some shown.now }
+    requires { is_chosen request.now.chosen field.now ≡ true }
     ensures ok { (w : World) → IsHost host.old w → IfOk result (ShownWrote
         (one_by_one (way C.after C.clock C.wakes request.now.limit) request.now.chosen request.now.format)
-        (question number field.now shown.now) (at w sources.old host.old.store.disk)
+        (question number field.now) (at w sources.old host.old.store.disk)
         (left host.new sources.new (W.contents writer.old) (W.contents writer.new))) }
     ensures err { (w : World) → IsHost host.old w → IfErr result (FieldFailed
         (one_by_one (way C.after C.clock C.wakes request.now.limit) request.now.chosen request.now.format)
@@ -62,12 +61,20 @@ fn check_shown<D: Disk, C: Sources, W: Write, P: Progress>(
         MakesRoom request.now.format P.shows j.verdict progress.old progress.new) }
     ensures left { IfErr result (λ _. LeavesLine P.shows progress.old progress.new) }
 {
-    let came = match evaluate(alloc, request.limit, host, sources, field.id) {
+    let came = match evaluate(alloc, request.limit, host, sources, field) {
         Ok(came) => came,
         Err(fault) => return Err(fault),
     };
     tell_what_came(
-        alloc, request, host, number, field, shown, came, progress, writer,
+        alloc,
+        request,
+        host,
+        number,
+        field,
+        came.is_there,
+        Some(came.took),
+        progress,
+        writer,
     )
 }
 
@@ -80,8 +87,7 @@ pub(crate) fn show_counts<P: Progress>(counts: Counts, all: u32, progress: &mut 
     counts
 }
 
-/// Checks a field, where it shows an answer and its session is checked. The counts with what that came
-/// to, which are shown.
+/// Checks a field, where it is one of those that are. The counts with what that came to, which are shown.
 fn check_field<D: Disk, C: Sources, W: Write, P: Progress>(
     alloc: Global,
     request: &Request,
@@ -110,14 +116,14 @@ fn check_field<D: Disk, C: Sources, W: Write, P: Progress>(
     ensures left { IfErr result (λ _. LeavesLine P.shows progress.old progress.new) }
 {
     let number = counts.total() + 1;
-    match request.chosen.shown(field) {
-        None => Ok(counts),
-        Some(shown) => match check_shown(
-            alloc, request, host, sources, number, field, shown, progress, writer,
-        ) {
-            Ok(judgement) => Ok(show_counts(counts.with(judgement), all, progress)),
-            Err(fault) => Err(fault),
-        },
+    if !request.chosen.has(field) {
+        return Ok(counts);
+    }
+    match check_shown(
+        alloc, request, host, sources, number, field, progress, writer,
+    ) {
+        Ok(judgement) => Ok(show_counts(counts.with(judgement), all, progress)),
+        Err(fault) => Err(fault),
     }
 }
 
@@ -192,7 +198,7 @@ pub(crate) fn count_answered(chosen: &Chosen, sheet: &Sheet) -> u32
     let mut count: u32 = 0;
     let mut fields = sheet.fields();
     while let Some(field) = fields.next() {
-        if chosen.shown(field).is_some() {
+        if chosen.has(field) {
             count += 1;
         }
     }
@@ -299,7 +305,7 @@ pub struct Checked<D: Disk> {
     pub answer: Result<Counts, CheckFault>,
 }
 
-/// Checks the worksheet on a disk: evaluates each field that shows an answer again, in their order, on a
+/// Checks the worksheet on a disk: evaluates each field that is checked, in their order, on a
 /// copy of the worksheet in memory and with interpreters of its own, each `eval` with a `wait` after
 /// it, and compares the output that came with the one that the field shows. The prompt is no part of
 /// it. Each difference is written and flushed when it is known, and the counts at the end

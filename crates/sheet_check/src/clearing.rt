@@ -7,7 +7,6 @@ ghost use Rattle.session_engine.specs.World.{World};
 ghost use Rattle.session_engine.specs.Host.{IsHost};
 ghost use Rattle.sheet_check.specs.Check.{IsCopy};
 ghost use Rattle.sheet_check.specs.Together as together;
-ghost use Rattle.std.specs.Option.{option_copied};
 
 use crate::copying::open_copy;
 use check_report::Chosen;
@@ -15,7 +14,7 @@ use disk_model::{Disk, GREATEST_ROOM, MemoryDisk};
 use recovery::{Store, save};
 use session_engine::Host;
 use std::alloc::{AllocError, Global};
-use worksheet::{Answer, Op, Sheet};
+use worksheet::{Op, Sheet};
 
 /// Clears the field with this number, where the worksheet has one. Whether that was done.
 fn clear_field<D: Disk>(store: &mut Store<D>, id: u32) -> bool
@@ -30,14 +29,15 @@ fn clear_field<D: Disk>(store: &mut Store<D>, id: u32) -> bool
     }
 }
 
-/// The same of a field that shows an answer, and of no other.
-fn clear_shown<D: Disk>(store: &mut Store<D>, shown: Option<&Answer>, id: u32) -> bool
+/// The same of a field that is checked, and of no other.
+fn clear_chosen<D: Disk>(store: &mut Store<D>, is_chosen: bool, id: u32) -> bool
     ensures { result ≡ true → store.new.sheet.contents
-        ≡ together.cleared_at (option_copied shown.entry) store.old.sheet.contents id }
+        ≡ together.cleared_at is_chosen store.old.sheet.contents id }
 {
-    match shown {
-        None => true,
-        Some(_) => clear_field(store, id),
+    if is_chosen {
+        clear_field(store, id)
+    } else {
+        true
     }
 }
 
@@ -48,7 +48,7 @@ fn clear_fields<D: Disk>(store: &mut Store<D>, chosen: &Chosen, sheet: &Sheet) -
 {
     let mut fields = sheet.fields();
     while let Some(field) = fields.next() {
-        if !clear_shown(store, chosen.shown(field), field.id) {
+        if !clear_chosen(store, chosen.has(field), field.id) {
             return false;
         }
     }
@@ -101,17 +101,14 @@ pub(crate) fn open_cleared(
     }
 }
 
-/// Puts the number of a field that shows an answer after others.
-fn put_shown(ids: &mut Vec<u32>, shown: Option<&Answer>, id: u32) -> Result<(), AllocError>
-    ensures { OnOk result (ids.new.items ≡ ids.old.items ++ together.id_of_shown (option_copied shown.entry) id) }
+/// Puts the number of a field that is checked after others.
+fn put_chosen(ids: &mut Vec<u32>, is_chosen: bool, id: u32) -> Result<(), AllocError>
+    ensures { OnOk result (ids.new.items ≡ ids.old.items ++ together.id_of_chosen is_chosen id) }
 {
-    match shown {
-        None => Ok(()),
-        Some(_) => {
-            ids.push(id)?;
-            Ok(())
-        }
+    if is_chosen {
+        ids.push(id)?;
     }
+    Ok(())
 }
 
 /// The numbers of the fields of a worksheet that are checked.
@@ -125,7 +122,7 @@ pub(crate) fn checked_ids(
     let mut ids = Vec::new(alloc);
     let mut fields = sheet.fields();
     while let Some(field) = fields.next() {
-        put_shown(&mut ids, chosen.shown(field), field.id)?;
+        put_chosen(&mut ids, chosen.has(field), field.id)?;
     }
     Ok(ids)
 }

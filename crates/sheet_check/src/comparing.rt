@@ -33,8 +33,8 @@ fn is_in_time(late: &[u32], id: u32) -> bool
     !is_late(late, id)
 }
 
-/// Compares a field, where it shows an answer and its session is checked, with what it shows on the copy, and
-/// tells what that came to. The counts with that, which are shown.
+/// Compares a field, where it is one of those that are checked, with what it shows on the copy, and tells what
+/// that came to. The counts with that, which are shown.
 fn compare_field<D: Disk, W: Write, P: Progress>(
     alloc: Global,
     request: &Request,
@@ -60,14 +60,14 @@ fn compare_field<D: Disk, W: Write, P: Progress>(
 {
     let number = counts.total() + 1;
     let in_time = is_in_time(late, field.id);
-    match request.chosen.shown(field) {
-        None => Ok(counts),
-        Some(shown) => match tell_what_came(
-            alloc, request, host, number, field, shown, in_time, progress, writer,
-        ) {
-            Ok(judgement) => Ok(show_counts(counts.with(judgement), all, progress)),
-            Err(fault) => Err(fault),
-        },
+    if !request.chosen.has(field) {
+        return Ok(counts);
+    }
+    match tell_what_came(
+        alloc, request, host, number, field, in_time, None, progress, writer,
+    ) {
+        Ok(judgement) => Ok(show_counts(counts.with(judgement), all, progress)),
+        Err(fault) => Err(fault),
     }
 }
 

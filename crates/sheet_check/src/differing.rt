@@ -11,7 +11,7 @@ ghost use Rattle.child_edge.specs.Faithful.{at};
 ghost use Rattle.sheet_check.specs.Kept.{Stores};
 ghost use Rattle.offline_programs.specs.declared.fault.RunFault.TheVariants as told;
 ghost use Rattle.journal.specs.declared.opening.OpenCause.TheVariants as opens;
-ghost use Rattle.check_report.specs.Chosen.{shown_by};
+ghost use Rattle.check_report.specs.Chosen.{is_chosen};
 ghost use Rattle.check_report.specs.Verdicts.{total};
 ghost use Rattle.check_report.specs.declared.report.Format.TheVariants as formats;
 ghost use Rattle.sheet_check.specs.Accept.{AcceptAnswer, AcceptLeft, SheetAccepts, accepted, filing, to_accept};
@@ -40,9 +40,9 @@ use recovery::{Store, one_sheet};
 use session_engine::Host;
 use std::alloc::Global;
 use std::io::Write;
-use worksheet::{Answer, Field, Sheet};
+use worksheet::{Field, Sheet};
 
-/// Evaluates a field that shows this answer, and accepts and tells what that came to.
+/// Evaluates a field that is checked, and accepts and tells what that came to.
 fn accept_shown<D: Disk, S: Disk, C: Sources, W: Write, P: Progress>(
     alloc: Global,
     request: &Request,
@@ -50,11 +50,10 @@ fn accept_shown<D: Disk, S: Disk, C: Sources, W: Write, P: Progress>(
     sources: &mut C,
     store: &mut Store<S>,
     field: &Field,
-    shown: &Answer,
     progress: &mut P,
     writer: &mut W,
 ) -> Result<Judgement, RunFault>
-    requires shows { shown_by request.now.chosen field.now ≡ Some shown.now }
+    requires chosen { is_chosen request.now.chosen field.now ≡ true }
     requires stands { (w : World) × IsHost host.old w }
     requires open { store.old.closed ≡ false }
     requires there { has_field store.old.sheet.contents field.now.id ≡ true }
@@ -62,7 +61,7 @@ fn accept_shown<D: Disk, S: Disk, C: Sources, W: Write, P: Progress>(
     ensures ok { (w : World) → IsHost host.old w → (ops more : List Op) → (disk : DiskView)
         → Stores ops more disk store.old → IfOk result (ShownTook
         (to_accept (way C.after C.clock C.wakes request.now.limit) request.now.chosen)
-        (question 0 field.now shown.now) (at w sources.old host.old.store.disk)
+        (question 0 field.now) (at w sources.old host.old.store.disk)
         (left host.new sources.new (W.contents writer.old) (W.contents writer.new)) (storing ops more disk store.new)) }
     ensures err { (w : World) → IsHost host.old w → (ops more : List Op) → (disk : DiskView)
         → Stores ops more disk store.old → IfErr result (FieldBroke
@@ -74,18 +73,17 @@ fn accept_shown<D: Disk, S: Disk, C: Sources, W: Write, P: Progress>(
     ensures left { IfErr result (λ _. LeavesLine P.shows progress.old progress.new) }
 {
     worksheet::laws::ops_make_worksheets();
-    let came = match evaluate(alloc, request.limit, host, sources, field.id) {
+    let came = match evaluate(alloc, request.limit, host, sources, field) {
         Ok(came) => came,
         Err(fault) => return Err(fault),
     };
-    match find_on_copy(alloc, &request.chosen, host, field, shown, came) {
+    match find_on_copy(alloc, &request.chosen, host, field, came.is_there) {
         None => Err(RunFault::OutOfMemory),
         Some(found) => take(store, field.id, found, progress, writer),
     }
 }
 
-/// Checks a field, where it shows an answer and its session is checked, and accepts what came where it
-/// differs. The counts with what that came to, which are shown.
+/// Checks a field, where it is one of those that are, and accepts what came where it differs or is new. The counts with what that came to, which are shown.
 fn accept_field<D: Disk, S: Disk, C: Sources, W: Write, P: Progress>(
     alloc: Global,
     request: &Request,
@@ -121,14 +119,14 @@ fn accept_field<D: Disk, S: Disk, C: Sources, W: Write, P: Progress>(
         FieldShown (display formats.Accepting P.shows) all counts after progress.old progress.new) }
     ensures left { IfErr result (λ _. LeavesLine P.shows progress.old progress.new) }
 {
-    match request.chosen.shown(field) {
-        None => Ok(counts),
-        Some(shown) => match accept_shown(
-            alloc, request, host, sources, store, field, shown, progress, writer,
-        ) {
-            Ok(judgement) => Ok(show_counts(counts.with(judgement), all, progress)),
-            Err(fault) => Err(fault),
-        },
+    if !request.chosen.has(field) {
+        return Ok(counts);
+    }
+    match accept_shown(
+        alloc, request, host, sources, store, field, progress, writer,
+    ) {
+        Ok(judgement) => Ok(show_counts(counts.with(judgement), all, progress)),
+        Err(fault) => Err(fault),
     }
 }
 
@@ -326,7 +324,7 @@ pub(crate) fn accept_sheet<S: Disk, C: Sources, W: Write, P: Progress>(
     }
 }
 
-/// Checks the worksheet on a disk as `check` does, and accepts the answers that differ: each of them is
+/// Checks the worksheet on a disk as `check` does, and accepts the answers that differ or are new: each of them is
 /// put into its field, with the prompt that came with it, and is durable before its difference is
 /// written, with a line `accepted ID` after it. Where the output is the same, where no answer came, or none
 /// in time, and where a field is left out, nothing is put anywhere. The worksheet is then the one from before with

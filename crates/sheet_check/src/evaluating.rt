@@ -1,6 +1,6 @@
-//! The evaluation of a field again.
-ghost use Rattle.std.specs.Prelude.{◌≡◌, ◌∷◌, ◌&&◌, [], List, IfErr, IfOk, Some, false};
-ghost use Rattle.session_engine.specs.World.{World};
+//! The evaluation of a field.
+ghost use Rattle.std.specs.Prelude.{◌≡◌, ◌∷◌, ◌&&◌, ◌-◌, [], List, IfErr, IfOk, Some, false, is_some, not};
+ghost use Rattle.session_engine.specs.World.{World, life_of};
 ghost use Rattle.session_engine.specs.Host.{IsHost};
 ghost use Rattle.child_edge.specs.Faithful.{at, Beat, Served};
 ghost use Rattle.child_edge.specs.Told.{told};
@@ -14,8 +14,10 @@ use evaluation::wait_within;
 use host_events::{Command, HostFault, Reply};
 use offline_programs::RunFault;
 use session_engine::Host;
+use session_engine::host::LifeView;
+use sheet_json::Took;
 use std::alloc::Global;
-use worksheet::Refusal;
+use worksheet::{Field, Name, Refusal};
 
 /// The fault of a check by why its edge broke off. Its disk lies in memory, so it fails for lack of that
 /// alone.
@@ -136,27 +138,67 @@ fn comes(asked: bool, in_time: bool) -> bool
     asked && in_time
 }
 
-/// Evaluates a field again: asks its line, and waits for the answer, within the limit of time where there is
-/// one. Whether the answer that it shows then is one that came.
+/// Whether no life is given.
+fn is_none(life: Option<LifeView>) -> bool
+    ensures { result ≡ not (is_some life) }
+{
+    life.is_none()
+}
+
+/// Whether no interpreter of a session is there.
+fn is_down<D: Disk>(host: &Host<D>, session: Name) -> bool
+    ensures { (w : World) → IsHost host.now w → result ≡ not (is_some (life_of w session)) }
+{
+    is_none(host.life(session))
+}
+
+/// What an evaluation came to.
+#[derive(Clone, Copy, Debug)]
+pub(crate) struct Came {
+    /// Whether the answer that the field shows then is one that came.
+    pub(crate) is_there: bool,
+    /// What the evaluation took.
+    pub(crate) took: Took,
+}
+
+/// What it came to, by whether the line was asked and its time wasn't over; by the clock's two readings; and by
+/// whether no interpreter was there.
+fn came_of(asked: bool, in_time: bool, begun: u64, ended: u64, started: bool) -> Came
+    ensures answered { result.is_there ≡ (asked && in_time) }
+    ensures took { result.took ≡ record { millis = ended - begun; started = started } }
+{
+    Came {
+        is_there: comes(asked, in_time),
+        took: Took {
+            millis: ended.saturating_sub(begun),
+            started,
+        },
+    }
+}
+
+/// Evaluates a field: asks its line, and waits for the answer, within the limit of time where there is one.
 pub(crate) fn evaluate<D: Disk, C: Sources>(
     alloc: Global,
     limit: Option<u32>,
     host: &mut Host<D>,
     sources: &mut C,
-    id: u32,
-) -> Result<bool, RunFault>
+    field: &Field,
+) -> Result<Came, RunFault>
     ensures ok { (w : World) → IsHost host.old w → IfOk result (λ came. (t : World)
-        × Evaluated (way C.after C.clock C.wakes limit) id (at w sources.old host.old.store.disk)
-        (came_if came (shown_in t id)) (at t sources.new host.new.store.disk) × IsHost host.new t) }
+        × Evaluated (way C.after C.clock C.wakes limit) field.now (at w sources.old host.old.store.disk)
+        (came_if came.is_there (shown_in t field.now.id)) came.took (at t sources.new host.new.store.disk)
+        × IsHost host.new t) }
     ensures err { (w : World) → IsHost host.old w → IfErr result (EvaluationBroke
-        (way C.after C.clock C.wakes limit) id (at w sources.old host.old.store.disk) host.new sources.new) }
+        (way C.after C.clock C.wakes limit) field.now.id (at w sources.old host.old.store.disk) host.new sources.new) }
 {
-    let asked = match ask(alloc, host, sources, id) {
+    let begun = sources.now();
+    let started = is_down(host, field.session);
+    let asked = match ask(alloc, host, sources, field.id) {
         Ok(asked) => asked,
         Err(fault) => return Err(fault),
     };
-    match wait_for_all(alloc, limit, host, sources, id) {
-        Ok(in_time) => Ok(comes(asked, in_time)),
+    match wait_for_all(alloc, limit, host, sources, field.id) {
+        Ok(in_time) => Ok(came_of(asked, in_time, begun, sources.now(), started)),
         Err(fault) => Err(fault),
     }
 }

@@ -17,7 +17,7 @@ pub enum Sight {
     Line {
         /// What came of those so far.
         counts: Counts,
-        /// How many fields show an answer.
+        /// How many fields are checked.
         all: u32,
     },
     /// Nothing: no byte of what was shown before stays.

@@ -2,30 +2,24 @@
 ghost use Rattle.std.specs.Prelude.{◌≡◌, find};
 ghost use Rattle.std.specs.List.{list_any};
 ghost use Rattle.std.specs.Option.{option_copied};
+ghost use Rattle.check_report.specs.Chosen.{is_chosen};
 ghost use Rattle.sheet_check.specs.Together as together;
 
 use check_report::Chosen;
 use worksheet::{Field, Name, Sheet};
 
-/// Whether a field is checked.
-fn is_checked(chosen: &Chosen, field: &Field) -> bool
-    ensures { result ≡ together.is_checked chosen.now field.now }
-{
-    chosen.shown(field).is_some()
-}
-
-/// Whether it is, and isn't of this session.
+/// Whether a field is checked, and isn't of this session.
 fn is_checked_beside(chosen: &Chosen, session: Name, field: &Field) -> bool
     ensures { result ≡ together.is_checked_beside chosen.now session field.now }
 {
-    is_checked(chosen, field) && field.session != session
+    chosen.has(field) && field.session != session
 }
 
 /// The first field of a worksheet that is checked.
 fn first_checked<'a>(chosen: &Chosen, sheet: &'a Sheet) -> Option<&'a Field>
-    ensures { option_copied result ≡ find (together.is_checked chosen.now) sheet.now.contents.fields }
+    ensures { option_copied result ≡ find (is_chosen chosen.now) sheet.now.contents.fields }
 {
-    sheet.fields().find(|field| is_checked(chosen, field))
+    sheet.fields().find(|field| chosen.has(field))
 }
 
 /// Whether a field of a worksheet is checked that isn't of this session.

@@ -18,6 +18,7 @@ use check_report::{
 use disk_model::Disk;
 use offline_programs::RunFault;
 use session_engine::Host;
+use sheet_json::Took;
 use std::alloc::Global;
 use std::io::Write;
 use worksheet::{Answer, Field};
@@ -42,13 +43,16 @@ fn tell_case<W: Write>(
     came: &Option<Answer>,
     lost: Option<Reason>,
     verdict: Verdict,
+    took: Option<Took>,
     writer: &mut W,
 ) -> Result<(), RunFault>
     ensures ok { OnOk result (Appends (W.contents writer.old) (W.contents writer.new)
-        (case_text format number (case_of field.now came.now lost verdict))) }
+        (case_text format number (case_of field.now came.now lost verdict took))) }
     ensures err { IfErr result (Untold (W.contents writer.old) (W.contents writer.new)) }
 {
-    match report_case(alloc, format, number, field, came, lost, verdict, writer) {
+    match report_case(
+        alloc, format, number, field, came, lost, verdict, took, writer,
+    ) {
         Ok(()) => Ok(()),
         Err(ReportFault::OutOfMemory) => Err(RunFault::OutOfMemory),
         Err(ReportFault::Output) => Err(RunFault::Output),
@@ -64,16 +68,19 @@ fn tell_in_its_place<W: Write, P: Progress>(
     came: &Option<Answer>,
     lost: Option<Reason>,
     verdict: Verdict,
+    took: Option<Took>,
     progress: &mut P,
     writer: &mut W,
 ) -> Result<(), RunFault>
     ensures ok { OnOk result (Appends (W.contents writer.old) (W.contents writer.new)
-        (case_text format number (case_of field.now came.now lost verdict))) }
+        (case_text format number (case_of field.now came.now lost verdict took))) }
     ensures err { IfErr result (Untold (W.contents writer.old) (W.contents writer.new)) }
     ensures room { MakesRoom format P.shows verdict progress.old progress.new }
 {
     make_room(format, verdict, progress);
-    tell_case(alloc, format, number, field, came, lost, verdict, writer)
+    tell_case(
+        alloc, format, number, field, came, lost, verdict, took, writer,
+    )
 }
 
 /// Judges the answer that came by the one that a field shows, and tells what that came to.
@@ -82,22 +89,22 @@ fn tell_verdict<W: Write, P: Progress>(
     request: &Request,
     number: u64,
     field: &Field,
-    shown: &Answer,
     came: &Option<Answer>,
     lost: Option<Reason>,
+    took: Option<Took>,
     progress: &mut P,
     writer: &mut W,
 ) -> Result<Judgement, RunFault>
-    ensures ok { IfOk result (λ j. Judged request.now.chosen field.now.id shown.now.output came.now j.verdict
+    ensures ok { IfOk result (λ j. Judged request.now.chosen field.now came.now j.verdict
         × (j.error ≡ errors.brings_error came.now)
         × Appends (W.contents writer.old) (W.contents writer.new)
-        (case_text request.now.format number (case_of field.now came.now lost j.verdict))) }
+        (case_text request.now.format number (case_of field.now came.now lost j.verdict took))) }
     ensures err { IfErr result (Untold (W.contents writer.old) (W.contents writer.new)) }
     ensures room { IfOk result (λ j.
         MakesRoom request.now.format P.shows j.verdict progress.old progress.new) }
     ensures left { IfErr result (λ _. LeavesLine P.shows progress.old progress.new) }
 {
-    let verdict = request.chosen.judge(field.id, shown, came);
+    let verdict = request.chosen.judge(field, came);
     match tell_in_its_place(
         alloc,
         request.format,
@@ -106,6 +113,7 @@ fn tell_verdict<W: Write, P: Progress>(
         came,
         lost,
         verdict,
+        took,
         progress,
         writer,
     ) {
@@ -117,26 +125,26 @@ fn tell_verdict<W: Write, P: Progress>(
     }
 }
 
-/// The same of a field that shows this answer, or this reason, on the copy now; an answer came where its
-/// line was asked.
+/// The same of a field that shows this answer, or this reason, on the copy now; it came where the line was
+/// asked.
 fn tell_shown<W: Write, P: Progress>(
     alloc: Global,
     request: &Request,
     number: u64,
     field: &Field,
-    shown: &Answer,
     now: &Option<Answer>,
     lost: Option<Reason>,
     asked: bool,
+    took: Option<Took>,
     progress: &mut P,
     writer: &mut W,
 ) -> Result<Judgement, RunFault>
     ensures ok { IfOk result (λ j.
-        Judged request.now.chosen field.now.id shown.now.output (came_if asked now.now) j.verdict
+        Judged request.now.chosen field.now (came_if asked now.now) j.verdict
         × (j.error ≡ errors.brings_error (came_if asked now.now))
         × Appends (W.contents writer.old) (W.contents writer.new)
         (case_text request.now.format number
-        (case_of field.now (came_if asked now.now) lost j.verdict))) }
+        (case_of field.now (came_if asked now.now) lost j.verdict took))) }
     ensures err { IfErr result (Untold (W.contents writer.old) (W.contents writer.new)) }
     ensures room { IfOk result (λ j.
         MakesRoom request.now.format P.shows j.verdict progress.old progress.new) }
@@ -144,11 +152,11 @@ fn tell_shown<W: Write, P: Progress>(
 {
     if asked {
         tell_verdict(
-            alloc, request, number, field, shown, now, lost, progress, writer,
+            alloc, request, number, field, now, lost, took, progress, writer,
         )
     } else {
         tell_verdict(
-            alloc, request, number, field, shown, &None, lost, progress, writer,
+            alloc, request, number, field, &None, lost, took, progress, writer,
         )
     }
 }
@@ -160,17 +168,17 @@ pub(crate) fn tell_what_came<D: Disk, W: Write, P: Progress>(
     host: &Host<D>,
     number: u64,
     field: &Field,
-    shown: &Answer,
     asked: bool,
+    took: Option<Took>,
     progress: &mut P,
     writer: &mut W,
 ) -> Result<Judgement, RunFault>
     ensures ok { (w : World) → IsHost host.now w → IfOk result (λ j.
-        Judged request.now.chosen field.now.id shown.now.output (came_if asked (shown_in w field.now.id)) j.verdict
+        Judged request.now.chosen field.now (came_if asked (shown_in w field.now.id)) j.verdict
         × (j.error ≡ errors.brings_error (came_if asked (shown_in w field.now.id)))
         × Appends (W.contents writer.old) (W.contents writer.new)
         (case_text request.now.format number
-        (case_of field.now (came_if asked (shown_in w field.now.id)) (reason_shown_in w field.now.id) j.verdict))) }
+        (case_of field.now (came_if asked (shown_in w field.now.id)) (reason_shown_in w field.now.id) j.verdict took))) }
     ensures err { IfErr result (Untold (W.contents writer.old) (W.contents writer.new)) }
     ensures room { IfOk result (λ j.
         MakesRoom request.now.format P.shows j.verdict progress.old progress.new) }
@@ -178,17 +186,17 @@ pub(crate) fn tell_what_came<D: Disk, W: Write, P: Progress>(
 {
     match host.sheet().field(field.id) {
         None => tell_shown(
-            alloc, request, number, field, shown, &None, None, asked, progress, writer,
+            alloc, request, number, field, &None, None, asked, took, progress, writer,
         ),
         Some(now) => tell_shown(
             alloc,
             request,
             number,
             field,
-            shown,
             &now.answer,
             now.lost,
             asked,
+            took,
             progress,
             writer,
         ),

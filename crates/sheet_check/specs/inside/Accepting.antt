@@ -32,8 +32,8 @@ use Rattle.sheet_check.specs.declared.accepting.Finding.{Finding}
 use Rattle.sheet_check.specs.inside.Checking.{FieldFailed, FieldsEnded, FieldsFailed, FieldsWrote, Question, ShownWrote}
 
 -- what a field came to by the answer that it shows and the one that came
-pub record Finds (chosen : Chosen) (field : Field) (shown : Answer) (came : Option Answer) (found : Finding) : Type 0 where
-  pub judged : Judged chosen field.id shown.output came found.judgement.verdict
+pub record Finds (chosen : Chosen) (field : Field) (came : Option Answer) (found : Finding) : Type 0 where
+  pub judged : Judged chosen field came found.judgement.verdict
   pub error : found.judgement.error ≡ brings_error came
   pub taken : found.answer ≡ accepted_answer came found.judgement.verdict
   pub told : found.text.items ≡ acceptance_text field came found.judgement.verdict
@@ -84,9 +84,9 @@ pub record GoesOn (sheet : Contents) (store : StoreView) : Type 0 where
   pub is : sheet ≡ sheet_of ops
   pub stores : Stores ops (accepted cases) disk store
 
--- A field that shows this answer was checked, what is to be reported is written, and what is accepted of it was put.
+-- A field was checked, what is to be reported is written, and what is accepted of it was put.
 abbrev pub ShownTook : {C : Type 0} → OneByOne C → Question → At C → Left C → Storing → Judgement → Type 0
-ShownTook o one s l x j = (wrote : ShownWrote o one s l j) × PutAll x (accepted_of (case one.field wrote.0 (reason_shown_in wrote.1 one.field.id) j.verdict))
+ShownTook o one s l x j = (wrote : ShownWrote o one s l j) × PutAll x (accepted_of (case one.field wrote.0 (reason_shown_in wrote.1 one.field.id) j.verdict (Some wrote.2)))
 
 -- the same of fields
 abbrev pub FieldsTook : {C : Type 0} → OneByOne C → List Field → At C → Left C → Storing → Counts → Type 0

@@ -23,6 +23,7 @@ use Rattle.offline_programs.specs.declared.fault.RunFault.{RunFault}
 use Rattle.offline_programs.specs.declared.fault.RunFault.TheVariants as fault
 use Rattle.check_report.specs.declared.verdict.Counts.{Counts}
 use Rattle.check_report.specs.declared.verdict.Judgement.{Judgement}
+use Rattle.sheet_json.specs.declared.checks.Took.{Took}
 use Rattle.check_report.specs.Chosen.{Judged}
 use Rattle.check_report.specs.Reports.{Case, case, case_text, cases_text, report_front, judgements_of}
 use Rattle.check_report.specs.Verdicts.{counted_with, counts_of, total}
@@ -69,20 +70,19 @@ pub data Untold (a b : Option (List ℕ)) (why : RunFault) : Type 0 where
 abbrev pub LeavesText : Option (List ℕ) → Option (List ℕ) → List ℕ → RunFault → Type 0
 LeavesText a b text why = (why ≡ fault.Output) ⊎ Appends a b text
 
--- What is to be evaluated and reported: a field, the answer that it shows, and the number of the case that it is.
+-- What is to be evaluated and reported: a field, and the number of the case that it is.
 pub record Question : Type 0 where
   pub number : ℕ
   pub field : Field
-  pub shown : Answer
 
-abbrev pub question : ℕ → Field → Answer → Question
-question number field shown = record { number = number; field = field; shown = shown }
+abbrev pub question : ℕ → Field → Question
+question number field = record { number = number; field = field }
 
--- A field that shows this answer was evaluated, what came was judged, and what is to be reported is written.
+-- A field was evaluated, what came was judged, and what is to be reported is written.
 abbrev pub ShownWrote : {C : Type 0} → OneByOne C → Question → At C → Left C → Judgement → Type 0
-ShownWrote o one s l j = (came : Option Answer) × (t : World) × Evaluated o.way one.field.id s came (at t l.sources l.host.store.disk)
-    × IsHost l.host t × Judged o.chosen one.field.id one.shown.output came j.verdict × (j.error ≡ brings_error came)
-    × Appends l.out l.now (case_text o.format one.number (case one.field came (reason_shown_in t one.field.id) j.verdict))
+ShownWrote o one s l j = (came : Option Answer) × (t : World) × (took : Took) × Evaluated o.way one.field s came took (at t l.sources l.host.store.disk)
+    × IsHost l.host t × Judged o.chosen one.field came j.verdict × (j.error ≡ brings_error came)
+    × Appends l.out l.now (case_text o.format one.number (case one.field came (reason_shown_in t one.field.id) j.verdict (Some took)))
 
 -- with these more
 abbrev pub counted_on : List Judgement → Counts → Counts

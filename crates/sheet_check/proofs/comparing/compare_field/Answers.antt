@@ -1,5 +1,4 @@
 use Rattle.std.proofs.Common.{◌≡◌, ◌∙◌, ◌+◌, ap, inr, subst, sym}
-use Rattle.std.specs.Option.{option_copied}
 use Rattle.std.specs.Io.KnownBytes.{Appends}
 use Rattle.check_report.specs.Chosen.{Judged}
 use Rattle.check_report.specs.Errors.{brings_error}
@@ -10,19 +9,19 @@ use Rattle.sheet_check.specs.inside.Comparing.{comparing}
 use Rattle.sheet_check.proofs.Compared.{one_compared, one_passed}
 use Rattle.sheet_check.proofs.comparing.compare_field.Goals as goal
 
-pub returns-in-None-clause-ok : goal.returns-in-None-clause-ok
-returns-in-None-clause-ok g c = λ w h.
-    one_passed (comparing c.args.request.now.chosen c.args.request.now.format w c.args.late.now) c.args.field.now (g.W.Write.contents c.args.writer.now) c.args.counts (sym c.shown.ensures ∙ ap option_copied c.in-None.is)
+pub returns-then-clause-ok : goal.returns-then-clause-ok
+returns-then-clause-ok g c = λ w h.
+    one_passed (comparing c.args.request.now.chosen c.args.request.now.format w c.args.late.now) c.args.field.now (g.W.Write.contents c.args.writer.now) c.args.counts (NOT_CHOSEN)
 
 pub returns-in-Ok-clause-ok : goal.returns-in-Ok-clause-ok
 returns-in-Ok-clause-ok g c = λ w h.
     let id = c.args.field.now.id in
-    let told = subst (λ x. Judged c.args.request.now.chosen id c.in-Some.shown.now.output (came_if x (shown_in w id)) c.in-Ok.judgement.verdict
+    let told = subst (λ x. Judged c.args.request.now.chosen c.args.field.now (came_if x (shown_in w id)) c.in-Ok.judgement.verdict
     × (c.in-Ok.judgement.error ≡ brings_error (came_if x (shown_in w id)))
     × Appends (g.W.Write.contents c.args.writer.now) (g.W.Write.contents c.tell_what_came.new.writer)
-    (case_text c.args.request.now.format (c.total-number.result + 1) (case c.args.field.now (came_if x (shown_in w id)) (reason_shown_in w id) c.in-Ok.judgement.verdict))) c.is_in_time-in_time.ensures (c.in-Ok.ensures.ok w h) in
+    (case_text c.args.request.now.format (c.total-number.result + 1) (case c.args.field.now (came_if x (shown_in w id)) (reason_shown_in w id) c.in-Ok.judgement.verdict None))) c.is_in_time-in_time.ensures (c.in-Ok.ensures.ok w h) in
     let m = comparing c.args.request.now.chosen c.args.request.now.format w c.args.late.now in
-    one_compared m (c.total-number.result + 1) c.args.field.now c.in-Some.shown.now (g.W.Write.contents c.args.writer.now) (g.W.Write.contents c.tell_what_came.new.writer) c.args.counts c.show_counts.result c.in-Ok.judgement (sym c.shown.ensures ∙ ap option_copied c.in-Some.is)
+    one_compared m (c.total-number.result + 1) c.args.field.now (g.W.Write.contents c.args.writer.now) (g.W.Write.contents c.tell_what_came.new.writer) c.args.counts c.show_counts.result c.in-Ok.judgement (CHOSEN)
     told.0 told.1 told.2 (ap (λ n. n + 1) c.total-number.ensures) (c.show_counts.ensures.same ∙ c.with.ensures.counted)
 
 pub returns-in-Ok-clause-shown : goal.returns-in-Ok-clause-shown

@@ -1,8 +1,12 @@
-use Rattle.std.proofs.Common.{◌∙◌, ap, inl, inr}
+use Rattle.std.proofs.Common.{◌∙◌, ◌-◌, ℕ, Bool, ap, inl, inr}
 use Rattle.std.specs.Prelude.{◌&&◌}
 use Rattle.child_edge.specs.Faithful.{at}
+use Rattle.sheet_json.specs.declared.checks.Took.{Took}
 use Rattle.sheet_check.specs.Evaluated.{came_if, shown_in}
 use Rattle.sheet_check.proofs.evaluating.evaluate.Goals as goal
+
+abbrev took_of : ℕ → Bool → Took
+took_of millis started = record { millis = millis; started = started }
 
 pub returns-in-Err-clause-err : goal.returns-in-Err-clause-err
 returns-in-Err-clause-err g c = λ w h. inl (c.in-Err.ensures.err w h)
@@ -19,7 +23,12 @@ returns-in-Ok-wait_for_all-clause-ok g c = λ w h.
         remembered = q.5;
         in_time = c.in-Ok-wait_for_all.in_time;
         waited = r.1;
-        came_is = ap (λ came. came_if came (shown_in r.0 c.args.id)) (c.comes.ensures ∙ ap (λ asked. asked && c.in-Ok-wait_for_all.in_time) q.4);
+        came_is = ap (λ came. came_if came (shown_in r.0 c.args.field.now.id)) (c.came_of.ensures.answered ∙ ap (λ asked. asked && c.in-Ok-wait_for_all.in_time) q.4);
+        begun = c.now-begun.result;
+        reads_begun = c.now-begun.ensures;
+        ended = c.now.result;
+        reads_ended = c.now.ensures;
+        took_is = c.came_of.ensures.took ∙ ap (λ started. took_of (c.now.result - c.now-begun.result) started) (c.is_down-started.ensures w h);
       },
       r.2,
     )
