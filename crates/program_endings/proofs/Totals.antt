@@ -22,10 +22,10 @@ all_more p ends end = ap (λ b. list_all p ends && b) (sym (and-true (p end))) �
 length_more : (ends : List CheckEnding) (end : CheckEnding) → length ends + 1 ≡ length (ends ++ end ∷ [])
 length_more ends end = sym (length-append ends (end ∷ []))
 
-same_total : (w v s r d c u b x y f e : ℕ) (p o t q : Bool) → w ≡ v → s ≡ r → d ≡ c → u ≡ b → x ≡ y → f ≡ e → p ≡ o → t ≡ q
-    → let one : Total = record { worksheets = w; same = s; differ = d; unanswered = u; errors = x; faults = f; passed = p; told = t } in
-    let two : Total = record { worksheets = v; same = r; differ = c; unanswered = b; errors = y; faults = e; passed = o; told = q } in one ≡ two
-same_total w v s r d c u b x y f e p o t q g h i j k l m n = cc
+same_total : (w v s r d c u b x y i j f e : ℕ) (p o t q : Bool) → w ≡ v → s ≡ r → d ≡ c → u ≡ b → x ≡ y → i ≡ j → f ≡ e → p ≡ o → t ≡ q
+    → let one : Total = record { worksheets = w; same = s; differ = d; unanswered = u; errors = x; new = i; faults = f; passed = p; told = t } in
+    let two : Total = record { worksheets = v; same = r; differ = c; unanswered = b; errors = y; new = j; faults = e; passed = o; told = q } in one ≡ two
+same_total w v s r d c u b x y i j f e p o t q g h a aa bb k l m n = cc
 
 same_sum : (f : CheckEnding → ℕ) (ends : List CheckEnding) (end : CheckEnding) → f end ≡ 0 → sum_by f ends ≡ sum_by f (ends ++ end ∷ [])
 same_sum f ends end e = omega (arith, sum_more f ends end, e)
@@ -39,22 +39,24 @@ faulty ends end n e = ap (λ m. sum_by faults_in ends + m) e ∙ sum_more faults
 -- with the counts of one that came to its end
 counts_more : (ends : List CheckEnding) (end : CheckEnding) (counts : Counts) → end.answer ≡ Ok counts → with_counts counts end.ending (total_of ends) ≡ total_of (ends ++ end ∷ [])
 counts_more ends end counts e =
-    same_total _ _ _ _ _ _ _ _ _ _ _ _ _ _ _ _ (length_more ends end)
+    same_total _ _ _ _ _ _ _ _ _ _ _ _ _ _ _ _ _ _ (length_more ends end)
     (counted (λ c. c.same) ends end counts.same (sym (ap (counted_by (λ c. c.same)) e)))
     (counted (λ c. c.differ) ends end counts.differ (sym (ap (counted_by (λ c. c.differ)) e)))
     (counted (λ c. c.unanswered) ends end counts.unanswered (sym (ap (counted_by (λ c. c.unanswered)) e)))
     (counted (λ c. c.errors) ends end counts.errors (sym (ap (counted_by (λ c. c.errors)) e)))
+    (counted (λ c. c.new) ends end counts.new (sym (ap (counted_by (λ c. c.new)) e)))
     (same_sum faults_in ends end (ap faults_by e))
     (all_more is_well ends end) (all_more went_out ends end)
 
 -- with one whose check met a fault
 fault_more : (ends : List CheckEnding) (end : CheckEnding) (why : CheckFault) → end.answer ≡ Err why → with_fault end.ending (total_of ends) ≡ total_of (ends ++ end ∷ [])
 fault_more ends end why e =
-    same_total _ _ _ _ _ _ _ _ _ _ _ _ _ _ _ _ (length_more ends end)
+    same_total _ _ _ _ _ _ _ _ _ _ _ _ _ _ _ _ _ _ (length_more ends end)
     (same_sum (counted_in (λ c. c.same)) ends end (ap (counted_by (λ c. c.same)) e))
     (same_sum (counted_in (λ c. c.differ)) ends end (ap (counted_by (λ c. c.differ)) e))
     (same_sum (counted_in (λ c. c.unanswered)) ends end (ap (counted_by (λ c. c.unanswered)) e))
     (same_sum (counted_in (λ c. c.errors)) ends end (ap (counted_by (λ c. c.errors)) e))
+    (same_sum (counted_in (λ c. c.new)) ends end (ap (counted_by (λ c. c.new)) e))
     (faulty ends end 1 (sym (ap faults_by e)))
     (all_more is_well ends end) (all_more went_out ends end)
 

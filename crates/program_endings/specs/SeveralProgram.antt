@@ -5,7 +5,7 @@ use Rattle.std.specs.Io.KnownBytes.{Appends}
 use Rattle.std.specs.List.{list_all, sum_by}
 use Rattle.sheet_text.specs.Escape.{on_line}
 use Rattle.check_report.specs.declared.verdict.Counts.{Counts}
-use Rattle.check_report.specs.Words.{errors_part}
+use Rattle.check_report.specs.Words.{errors_part, new_part}
 use Rattle.offline_programs.specs.declared.fault.RunFault.{RunFault}
 use Rattle.offline_programs.specs.declared.fault.RunFault.TheVariants as fault
 use Rattle.sheet_check.specs.declared.named.CheckFault.{CheckFault}
@@ -51,6 +51,7 @@ total_of ends = record {
   differ = sum_by (counted_in (λ counts. counts.differ)) ends;
   unanswered = sum_by (counted_in (λ counts. counts.unanswered)) ends;
   errors = sum_by (counted_in (λ counts. counts.errors)) ends;
+  new = sum_by (counted_in (λ counts. counts.new)) ends;
   faults = sum_by faults_in ends;
   passed = list_all is_well ends;
   told = list_all went_out ends;
@@ -62,6 +63,7 @@ pub record IsBounded (total : Total) : Type 0 where
   pub differ : total.differ ≤ total.worksheets * 4294967296
   pub unanswered : total.unanswered ≤ total.worksheets * 4294967296
   pub errors : total.errors ≤ total.worksheets * 4294967296
+  pub new : total.new ≤ total.worksheets * 4294967296
   pub faults : total.faults ≤ total.worksheets
 
 -- how many of them met a fault, where some did
@@ -74,7 +76,7 @@ summed_part total = codes "total of " ++ decimal total.worksheets ++ codes " wor
 
 -- the last line
 abbrev pub total_text : Total → List ℕ
-total_text total = summed_part total ++ errors_part total.errors ++ faults_part total.faults ++ 10 ∷ []
+total_text total = summed_part total ++ errors_part total.errors ++ new_part total.new ++ faults_part total.faults ++ 10 ∷ []
 
 -- how the program ends with this total: well where each worksheet did
 abbrev pub ending_of : Total → Ending

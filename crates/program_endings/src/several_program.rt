@@ -4,7 +4,7 @@ ghost use Rattle.std.specs.Io.KnownBytes.{Appends};
 ghost use Rattle.offline_programs.specs.declared.fault.RunFault.TheVariants as fault;
 ghost use Rattle.offline_programs.specs.Saying.{saying};
 ghost use Rattle.sheet_check.specs.declared.named.CheckFault.TheVariants as checks;
-ghost use Rattle.check_report.specs.Words.{errors_part};
+ghost use Rattle.check_report.specs.Words.{errors_part, new_part};
 ghost use Rattle.program_endings.specs.Ending.{EndsAs};
 ghost use Rattle.program_endings.specs.Records.{streams, writing};
 ghost use Rattle.program_endings.specs.SeveralProgram.{IsBounded, TotalEnds, ending_of, faults_part, summed_part, total_of, total_text, worksheet_line};
@@ -36,6 +36,8 @@ pub struct Total {
     pub unanswered: u128,
     /// Fields whose answer that came is an error, or has one in it.
     pub errors: u128,
+    /// How many answers came to fields that show none.
+    pub new: u128,
     /// Worksheets whose check met a fault; their fields aren't counted.
     pub faults: u64,
     /// Whether the check of each ended well.
@@ -56,6 +58,7 @@ impl Total {
             differ: 0,
             unanswered: 0,
             errors: 0,
+            new: 0,
             faults: 0,
             passed: true,
             told: true,
@@ -82,6 +85,7 @@ impl Total {
             differ: self.differ + u128::from(counts.differ),
             unanswered: self.unanswered + u128::from(counts.unanswered),
             errors: self.errors + u128::from(counts.errors),
+            new: self.new + u128::from(counts.new),
             faults: self.faults,
             passed: self.passes(ending),
             told: self.told && ending.told,
@@ -101,6 +105,7 @@ impl Total {
             differ: self.differ,
             unanswered: self.unanswered,
             errors: self.errors,
+            new: self.new,
             faults: self.faults + 1,
             passed: self.passes(ending),
             told: self.told && ending.told,
@@ -195,6 +200,16 @@ fn write_errors<W: Write>(errors: u128, out: &mut W) -> Result<(), WriteFault>
     write!(out, " errors {errors}").map_err(|_| WriteFault)
 }
 
+/// Writes how many answers came to fields that show none, where some did.
+fn write_new<W: Write>(new: u128, out: &mut W) -> Result<(), WriteFault>
+    ensures { OnOk result (Appends (W.contents out.old) (W.contents out.new) (new_part new)) }
+{
+    if new == 0 {
+        return Ok(());
+    }
+    write!(out, " new {new}").map_err(|_| WriteFault)
+}
+
 /// Writes how many worksheets met a fault, where some did.
 fn write_faults<W: Write>(faults: u64, out: &mut W) -> Result<(), WriteFault>
     ensures { OnOk result (Appends (W.contents out.old) (W.contents out.new) (faults_part faults)) }
@@ -215,6 +230,7 @@ fn write_summed<W: Write>(total: Total, out: &mut W) -> Result<(), WriteFault>
         differ,
         unanswered,
         errors: _,
+        new: _,
         faults: _,
         passed: _,
         told: _,
@@ -233,6 +249,7 @@ fn write_total<W: Write>(total: Total, out: &mut W) -> Result<(), WriteFault>
 {
     write_summed(total, out)?;
     write_errors(total.errors, out)?;
+    write_new(total.new, out)?;
     write_faults(total.faults, out)?;
     bring_out(b"\n", out)?;
     Ok(())

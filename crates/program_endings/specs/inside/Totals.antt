@@ -12,6 +12,7 @@ with_counts counts ending total = record {
   differ = total.differ + counts.differ;
   unanswered = total.unanswered + counts.unanswered;
   errors = total.errors + counts.errors;
+  new = total.new + counts.new;
   faults = total.faults;
   passed = total.passed && (ending.status == 0);
   told = total.told && ending.told;
@@ -25,6 +26,7 @@ with_fault ending total = record {
   differ = total.differ;
   unanswered = total.unanswered;
   errors = total.errors;
+  new = total.new;
   faults = total.faults + 1;
   passed = total.passed && (ending.status == 0);
   told = total.told && ending.told;
