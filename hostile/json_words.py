@@ -331,16 +331,28 @@ def changed(old: bytes, new: bytes) -> bytes:
     return place + b"".join(mark + line + b"\n" for mark, lines in parts for line in lines)
 
 
+def took_of(it: Any) -> None:
+    """Looks at what an evaluation took: null where fields go side by side."""
+    if it is None:
+        return
+    millis, started = members(it, "millis", "started")
+    number_of(millis)
+    if not isinstance(started, bool):
+        raise Difference(f"wanted true or false: {started!r}")
+
+
 def checked(it: Object) -> bytes:
     verdict = it.get("verdict")
-    more = {"same": [], "left_out": [], "differs": ["came", "input", "shows"], "unanswered": ["input", "reason", "shows"]}
+    more = {"same": [], "left_out": [], "differs": ["came", "input", "shows"], "unanswered": ["input", "reason", "shows"], "new": ["came", "input"]}
     if not isinstance(verdict, str) or verdict not in more:
         raise Difference(f"no verdict: {str(it)[:300]}")
-    id, session, _, *_ = members(it, "id", "session", "verdict", *more[verdict])
-    number_of(id), text_of(session)
+    id, session, took, _, *_ = members(it, "id", "session", "took", "verdict", *more[verdict])
+    number_of(id), text_of(session), took_of(took)
     if not more[verdict]:
         return b""
-    prompt, old = answer_of(it["shows"])
+    if verdict == "new":
+        return head_of(id, session, b"> ", it["input"]) + marked(b"+ ", answer_of(it["came"])[1])
+    prompt, old = (b"> ", b"?") if it["shows"] is None else answer_of(it["shows"])
     if verdict == "unanswered" and it["reason"] is not None:
         text_of(it["reason"])
     head = head_of(id, session, prompt, it["input"])
@@ -350,8 +362,8 @@ def checked(it: Object) -> bytes:
 
 
 def compared(it: Object) -> bytes:
-    counts = tuple(map(number_of, members(it, "same", "differ", "unanswered", "left_out", "errors")))
-    more = (b" left out %d" % counts[3] if counts[3] else b"") + (b" errors %d" % counts[4] if counts[4] else b"")
+    counts = tuple(map(number_of, members(it, "same", "differ", "unanswered", "left_out", "errors", "new")))
+    more = b"".join(b" %s %d" % (name, count) for name, count in zip((b"left out", b"errors", b"new"), counts[3:]) if count)
     return b"same %d differ %d unanswered %d" % counts[:3] + more + b"\n"
 
 
@@ -362,8 +374,8 @@ def checked_words(objects: list[Object]) -> bytes:
         raise Difference(f"not the objects of a check: {kinds}")
     rests = [{name: value for name, value in it.items() if name != "type"} for it in objects]
     verdicts = [it["verdict"] for it in objects[1:-2]]
-    counts = [objects[-2][name] for name in ("same", "differ", "unanswered", "left_out")]
-    if counts != [verdicts.count(one) for one in ("same", "differs", "unanswered", "left_out")]:
+    counts = [objects[-2][name] for name in ("same", "differ", "unanswered", "left_out", "new")]
+    if counts != [verdicts.count(one) for one in ("same", "differs", "unanswered", "left_out", "new")]:
         raise Difference(f"counted {counts}: {verdicts}")
     words_of(objects[0], b""), words_of(objects[-1], b"")
     return b"".join(map(checked, rests[1:-2])) + compared(rests[-2])

@@ -9,7 +9,7 @@ What a call returned is on the disk: a crash of this process, of the program or 
 
 from .aio import AsyncCell, AsyncCellLike, AsyncEvaluation, AsyncWorksheet
 from .blocking import Cell, CellLike, Evaluation, Worksheet
-from .checks import Checked, Compared, check
+from .checks import Checked, Compared, Took, check
 from .errors import BadLine, Closed, Died, Gone, InUse, Lost, NoScript, NoWorksheet, ProtocolError, Refused, TimedOut, TmhostError
 from .events import Answered, Banner, Completed, Default, Done, Ended, Event, Finished, OfLife, Partial, Stopped, Warned
 from .program import find_program
