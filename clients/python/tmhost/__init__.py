@@ -66,6 +66,7 @@ __all__ = [
     "StopReply",
     "Stopped",
     "Text",
+    "Took",
     "TimedOut",
     "TmhostError",
     "Turn",
