@@ -22,18 +22,20 @@ class OfLife(Event):
 
 @dataclasses.dataclass(frozen=True)
 class Banner(OfLife):
-    """The interpreter is ready; this is how it greets."""
+    """The interpreter is ready; this is how it greets. `next` is its prompt for the next line, None where it isn't known."""
 
     output: Block
     text: Text
+    next: Optional[Text] = None
 
 
 @dataclasses.dataclass(frozen=True)
 class Answered(OfLife):
-    """A cell has its answer, which is on the disk."""
+    """A cell has its answer, which is on the disk. `next` is the interpreter's prompt for the next line, None where it isn't known."""
 
     id: int
     answer: Answer
+    next: Optional[Text] = None
 
 
 @dataclasses.dataclass(frozen=True)

@@ -251,10 +251,16 @@ REPLIES: Dict[str, Callable[[Tuple[int, str, bool], Members], Reply]] = {
     "exported": lambda front, told: Exported(*front, told.string("format"), told.or_none("text", text)),
 }
 
+
+def next_prompt(told: Members) -> Optional[Text]:
+    """The prompt for the next line; an older program doesn't tell it."""
+    return told.or_none("next", text) if "next" in told.data else None
+
+
 # What is told without a line, by its type: of an interpreter, with its session and its life in front, or of the program.
 EVENTS: Dict[str, Callable[[str, int, Members], Event]] = {
-    "banner": lambda name, life, told: Banner(name, life, block(told.get("output")), told.text("shown")),
-    "answered": lambda name, life, told: Answered(name, life, told.number("id"), answer(told)),
+    "banner": lambda name, life, told: Banner(name, life, block(told.get("output")), told.text("shown"), next_prompt(told)),
+    "answered": lambda name, life, told: Answered(name, life, told.number("id"), answer(told), next_prompt(told)),
     "completed": lambda name, life, told: Completed(name, life, told.number("id"), told.or_none("told", completions)),
     "default": lambda name, life, told: Default(name, life, told.text("text")),
     "interrupted": lambda name, life, told: Warned(name, life, outcome(told)),

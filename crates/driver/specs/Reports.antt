@@ -1,13 +1,12 @@
 -- What is printed at once, and its text.
 use Rattle.std.specs.Prelude.{ℕ, List, [], ◌∷◌, Option, Some, None}
 use Rattle.std.specs.List.{flat_map}
-use Rattle.worksheet.specs.Contents.{Contents}
 use Rattle.host_events.specs.declared.outcome.Outcome.{Outcome}
 use Rattle.host_events.specs.declared.reply.Reply.{Reply}
 use Rattle.session_engine.specs.World.{World, sheet_in}
 use Rattle.child_edge.specs.Told.{spoken}
 use Rattle.child_edge.specs.declared.interrupting.Interrupted.{Interrupted}
-use Rattle.tellings.specs.Voice.{Voice, came_text, numbered_text}
+use Rattle.tellings.specs.Voice.{Voice, lives_text, numbered_text}
 use Rattle.driver.specs.declared.report.Show.{Show}
 use Rattle.driver.specs.declared.report.Show.TheVariants as show
 use Rattle.driver.specs.declared.report.Came.{Came as GivenCame}
@@ -25,14 +24,14 @@ pub data Report : Type 0 where
   shown : Show → Report
 
 -- what lives gave: the replies but Nothing, in order
-abbrev pub lives_report : Voice → Contents → List Outcome → List ℕ
-lives_report V contents outcomes = flat_map (λ o. came_text V contents (spoken o.reply)) outcomes
+abbrev pub lives_report : Voice → World → List Outcome → List ℕ
+lives_report V w outcomes = flat_map (λ o. lives_text V w (spoken o.reply)) outcomes
 
 -- its text, where events led to this world
 abbrev pub printed_text : Voice → World → Report → List ℕ
 printed_text V w (lines first outcomes) = numbered_text V first (sheet_in w) outcomes
-printed_text V w (lives outcomes) = lives_report V (sheet_in w) outcomes
-printed_text V w (followed replies) = came_text V (sheet_in w) replies
+printed_text V w (lives outcomes) = lives_report V w outcomes
+printed_text V w (followed replies) = lives_text V w replies
 printed_text V w (shown (show.Note n)) = V.note n
 printed_text V w (shown (show.Sheet line)) = V.sheet line w
 printed_text V w (shown (show.Field line id)) = V.field line id w

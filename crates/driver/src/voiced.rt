@@ -1,7 +1,9 @@
 //! A sink over a voice and a stream.
 ghost use Rattle.std.specs.Prelude.{◌⊎◌, IfErr, OnOk};
 ghost use Rattle.std.specs.Io.KnownBytes.{Appends};
-ghost use Rattle.tellings.specs.Voice.{IsUntold, came_text};
+ghost use Rattle.session_engine.specs.World.{World};
+ghost use Rattle.session_engine.specs.Host.{IsHost};
+ghost use Rattle.tellings.specs.Voice.{IsUntold, lives_text};
 ghost use Rattle.child_edge.specs.Told.{spoken};
 ghost use Rattle.driver.specs.Reports.{lives_report};
 
@@ -14,7 +16,6 @@ use session_engine::Host;
 use std::io::Write;
 use std::slice;
 use tellings::Tells;
-use worksheet::Sheet;
 
 /// A voice that prints on a stream.
 #[derive(Drop)]
@@ -24,35 +25,35 @@ pub struct Voiced<T, W> {
 }
 
 /// Prints what came of one life, where that says something.
-fn print_life<T: Tells, W: Write>(
-    sheet: &Sheet,
+fn print_life<D: Disk, T: Tells, W: Write>(
+    host: &Host<D>,
     outcome: &Outcome,
     tells: &T,
     writer: &mut W,
 ) -> Result<(), RunFault>
-    ensures ok { OnOk result (Appends (W.contents writer.old) (W.contents writer.new)
-        (came_text T.voice sheet.now.contents (spoken outcome.now.reply))) }
+    ensures ok { (w : World) → IsHost host.now w → OnOk result (Appends (W.contents writer.old) (W.contents writer.new)
+        (lives_text T.voice w (spoken outcome.now.reply))) }
     ensures err { IfErr result (IsUntold T.voice) }
 {
     match &outcome.reply {
         Reply::Nothing => Ok(()),
-        reply => tells.lives(sheet, slice::from_ref(reply), writer),
+        reply => tells.lives_of(host, slice::from_ref(reply), writer),
     }
 }
 
 /// Prints what came of each life.
-fn print_lives<T: Tells, W: Write>(
-    sheet: &Sheet,
+fn print_lives<D: Disk, T: Tells, W: Write>(
+    host: &Host<D>,
     outcomes: &[Outcome],
     tells: &T,
     writer: &mut W,
 ) -> Result<(), RunFault>
-    ensures ok { OnOk result (Appends (W.contents writer.old) (W.contents writer.new)
-        (lives_report T.voice sheet.now.contents outcomes.now)) }
+    ensures ok { (w : World) → IsHost host.now w → OnOk result (Appends (W.contents writer.old) (W.contents writer.new)
+        (lives_report T.voice w outcomes.now)) }
     ensures err { IfErr result (IsUntold T.voice) }
 {
     for outcome in outcomes {
-        if let Err(fault) = print_life(sheet, outcome, tells, writer) {
+        if let Err(fault) = print_life(host, outcome, tells, writer) {
             return Err(fault);
         }
     }
@@ -76,11 +77,11 @@ impl<T: Tells, W: Write> Sink for Voiced<T, W> {
     }
 
     fn lives<D: Disk>(&mut self, host: &Host<D>, outcomes: &[Outcome]) -> Result<(), RunFault> {
-        print_lives(host.sheet(), outcomes, &self.tells, &mut self.writer)
+        print_lives(host, outcomes, &self.tells, &mut self.writer)
     }
 
     fn followed<D: Disk>(&mut self, host: &Host<D>, replies: &[Reply]) -> Result<(), RunFault> {
-        self.tells.events(host.sheet(), replies, &mut self.writer)
+        self.tells.events_of(host, replies, &mut self.writer)
     }
 
     fn show<D: Disk>(&mut self, host: &Host<D>, show: Show) -> Result<(), RunFault> {

@@ -24,7 +24,7 @@ use Rattle.evaluation.specs.Broken.{Cut, StepLed, StepUpTo, TooMany, Unwatched}
 
 -- a voice that says nothing
 abbrev pub silent : Voice
-silent = record { frame = λ f. []; note = λ n. []; reply = λ line sheet r. []; event = λ sheet r. []; sheet = λ line w. []; field = λ line id w. []; exported = λ line format sheet. []; fault = λ why. []; takes_memory = false }
+silent = record { frame = λ f. []; note = λ n. []; reply = λ line sheet r. []; came = λ w r. []; event = λ sheet r. []; sheet = λ line w. []; field = λ line id w. []; exported = λ line format sheet. []; fault = λ why. []; takes_memory = false }
 
 -- no field is asked, and the one that was asked may take so many seconds
 abbrev pub waiting_plan : ℕ → Plan

@@ -64,6 +64,24 @@ impl Tells for Silence {
         Ok(())
     }
 
+    fn lives_of<D: Disk, W: Write>(
+        &self,
+        _host: &Host<D>,
+        _replies: &[Reply],
+        _writer: &mut W,
+    ) -> Result<(), RunFault> {
+        Ok(())
+    }
+
+    fn events_of<D: Disk, W: Write>(
+        &self,
+        _host: &Host<D>,
+        _replies: &[Reply],
+        _writer: &mut W,
+    ) -> Result<(), RunFault> {
+        Ok(())
+    }
+
     fn sheet<D: Disk, W: Write>(
         &self,
         _line: u64,

@@ -116,6 +116,24 @@ impl<T: Tells> Tells for FieldLines<T> {
         self.tells.events(sheet, replies, writer)
     }
 
+    fn lives_of<D: Disk, W: Write>(
+        &self,
+        host: &Host<D>,
+        replies: &[Reply],
+        writer: &mut W,
+    ) -> Result<(), RunFault> {
+        self.tells.lives_of(host, replies, writer)
+    }
+
+    fn events_of<D: Disk, W: Write>(
+        &self,
+        host: &Host<D>,
+        replies: &[Reply],
+        writer: &mut W,
+    ) -> Result<(), RunFault> {
+        self.tells.events_of(host, replies, writer)
+    }
+
     fn sheet<D: Disk, W: Write>(
         &self,
         line: u64,

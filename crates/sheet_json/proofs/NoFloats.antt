@@ -11,7 +11,7 @@ use Rattle.serde_json.specs.Written.{has_float, items_have_float}
 use Rattle.sheet_json.specs.Bytes.{base64_data, bytes_data}
 use Rattle.sheet_json.specs.Blocks.{block_object, items_data, tree_data}
 use Rattle.sheet_json.specs.Lines.{json_line}
-use Rattle.sheet_json.specs.Objects.{answer_data, checked_data, completions_data, count, event_data, export_data, field_with, life_data, lost_data, reply_data, session_data, shown_data, telling_data, took_data, why_data}
+use Rattle.sheet_json.specs.Objects.{answer_data, checked_data, completions_data, count, event_data, export_data, field_with, life_data, lost_data, prompt_data, reply_data, session_data, shown_data, telling_data, took_data, why_data}
 use Rattle.sheet_json.specs.Sheets.{telling_line}
 use Rattle.sheet_json.specs.Shown.{still_field, whole_of}
 use Rattle.worksheet.specs.Contents.{Contents}
@@ -80,12 +80,17 @@ reply_none line (told.waited true) = refl
 reply_none line (told.waited false) = refl
 reply_none line (told.interrupted outcome) = refl
 
+prompt_none : (next : Option (List ℕ)) → has_float (prompt_data next) ≡ false
+prompt_none None = refl
+prompt_none (Some prompt) = bytes_none prompt
+
 event_none : (session : List ℕ) (life : ℕ) (e : EventTold) → has_float (event_data session life e) ≡ false
-event_none session life (told.banner output) =
-    two (has_float (tree_data output)) (has_float (bytes_data session)) _ (tree_none output) (bytes_none session) (ap (λ b. b || false) (bytes_none _))
-event_none session life (told.answer id prompt output) =
-    two (has_float (tree_data output)) (has_float (bytes_data prompt)) _ (tree_none output) (bytes_none prompt)
+event_none session life (told.banner output next) =
+    two (has_float (prompt_data next)) (has_float (tree_data output)) _ (prompt_none next) (tree_none output)
     (two (has_float (bytes_data session)) (has_float (shown_data output)) false (bytes_none session) (bytes_none _) refl)
+event_none session life (told.answer id prompt output next) =
+    two (has_float (prompt_data next)) (has_float (tree_data output)) _ (prompt_none next) (tree_none output)
+    (two (has_float (bytes_data prompt)) (has_float (bytes_data session)) _ (bytes_none prompt) (bytes_none session) (ap (λ b. b || false) (bytes_none _)))
 event_none session life (told.completed id given) = ap₂ (λ a b. a || (b || false)) (bytes_none session) (completions_none given)
 event_none session life (told.input line) = ap₂ (λ a b. a || (b || false)) (bytes_none session) (bytes_none line)
 event_none session life (told.ended why lost) = ap₂ (λ a b. a || (b || false)) (row_none lost_data lost_none lost) (bytes_none session)

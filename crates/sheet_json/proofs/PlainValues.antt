@@ -19,7 +19,7 @@ use Rattle.serde_json.specs.Data as json
 use Rattle.serde_json.specs.View.{items_of}
 use Rattle.sheet_json.specs.Bytes.{base64_data, bytes_data}
 use Rattle.sheet_json.specs.Blocks.{block_object, items_data, tree_data}
-use Rattle.sheet_json.specs.Objects.{answer_data, checked_data, completions_data, count, event_data, export_data, field_with, ids_data, life_data, lost_data, losts_data, reply_data, session_data, sessions_data, telling_data, texts_data, took_data, typed, why_data}
+use Rattle.sheet_json.specs.Objects.{answer_data, checked_data, completions_data, count, event_data, export_data, field_with, ids_data, life_data, lost_data, losts_data, prompt_data, reply_data, session_data, sessions_data, telling_data, texts_data, took_data, typed, why_data}
 use Rattle.sheet_json.specs.Plain.{ArePlain, HasPlain, Is64, IsPlain, IsSoundAnswer, IsSoundCheck, IsSoundTelling, IsSoundEvent, IsSoundItem, IsSoundLife, IsSoundReply, IsSoundSession, IsSoundState, IsSoundTook}
 use Rattle.sheet_json.specs.Tellings.{CheckTold, Telling, Reply, EventTold, FieldShown, SessionShown, State}
 use Rattle.sheet_json.specs.Tellings as told
@@ -153,11 +153,15 @@ completions_plain : (given : Option Completions) → IsPlain 66 (completions_dat
 completions_plain None = no_value
 completions_plain (Some c) = an_object (a_member (texts_plain c.rest (omega arith)) (a_member (some_bytes c.root) no_more))
 
+prompt_plain : {n : ℕ} (next : Option (List ℕ)) → IsPlain (suc n) (prompt_data next)
+prompt_plain None = no_value
+prompt_plain (Some prompt) = some_bytes prompt
+
 event_plain : (session : List ℕ) (life : ℕ) (e : EventTold) → Is64 life → IsSoundEvent e → IsPlain 67 (event_data session life e)
-event_plain session life (told.banner output) l s =
-    an_object (a_member (a_count l) (a_member (a_tree output s (omega arith)) (a_member (some_bytes session) (a_member (some_bytes _) a_type))))
-event_plain session life (told.answer id prompt output) l s =
-    an_object (a_member (a_count s.0) (a_member (a_count l) (a_member (a_tree output s.1 (omega arith)) (a_member (some_bytes prompt) (a_member (some_bytes session) (a_member (some_bytes _) a_type))))))
+event_plain session life (told.banner output next) l s =
+    an_object (a_member (a_count l) (a_member (prompt_plain next) (a_member (a_tree output s (omega arith)) (a_member (some_bytes session) (a_member (some_bytes _) a_type)))))
+event_plain session life (told.answer id prompt output next) l s =
+    an_object (a_member (a_count s.0) (a_member (a_count l) (a_member (prompt_plain next) (a_member (a_tree output s.1 (omega arith)) (a_member (some_bytes prompt) (a_member (some_bytes session) (a_member (some_bytes _) a_type)))))))
 event_plain session life (told.completed id given) l s =
     an_object (a_member (a_count s) (a_member (a_count l) (a_member (some_bytes session) (a_member (completions_plain given) a_type))))
 event_plain session life (told.input line) l s = an_object (a_member (a_count l) (a_member (some_bytes session) (a_member (some_bytes line) a_type)))

@@ -18,11 +18,11 @@ use Rattle.serde_json.specs.Data as json
 use Rattle.serde_json.specs.View.{items_of}
 use Rattle.sheet_json.specs.Bytes.{base64_data, bytes_data}
 use Rattle.sheet_json.specs.Blocks.{tree_data}
-use Rattle.sheet_json.specs.Objects.{completions_data, count, export_data, lost_data, losts_data, texts_data}
+use Rattle.sheet_json.specs.Objects.{completions_data, count, export_data, lost_data, losts_data, prompt_data, texts_data}
 use Rattle.sheet_json.specs.Reading.{bytes_in, tree_in, HasBytes}
 use Rattle.sheet_json.specs.Tellings.{Telling, Reply, EventTold, FieldShown, SessionShown, State}
 use Rattle.sheet_json.specs.Tellings as told
-use Rattle.sheet_json.specs.Told.{completions_in, each_in, list_in, lost_in, of, option_in, reason_named, refusal_in, CompletionsHaveBytes, ItemHasBytes}
+use Rattle.sheet_json.specs.Told.{completions_in, each_in, list_in, lost_in, of, option_in, prompt_in, reason_named, refusal_in, CompletionsHaveBytes, ItemHasBytes, PromptHasBytes}
 use Rattle.sheet_json.specs.Laws.{CountsReadBack, EventsReadBack, ExportsReadBack, RepliesReadBack}
 use Rattle.sheet_json.proofs.Back.{base64_back, bytes_back, blocks_read_back}
 
@@ -111,11 +111,21 @@ of_life : (session : List ℕ) (life : ℕ) (e : EventTold) (r : Option EventTol
 of_life session life e r are is =
     ap (λ s. of (of (option_map (λ t l x. told.event t l x) s) (Some life)) r) (bytes_back session are) ∙ ap (of (Some (λ x. told.event session life x))) is
 
+prompt_back : (next : Option (List ℕ)) → PromptHasBytes next → prompt_in (prompt_data next) ≡ Some next
+prompt_back None good = refl
+prompt_back (Some prompt) good =
+    elim (is_utf8 prompt) as (λ b. option_in bytes_in (cond b (json.string prompt) (base64_data prompt)) ≡ Some (Some prompt))
+    [ true ↦ refl | false ↦ ap (option_map (λ x. Some x)) (base64_back prompt good) ]
+
 pub events_read_back : EventsReadBack
-events_read_back session life (told.banner output) are good = of_life session life (told.banner output) _ are (ap (option_map (λ o. told.banner o)) (tree_back output good))
-events_read_back session life (told.answer id prompt output) are good =
-    of_life session life (told.answer id prompt output) _ are
-    (ap (λ r. of (of (Some (λ p o. told.answer id p o)) r) (tree_in (tree_data output))) (bytes_back prompt good.0) ∙ ap (of (Some (λ o. told.answer id prompt o))) (tree_back output good.1))
+events_read_back session life (told.banner output next) are good =
+    of_life session life (told.banner output next) _ are
+    (ap (λ r. of (option_map (λ o n. told.banner o n) r) (prompt_in (prompt_data next))) (tree_back output good.0) ∙ ap (of (Some (λ n. told.banner output n))) (prompt_back next good.1))
+events_read_back session life (told.answer id prompt output next) are good =
+    of_life session life (told.answer id prompt output next) _ are
+    (ap (λ r. of (of (of (Some (λ p o n. told.answer id p o n)) r) (tree_in (tree_data output))) (prompt_in (prompt_data next))) (bytes_back prompt good.0)
+    ∙ ap (λ r. of (of (Some (λ o n. told.answer id prompt o n)) r) (prompt_in (prompt_data next))) (tree_back output good.1)
+    ∙ ap (of (Some (λ n. told.answer id prompt output n))) (prompt_back next good.2))
 events_read_back session life (told.completed id given) are good =
     of_life session life (told.completed id given) _ are (ap (of (Some (λ c. told.completed id c))) (completions_back given good))
 events_read_back session life (told.input line) are good = of_life session life (told.input line) _ are (ap (option_map (λ l. told.input l)) (bytes_back line good))

@@ -63,13 +63,18 @@ abbrev pub completions_data : Option Completions → Data
 completions_data None = null
 completions_data (Some told) = object (member (codes "rest") (texts_data told.rest) (member (codes "root") (bytes_data told.root) no_members))
 
+-- a prompt; null where it isn't known
+abbrev pub prompt_data : Option (List ℕ) → Data
+prompt_data None = null
+prompt_data (Some prompt) = bytes_data prompt
+
 abbrev pub event_data : List ℕ → ℕ → EventTold → Data
-event_data session life (told.banner output) =
-    object (member (codes "life") (count life) (member (codes "output") (tree_data output) (member (codes "session") (bytes_data session)
-    (member (codes "shown") (shown_data output) (typed (codes "banner"))))))
-event_data session life (told.answer id prompt output) =
-    object (member (codes "id") (count id) (member (codes "life") (count life) (member (codes "output") (tree_data output) (member (codes "prompt") (bytes_data prompt)
-    (member (codes "session") (bytes_data session) (member (codes "shown") (shown_data output) (typed (codes "answered"))))))))
+event_data session life (told.banner output next) =
+    object (member (codes "life") (count life) (member (codes "next") (prompt_data next) (member (codes "output") (tree_data output) (member (codes "session") (bytes_data session)
+    (member (codes "shown") (shown_data output) (typed (codes "banner")))))))
+event_data session life (told.answer id prompt output next) =
+    object (member (codes "id") (count id) (member (codes "life") (count life) (member (codes "next") (prompt_data next) (member (codes "output") (tree_data output) (member (codes "prompt") (bytes_data prompt)
+    (member (codes "session") (bytes_data session) (member (codes "shown") (shown_data output) (typed (codes "answered")))))))))
 event_data session life (told.completed id completions) =
     object (member (codes "id") (count id) (member (codes "life") (count life) (member (codes "session") (bytes_data session) (member (codes "told") (completions_data completions) (typed (codes "completed"))))))
 event_data session life (told.input line) =

@@ -47,8 +47,8 @@ IsSoundReply (told.waited over) = Unit {0}
 IsSoundReply (told.interrupted outcome) = Unit {0}
 
 abbrev pub IsSoundEvent : EventTold → Type 0
-IsSoundEvent (told.banner output) = is_block output ≡ true
-IsSoundEvent (told.answer id prompt output) = Is64 id × (is_block output ≡ true)
+IsSoundEvent (told.banner output next) = is_block output ≡ true
+IsSoundEvent (told.answer id prompt output next) = Is64 id × (is_block output ≡ true)
 IsSoundEvent (told.completed id completions) = Is64 id
 IsSoundEvent (told.input line) = Unit {0}
 IsSoundEvent (told.ended why lost) = AllByRecursion IsSoundItem lost

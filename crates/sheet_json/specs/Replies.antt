@@ -1,5 +1,5 @@
 -- What is said of what closed, and of an end.
-use Rattle.std.specs.Prelude.{ℕ, Option, Some, None}
+use Rattle.std.specs.Prelude.{ℕ, List, Option, Some, None}
 use Rattle.std.specs.Result.{result_ok}
 use Rattle.worksheet.specs.Checks.{field_in}
 use Rattle.worksheet.specs.Contents.{Contents}
@@ -11,20 +11,20 @@ use Rattle.host_events.specs.declared.reply.Closed.TheVariants as closed
 use Rattle.sheet_json.specs.Tellings.{EventTold}
 use Rattle.sheet_json.specs.Tellings as told
 
--- the answer that a field shows
-abbrev pub answer_event : ℕ → Option Answer → Option EventTold
-answer_event id None = None
-answer_event id (Some answer) = Some (told.answer id answer.prompt answer.output)
+-- the answer that a field shows, and the prompt of the line that would be asked next
+abbrev pub answer_event : Option (List ℕ) → ℕ → Option Answer → Option EventTold
+answer_event next id None = None
+answer_event next id (Some answer) = Some (told.answer id answer.prompt answer.output next)
 
-abbrev pub answer_shown : ℕ → Option Field → Option EventTold
-answer_shown id None = None
-answer_shown id (Some field) = answer_event id field.answer
+abbrev pub answer_shown : Option (List ℕ) → ℕ → Option Field → Option EventTold
+answer_shown next id None = None
+answer_shown next id (Some field) = answer_event next id field.answer
 
--- what closed, where this is the worksheet after it
-abbrev pub closed_event : Contents → Closed → Option EventTold
-closed_event sheet (closed.Banner output) = Some (told.banner output)
-closed_event sheet (closed.Line id) = answer_shown id (field_in sheet.fields id)
-closed_event sheet (closed.Complete id given) = Some (told.completed id (result_ok given))
+-- what closed, where this is the worksheet after it, and the prompt of the line that would be asked next
+abbrev pub closed_event : Contents → Option (List ℕ) → Closed → Option EventTold
+closed_event sheet next (closed.Banner output) = Some (told.banner output next)
+closed_event sheet next (closed.Line id) = answer_shown next id (field_in sheet.fields id)
+closed_event sheet next (closed.Complete id given) = Some (told.completed id (result_ok given))
 
 abbrev pub ended_event : Ended → EventTold
 ended_event ended = told.ended ended.reason ended.lost

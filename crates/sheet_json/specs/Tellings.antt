@@ -43,10 +43,10 @@ pub data Reply : Type 0 where
   -- what came of an interrupt, as a word
   interrupted : List ℕ → Reply
 
--- what comes of an interpreter
+-- What comes of an interpreter. Of a banner and an answer the last is the prompt of the line that would be asked next, where it is known.
 pub data EventTold : Type 0 where
-  banner : Tree → EventTold
-  answer : ℕ → List ℕ → Tree → EventTold
+  banner : Tree → Option (List ℕ) → EventTold
+  answer : ℕ → List ℕ → Tree → Option (List ℕ) → EventTold
   completed : ℕ → Option Completions → EventTold
   input : List ℕ → EventTold
   ended : Reason → List Item → EventTold

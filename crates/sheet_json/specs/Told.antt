@@ -105,11 +105,15 @@ reply_named name d =
     (cond (bytes_eq name (codes "waited")) (option_map (λ over. told.waited over) (option_and_then over_named (member_in as_str (codes "over") d)))
     (cond (bytes_eq name (codes "interrupted")) (option_map (λ outcome. told.interrupted outcome) (member_in as_str (codes "outcome") d)) None)))))))
 
+-- a prompt, or that it isn't known
+abbrev pub prompt_in : Data → Option (Option (List ℕ))
+prompt_in d = option_in bytes_in d
+
 -- of an interpreter
 abbrev pub event_named : List ℕ → Data → Option EventTold
 event_named name d =
-    cond (bytes_eq name (codes "banner")) (option_map (λ output. told.banner output) (member_in tree_in (codes "output") d))
-    (cond (bytes_eq name (codes "answered")) (of (of (option_map (λ id prompt output. told.answer id prompt output) (member_in count_in (codes "id") d)) (member_in bytes_in (codes "prompt") d)) (member_in tree_in (codes "output") d))
+    cond (bytes_eq name (codes "banner")) (of (option_map (λ output next. told.banner output next) (member_in tree_in (codes "output") d)) (member_in prompt_in (codes "next") d))
+    (cond (bytes_eq name (codes "answered")) (of (of (of (option_map (λ id prompt output next. told.answer id prompt output next) (member_in count_in (codes "id") d)) (member_in bytes_in (codes "prompt") d)) (member_in tree_in (codes "output") d)) (member_in prompt_in (codes "next") d))
     (cond (bytes_eq name (codes "completed")) (of (option_map (λ id told_ones. told.completed id told_ones) (member_in count_in (codes "id") d)) (member_in (option_in completions_in) (codes "told") d))
     (cond (bytes_eq name (codes "default")) (option_map (λ line. told.input line) (member_in bytes_in (codes "text") d))
     (cond (bytes_eq name (codes "ended")) (of (option_map (λ why items. told.ended why items) (member_in reason_in (codes "reason") d)) (member_in (list_in lost_in) (codes "lost") d))
@@ -198,9 +202,13 @@ abbrev pub CompletionsHaveBytes : Option Completions → Type 0
 CompletionsHaveBytes None = Unit {0}
 CompletionsHaveBytes (Some told) = IsBytes told.root × AllByRecursion IsBytes told.rest
 
+abbrev pub PromptHasBytes : Option (List ℕ) → Type 0
+PromptHasBytes None = Unit {0}
+PromptHasBytes (Some prompt) = IsBytes prompt
+
 abbrev pub EventHasBytes : EventTold → Type 0
-EventHasBytes (told.banner output) = HasBytes output
-EventHasBytes (told.answer id prompt output) = IsBytes prompt × HasBytes output
+EventHasBytes (told.banner output next) = HasBytes output × PromptHasBytes next
+EventHasBytes (told.answer id prompt output next) = IsBytes prompt × HasBytes output × PromptHasBytes next
 EventHasBytes (told.completed id completions) = CompletionsHaveBytes completions
 EventHasBytes (told.input line) = IsBytes line
 EventHasBytes (told.ended why items) = AllByRecursion ItemHasBytes items

@@ -36,17 +36,30 @@ pub(crate) fn shown_value(alloc: Global, output: &Block) -> Result<Value, AllocE
     bytes_value(alloc, bytes.as_slice())
 }
 
-/// A banner closed.
+/// A prompt, where it is known.
+fn prompt_value(alloc: Global, next: Option<&[u8]>) -> Result<Value, AllocError>
+    ensures { IfOk result (λ value. view value ≡ json.prompt_data (option_copied next.entry)) }
+{
+    match next {
+        None => Ok(Value::Null),
+        Some(prompt) => bytes_value(alloc, prompt),
+    }
+}
+
+/// A banner closed, and this is the prompt of the line that would be asked next, where it is known.
 pub fn banner_value(
     alloc: Global,
     session: &[u8],
     life: u32,
     output: &Block,
+    next: Option<&[u8]>,
 ) -> Result<Value, AllocError>
     ensures { IfOk result (λ value. view value
-        ≡ telling_data (told.event session.now life (told.banner output.now))) }
+        ≡ telling_data (told.event session.now life (told.banner output.now (option_copied next.entry)))) }
 {
+    let next = prompt_value(alloc, next)?;
     Members::new(alloc)
+        .with("next", next)?
         .count("life", life as u64)?
         .blocks("output", output)?
         .bytes("session", session)?
@@ -54,7 +67,8 @@ pub fn banner_value(
         .typed("banner")
 }
 
-/// The answer to the line of a field closed, which shows it with this prompt from then on.
+/// The answer to the line of a field closed, which shows it with this prompt from then on. The prompt of the line
+/// that would be asked next is another, where it is known.
 pub fn answered_value(
     alloc: Global,
     session: &[u8],
@@ -62,11 +76,14 @@ pub fn answered_value(
     id: u32,
     prompt: &[u8],
     output: &Block,
+    next: Option<&[u8]>,
 ) -> Result<Value, AllocError>
     ensures { IfOk result (λ value. view value
-        ≡ telling_data (told.event session.now life (told.answer id prompt.now output.now))) }
+        ≡ telling_data (told.event session.now life (told.answer id prompt.now output.now (option_copied next.entry)))) }
 {
+    let next = prompt_value(alloc, next)?;
     Members::new(alloc)
+        .with("next", next)?
         .count("id", id as u64)?
         .count("life", life as u64)?
         .blocks("output", output)?

@@ -33,7 +33,7 @@ fn answer_has_line(alloc: Global, prompt: &[u8], spelled: &[u8], text: &[u8]) ->
     match read_block(alloc, spelled) {
         Ok(block) => has_line(
             alloc,
-            answered_value(alloc, b"b", 2, 7, prompt, &block),
+            answered_value(alloc, b"b", 2, 7, prompt, &block, Some(b"next> ")),
             text,
         ),
         Err(_) => false,
@@ -43,7 +43,7 @@ fn answer_has_line(alloc: Global, prompt: &[u8], spelled: &[u8], text: &[u8]) ->
 /// The line of a banner with the block that these bytes spell.
 fn banner_has_line(alloc: Global, spelled: &[u8], text: &[u8]) -> bool {
     match read_block(alloc, spelled) {
-        Ok(block) => has_line(alloc, banner_value(alloc, b"b", 2, &block), text),
+        Ok(block) => has_line(alloc, banner_value(alloc, b"b", 2, &block, None), text),
         Err(_) => false,
     }
 }
@@ -220,7 +220,7 @@ fn events_have_their_lines(rt: HostRuntime) {
         banner_has_line(
             alloc,
             b"\x02verbatim:Python\x05",
-            b"{\"life\":2,\"output\":{\"items\":[\"Python\"],\"kind\":\"format\",\"tag\":\"verbatim\"},\"session\":\"b\",\"shown\":\"Python\",\"type\":\"banner\"}\n"
+            b"{\"life\":2,\"next\":null,\"output\":{\"items\":[\"Python\"],\"kind\":\"format\",\"tag\":\"verbatim\"},\"session\":\"b\",\"shown\":\"Python\",\"type\":\"banner\"}\n"
         )
     );
     assert!(rt;
@@ -228,7 +228,7 @@ fn events_have_their_lines(rt: HostRuntime) {
             alloc,
             b">>> ",
             b"\x02verbatim:caf\xe9\x05",
-            b"{\"id\":7,\"life\":2,\"output\":{\"items\":[{\"base64\":\"Y2Fm6Q==\"}],\"kind\":\"format\",\"tag\":\"verbatim\"},\"prompt\":\">>> \",\"session\":\"b\",\"shown\":{\"base64\":\"Y2Fm6Q==\"},\"type\":\"answered\"}\n"
+            b"{\"id\":7,\"life\":2,\"next\":\"next> \",\"output\":{\"items\":[{\"base64\":\"Y2Fm6Q==\"}],\"kind\":\"format\",\"tag\":\"verbatim\"},\"prompt\":\">>> \",\"session\":\"b\",\"shown\":{\"base64\":\"Y2Fm6Q==\"},\"type\":\"answered\"}\n"
         )
     );
     assert!(rt;
@@ -236,7 +236,7 @@ fn events_have_their_lines(rt: HostRuntime) {
             alloc,
             b"In 1] ",
             b"\x02latex:$x^2$\x05",
-            b"{\"id\":7,\"life\":2,\"output\":{\"items\":[\"$x^2$\"],\"kind\":\"format\",\"tag\":\"latex\"},\"prompt\":\"In 1] \",\"session\":\"b\",\"shown\":\"{latex:$x^2$}\",\"type\":\"answered\"}\n"
+            b"{\"id\":7,\"life\":2,\"next\":\"next> \",\"output\":{\"items\":[\"$x^2$\"],\"kind\":\"format\",\"tag\":\"latex\"},\"prompt\":\"In 1] \",\"session\":\"b\",\"shown\":\"{latex:$x^2$}\",\"type\":\"answered\"}\n"
         )
     );
     assert!(rt;

@@ -33,7 +33,7 @@ bytes_none : (bytes : List ℕ) → has_float (bytes_data bytes) ≡ false
 bytes_none bytes = first_false (has_float (bytes_data bytes)) _ (none_told (told.event bytes 0 (told.input [])))
 
 tree_none : (b : Tree) → has_float (tree_data b) ≡ false
-tree_none b = first_false (has_float (tree_data b)) _ (none_told (told.event [] 0 (told.banner b)))
+tree_none b = first_false (has_float (tree_data b)) _ (none_told (told.event [] 0 (told.banner b None)))
 
 channel_none : (text : Option (List ℕ)) → has_float (channel_data text) ≡ false
 channel_none None = refl
@@ -51,6 +51,9 @@ outer_none o =
 second_within : (a b c n : ℕ) → suc (max a (max b c)) ≤ suc n → b ≤ n
 second_within a b c n h = omega (arith, h)
 
+third_within : (a b c d n : ℕ) → suc (max a (max b (max c d))) ≤ suc n → c ≤ n
+third_within a b c d n h = omega (arith, h)
+
 max_within : (a b n : ℕ) → a ≤ n → b ≤ n → max a b ≤ n
 max_within a b n p q = omega (arith, p, q)
 
@@ -64,8 +67,8 @@ plain_bytes bytes =
 
 plain_tree : (b : Tree) → is_block b ≡ true → IsPlain 66 (tree_data b)
 plain_tree b is =
-    let p = tellings_are_plain (told.event [] 0 (told.banner b)) (none_fits, is) in
-    record { floats = tree_none b; nests = second_within _ _ _ 66 p.nests; counts = p.counts.1.0 }
+    let p = tellings_are_plain (told.event [] 0 (told.banner b None)) (none_fits, is) in
+    record { floats = tree_none b; nests = third_within _ _ _ _ 66 p.nests; counts = p.counts.1.1.0 }
 
 plain_text : {s : List ℕ} → IsPlain 66 (string s)
 plain_text = record { floats = refl; nests = omega arith; counts = tt }

@@ -7,6 +7,7 @@ use Rattle.worksheet.specs.declared.field.Field.{Field}
 use Rattle.worksheet.specs.declared.field.Session.{Session}
 use Rattle.worksheet.specs.declared.refusal.Refusal.TheVariants as refusal
 use Rattle.plugin_core.specs.declared.step.Ended.{Ended}
+use Rattle.plugin_core.specs.Items.{prompt_of}
 use Rattle.host_events.specs.declared.reply.ChildReply.{ChildReply}
 use Rattle.host_events.specs.declared.reply.Reply.{Reply}
 use Rattle.host_events.specs.declared.reply.Reply.TheVariants as reply
@@ -73,9 +74,9 @@ abbrev pub event_line : List ℕ → ℕ → Option EventTold → List ℕ
 event_line session life None = []
 event_line session life (Some e) = telling_line (told.event session life e)
 
--- what closed, the default input of that, and the end of the life
-abbrev pub closed_json : Contents → ChildReply → List ℕ
-closed_json sheet child = event_line child.name child.life (option_and_then (closed_event sheet) child.closed)
+-- what closed, with the prompt of the line that would be asked next, the default input of that, and the end of the life
+abbrev pub closed_json : Contents → Option (List ℕ) → ChildReply → List ℕ
+closed_json sheet next child = event_line child.name child.life (option_and_then (closed_event sheet next) child.closed)
 
 abbrev pub default_json : ChildReply → List ℕ
 default_json child = event_line child.name child.life (option_map (λ text. told.input text) child.default_input)
@@ -83,11 +84,24 @@ default_json child = event_line child.name child.life (option_map (λ text. told
 abbrev pub ended_json : ChildReply → List ℕ
 ended_json child = event_line child.name child.life (option_map ended_event child.ended)
 
-abbrev pub child_json : Contents → ChildReply → List ℕ
-child_json sheet child = closed_json sheet child ++ (default_json child ++ ended_json child)
+abbrev pub child_json : Contents → Option (List ℕ) → ChildReply → List ℕ
+child_json sheet next child = closed_json sheet next child ++ (default_json child ++ ended_json child)
 
+-- the prompt that a line of this session would have if it were asked now
+abbrev pub prompt_at : World → List ℕ → Option (List ℕ)
+prompt_at w name = option_map (λ l. prompt_of l.past l.blocks) (life_of w name)
+
+abbrev pub came_json : World → Reply → List ℕ
+came_json w (reply.Child child) = child_json (sheet_in w) (prompt_at w child.name) child
+came_json w reply.Done = []
+came_json w (reply.Field id) = []
+came_json w (reply.Asked life) = []
+came_json w (reply.Refused why) = []
+came_json w reply.Nothing = []
+
+-- the same where the worksheet alone is known
 abbrev pub event_json : Contents → Reply → List ℕ
-event_json sheet (reply.Child child) = child_json sheet child
+event_json sheet (reply.Child child) = child_json sheet None child
 event_json sheet reply.Done = []
 event_json sheet (reply.Field id) = []
 event_json sheet (reply.Asked life) = []
@@ -154,6 +168,7 @@ in_json = record {
   frame = frame_json;
   note = note_json;
   reply = λ line sheet r. reply_json line r;
+  came = came_json;
   event = event_json;
   sheet = sheet_json;
   field = λ line id w. field_json line w (field_in (sheet_in w).fields id);

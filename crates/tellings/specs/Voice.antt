@@ -19,7 +19,8 @@ pub record Voice : Type 0 where
   pub note : Note → List ℕ
   -- the reply to a line, where this is the worksheet after it
   pub reply : ℕ → Contents → Reply → List ℕ
-  -- what came of a life, where this is the worksheet after it
+  -- what came of a life, where events led to this world; and the same where the worksheet alone is known
+  pub came : World → Reply → List ℕ
   pub event : Contents → Reply → List ℕ
   -- a worksheet, and the field with this number
   pub sheet : ℕ → World → List ℕ
@@ -35,7 +36,11 @@ pub record Voice : Type 0 where
 abbrev pub page_title : List ℕ
 page_title = codes "worksheet"
 
--- what came of lives, in order
+-- what came of lives, in order, where events led to this world
+abbrev pub lives_text : Voice → World → List Reply → List ℕ
+lives_text V w replies = flat_map (V.came w) replies
+
+-- the same where the worksheet alone is known
 abbrev pub came_text : Voice → Contents → List Reply → List ℕ
 came_text V sheet replies = flat_map (V.event sheet) replies
 

@@ -1,8 +1,11 @@
 //! As lines of JSON.
 ghost use Rattle.std.specs.Prelude.{◌≡◌, ◌+◌, ◌<◌, ◌^◌, IfErr, OnOk, length};
+ghost use Rattle.std.specs.Option.{option_copied};
 ghost use Rattle.std.specs.Io.KnownBytes.{Appends};
 ghost use Rattle.tellings.specs.Json as texts;
-ghost use Rattle.tellings.specs.Voice.{IsUntold, came_text, numbered_text, replied_text};
+ghost use Rattle.session_engine.specs.World.{World};
+ghost use Rattle.session_engine.specs.Host.{IsHost};
+ghost use Rattle.tellings.specs.Voice.{IsUntold, came_text, lives_text, numbered_text, replied_text};
 ghost use Rattle.worksheet.specs.Contents.{Contents};
 
 use crate::exports::write_exported;
@@ -31,15 +34,16 @@ pub struct InJson {
     pub alloc: Global,
 }
 
-/// What closed, where anything did.
+/// What closed, where anything did, and the prompt of the line that would be asked next, where it is known.
 fn write_closed<W: Write>(
     alloc: Global,
     sheet: &Sheet,
+    next: Option<&[u8]>,
     child: &ChildReply,
     writer: &mut W,
 ) -> Result<(), RunFault>
     ensures ok { OnOk result (Appends (W.contents writer.old) (W.contents writer.new)
-        (texts.closed_json sheet.now.contents child.now)) }
+        (texts.closed_json sheet.now.contents (option_copied next.entry) child.now)) }
     ensures err { IfErr result (IsUntold texts.in_json) }
 {
     match &child.closed {
@@ -48,7 +52,7 @@ fn write_closed<W: Write>(
             let name = child.name.as_slice();
             write_if(
                 alloc,
-                closed_value(alloc, sheet, name, child.life, closed),
+                closed_value(alloc, sheet, name, child.life, closed, next),
                 writer,
             )
         }
@@ -98,20 +102,21 @@ fn write_ended<W: Write>(alloc: Global, child: &ChildReply, writer: &mut W) -> R
 fn write_child<W: Write>(
     alloc: Global,
     sheet: &Sheet,
+    next: Option<&[u8]>,
     child: &ChildReply,
     writer: &mut W,
 ) -> Result<(), RunFault>
     ensures ok { OnOk result (Appends (W.contents writer.old) (W.contents writer.new)
-        (texts.child_json sheet.now.contents child.now)) }
+        (texts.child_json sheet.now.contents (option_copied next.entry) child.now)) }
     ensures err { IfErr result (IsUntold texts.in_json) }
 {
-    write_closed(alloc, sheet, child, writer)?;
+    write_closed(alloc, sheet, next, child, writer)?;
     write_default(alloc, child, writer)?;
     write_ended(alloc, child, writer)?;
     Ok(())
 }
 
-/// What came of a life, and nothing of another reply.
+/// What came of a life, where the worksheet alone is known, and nothing of another reply.
 fn write_event<W: Write>(
     alloc: Global,
     sheet: &Sheet,
@@ -123,7 +128,7 @@ fn write_event<W: Write>(
     ensures err { IfErr result (IsUntold texts.in_json) }
 {
     match reply {
-        Reply::Child(child) => write_child(alloc, sheet, child, writer),
+        Reply::Child(child) => write_child(alloc, sheet, None, child, writer),
         Reply::Done | Reply::Field(_) | Reply::Asked(_) | Reply::Refused(_) | Reply::Nothing => Ok(
             (),
         ),
@@ -143,6 +148,44 @@ fn write_events<W: Write>(
 {
     for reply in replies {
         write_event(alloc, sheet, reply, writer)?;
+    }
+    Ok(())
+}
+
+/// What came of a life, with the prompt that its host knows, and nothing of another reply.
+fn write_came<D: Disk, W: Write>(
+    alloc: Global,
+    host: &Host<D>,
+    reply: &Reply,
+    writer: &mut W,
+) -> Result<(), RunFault>
+    ensures ok { (w : World) → IsHost host.now w → OnOk result (Appends (W.contents writer.old) (W.contents writer.new)
+        (texts.came_json w reply.now)) }
+    ensures err { IfErr result (IsUntold texts.in_json) }
+{
+    match reply {
+        Reply::Child(child) => {
+            write_child(alloc, host.sheet(), host.prompt(child.name), child, writer)
+        }
+        Reply::Done | Reply::Field(_) | Reply::Asked(_) | Reply::Refused(_) | Reply::Nothing => Ok(
+            (),
+        ),
+    }
+}
+
+/// What came of lives, in order, with what their host knows.
+fn write_lives<D: Disk, W: Write>(
+    alloc: Global,
+    host: &Host<D>,
+    replies: &[Reply],
+    writer: &mut W,
+) -> Result<(), RunFault>
+    ensures ok { (w : World) → IsHost host.now w → OnOk result (Appends (W.contents writer.old) (W.contents writer.new)
+        (lives_text texts.in_json w replies.now)) }
+    ensures err { IfErr result (IsUntold texts.in_json) }
+{
+    for reply in replies {
+        write_came(alloc, host, reply, writer)?;
     }
     Ok(())
 }
@@ -312,6 +355,26 @@ impl Tells for InJson {
         writer: &mut W,
     ) -> Result<(), RunFault> {
         write_events(self.alloc, sheet, replies, writer)?;
+        writer.flush().map_err(|_| RunFault::Output)?;
+        Ok(())
+    }
+
+    fn lives_of<D: Disk, W: Write>(
+        &self,
+        host: &Host<D>,
+        replies: &[Reply],
+        writer: &mut W,
+    ) -> Result<(), RunFault> {
+        write_lives(self.alloc, host, replies, writer)
+    }
+
+    fn events_of<D: Disk, W: Write>(
+        &self,
+        host: &Host<D>,
+        replies: &[Reply],
+        writer: &mut W,
+    ) -> Result<(), RunFault> {
+        write_lives(self.alloc, host, replies, writer)?;
         writer.flush().map_err(|_| RunFault::Output)?;
         Ok(())
     }

@@ -242,6 +242,24 @@ impl Tells for InWords {
         tell_replies(replies, writer)
     }
 
+    fn lives_of<D: Disk, W: Write>(
+        &self,
+        _host: &Host<D>,
+        replies: &[Reply],
+        writer: &mut W,
+    ) -> Result<(), RunFault> {
+        write_events(replies, writer)
+    }
+
+    fn events_of<D: Disk, W: Write>(
+        &self,
+        _host: &Host<D>,
+        replies: &[Reply],
+        writer: &mut W,
+    ) -> Result<(), RunFault> {
+        tell_replies(replies, writer)
+    }
+
     fn sheet<D: Disk, W: Write>(
         &self,
         _line: u64,

@@ -8,7 +8,7 @@ use sheet_export::Format;
 use std::io::Write;
 use worksheet::Sheet;
 
-/// A format of what is printed. Each call but `lives` flushes what it writes.
+/// A format of what is printed. Each call but `lives` and `lives_of` flushes what it writes.
 ///
 /// `Output` where the writer fails: a part may have gone out. `OutOfMemory` where a voice that takes memory
 /// has none for a line: what was written before it is whole.
@@ -17,7 +17,7 @@ pub trait Tells {
     ghost use Rattle.std.specs.Io.KnownBytes.{Appends};
     ghost use Rattle.session_engine.specs.World.{World};
     ghost use Rattle.session_engine.specs.Host.{IsHost};
-    ghost use Rattle.tellings.specs.Voice.{IsUntold, Voice, came_text, numbered_text, replied_text};
+    ghost use Rattle.tellings.specs.Voice.{IsUntold, Voice, came_text, lives_text, numbered_text, replied_text};
 
     /// The texts that it writes.
     ghost voice: { Voice };
@@ -80,6 +80,29 @@ pub trait Tells {
     ) -> Result<(), RunFault>
         ensures ok { OnOk result (Appends (W.contents writer.old) (W.contents writer.new)
             (came_text voice sheet.now.contents replies.now)) }
+        ensures err { IfErr result (IsUntold voice) };
+
+    /// Tells what came of lives, with what this host knows of each, and flushes nothing: `events_of` of what followed
+    /// is called next.
+    fn lives_of<D: Disk, W: Write>(
+        &self,
+        host: &Host<D>,
+        replies: &[Reply],
+        writer: &mut W,
+    ) -> Result<(), RunFault>
+        ensures ok { (w : World) → IsHost host.now w
+            → OnOk result (Appends (W.contents writer.old) (W.contents writer.new) (lives_text voice w replies.now)) }
+        ensures err { IfErr result (IsUntold voice) };
+
+    /// Tells what came of lives, with what this host knows of each.
+    fn events_of<D: Disk, W: Write>(
+        &self,
+        host: &Host<D>,
+        replies: &[Reply],
+        writer: &mut W,
+    ) -> Result<(), RunFault>
+        ensures ok { (w : World) → IsHost host.now w
+            → OnOk result (Appends (W.contents writer.old) (W.contents writer.new) (lives_text voice w replies.now)) }
         ensures err { IfErr result (IsUntold voice) };
 
     /// Tells the worksheet, for which this line asks.
