@@ -1,16 +1,17 @@
 """Checks of worksheets, and that each line of JSON is of the schema."""
 
+import dataclasses
 import importlib
 import json
 import os
 import subprocess
 import sys
 import unittest
-from typing import Any, List
+from typing import Any, Iterable, List, Union
 
 from support import PROGRAM, ROOT, WORDS, Case, needs_program
 
-from tmhost import Block, Checked, Compared, Died, InUse, NoWorksheet, check
+from tmhost import Block, Checked, Compared, Died, InUse, NoWorksheet, Took, check
 
 SCHEMA = os.path.join(ROOT, "docs/use/json.schema.json")
 TWICE = """import os, sys
@@ -30,6 +31,16 @@ def lines(*words: str) -> List[bytes]:
     return subprocess.run([PROGRAM, *words], stdin=subprocess.DEVNULL, stdout=subprocess.PIPE, stderr=subprocess.DEVNULL).stdout.splitlines()
 
 
+def bare(told: "Iterable[Union[Checked, Compared]]") -> "List[Union[Checked, Compared]]":
+    """What a check told, without what each field took, which differs in each run."""
+    return [dataclasses.replace(one, took=None) if isinstance(one, Checked) else one for one in told]
+
+
+def starts(told: "Iterable[Union[Checked, Compared]]") -> List[bool]:
+    """Of each field, whether an interpreter was started for it. What it took is known."""
+    return [one.took.started for one in told if isinstance(one, Checked) and one.took and 0 <= one.took.millis < 60_000]
+
+
 @needs_program
 class Checks(Case):
     def made(self) -> None:
@@ -47,7 +58,9 @@ class Checks(Case):
 
     def test_each_field(self) -> None:
         self.made()
-        same, differs, unanswered, last, counts = check(self.path, program=PROGRAM)
+        told = list(check(self.path, program=PROGRAM))
+        self.assertEqual(starts(told), [True, False, False, True])
+        same, differs, unanswered, last, counts = bare(told)
         self.assertEqual((same, last), (Checked(1, "a", "same"), Checked(4, "a", "same")))
         assert isinstance(differs, Checked) and differs.shows and differs.came and isinstance(unanswered, Checked) and unanswered.shows
         self.assertEqual((differs.id, differs.verdict, differs.input, differs.shows.text), (2, "differs", "again", "again"))
@@ -71,11 +84,35 @@ class Checks(Case):
         with self.open() as sheet:
             sheet.session("a", ["sh", script])
             sheet.new("a", "x").evaluate()
-        self.assertEqual(list(check(self.path, program=PROGRAM)), [Checked(1, "a", "same"), Compared(1, 0, 0, 0, 1)])
+        self.assertEqual(bare(check(self.path, program=PROGRAM)), [Checked(1, "a", "same"), Compared(1, 0, 0, 0, 1)])
+
+    def test_all_fields(self) -> None:
+        self.made()
+        with self.open() as sheet:
+            for text in ("ends", "after"):
+                sheet.new("a", text)
+        told = list(check(self.path, program=PROGRAM, all=True))
+        self.assertEqual(starts(told), [True, False, False, True, False, False, True])
+        *others, new, ends, after, counts = bare(told)
+        self.assertEqual(others, bare(check(self.path, program=PROGRAM))[:-1])
+        assert isinstance(new, Checked) and new.came and isinstance(after, Checked) and after.came
+        self.assertEqual(new, Checked(5, "a", "new", "not evaluated", came=new.came))
+        self.assertEqual((new.came.text, after.verdict, after.came.text), ("not evaluated", "new", "after"))
+        self.assertEqual(ends, Checked(6, "a", "unanswered", "ends", reason="Ended"))
+        self.assertEqual(counts, Compared(2, 1, 2, 0, new=2))
+        some = bare(check(self.path, leave_out=[2, 3, 6], program=PROGRAM, all=True))[-1]
+        self.assertEqual(some, Compared(2, 0, 0, 3, new=2))
+        assert isinstance(some, Compared)
+        self.assertTrue(some.is_same)
 
     def test_side_by_side(self) -> None:
         self.made()
-        self.assertEqual(list(check(self.path, program=PROGRAM, jobs=8)), list(check(self.path, program=PROGRAM)))
+        self.assertEqual(bare(check(self.path, program=PROGRAM, jobs=8)), bare(check(self.path, program=PROGRAM)))
+        with self.open() as sheet:
+            sheet.session("b", WORDS)
+            sheet.new("b", "hello")
+        told = list(check(self.path, program=PROGRAM, jobs=8, all=True))
+        self.assertEqual(told, bare(check(self.path, program=PROGRAM, all=True)))
         self.assertRaises(Died, list, check(self.path, program=PROGRAM, jobs=65))
 
     def test_faults(self) -> None:
@@ -100,7 +137,9 @@ class Checks(Case):
             sheet.new("a", "hello").evaluate()
         sheet.close()
         told = check(self.path, program=PROGRAM)
-        self.assertEqual(next(told), Checked(1, "a", "same"))
+        first = next(told)
+        assert isinstance(first, Checked) and first.took
+        self.assertEqual(first, Checked(1, "a", "same", took=Took(first.took.millis, True)))
         told.close()
         self.open().close()
 
@@ -112,6 +151,18 @@ class Checks(Case):
         with open(SCHEMA) as file:
             schema = jsonschema.Draft202012Validator(json.load(file))
         self.made()
+        everything = [json.loads(line) for line in lines("check", "--json", "--all", self.path)]
+        with self.open() as sheet:
+            sheet.session("b", WORDS)
+            lacking = sheet.new("b", "die").id
+        everything += [json.loads(line) for line in lines("check", "--json", "--all", self.path)]
+        for one in everything:
+            schema.validate(one)
+        self.assertEqual([one["verdict"] for one in everything if one["type"] == "checked"], 2 * ["same", "differs", "unanswered", "same", "new"] + ["unanswered"])
+        self.assertEqual([one["took"] is None for one in everything if one["type"] == "checked"], 5 * [False] + 6 * [True])
+        self.assertIsNone(everything[-3]["shows"])
+        with self.open() as sheet:
+            sheet.remove(lacking)
         told = [json.loads(line) for line in [*lines("check", "--json", self.path), *lines("check", "--json", "--leave-out=2", self.path),
                                               *lines("eval", "--json", self.path, "9"), *lines("check", "--json", "--leave-out=9", self.path),
                                               *lines("check", "--json", self.folder)]]

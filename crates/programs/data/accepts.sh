@@ -69,10 +69,49 @@ for format in tap junit; do
 done
 compare 'words that accept nothing' "$(cat sent 2>/dev/null)" ''
 
+# New ones, by --all: fields that show no answer, or whose line was lost, show what came.
+made "$a"'new 0 a x\nnew 1 a longer\nnew 2 a differs\nnew 3 a prompts\nnew 4 a z\neval 1\neval 3\nwait\n'
+was=$(changes)
+accepts 'new ones' 0 '#2 a\n> longer\n+ one\n+ two\n+ three\naccepted 2\n#3 a\na] differs\n- differs\n+ another\naccepted 3\n#4 a\n> prompts\n+ prompts\naccepted 4\n#5 a\n> z\n+ z\naccepted 5\nsame 1 accepted 1 unanswered 0 new 3\n' \
+    '#1 a\na] x\nx\n#2 a\na] longer\none\ntwo\nthree\n#3 a\na] differs\nanother\n#4 a\na] prompts\nprompts\n#5 a\nnew> z\nz\n' --all
+sent 'new ones' 'start a\nsend a x\nsend a longer\nsend a differs\nsend a prompts\nsend a z'
+compare 'new ones, four changes' "$was $(changes)" "$(printf 'kept 10, whole kept 14, whole')"
+checks 'new ones that were accepted' 0 'same 5 differ 0 unanswered 0\n' --all
+accepts_none 'new ones, again' 0 'same 5 accepted 0 unanswered 0\n' \
+    '#1 a\na] x\nx\n#2 a\na] longer\none\ntwo\nthree\n#3 a\na] differs\nanother\n#4 a\na] prompts\nprompts\n#5 a\nnew> z\nz\n' --all
+made "$a"'new 0 a hangs\nnew 1 a y\n'
+accepts_none 'new ones that are not asked for' 0 'same 0 accepted 0 unanswered 0\n' '#1 a\n> hangs\n?\n#2 a\n> y\n?\n'
+accepts 'a new one beside one that gets no answer' 1 '#1 a\n> hangs\n- ?\n+ ?\n#2 a\n> y\n+ y\naccepted 2\nsame 0 accepted 0 unanswered 1 new 1\n' '#1 a\n> hangs\n?\n#2 a\na] y\ny\n' --all
+accepts_none 'one that gets no answer, again' 1 '#1 a\n> hangs\n- ?\n+ ?\nsame 1 accepted 0 unanswered 1\n' '#1 a\n> hangs\n?\n#2 a\na] y\ny\n' --all
+rm -f gone.sh
+made 'session b plain ./gone.sh b\nnew 0 b x\neval 1\nwait\n'
+cp suite.sh gone.sh
+sed -i '1i #!/bin/sh' gone.sh
+chmod 755 gone.sh
+accepts 'one whose line was lost' 0 '#1 b\n> x\n+ x\naccepted 1\nsame 0 accepted 0 unanswered 0 new 1\n' '#1 b\nb] x\nx\n' --all
+rm -f gone.sh
+made "$a"'session b plain sh suite.sh b\nnew 0 a x\nnew 1 b y\nnew 2 b z\n'
+accepts_none 'new ones that are left out' 0 'same 0 accepted 0 unanswered 0 left out 3\n' '#1 a\n> x\n?\n#2 b\n> y\n?\n#3 b\n> z\n?\n' --all --leave-out 1-3
+accepts 'a new one that is compared' 0 '#2 b\n> y\n+ y\naccepted 2\nsame 0 accepted 0 unanswered 0 left out 2 new 1\n' '#1 a\n> x\n?\n#2 b\nb] y\ny\n#3 b\n> z\n?\n' --all --compare 2
+accepts 'a new one of a session' 0 '#3 b\n> z\n+ z\naccepted 3\nsame 1 accepted 0 unanswered 0 new 1\n' '#1 a\n> x\n?\n#2 b\nb] y\ny\n#3 b\nb] z\nz\n' --all --only b
+made "$a"'new 0 a x\nnew 1 a kills\n'
+(exec "$tmhost" check --accept --all sheet >text 2>errors) 2>/dev/null
+compare 'new ones, killed' "$? $(cat text errors)" "$(printf '137 #1 a\n> x\n+ x\naccepted 1')"
+compare 'new ones, killed, shown' "$(answer show sheet)" "$(printf '#1 a\na] x\nx\n#2 a\n> kills\n?\nstatus 0')"
+made "$a"'new 0 a x\nnew 1 a y\n'
+"$tmhost" check --accept --all sheet >/dev/full 2>errors
+compare 'new ones on a full output' "$? $(cat errors)" '1 fault 42 Output'
+compare 'new ones on a full output, shown' "$(answer show sheet)" "$(printf '#1 a\na] x\nx\n#2 a\n> y\n?\nstatus 0')"
+made 'session g plain sh grows.sh\nnew 0 g x\n'
+compare 'a new one on a full disk' "$(limited 1 check --accept --all sheet </dev/null)" "$(ending 'fault 21 Disk\n' 1)"
+compare 'a new one on a full disk, shown' "$(answer show sheet </dev/null)" "$(ending '#1 g\n> x\n?\n' 0)"
+
 # An answer that came after its time is none, and isn't accepted.
 made "$l"'new 0 l differs\nnew 1 l late\nnew 2 l y\neval 1\neval 2\neval 3\nwait\n'
 accepts 'one that was over' 1 '#1 l\n> differs\n- differs\n+ another\naccepted 1\n#2 l\n> late\n- late\n+ ?\nsame 1 accepted 1 unanswered 1\n' \
     '#1 l\n> differs\nanother\n#2 l\n> late\nlate\n#3 l\n> y\ny\n' --timeout 2
+made "$l"'new 0 l late\nnew 1 l y\n'
+accepts 'a new one that was over' 1 '#1 l\n> late\n- ?\n+ ?\n#2 l\n> y\n+ y\naccepted 2\nsame 0 accepted 0 unanswered 1 new 1\n' '#1 l\n> late\n?\n#2 l\n> y\ny\n' --all --timeout 2
 
 # What was told is on the disk, also where it is killed; where the output can't be written, one more.
 made "$a"'new 0 a differs\nnew 1 a kills\neval 1\neval 2\nwait\n'

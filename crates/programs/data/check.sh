@@ -31,6 +31,7 @@ while IFS= read -r line; do
             looks) until grep -q '^+ another$' text; do sleep 0.01; done ;;
             heads) until grep -q '^worksheet three$' text; do sleep 0.01; done ;;
             opens) until grep -q '^TAP version 13$' text; do sleep 0.01; done ;;
+            slow) sleep 0.3 ;;
         esac
     fi
     case $line in
@@ -59,11 +60,25 @@ made() {
     rm -f sent lives
 }
 
-# A case of `check` over that worksheet: NAME STATUS TEXT WORDS. It stays as it was.
+# A report with N in the place of how long each evaluation took, which differs in each run: as TAP, in JUnit's XML, and as JSON. Where no
+# number stands there it stays as it is.
+timed() {
+    sed -E 's/^(  duration_ms: )[0-9]+$/\1N/; s/^(<testcase [^>]* time=")[0-9]+\.[0-9]{3}">/\1N">/; s/("took":\{"millis":)[0-9]+,/\1N,/'
+}
+
+# A report with nothing of what evaluations took.
+untimed() {
+    sed -E '/^  ---$/,/^  \.\.\.$/d; s/^(<testcase [^>]*) time="[0-9]+\.[0-9]{3}">/\1>/; s/"took":(null|\{"millis":[0-9]+,"started":(true|false)\}),//'
+}
+
+# What evaluations took, as TAP: where an interpreter was started for it, and where there was one.
+starts='  ---\n  duration_ms: N\n  started: true\n  ...\n' goes_on='  ---\n  duration_ms: N\n  started: false\n  ...\n'
+
+# A case of `check` over that worksheet: NAME STATUS TEXT WORDS. It stays as it was. How long an evaluation took is N.
 checks() {
     name=$1 want=$(ending "$3" "$2") before="$(bytes sheet) $(bytes sheet.alt 2>/dev/null)"
     shift 3
-    compare "$name" "$(answer check "$@" sheet </dev/null)" "$want"
+    compare "$name" "$(answer check "$@" sheet </dev/null | timed)" "$want"
     compare "$name, kept" "$(bytes sheet) $(bytes sheet.alt 2>/dev/null)" "$before"
 }
 
@@ -132,7 +147,7 @@ checked 'lines that differ in the middle' "$a"'new 0 a middle\neval 1\nwait\n' 1
 checks 'lines that differ in the middle, whole' 1 \
     "#1 a\na] middle\n$(seq 9 | sed 's/^/- /; s/$/\\n/' | tr -d '\n')$(printf '%s\n' 1 2 3 4 five more 6 7 8 9 | sed 's/^/+ /; s/$/\\n/' | tr -d '\n')same 0 differ 1 unanswered 0\n" --whole
 checks 'lines that differ in the middle, as TAP' 1 \
-    'TAP version 13\nnot ok 1 - field 1 of a\n# #1 a\n# a] middle\n# @@ -2,7 +2,8 @@\n#   2\n#   3\n#   4\n# - 5\n# + five\n# + more\n#   6\n#   7\n#   8\n1..1\n' --format tap
+    "TAP version 13\nnot ok 1 - field 1 of a\n$starts"'# #1 a\n# a] middle\n# @@ -2,7 +2,8 @@\n#   2\n#   3\n#   4\n# - 5\n# + five\n# + more\n#   6\n#   7\n#   8\n1..1\n' --format tap
 checked 'a first line that is gone' "$a"'new 0 a begins\neval 1\nwait\n' 1 '#1 a\na] begins\n@@ -1,4 +1,3 @@\n- 1\n  2\n  3\n  4\nsame 0 differ 1 unanswered 0\n'
 checked 'a last line that is new' "$a"'new 0 a ends\neval 1\nwait\n' 1 '#1 a\na] ends\n@@ -7,3 +7,4 @@\n  7\n  8\n  9\n+ 10\nsame 0 differ 1 unanswered 0\n'
 checked 'lines that came twice' "$a"'new 0 a twice\neval 1\nwait\n' 1 '#1 a\na] twice\n@@ -2,6 +2,9 @@\n  2\n  3\n  4\n+ 2\n+ 3\n+ 4\n  5\n  6\n  7\nsame 0 differ 1 unanswered 0\n'
@@ -216,7 +231,7 @@ ended 'a difference on a full output' 1
 reports() {
     name=$1 want=$(ending "$3" "$2") before="$(bytes sheet) $(bytes sheet.alt 2>/dev/null)"
     shift 3
-    compare "$name" "$(answer check "$@" sheet </dev/null)" "$want"
+    compare "$name" "$(answer check "$@" sheet </dev/null | timed)" "$want"
     compare "$name, kept" "$(bytes sheet) $(bytes sheet.alt 2>/dev/null)" "$before"
 }
 
@@ -234,10 +249,10 @@ END_OF_READER
 made "$a"
 reports 'no point' 0 'TAP version 13\n1..0\n' --format tap
 made "$a"'new 0 a x\nnew 1 a y\nnew 2 a not evaluated\neval 1\neval 2\nwait\n'
-reports 'points that are passed' 0 'TAP version 13\nok 1 - field 1 of a\nok 2 - field 2 of a\n1..2\n' --format tap
+reports 'points that are passed' 0 "TAP version 13\nok 1 - field 1 of a\n${starts}ok 2 - field 2 of a\n${goes_on}1..2\n" --format tap
 reports 'in words, by the name of the format' 0 'same 2 differ 0 unanswered 0\n' --format text
 made "$a"'session b plain sh suite.sh b\nnew 0 a # SKIP\nnew 1 a taps\nnew 2 b hangs\nnew 3 b five\neval 1\neval 2\neval 3\neval 4\nwait\n'
-tap='TAP version 13\nok 1 - field 1 of a\nnot ok 2 - field 2 of a\n# #2 a\n# a] taps\n# - taps\n# + not ok 7\n# + 1..0 # SKIP all\n# + \n# + Bail out!\nnot ok 3 - field 3 of b\n# #3 b\n# b] hangs\n# - hangs\n# + ?\nok 4 - field 4 of b\n1..4\n'
+tap="TAP version 13\nok 1 - field 1 of a\n${starts}not ok 2 - field 2 of a\n$goes_on"'# #2 a\n# a] taps\n# - taps\n# + not ok 7\n# + 1..0 # SKIP all\n# + \n# + Bail out!\nnot ok 3 - field 3 of b\n'"$starts"'# #3 b\n# b] hangs\n# - hangs\n# + ?\nok 4 - field 4 of b\n'"${starts}1..4\n"
 reports 'points that are not' 1 "$tap" --format tap --jobs 1
 sent 'points that are not' 'start a\nsend a # SKIP\nsend a taps\nstart b\nsend b hangs\nstart b\nsend b five'
 ended 'points that are not' 3
@@ -247,14 +262,14 @@ rm -f sent lives
 reports 'one session' 1 '#3 b\nb] hangs\n- hangs\n+ ?\nsame 1 differ 0 unanswered 1\n' --only b
 sent 'one session' 'start b\nsend b hangs\nstart b\nsend b five'
 rm -f sent lives
-reports 'one session, of which what differs is left out' 0 'TAP version 13\nok 1 - field 1 of a\nok 2 - field 2 of a # SKIP left out\n1..2\n' --format tap --only a --leave-out 2
+reports 'one session, of which what differs is left out' 0 "TAP version 13\nok 1 - field 1 of a\n${starts}ok 2 - field 2 of a # SKIP left out\n${goes_on}1..2\n" --format tap --only a --leave-out 2
 sent 'one session, of which what differs is left out' 'start a\nsend a # SKIP\nsend a taps'
 reports 'a session that is not there' 1 'same 0 differ 0 unanswered 0\n' --only c
 reports 'fields that are left out' 0 'same 2 differ 0 unanswered 0 left out 2\n' --leave-out 2-3
 reports 'all fields left out' 0 'same 0 differ 0 unanswered 0 left out 4\n' --leave-out 1,2,3-4
 reports 'one that is compared' 1 '#3 b\nb] hangs\n- hangs\n+ ?\nsame 1 differ 0 unanswered 1 left out 2\n' --compare 3-4
 reports 'one that is compared, and left out' 0 'same 1 differ 0 unanswered 0 left out 3\n' --compare 3-4 --leave-out 3
-reports 'none that is compared' 0 'TAP version 13\nok 1 - field 1 of a # SKIP left out\nok 2 - field 2 of a # SKIP left out\n1..2\n' --format tap --only a --compare 3-4
+reports 'none that is compared' 0 "TAP version 13\nok 1 - field 1 of a # SKIP left out\n${starts}ok 2 - field 2 of a # SKIP left out\n${goes_on}1..2\n" --format tap --only a --compare 3-4
 reports 'one that is not left out' 1 '#3 b\nb] hangs\n- hangs\n+ ?\nsame 2 differ 0 unanswered 1 left out 1\n' --leave-out 2,2
 
 # A number that no field has: nothing is evaluated, and nothing written. Of a range its first and its last are looked for.
@@ -306,7 +321,7 @@ head='<?xml version="1.0" encoding="UTF-8"?>\n<testsuites>\n<testsuite name="tmh
 made "$a"
 reports 'no case' 0 "$head$tail" --format junit
 made "$a"'new 0 a x\nnew 1 a tags\nnew 2 a odd\nnew 3 a hangs\nnew 4 a differs\neval 1\neval 2\neval 3\neval 4\neval 5\nwait\n'
-reports 'cases' 1 "$head"'<testcase classname="a" name="field 1: x"></testcase>\n<testcase classname="a" name="field 2: tags"><failure message="differs">#2 a\na] tags\n- tags\n+ &lt;/failure&gt;&lt;b a=&quot;&amp;&quot;&gt;\n</failure></testcase>\n<testcase classname="a" name="field 3: odd"><failure message="differs">#3 a\na] odd\n- odd\n+ \357\277\275\303\251\357\277\275\357\277\275\357\277\275\n</failure></testcase>\n<testcase classname="a" name="field 4: hangs"><error message="unanswered">#4 a\na] hangs\n- hangs\n+ ?\n</error></testcase>\n<testcase classname="a" name="field 5: differs"><skipped message="left out"></skipped></testcase>\n'"$tail" --format junit --leave-out 5
+reports 'cases' 1 "$head"'<testcase classname="a" name="field 1: x" time="N"></testcase>\n<testcase classname="a" name="field 2: tags" time="N"><failure message="differs">#2 a\na] tags\n- tags\n+ &lt;/failure&gt;&lt;b a=&quot;&amp;&quot;&gt;\n</failure></testcase>\n<testcase classname="a" name="field 3: odd" time="N"><failure message="differs">#3 a\na] odd\n- odd\n+ \357\277\275\303\251\357\277\275\357\277\275\357\277\275\n</failure></testcase>\n<testcase classname="a" name="field 4: hangs" time="N"><error message="unanswered">#4 a\na] hangs\n- hangs\n+ ?\n</error></testcase>\n<testcase classname="a" name="field 5: differs" time="N"><skipped message="left out"></skipped></testcase>\n'"$tail" --format junit --leave-out 5
 "$tmhost" check --format junit --leave-out 5 sheet >report 2>errors
 compare 'cases, read' "$(python3 cases.py report 2>&1; cat errors)" "$(cat <<'END_OF_CASES'
 ('a', 'field 1: x', [])
@@ -318,46 +333,46 @@ END_OF_CASES
 )"
 
 made "$a"'new 0 a <b a="&">\neval 1\nwait\n'
-reports 'an input that looks like a tag' 0 "$head"'<testcase classname="a" name="field 1: &lt;b a=&quot;&amp;&quot;&gt;"></testcase>\n'"$tail" --format junit
+reports 'an input that looks like a tag' 0 "$head"'<testcase classname="a" name="field 1: &lt;b a=&quot;&amp;&quot;&gt;" time="N"></testcase>\n'"$tail" --format junit
 
 # As lines of JSON: NAME STATUS WORDS, where the lines that are wanted are the input here. The worksheet stays as it was.
 objects() {
     cat >wanted
     name=$1 want="$(cat wanted; echo "status $2")" before="$(bytes sheet) $(bytes sheet.alt 2>/dev/null)"
     shift 2
-    compare "$name" "$(answer check --json "$@" sheet </dev/null)" "$want"
+    compare "$name" "$(answer check --json "$@" sheet </dev/null | timed)" "$want"
     compare "$name, kept" "$(bytes sheet) $(bytes sheet.alt 2>/dev/null)" "$before"
 }
 made "$a"
 objects 'no object' 0 <<'END_OF_JSON'
 {"format":1,"program":"tmhost","protocol":2,"type":"hello","version":"0.1.0"}
-{"differ":0,"errors":0,"left_out":0,"same":0,"type":"compared","unanswered":0}
+{"differ":0,"errors":0,"left_out":0,"new":0,"same":0,"type":"compared","unanswered":0}
 {"type":"end"}
 END_OF_JSON
 made "$a"'new 0 a x\nnew 1 a differs\nnew 2 a tagged\nnew 3 a odd\nnew 4 a hangs\nnew 5 a prompts\nnew 6 a shorter\nnew 7 a not evaluated\neval 1\neval 2\neval 3\neval 4\neval 5\neval 6\neval 7\nwait\n'
 objects 'an object for each field' 1 --leave-out 7 <<'END_OF_JSON'
 {"format":1,"program":"tmhost","protocol":2,"type":"hello","version":"0.1.0"}
-{"id":1,"session":"a","type":"checked","verdict":"same"}
-{"came":{"output":{"items":["another"],"kind":"format","tag":"verbatim"},"prompt":"a] ","shown":"another"},"id":2,"input":"differs","session":"a","shows":{"output":{"items":["differs"],"kind":"format","tag":"verbatim"},"prompt":"a] ","shown":"differs"},"type":"checked","verdict":"differs"}
-{"came":{"output":{"items":["$x$"],"kind":"format","tag":"latex"},"prompt":"a] ","shown":"{latex:$x$}"},"id":3,"input":"tagged","session":"a","shows":{"output":{"items":["tagged"],"kind":"format","tag":"verbatim"},"prompt":"a] ","shown":"tagged"},"type":"checked","verdict":"differs"}
-{"came":{"output":{"items":[{"base64":"/8Op77++"}],"kind":"format","tag":"verbatim"},"prompt":"a] ","shown":{"base64":"/8Op77++"}},"id":4,"input":"odd","session":"a","shows":{"output":{"items":["odd"],"kind":"format","tag":"verbatim"},"prompt":"a] ","shown":"odd"},"type":"checked","verdict":"differs"}
-{"id":5,"input":"hangs","reason":"Ended","session":"a","shows":{"output":{"items":["hangs"],"kind":"format","tag":"verbatim"},"prompt":"a] ","shown":"hangs"},"type":"checked","verdict":"unanswered"}
-{"id":6,"session":"a","type":"checked","verdict":"same"}
-{"id":7,"session":"a","type":"checked","verdict":"left_out"}
-{"differ":3,"errors":0,"left_out":1,"same":2,"type":"compared","unanswered":1}
+{"id":1,"session":"a","took":{"millis":N,"started":true},"type":"checked","verdict":"same"}
+{"came":{"output":{"items":["another"],"kind":"format","tag":"verbatim"},"prompt":"a] ","shown":"another"},"id":2,"input":"differs","session":"a","shows":{"output":{"items":["differs"],"kind":"format","tag":"verbatim"},"prompt":"a] ","shown":"differs"},"took":{"millis":N,"started":false},"type":"checked","verdict":"differs"}
+{"came":{"output":{"items":["$x$"],"kind":"format","tag":"latex"},"prompt":"a] ","shown":"{latex:$x$}"},"id":3,"input":"tagged","session":"a","shows":{"output":{"items":["tagged"],"kind":"format","tag":"verbatim"},"prompt":"a] ","shown":"tagged"},"took":{"millis":N,"started":false},"type":"checked","verdict":"differs"}
+{"came":{"output":{"items":[{"base64":"/8Op77++"}],"kind":"format","tag":"verbatim"},"prompt":"a] ","shown":{"base64":"/8Op77++"}},"id":4,"input":"odd","session":"a","shows":{"output":{"items":["odd"],"kind":"format","tag":"verbatim"},"prompt":"a] ","shown":"odd"},"took":{"millis":N,"started":false},"type":"checked","verdict":"differs"}
+{"id":5,"input":"hangs","reason":"Ended","session":"a","shows":{"output":{"items":["hangs"],"kind":"format","tag":"verbatim"},"prompt":"a] ","shown":"hangs"},"took":{"millis":N,"started":false},"type":"checked","verdict":"unanswered"}
+{"id":6,"session":"a","took":{"millis":N,"started":true},"type":"checked","verdict":"same"}
+{"id":7,"session":"a","took":{"millis":N,"started":false},"type":"checked","verdict":"left_out"}
+{"differ":3,"errors":0,"left_out":1,"new":0,"same":2,"type":"compared","unanswered":1}
 {"type":"end"}
 END_OF_JSON
-compare 'by the name of the format' "$(answer check --format json --leave-out 7 sheet </dev/null)" "$(cat wanted; echo 'status 1')"
+compare 'by the name of the format' "$(answer check --format json --leave-out 7 sheet </dev/null | timed)" "$(cat wanted; echo 'status 1')"
 made 'session c plain sh count.sh\nnew 0 c a\342\200\250b\neval 1\nwait\neval 1\nwait\n'
 objects 'an input of two lines' 1 --only c <<'END_OF_JSON'
 {"format":1,"program":"tmhost","protocol":2,"type":"hello","version":"0.1.0"}
-{"came":{"output":{"items":["1"],"kind":"format","tag":"verbatim"},"prompt":"> ","shown":"1"},"id":1,"input":"a\nb","session":"c","shows":{"output":{"items":["2"],"kind":"format","tag":"verbatim"},"prompt":"> ","shown":"2"},"type":"checked","verdict":"differs"}
-{"differ":1,"errors":0,"left_out":0,"same":0,"type":"compared","unanswered":0}
+{"came":{"output":{"items":["1"],"kind":"format","tag":"verbatim"},"prompt":"> ","shown":"1"},"id":1,"input":"a\nb","session":"c","shows":{"output":{"items":["2"],"kind":"format","tag":"verbatim"},"prompt":"> ","shown":"2"},"took":{"millis":N,"started":true},"type":"checked","verdict":"differs"}
+{"differ":1,"errors":0,"left_out":0,"new":0,"same":0,"type":"compared","unanswered":0}
 {"type":"end"}
 END_OF_JSON
 objects 'a session without a field' 1 --only b <<'END_OF_JSON'
 {"format":1,"program":"tmhost","protocol":2,"type":"hello","version":"0.1.0"}
-{"differ":0,"errors":0,"left_out":0,"same":0,"type":"compared","unanswered":0}
+{"differ":0,"errors":0,"left_out":0,"new":0,"same":0,"type":"compared","unanswered":0}
 {"type":"end"}
 END_OF_JSON
 cp suite.sh gone.sh
@@ -367,13 +382,13 @@ made 'session b plain ./gone.sh b\nnew 0 b x\neval 1\nwait\n'
 rm -f gone.sh
 objects 'an interpreter that is gone' 1 <<'END_OF_JSON'
 {"format":1,"program":"tmhost","protocol":2,"type":"hello","version":"0.1.0"}
-{"id":1,"input":"x","reason":"StartRefused","session":"b","shows":{"output":{"items":["x"],"kind":"format","tag":"verbatim"},"prompt":"b] ","shown":"x"},"type":"checked","verdict":"unanswered"}
-{"differ":0,"errors":0,"left_out":0,"same":0,"type":"compared","unanswered":1}
+{"id":1,"input":"x","reason":"StartRefused","session":"b","shows":{"output":{"items":["x"],"kind":"format","tag":"verbatim"},"prompt":"b] ","shown":"x"},"took":{"millis":N,"started":true},"type":"checked","verdict":"unanswered"}
+{"differ":0,"errors":0,"left_out":0,"new":0,"same":0,"type":"compared","unanswered":1}
 {"type":"end"}
 END_OF_JSON
 made "$a"'new 0 a x\nnew 1 a kills\neval 1\neval 2\nwait\n'
 (exec "$tmhost" check --json sheet >text 2>errors) 2>/dev/null
-compare 'objects that are cut off' "$? $(cat text errors)" "$(printf '137 %s\n%s' '{"format":1,"program":"tmhost","protocol":2,"type":"hello","version":"0.1.0"}' '{"id":1,"session":"a","type":"checked","verdict":"same"}')"
+compare 'objects that are cut off' "$? $(timed <text; cat errors)" "$(printf '137 %s\n%s' '{"format":1,"program":"tmhost","protocol":2,"type":"hello","version":"0.1.0"}' '{"id":1,"session":"a","took":{"millis":N,"started":true},"type":"checked","verdict":"same"}')"
 "$tmhost" check --json sheet >/dev/full 2>errors
 compare 'objects on a full output' "$? $(cat errors)" '1 fault 42 Output'
 words 'objects without a worksheet' 1 '{"name":"Disk","number":32,"type":"fault"}\nfault 32 Disk\n' check --json nowhere
@@ -411,14 +426,15 @@ sent 'an answer after its time is none' 'start\nsend x\nsend loop\nsend y'
 { "$tmhost" check --timeout 2 --format tap sheet </dev/null 2>&1; echo "status $?"; } >beside.told &
 reports 'the same left out' 0 'same 2 differ 0 unanswered 0 left out 1\n' --timeout 2 --leave-out 2
 wait
-compare 'the same as TAP' "$(cat beside.told)" "$(ending 'TAP version 13\nok 1 - field 1 of l\nnot ok 2 - field 2 of l\n# #2 l\n# > loop\n# - loop\n# + ?\nok 3 - field 3 of l\n1..3\n' 1)"
+compare 'the same as TAP' "$(timed <beside.told)" \
+    "$(ending "TAP version 13\nok 1 - field 1 of l\n${starts}not ok 2 - field 2 of l\n$goes_on# #2 l\n# > loop\n# - loop\n# + ?\nok 3 - field 3 of l\n${goes_on}1..3\n" 1)"
 compare 'the same as TAP, kept' "$(bytes sheet) $(bytes sheet.alt 2>/dev/null)" "$before"
 objects 'the same as JSON' 1 --timeout 2 <<'END_OF_JSON'
 {"format":1,"program":"tmhost","protocol":2,"type":"hello","version":"0.1.0"}
-{"id":1,"session":"l","type":"checked","verdict":"same"}
-{"id":2,"input":"loop","reason":null,"session":"l","shows":{"output":{"items":["loop"],"kind":"format","tag":"verbatim"},"prompt":"> ","shown":"loop"},"type":"checked","verdict":"unanswered"}
-{"id":3,"session":"l","type":"checked","verdict":"same"}
-{"differ":0,"errors":0,"left_out":0,"same":2,"type":"compared","unanswered":1}
+{"id":1,"session":"l","took":{"millis":N,"started":true},"type":"checked","verdict":"same"}
+{"id":2,"input":"loop","reason":null,"session":"l","shows":{"output":{"items":["loop"],"kind":"format","tag":"verbatim"},"prompt":"> ","shown":"loop"},"took":{"millis":N,"started":false},"type":"checked","verdict":"unanswered"}
+{"id":3,"session":"l","took":{"millis":N,"started":false},"type":"checked","verdict":"same"}
+{"differ":0,"errors":0,"left_out":0,"new":0,"same":2,"type":"compared","unanswered":1}
 {"type":"end"}
 END_OF_JSON
 made "$l"'session a plain sh suite.sh a\nnew 0 l deaf\nnew 1 l y\nnew 2 a differs\neval 1\neval 2\neval 3\nwait\n'
@@ -427,18 +443,18 @@ sent 'one that hears no interrupt' 'start\nsend deaf\nstart\nsend y\nstart a\nse
 ended 'one that hears no interrupt' 3
 objects 'the same that stalls, as JSON' 1 --timeout 2 --only l <<'END_OF_JSON'
 {"format":1,"program":"tmhost","protocol":2,"type":"hello","version":"0.1.0"}
-{"id":1,"input":"deaf","reason":"Stalled","session":"l","shows":{"output":{"items":["deaf"],"kind":"format","tag":"verbatim"},"prompt":"> ","shown":"deaf"},"type":"checked","verdict":"unanswered"}
-{"id":2,"session":"l","type":"checked","verdict":"same"}
-{"differ":0,"errors":0,"left_out":0,"same":1,"type":"compared","unanswered":1}
+{"id":1,"input":"deaf","reason":"Stalled","session":"l","shows":{"output":{"items":["deaf"],"kind":"format","tag":"verbatim"},"prompt":"> ","shown":"deaf"},"took":{"millis":N,"started":true},"type":"checked","verdict":"unanswered"}
+{"id":2,"session":"l","took":{"millis":N,"started":true},"type":"checked","verdict":"same"}
+{"differ":0,"errors":0,"left_out":0,"new":0,"same":1,"type":"compared","unanswered":1}
 {"type":"end"}
 END_OF_JSON
 reports 'one session within its time' 1 '#3 a\na] differs\n- differs\n+ another\nsame 0 differ 1 unanswered 0\n' --timeout 1000000 --only a
 
-# Sessions side by side: the same report, in each format, of the same fields.
+# Sessions side by side: the same report, in each format, of the same fields, but for what each took.
 made "$a"'session b plain sh suite.sh b\nnew 0 a x\nnew 1 b differs\nnew 2 a hangs\nnew 3 a tags\nnew 4 b tagged\nnew 5 b not evaluated\neval 1\neval 2\neval 3\neval 4\neval 5\nwait\n'
-for flags in '' '--format tap' '--format junit' '--json' '--only b' '--leave-out 2,4' '--timeout 60' '--only nothing'; do
-    want=$(answer check --jobs 1 $flags sheet </dev/null)
-    for jobs in '' '--jobs 4'; do compare "side by side as one after another, $jobs $flags" "$(answer check $jobs $flags sheet </dev/null)" "$want"; done
+for flags in '' '--format tap' '--format junit' '--json' '--only b' '--leave-out 2,4' '--timeout 60' '--only nothing' --all '--all --format tap' '--all --json'; do
+    want=$(answer check --jobs 1 $flags sheet </dev/null | untimed)
+    for jobs in '' '--jobs 4'; do compare "side by side as one after another, $jobs $flags" "$(answer check $jobs $flags sheet </dev/null | untimed)" "$want"; done
 done
 rm -f sent lives
 reports 'side by side' 1 '#2 b\nb] differs\n- differs\n+ another\n#3 a\na] hangs\n- hangs\n+ ?\n#4 a\na] tags\n- tags\n+ </failure><b a="&">\n#5 b\nb] tagged\n- tagged\n+ {latex:$x$}\nsame 1 differ 3 unanswered 1\n' --jobs 2
@@ -481,16 +497,16 @@ compare 'side by side, a check that is killed' "$? $(cat text errors)" '137 '
 # A report that is cut off has no plan, and isn't well-formed.
 made "$a"'new 0 a x\nnew 1 a kills\neval 1\neval 2\nwait\n'
 (exec "$tmhost" check --format tap sheet >text 2>errors) 2>/dev/null
-compare 'a report that is cut off' "$? $(cat text errors)" "$(printf '137 TAP version 13\nok 1 - field 1 of a')"
+compare 'a report that is cut off' "$? $(timed <text; cat errors)" "$(printf "137 TAP version 13\nok 1 - field 1 of a\n$starts")"
 (exec "$tmhost" check --format junit sheet >text 2>errors) 2>/dev/null
-compare 'cases that are cut off' "$? $(cat text errors)" "$(printf '137 %b<testcase classname="a" name="field 1: x"></testcase>' "$head")"
+compare 'cases that are cut off' "$? $(timed <text; cat errors)" "$(printf '137 %b<testcase classname="a" name="field 1: x" time="N"></testcase>' "$head")"
 made "$a"'new 0 a x\neval 1\nwait\n'
 "$tmhost" check --format tap sheet >/dev/full 2>errors
 compare 'a report on a full output' "$? $(cat errors)" '1 fault 42 Output'
 sent 'a report on a full output' ''
 made "$a"'new 0 a opens\neval 1\nwait\n'
 timeout 10 "$tmhost" check --format tap sheet >text 2>errors
-compare 'the front of a report that is read at once' "$? $(cat text errors)" "$(printf '0 TAP version 13\nok 1 - field 1 of a\n1..1')"
+compare 'the front of a report that is read at once' "$? $(timed <text; cat errors)" "$(printf "0 TAP version 13\nok 1 - field 1 of a\n${starts}1..1")"
 
 # Several worksheets: each below a line with its path, and the total at the end. They are made so: PATH SCRIPT.
 made_at() {
@@ -570,20 +586,20 @@ done
 END_OF_CHILD
 long() { head -c 2000000 /dev/zero | tr '\0' a; }
 grown() {
-    compare "an output that grew, $1" "$({ "$tmhost" check --format "$1" sheet 2>&1; echo "status $?"; } </dev/null | cksum)" \
+    compare "an output that grew, $1" "$({ "$tmhost" check --format "$1" sheet 2>&1; echo "status $?"; } </dev/null | timed | cksum)" \
         "$({ printf "$2"; long; printf "$3"; echo 'status 1'; } | cksum)"
 }
 made 'session g plain sh grows.sh\nnew 0 g x\neval 1\nwait\n'
 grown text '#1 g\n> x\n- x\n+ ' '\nsame 0 differ 1 unanswered 0\n'
-grown tap 'TAP version 13\nnot ok 1 - field 1 of g\n# #1 g\n# > x\n# - x\n# + ' '\n1..1\n'
-grown junit "$head"'<testcase classname="g" name="field 1: x"><failure message="differs">#1 g\n&gt; x\n- x\n+ ' '\n</failure></testcase>\n'"$tail"
-compare 'an output that grew, json' "$({ "$tmhost" check --json sheet 2>&1; echo "status $?"; } </dev/null | cksum)" "$({
+grown tap "TAP version 13\nnot ok 1 - field 1 of g\n$starts# #1 g\n# > x\n# - x\n# + " '\n1..1\n'
+grown junit "$head"'<testcase classname="g" name="field 1: x" time="N"><failure message="differs">#1 g\n&gt; x\n- x\n+ ' '\n</failure></testcase>\n'"$tail"
+compare 'an output that grew, json' "$({ "$tmhost" check --json sheet 2>&1; echo "status $?"; } </dev/null | timed | cksum)" "$({
     printf '{"format":1,"program":"tmhost","protocol":2,"type":"hello","version":"0.1.0"}\n{"came":{"output":{"items":["'
     long
     printf '"],"kind":"format","tag":"verbatim"},"prompt":"> ","shown":"'
     long
-    printf '"},"id":1,"input":"x","session":"g","shows":{"output":{"items":["x"],"kind":"format","tag":"verbatim"},"prompt":"> ","shown":"x"},"type":"checked","verdict":"differs"}\n'
-    printf '{"differ":1,"errors":0,"left_out":0,"same":0,"type":"compared","unanswered":0}\n{"type":"end"}\nstatus 1\n'
+    printf '"},"id":1,"input":"x","session":"g","shows":{"output":{"items":["x"],"kind":"format","tag":"verbatim"},"prompt":"> ","shown":"x"},"took":{"millis":N,"started":true},"type":"checked","verdict":"differs"}\n'
+    printf '{"differ":1,"errors":0,"left_out":0,"new":0,"same":0,"type":"compared","unanswered":0}\n{"type":"end"}\nstatus 1\n'
 } | cksum)"
 
 # Answers that are errors are counted beside what they came to: blocks of the channel `output` in another one, and of the channel `error`. They are those that
@@ -611,15 +627,16 @@ checks 'errors that are left out' 0 'same 1 differ 0 unanswered 0 left out 2 err
 checks 'no error of those of a session' 1 'same 0 differ 0 unanswered 0\n' --only f
 checked 'one that came, and one that is gone' "$e"'new 0 e fails\nnew 1 e mended\neval 1\neval 2\nwait\n' 1 \
     '#1 e\n> fails\n- error fails\n+ oops\n#2 e\n> mended\n- mended\n+ fine\nsame 0 differ 2 unanswered 0 errors 1\n'
-checks 'the same as TAP' 1 'TAP version 13\nnot ok 1 - field 1 of e\n# #1 e\n# > fails\n# - error fails\n# + oops\nnot ok 2 - field 2 of e\n# #2 e\n# > mended\n# - mended\n# + fine\n1..2\n' --format tap
+checks 'the same as TAP' 1 \
+    "TAP version 13\nnot ok 1 - field 1 of e\n$starts# #1 e\n# > fails\n# - error fails\n# + oops\nnot ok 2 - field 2 of e\n$goes_on# #2 e\n# > mended\n# - mended\n# + fine\n1..2\n" --format tap
 checks 'the same, whole' 1 '#1 e\n> fails\n- error fails\n+ oops\n#2 e\n> mended\n- mended\n+ fine\nsame 0 differ 2 unanswered 0 errors 1\n' --whole
 checked 'an error that no field shows' "$e"'new 0 e fails\neval 1\nwait\n' 0 'same 0 differ 0 unanswered 0 left out 1 errors 1\n' --leave-out 1
 checked 'an error of an unanswered field' "$e"'new 0 e ends\nnew 1 e bad\neval 1\neval 2\nwait\n' 1 '#1 e\n> ends\n- ends\n+ ?\nsame 1 differ 0 unanswered 1 errors 1\n'
 objects 'objects of errors' 1 --leave-out 2 <<'END_OF_JSON'
 {"format":1,"program":"tmhost","protocol":2,"type":"hello","version":"0.1.0"}
-{"id":1,"input":"ends","reason":"Ended","session":"e","shows":{"output":{"items":[{"items":["ends"],"kind":"channel","tag":"output"}],"kind":"channel","tag":"output"},"prompt":"> ","shown":"ends"},"type":"checked","verdict":"unanswered"}
-{"id":2,"session":"e","type":"checked","verdict":"left_out"}
-{"differ":0,"errors":1,"left_out":1,"same":0,"type":"compared","unanswered":1}
+{"id":1,"input":"ends","reason":"Ended","session":"e","shows":{"output":{"items":[{"items":["ends"],"kind":"channel","tag":"output"}],"kind":"channel","tag":"output"},"prompt":"> ","shown":"ends"},"took":{"millis":N,"started":true},"type":"checked","verdict":"unanswered"}
+{"id":2,"session":"e","took":{"millis":N,"started":true},"type":"checked","verdict":"left_out"}
+{"differ":0,"errors":1,"left_out":1,"new":0,"same":0,"type":"compared","unanswered":1}
 {"type":"end"}
 END_OF_JSON
 checked 'errors of two sessions, side by side' "$e"'session f plain sh erring.sh\nnew 0 e bad\nnew 1 f deep\nnew 2 f x\neval 1\neval 2\neval 3\nwait\n' 0 \
@@ -627,6 +644,184 @@ checked 'errors of two sessions, side by side' "$e"'session f plain sh erring.sh
 checks 'the same one after another' 0 'same 3 differ 0 unanswered 0 errors 2\n' --jobs 1
 words 'errors of two worksheets' 1 'worksheet sheet\nsame 3 differ 0 unanswered 0 errors 2\nworksheet nowhere\nworksheet sheet\nsame 3 differ 0 unanswered 0 errors 2\ntotal of 3 worksheets: same 6 differ 0 unanswered 0 errors 4 faults 1\nfault 32 Disk\n' \
     check sheet nowhere sheet
+
+# With --all fields that show no answer are evaluated too, each in its place. What comes to one is new, and no failure.
+checked 'all of an empty worksheet' '' 0 'same 0 differ 0 unanswered 0\n' --all
+checked 'all that show an answer' "$a"'new 0 a x\nnew 1 a differs\neval 1\neval 2\nwait\n' 1 '#2 a\na] differs\n- differs\n+ another\nsame 1 differ 1 unanswered 0\n' --all
+checked 'all that were never evaluated' "$a"'new 0 a x\nnew 1 a longer\nnew 2 a shorter\nnew 3 a bytes\nnew 4 a prompts\nnew 5 a z\n' 0 \
+    '#1 a\n> x\n+ x\n#2 a\n> longer\n+ one\n+ two\n+ three\n#3 a\n> shorter\n+ \n#4 a\n> bytes\n+ \\x01\\x0d\303\251\\x7f\n#5 a\n> prompts\n+ prompts\n#6 a\n> z\n+ z\nsame 0 differ 0 unanswered 0 new 6\n' --all
+sent 'all that were never evaluated' 'start a\nsend a x\nsend a longer\nsend a shorter\nsend a bytes\nsend a prompts\nsend a z'
+ended 'all that were never evaluated' 1
+made "$a"'new 0 a x\nnew 1 a y\nnew 2 a differs\nnew 3 a z\nnew 4 a w\neval 1\neval 3\neval 5\nwait\nset 5 v\n'
+told='#2 a\n> y\n+ y\n#3 a\na] differs\n- differs\n+ another\n#4 a\n> z\n+ z\n#5 a\n> v\n+ v\nsame 1 differ 1 unanswered 0 new 3\n'
+checks 'new ones in their places' 1 "$told" --all
+sent 'new ones in their places' 'start a\nsend a x\nsend a y\nsend a differs\nsend a z\nsend a v'
+checks 'new ones, whole' 1 "$told" --all --whole
+checks 'new ones, within their time' 1 "$told" --all --timeout 60
+checks 'new ones that are not asked for' 1 '#3 a\na] differs\n- differs\n+ another\nsame 1 differ 1 unanswered 0\n'
+checks 'new ones as TAP' 1 "TAP version 13\nok 1 - field 1 of a\n${starts}ok 2 - field 2 of a # SKIP new\n$goes_on# #2 a\n# > y\n# + y\nnot ok 3 - field 3 of a\n$goes_on# #3 a\n# a] differs\n# - differs\n# + another\nok 4 - field 4 of a # SKIP left out\n${goes_on}ok 5 - field 5 of a # SKIP new\n$goes_on# #5 a\n# > v\n# + v\n1..5\n" \
+    --all --leave-out 4 --format tap
+checks 'new ones as cases' 1 "$head"'<testcase classname="a" name="field 1: x" time="N"></testcase>\n<testcase classname="a" name="field 2: y" time="N"><skipped message="new">#2 a\n&gt; y\n+ y\n</skipped></testcase>\n<testcase classname="a" name="field 3: differs" time="N"><failure message="differs">#3 a\na] differs\n- differs\n+ another\n</failure></testcase>\n<testcase classname="a" name="field 4: z" time="N"><skipped message="left out"></skipped></testcase>\n<testcase classname="a" name="field 5: v" time="N"><skipped message="new">#5 a\n&gt; v\n+ v\n</skipped></testcase>\n'"$tail" \
+    --all --leave-out 4 --format junit
+"$tmhost" check --all --leave-out 4 --format junit sheet >report 2>errors
+compare 'new ones as cases, read' "$(python3 cases.py report 2>&1; cat errors)" "$(cat <<'END_OF_CASES'
+('a', 'field 1: x', [])
+('a', 'field 2: y', [('skipped', 'new', '#2 a\n> y\n+ y\n')])
+('a', 'field 3: differs', [('failure', 'differs', '#3 a\na] differs\n- differs\n+ another\n')])
+('a', 'field 4: z', [('skipped', 'left out', None)])
+('a', 'field 5: v', [('skipped', 'new', '#5 a\n> v\n+ v\n')])
+END_OF_CASES
+)"
+objects 'new ones as objects' 1 --all --leave-out 4 <<'END_OF_JSON'
+{"format":1,"program":"tmhost","protocol":2,"type":"hello","version":"0.1.0"}
+{"id":1,"session":"a","took":{"millis":N,"started":true},"type":"checked","verdict":"same"}
+{"came":{"output":{"items":["y"],"kind":"format","tag":"verbatim"},"prompt":"a] ","shown":"y"},"id":2,"input":"y","session":"a","took":{"millis":N,"started":false},"type":"checked","verdict":"new"}
+{"came":{"output":{"items":["another"],"kind":"format","tag":"verbatim"},"prompt":"a] ","shown":"another"},"id":3,"input":"differs","session":"a","shows":{"output":{"items":["differs"],"kind":"format","tag":"verbatim"},"prompt":"a] ","shown":"differs"},"took":{"millis":N,"started":false},"type":"checked","verdict":"differs"}
+{"id":4,"session":"a","took":{"millis":N,"started":false},"type":"checked","verdict":"left_out"}
+{"came":{"output":{"items":["v"],"kind":"format","tag":"verbatim"},"prompt":"a] ","shown":"v"},"id":5,"input":"v","session":"a","took":{"millis":N,"started":false},"type":"checked","verdict":"new"}
+{"differ":1,"errors":0,"left_out":1,"new":2,"same":1,"type":"compared","unanswered":0}
+{"type":"end"}
+END_OF_JSON
+made 'session c plain sh count.sh\nnew 0 c x\342\200\250y\n'
+objects 'a new one of two lines' 0 --all <<'END_OF_JSON'
+{"format":1,"program":"tmhost","protocol":2,"type":"hello","version":"0.1.0"}
+{"came":{"output":{"items":["1"],"kind":"format","tag":"verbatim"},"prompt":"> ","shown":"1"},"id":1,"input":"x\ny","session":"c","took":{"millis":N,"started":true},"type":"checked","verdict":"new"}
+{"differ":0,"errors":0,"left_out":0,"new":1,"same":0,"type":"compared","unanswered":0}
+{"type":"end"}
+END_OF_JSON
+checked 'new ones that are errors' "$e"'new 0 e fails\nnew 1 e bad\nnew 2 e x\neval 2\nwait\n' 0 '#1 e\n> fails\n+ oops\n#3 e\n> x\n+ error x\nsame 1 differ 0 unanswered 0 errors 2 new 2\n' --all
+
+# To a field that shows no answer none may come either, as where its interpreter hangs up. The next one starts another.
+made "$a"'new 0 a x\nnew 1 a hangs\nnew 2 a y\nnew 3 a z\neval 1\nwait\n'
+told='#2 a\n> hangs\n- ?\n+ ?\n#3 a\n> y\n+ y\n#4 a\n> z\n+ z\nsame 1 differ 0 unanswered 1 new 2\n'
+checks 'one that shows no answer, and gets none' 1 "$told" --all
+sent 'one that shows no answer, and gets none' 'start a\nsend a x\nsend a hangs\nstart a\nsend a y\nsend a z'
+checks 'one that shows no answer, and gets none, whole' 1 "$told" --all --whole
+checks 'one that shows no answer, and gets none, left out' 0 '#3 a\n> y\n+ y\n#4 a\n> z\n+ z\nsame 1 differ 0 unanswered 0 left out 1 new 2\n' --all --leave-out 2
+checks 'one that shows no answer, and gets none, as TAP' 1 "TAP version 13\nok 1 - field 1 of a\n${starts}not ok 2 - field 2 of a\n$goes_on# #2 a\n# > hangs\n# - ?\n# + ?\nok 3 - field 3 of a # SKIP new\n$starts# #3 a\n# > y\n# + y\nok 4 - field 4 of a # SKIP new\n$goes_on# #4 a\n# > z\n# + z\n1..4\n" \
+    --all --format tap
+objects 'one that shows no answer, and gets none, as an object' 1 --all <<'END_OF_JSON'
+{"format":1,"program":"tmhost","protocol":2,"type":"hello","version":"0.1.0"}
+{"id":1,"session":"a","took":{"millis":N,"started":true},"type":"checked","verdict":"same"}
+{"id":2,"input":"hangs","reason":"Ended","session":"a","shows":null,"took":{"millis":N,"started":false},"type":"checked","verdict":"unanswered"}
+{"came":{"output":{"items":["y"],"kind":"format","tag":"verbatim"},"prompt":"a] ","shown":"y"},"id":3,"input":"y","session":"a","took":{"millis":N,"started":true},"type":"checked","verdict":"new"}
+{"came":{"output":{"items":["z"],"kind":"format","tag":"verbatim"},"prompt":"a] ","shown":"z"},"id":4,"input":"z","session":"a","took":{"millis":N,"started":false},"type":"checked","verdict":"new"}
+{"differ":0,"errors":0,"left_out":0,"new":2,"same":1,"type":"compared","unanswered":1}
+{"type":"end"}
+END_OF_JSON
+checked 'one whose line was lost, again' "$a"'session b plain true\nnew 0 a x\nnew 1 b y\neval 1\neval 2\nwait\n' 1 '#2 b\n> y\n- ?\n+ ?\nsame 1 differ 0 unanswered 1\n' --all
+
+# All fields of a session, and those of them that are compared.
+made "$a"'session b plain sh suite.sh b\nnew 0 a x\nnew 1 b y\nnew 2 a z\nnew 3 b w\neval 1\nwait\n'
+checks 'all of one session' 0 '#2 b\n> y\n+ y\n#4 b\n> w\n+ w\nsame 0 differ 0 unanswered 0 new 2\n' --all --only b
+sent 'all of one session' 'start b\nsend b y\nsend b w'
+checks 'a session whose fields show no answer' 1 'same 0 differ 0 unanswered 0\n' --only b
+checks 'all of a session that is not there' 1 'same 0 differ 0 unanswered 0\n' --all --only c
+checks 'new ones that are left out' 0 '#2 b\n> y\n+ y\nsame 1 differ 0 unanswered 0 left out 2 new 1\n' --all --leave-out 3-4
+checks 'a new one that is compared' 0 '#3 a\n> z\n+ z\nsame 0 differ 0 unanswered 0 left out 3 new 1\n' --all --compare 3
+checks 'all, and a number that no field has' 1 'fault 37 NoField 5\n' --all --leave-out 5
+
+# Side by side it isn't known what each took; one after another it is.
+made "$a"'session b plain sh suite.sh b\nnew 0 a x\nnew 1 b y\nnew 2 a hangs\nnew 3 a z\neval 1\neval 2\nwait\n'
+for words in '' '--jobs 1' '--jobs 2' '--timeout 60'; do
+    checks "new ones of two sessions, $words" 1 '#3 a\n> hangs\n- ?\n+ ?\n#4 a\n> z\n+ z\nsame 2 differ 0 unanswered 1 new 1\n' --all $words
+done
+side_by_side() {
+    checks "points of sessions side by side, $1" 1 'TAP version 13\nok 1 - field 1 of a\nok 2 - field 2 of b\nnot ok 3 - field 3 of a\n# #3 a\n# > hangs\n# - ?\n# + ?\nok 4 - field 4 of a # SKIP new\n# #4 a\n# > z\n# + z\n1..4\n' \
+        --all --format tap $1
+    checks "cases of sessions side by side, $1" 1 "$head"'<testcase classname="a" name="field 1: x"></testcase>\n<testcase classname="b" name="field 2: y"></testcase>\n<testcase classname="a" name="field 3: hangs"><error message="unanswered">#3 a\n&gt; hangs\n- ?\n+ ?\n</error></testcase>\n<testcase classname="a" name="field 4: z"><skipped message="new">#4 a\n&gt; z\n+ z\n</skipped></testcase>\n'"$tail" \
+        --all --format junit $1
+    objects "objects of sessions side by side, $1" 1 --all $1 <<'END_OF_JSON'
+{"format":1,"program":"tmhost","protocol":2,"type":"hello","version":"0.1.0"}
+{"id":1,"session":"a","took":null,"type":"checked","verdict":"same"}
+{"id":2,"session":"b","took":null,"type":"checked","verdict":"same"}
+{"id":3,"input":"hangs","reason":"Ended","session":"a","shows":null,"took":null,"type":"checked","verdict":"unanswered"}
+{"came":{"output":{"items":["z"],"kind":"format","tag":"verbatim"},"prompt":"a] ","shown":"z"},"id":4,"input":"z","session":"a","took":null,"type":"checked","verdict":"new"}
+{"differ":0,"errors":0,"left_out":0,"new":1,"same":2,"type":"compared","unanswered":1}
+{"type":"end"}
+END_OF_JSON
+}
+for words in '' '--jobs 2' '--jobs 64 --timeout 60'; do side_by_side "$words"; done
+for words in '--jobs 1' '--timeout 60'; do
+    checks "points of sessions one after another, $words" 1 "TAP version 13\nok 1 - field 1 of a\n${starts}ok 2 - field 2 of b\n${starts}not ok 3 - field 3 of a\n$goes_on# #3 a\n# > hangs\n# - ?\n# + ?\nok 4 - field 4 of a # SKIP new\n$starts# #4 a\n# > z\n# + z\n1..4\n" \
+        --all --format tap $words
+    objects "objects of sessions one after another, $words" 1 --all $words <<'END_OF_JSON'
+{"format":1,"program":"tmhost","protocol":2,"type":"hello","version":"0.1.0"}
+{"id":1,"session":"a","took":{"millis":N,"started":true},"type":"checked","verdict":"same"}
+{"id":2,"session":"b","took":{"millis":N,"started":true},"type":"checked","verdict":"same"}
+{"id":3,"input":"hangs","reason":"Ended","session":"a","shows":null,"took":{"millis":N,"started":false},"type":"checked","verdict":"unanswered"}
+{"came":{"output":{"items":["z"],"kind":"format","tag":"verbatim"},"prompt":"a] ","shown":"z"},"id":4,"input":"z","session":"a","took":{"millis":N,"started":true},"type":"checked","verdict":"new"}
+{"differ":0,"errors":0,"left_out":0,"new":1,"same":2,"type":"compared","unanswered":1}
+{"type":"end"}
+END_OF_JSON
+done
+objects 'one of two sessions, with jobs' 0 --all --only a --jobs 2 --leave-out 3-4 <<'END_OF_JSON'
+{"format":1,"program":"tmhost","protocol":2,"type":"hello","version":"0.1.0"}
+{"id":1,"session":"a","took":{"millis":N,"started":true},"type":"checked","verdict":"same"}
+{"id":3,"session":"a","took":{"millis":N,"started":false},"type":"checked","verdict":"left_out"}
+{"id":4,"session":"a","took":{"millis":N,"started":true},"type":"checked","verdict":"left_out"}
+{"differ":0,"errors":0,"left_out":2,"new":0,"same":1,"type":"compared","unanswered":0}
+{"type":"end"}
+END_OF_JSON
+
+# By --all fields are of several sessions where those that show an answer are of one: then nothing is written before the last answer came.
+made "$a"'session b plain sh suite.sh b\nnew 0 a differs\nnew 1 b kills\neval 1\nwait\n'
+checks 'one session that shows answers' 1 '#1 a\na] differs\n- differs\n+ another\nsame 0 differ 1 unanswered 0\n'
+(exec "$tmhost" check --all sheet >text 2>errors) 2>/dev/null
+compare 'two sessions of which one shows none' "$? $(cat text errors)" '137 '
+(exec "$tmhost" check --all --jobs 1 sheet >text 2>errors) 2>/dev/null
+compare 'two sessions of which one shows none, one after another' "$? $(cat text errors)" "$(printf '137 #1 a\na] differs\n- differs\n+ another')"
+
+# Each new one is written when it is known: the next field is answered once its text is there.
+made "$a"'new 0 a another\nnew 1 a looks\n'
+: >text
+timeout 10 "$tmhost" check --all sheet >text 2>errors
+compare 'a new one that is read at once' "$? $(cat text errors)" "$(printf '0 #1 a\n> another\n+ another\n#2 a\n> looks\n+ looks\nsame 0 differ 0 unanswered 0 new 2')"
+
+# New ones of several worksheets are counted in their total.
+made_at one "$a"'new 0 a x\nnew 1 a y\neval 1\nwait\n'
+made_at two "$e"'new 0 e bad\nnew 1 e x\neval 2\nwait\n'
+made_at bad "$a"'new 0 a hangs\nnew 1 a differs\neval 2\nwait\n'
+before="$(bytes one) $(bytes two) $(bytes bad)"
+told_one='worksheet one\n#2 a\n> y\n+ y\nsame 1 differ 0 unanswered 0 new 1\n'
+told_two='worksheet two\n#1 e\n> bad\n+ bad\nsame 1 differ 0 unanswered 0 errors 1 new 1\n'
+words 'new ones of two worksheets' 0 "$told_one${told_two}total of 2 worksheets: same 2 differ 0 unanswered 0 errors 1 new 2\n" check --all one two
+words 'new ones of one worksheet twice' 0 "$told_one${told_one}total of 2 worksheets: same 2 differ 0 unanswered 0 new 2\n" check --all one one
+words 'new ones of three worksheets, of which one is not there' 1 \
+    "$told_one${told_two}worksheet nowhere\ntotal of 3 worksheets: same 2 differ 0 unanswered 0 errors 1 new 2 faults 1\nfault 32 Disk\n" check --all one two nowhere
+words 'all of two worksheets, of which one differs' 1 \
+    "${told_one}worksheet bad\n#1 a\n> hangs\n- ?\n+ ?\n#2 a\na] differs\n- differs\n+ another\nsame 0 differ 1 unanswered 1\ntotal of 2 worksheets: same 1 differ 1 unanswered 1 new 1\n" check --all one bad
+words 'new ones of two worksheets that are not asked for' 0 \
+    'worksheet one\nsame 1 differ 0 unanswered 0\nworksheet two\nsame 1 differ 0 unanswered 0\ntotal of 2 worksheets: same 2 differ 0 unanswered 0\n' check one two
+words 'new ones of several, and a format' 2 "error: several PATHs go with no FORMAT but text$help" check --all --json one two
+compare 'new ones of several worksheets, kept' "$(bytes one) $(bytes two) $(bytes bad)" "$before"
+rm -f one one.alt two two.alt bad bad.alt
+
+# How long each took, of a slow field and ten quick ones. The milliseconds of a report: FORMAT WORDS.
+millis() {
+    format=$1
+    shift
+    "$tmhost" check --format "$format" "$@" sheet >report 2>errors
+    case $format in
+        json) sed -nE 's/.*"took":\{"millis":([0-9]+),.*/\1/p' report ;;
+        tap) sed -nE 's/^  duration_ms: ([0-9]+)$/\1/p' report ;;
+        junit) sed -nE 's/.* time="([0-9]+)\.([0-9]{3})">.*/\1\2/p' report | sed -E 's/^0+(.)/\1/' ;;
+    esac
+}
+# Whether a number is at least one, and below another: NUMBER LEAST BELOW.
+lies() { if [ "$1" -ge "$2" ] && [ "$1" -lt "$3" ]; then echo between; else echo "$1"; fi; }
+made "$a$(printf 'new 0 a slow\\n'; for id in $(seq 10); do printf "new $id a quick\\\\n"; done)"
+for format in json tap junit; do
+    begun=$(date +%s%3N)
+    millis "$format" --all >took
+    lasted=$(($(date +%s%3N) - begun))
+    compare "how long a field took, as $format" "$(wc -l <took) $(lies "$(head -n 1 took)" 300 30000)" '11 between'
+    # No moment is of two fields. Of each reading of the clock a part of a millisecond is cut off.
+    compare "how long all took, as $format" "$(lies "$(paste -sd + took | { read -r sum; echo $(($sum)); })" 300 $((lasted + 11)))" between
+done
+made "$l"'new 0 l x\nnew 1 l loop\neval 1\neval 2\nwait\n'
+millis json --timeout 1 >took
+compare 'how long one took whose time was over' "$(lies "$(sed -n 2p took)" 1000 30000)" between
 
 # A thousand fields, of which the last but one differs.
 {
@@ -642,6 +837,6 @@ rm -f sheet sheet.alt again
 "$tmhost" run sheet <many >/dev/null
 touch again
 checks 'a thousand fields' 1 '#999 a\na] differs\n- differs\n+ another\nsame 999 differ 1 unanswered 0\n'
-rm -f again sent lives many other report wanted cases.py met.*
+rm -f again sent lives many other report wanted cases.py took met.*
 
 counted checks

@@ -40,6 +40,12 @@ sends 'two that differ, twice, on a terminal' 1 "$differs$differs" check sheet s
 compare 'acceptances and their progress on one terminal' "$(python3 screen.py left - "$tmhost" check --accept sheet; echo "status $?")" \
     "$(ending '#1 a\na] differs\n- differs\n+ another\naccepted 1\n#2 a\na] differs\n- differs\n+ another\naccepted 2\nsame 0 accepted 2 unanswered 0\n' 0)"
 
+# By --all those that show no answer are counted too, and a new one is written in the place of the line.
+made "$a"'new 0 a one\nnew 1 a two\nnew 2 a differs\neval 1\neval 3\nwait\n'
+sends 'a new one, on a terminal' 1 '\r1 of 3\033[K\r\033[K\r2 of 3\033[K\r\033[K\r3 of 3, 1 differs\033[K\r\033[K' check --all sheet
+compare 'a new one and its progress on one terminal' "$(python3 screen.py left - "$tmhost" check --all sheet; echo "status $?")" \
+    "$(ending '#2 a\n> two\n+ two\n#3 a\na] differs\n- differs\n+ another\nsame 1 differ 1 unanswered 0 new 1\n' 1)"
+
 # Where no field shows an answer, and at faults: the output can't be written, and there is no worksheet.
 made ''
 sends 'an empty worksheet on a terminal' 0 '\r\033[K' check sheet
