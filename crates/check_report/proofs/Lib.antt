@@ -12,3 +12,4 @@ pub mod TapLines
 pub mod Tags
 pub mod JsonLines
 pub mod Totals
+pub mod Brevity
