@@ -13,3 +13,4 @@ pub mod Tags
 pub mod JsonLines
 pub mod Totals
 pub mod Brevity
+pub mod Unpictured

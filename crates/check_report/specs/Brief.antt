@@ -32,13 +32,13 @@ abbrev pub brief_block : Option (List ℕ) → Bool → List ℕ → List ℕ �
 brief_block None channel name inside = shown channel name inside
 brief_block (Some t) channel name inside = framed channel name (size_and_sum t)
 
--- items one after another; which blocks are pictures is told by sheet_notebook
+-- Items one after another. A picture is a block with one text, whose format begins with `image/` (`Pictures` of sheet_notebook).
 abbrev pub items_brief : Items → List ℕ
 items_brief end = []
 items_brief (text t rest) = on_lines t ++ items_brief rest
 items_brief (block channel name inside rest) = brief_block (picture_named channel name inside) channel name (items_brief inside) ++ items_brief rest
 
--- a block
+-- an output
 abbrev pub brief_text : Tree → List ℕ
 brief_text b = brief_block (picture_of b) b.channel b.name (items_brief b.items)
 

@@ -1,4 +1,4 @@
--- A report in words. (docs/use/CHECK.md has the same in words.)
+-- A report in words, with outputs as `Brief` has them. (docs/use/CHECK.md has the same in words.)
 use Rattle.std.specs.Prelude.{ℕ, List, [], ◌∷◌, ◌++◌, Option, codes, nat_eq, if◌then◌else◌}
 use Rattle.std.specs.Fmt.{decimal}
 use Rattle.std.specs.List.{flat_map}
@@ -23,7 +23,7 @@ abbrev pub difference_of : Field → List ℕ → List ℕ → List ℕ
 difference_of field shown came = number_line field ++ (input_line field ++ (marked (codes "- ") shown ++ marked (codes "+ ") came))
 
 -- A field, and how the answer that came differs from the one that it shows: its lines as `print` has them, but those of the output
--- with `- ` in front, and after them those of the output that came with `+ `, or `+ ?` where none came.
+-- with `- ` in front, each picture on one line, and after them those of the output that came with `+ `, or `+ ?` where none came.
 abbrev pub difference_text : Field → Option Answer → List ℕ
 difference_text field came = difference_of field (brief_lines field.answer) (brief_lines came)
 
