@@ -12,3 +12,5 @@ pub mod TapLines
 pub mod Tags
 pub mod JsonLines
 pub mod Totals
+pub mod Brevity
+pub mod Unpictured

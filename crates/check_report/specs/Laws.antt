@@ -1,8 +1,11 @@
 -- Laws of the definitions.
-use Rattle.std.specs.Prelude.{ℕ, ◌+◌, Bool, List, [], ◌∷◌, ◌++◌, Option, Some, None, ◌≡◌, ◌<◌, ◌^◌, ◌==◌, ◌||◌, ◌&&◌, not, nat_eq, true, false, codes, cond, drop, length, map, take, slice_index}
+use Rattle.std.specs.Prelude.{ℕ, ◌+◌, Bool, List, [], ◌∷◌, ◌++◌, Option, Some, None, is_some, ◌≡◌, ◌<◌, ◌^◌, ◌==◌, ◌||◌, ◌&&◌, not, nat_eq, true, false, codes, cond, drop, length, map, take, slice_index}
 use Rattle.std.specs.List.{AllByRecursion, filter, flat_map, list_all, list_any, starts_with}
 use Rattle.bstr.specs.Text.{lines_of}
+use Rattle.block_tree.specs.Tree.{Items, Tree, end, text, block}
 use Rattle.worksheet.specs.Names.{is_name}
+use Rattle.sheet_text.specs.Blocks.{block_text}
+use Rattle.sheet_notebook.specs.Pictures.{picture_named, picture_of}
 use Rattle.sheet_json.specs.Lines.{IsOneLine}
 use Rattle.sheet_json.specs.Plain.{IsSoundTelling}
 use Rattle.sheet_json.specs.Sheets.{telling_line, tellings_text}
@@ -11,6 +14,7 @@ use Rattle.sheet_json.specs.Tellings as told
 use Rattle.sheet_json.specs.declared.checks.Took.{Took}
 use Rattle.check_report.specs.declared.report.Format.TheVariants as format
 use Rattle.check_report.specs.declared.hunks.Hunk.{Hunk}
+use Rattle.check_report.specs.Brief.{brief_text}
 use Rattle.check_report.specs.Hunks.{hunk_of, lines_added, some_lines, lines_removed, tail_start}
 use Rattle.check_report.specs.Points.{Point}
 use Rattle.check_report.specs.Json.{counts_told}
@@ -120,3 +124,17 @@ AgreeAround h old new =
 -- the new one. So what is left out of a report is the same in both.
 abbrev pub HunksTurnOneIntoTheOther : Type 0
 HunksTurnOneIntoTheOther = (old new : List (List ℕ)) → AgreeAround (hunk_of old new) old new
+
+-- whether a picture stands among these items, at any depth
+abbrev pub have_picture : Items → Bool
+have_picture end = false
+have_picture (text t rest) = have_picture rest
+have_picture (block channel name inside rest) = is_some (picture_named channel name inside) || have_picture inside || have_picture rest
+
+-- whether an output is a picture, or has one in it
+abbrev pub has_picture : Tree → Bool
+has_picture b = is_some (picture_of b) || have_picture b.items
+
+-- A report shows an output in which no picture stands as a worksheet does.
+abbrev pub OthersAreAsShown : Type 0
+OthersAreAsShown = (output : Tree) → has_picture output ≡ false → brief_text output ≡ block_text output

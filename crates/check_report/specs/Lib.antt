@@ -5,6 +5,7 @@ pub mod Chosen
 pub mod IdLists
 pub mod Requests
 pub mod Hunks
+pub mod Brief
 pub mod Words
 pub mod Points
 pub mod Tap

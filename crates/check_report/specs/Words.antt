@@ -1,16 +1,17 @@
--- A report in words. (docs/use/CHECK.md has the same in words.)
-use Rattle.std.specs.Prelude.{ℕ, List, [], ◌∷◌, ◌++◌, Option, None, codes, nat_eq, if◌then◌else◌}
+-- A report in words, with outputs as `Brief` has them. (docs/use/CHECK.md has the same in words.)
+use Rattle.std.specs.Prelude.{ℕ, List, [], ◌∷◌, ◌++◌, Option, codes, nat_eq, if◌then◌else◌}
 use Rattle.std.specs.Fmt.{decimal}
 use Rattle.std.specs.List.{flat_map}
 use Rattle.std.specs.Str.{bytes_eq}
 use Rattle.bstr.specs.Text.{lines_of}
 use Rattle.worksheet.specs.declared.field.Answer.{Answer}
 use Rattle.worksheet.specs.declared.field.Field.{Field}
-use Rattle.sheet_text.specs.Texts.{input_line, number_line, output_lines}
+use Rattle.sheet_text.specs.Texts.{input_line, number_line}
 use Rattle.check_report.specs.declared.hunks.Hunk.{Hunk}
 use Rattle.check_report.specs.declared.verdict.Counts.{Counts}
 use Rattle.check_report.specs.declared.verdict.Verdict.{Verdict}
 use Rattle.check_report.specs.declared.verdict.Verdict.TheVariants as verdict
+use Rattle.check_report.specs.Brief.{brief_lines}
 use Rattle.check_report.specs.Hunks.{hunk_of, hunk_text}
 
 -- each line of a text with a mark in front
@@ -22,9 +23,9 @@ abbrev pub difference_of : Field → List ℕ → List ℕ → List ℕ
 difference_of field shown came = number_line field ++ (input_line field ++ (marked (codes "- ") shown ++ marked (codes "+ ") came))
 
 -- A field, and how the answer that came differs from the one that it shows: its lines as `print` has them, but those of the output
--- with `- ` in front, and after them those of the output that came with `+ `, or `+ ?` where none came.
+-- with `- ` in front, each picture on one line, and after them those of the output that came with `+ `, or `+ ?` where none came.
 abbrev pub difference_text : Field → Option Answer → List ℕ
-difference_text field came = difference_of field (output_lines field.answer None) (output_lines came None)
+difference_text field came = difference_of field (brief_lines field.answer) (brief_lines came)
 
 -- how the output of a field became another: that both are the same in print, or where they differ
 abbrev pub changed_lines : Hunk → List ℕ → List ℕ → List ℕ
@@ -40,7 +41,7 @@ change_between field shown came = change_of (hunk_of (lines_of shown) (lines_of 
 -- A field, and where the answer that came differs from the one that it shows: its lines as `print` has them, but in place of its output
 -- the hunk that turns it into the output that came.
 abbrev pub change_text : Field → Option Answer → List ℕ
-change_text field came = change_between field (output_lines field.answer None) (output_lines came None)
+change_text field came = change_between field (brief_lines field.answer) (brief_lines came)
 
 -- the lines of a field, and those of an output with their mark
 abbrev pub addition_of : Field → List ℕ → List ℕ
@@ -48,7 +49,7 @@ addition_of field came = number_line field ++ (input_line field ++ marked (codes
 
 -- A field that shows no answer, and the one that came: its lines as `print` has them, but those of the output with `+ ` in front.
 abbrev pub new_text : Field → Option Answer → List ℕ
-new_text field came = addition_of field (output_lines came None)
+new_text field came = addition_of field (brief_lines came)
 
 -- what is written of a field that came to this, with whole outputs
 abbrev pub whole_text : Field → Option Answer → Verdict → List ℕ

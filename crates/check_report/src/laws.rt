@@ -1,6 +1,6 @@
 //! Laws of the definitions that the contracts cite. Each function does nothing: its contract is the
 //! law.
-ghost use Rattle.check_report.specs.Laws.{HunksTurnOneIntoTheOther, JsonIsItsLines, ReportsAreTheirTexts, TapIsItsPoints, TextsAreNoTags, XmlHasNoMarks};
+ghost use Rattle.check_report.specs.Laws.{HunksTurnOneIntoTheOther, JsonIsItsLines, OthersAreAsShown, ReportsAreTheirTexts, TapIsItsPoints, TextsAreNoTags, XmlHasNoMarks};
 
 /// Reports as TAP and in JUnit's XML are those of their points, and those as JSON the lines of their
 /// tellings, so the laws below are about them.
@@ -34,4 +34,10 @@ pub fn texts_are_no_tags()
 /// that it marks are the same in both.
 pub fn hunks_turn_one_into_the_other()
     ensures { HunksTurnOneIntoTheOther }
+{}
+
+/// An output in which no picture stands is shown as in a worksheet.
+#[tactic(auto, using(crate::proofs::Unpictured::others_as_shown))]
+pub fn others_are_as_shown()
+    ensures { OthersAreAsShown }
 {}

@@ -2,6 +2,7 @@
 //! of JSON.
 #![tactic(auto)]
 
+mod brief;
 mod chosen;
 mod errors;
 mod hunks;

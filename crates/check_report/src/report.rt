@@ -9,14 +9,15 @@ ghost use Rattle.check_report.specs.Junit as junits;
 ghost use Rattle.check_report.specs.Json.{checked_told};
 ghost use Rattle.sheet_json.specs.Sheets.{telling_line};
 
+use crate::brief::brief_in_memory;
 use crate::hunks::{Hunk, find_hunk};
 use crate::junit::{write_case, write_head, write_tail};
 use crate::objects::{case_in_memory, write_end, write_hello};
 use crate::tap::{write_plan, write_point, write_version};
 use crate::verdict::{Counts, Verdict};
 use crate::words::{
-    Outputs, acceptance_in_memory, new_output, outputs_in_memory, verdict_in_memory,
-    write_accepted_counts, write_addition, write_change, write_counts, write_difference,
+    Outputs, acceptance_in_memory, outputs_in_memory, verdict_in_memory, write_accepted_counts,
+    write_addition, write_change, write_counts, write_difference,
 };
 use crate::writing::write_bytes;
 use block_tree::Reason;
@@ -208,7 +209,7 @@ fn report_addition<W: Write>(
         (printed.new_text field.now came.now)) }
     ensures err { IfErr result (Unreported (W.contents writer.old) (W.contents writer.new)) }
 {
-    let Some(came) = new_output(alloc, came) else {
+    let Some(came) = brief_in_memory(alloc, came) else {
         return Err(ReportFault::OutOfMemory);
     };
     match write_added(field, came.as_slice(), writer) {

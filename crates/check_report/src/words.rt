@@ -1,26 +1,18 @@
 //! A report in words.
-ghost use Rattle.std.specs.Prelude.{◌≡◌, ◌++◌, None, IfOk, IfSome, OnOk, codes};
+ghost use Rattle.std.specs.Prelude.{◌≡◌, ◌++◌, IfSome, OnOk, codes};
 ghost use Rattle.std.specs.Io.KnownBytes.{Appends};
-ghost use Rattle.sheet_text.specs.Texts.{output_lines};
+ghost use Rattle.check_report.specs.Brief.{brief_lines};
 ghost use Rattle.check_report.specs.Words as printed;
 
+use crate::brief::brief_in_memory;
 use crate::hunks::{Hunk, find_hunk, write_hunk};
 use crate::verdict::{Counts, Verdict};
 use crate::writing::write_bytes;
 use bstr::ByteSlice;
-use sheet_text::{WriteFault, write_input, write_number, write_output};
+use sheet_text::{WriteFault, write_input, write_number};
 use std::alloc::Global;
 use std::io::Write;
 use worksheet::{Answer, Field};
-
-/// The lines of an answer's output, or `?` where there is none, in memory.
-fn output_in_memory(alloc: Global, answer: &Option<Answer>) -> Result<Vec<u8>, WriteFault>
-    ensures { IfOk result (λ text. text.items ≡ output_lines answer.now None) }
-{
-    let mut text = Vec::new(alloc);
-    write_output(answer, Option::None, &mut text)?;
-    Ok(text)
-}
 
 /// The two outputs of a difference in memory: the one that a field shows, and the one that came.
 #[derive(Drop)]
@@ -35,15 +27,15 @@ pub(crate) fn outputs_in_memory(
     field: &Field,
     came: &Option<Answer>,
 ) -> Option<Outputs>
-    ensures shown { IfSome result (λ both. both.shown.items ≡ output_lines field.now.answer None) }
-    ensures came { IfSome result (λ both. both.came.items ≡ output_lines came.now None) }
+    ensures shown { IfSome result (λ both. both.shown.items ≡ brief_lines field.now.answer) }
+    ensures came { IfSome result (λ both. both.came.items ≡ brief_lines came.now) }
 {
-    let Ok(shown) = output_in_memory(alloc, &field.answer) else {
+    let Some(shown) = brief_in_memory(alloc, &field.answer) else {
         return Option::None;
     };
-    match output_in_memory(alloc, came) {
-        Ok(came) => Some(Outputs { shown, came }),
-        Err(_) => Option::None,
+    match brief_in_memory(alloc, came) {
+        Some(came) => Some(Outputs { shown, came }),
+        None => Option::None,
     }
 }
 
@@ -156,16 +148,6 @@ fn difference_in_memory(alloc: Global, field: &Field, came: &Option<Answer>) -> 
     }
 }
 
-/// The output that came to a field which shows none, in memory.
-pub(crate) fn new_output(alloc: Global, came: &Option<Answer>) -> Option<Vec<u8>>
-    ensures { IfSome result (λ text. text.items ≡ output_lines came.now None) }
-{
-    match output_in_memory(alloc, came) {
-        Ok(text) => Some(text),
-        Err(_) => Option::None,
-    }
-}
-
 /// Writes a field that shows no output, and the one that came.
 pub(crate) fn write_addition<W: Write>(
     field: &Field,
@@ -185,7 +167,7 @@ pub(crate) fn write_addition<W: Write>(
 fn addition_in_memory(alloc: Global, field: &Field, came: &Option<Answer>) -> Option<Vec<u8>>
     ensures { IfSome result (λ text. text.items ≡ printed.new_text field.now came.now) }
 {
-    let Some(came) = new_output(alloc, came) else {
+    let Some(came) = brief_in_memory(alloc, came) else {
         return Option::None;
     };
     let mut text = Vec::new(alloc);

@@ -837,6 +837,49 @@ rm -f sheet sheet.alt again
 "$tmhost" run sheet <many >/dev/null
 touch again
 checks 'a thousand fields' 1 '#999 a\na] differs\n- differs\n+ another\nsame 999 differ 1 unanswered 0\n'
-rm -f again sent lives many other report wanted cases.py took met.*
+# Pictures: a report has one line for each, with its format, how many bytes its text has, and the first eight digits of the text's SHA-256. `show`
+# and lines of JSON have the text itself.
+cat >draws.sh <<'END_OF_CHILD'
+printf '\002verbatim:\005'
+png=iVBORw0KGgo= svg='<svg/>' said=one
+[ ! -e again ] || png=iVBORw0KGgoA svg='<svg>\n</svg>' said=two
+while IFS= read -r line; do
+    case $line in
+        png) printf '\002image/png;base64:%s\005' $png ;;
+        svg) printf "\\002verbatim:a line\n\\002image/svg+xml:$svg\\005\\005" ;;
+        text) printf '\002verbatim:%s\n\002image/png;base64:iVBORw0KGgo=\005\005' $said ;;
+        long) printf '\002image/jpeg;base64:%s\005' "$(head -c 1000000 /dev/zero | tr '\0' A)$png" ;;
+        channel) printf '\002image/png;base64#%s\005' $png ;;
+        holds) printf '\002image/png;base64:\002verbatim:%s\005\005' $png ;;
+        ends) [ ! -e again ] || exit; printf '\002image/png;base64:%s\005' $png ;;
+        none) printf '\002image/png;base64:%s\005' "$([ -e again ] || echo $png)" ;;
+        same) printf '\002verbatim:same\005' ;;
+        latex) printf '\002latex:%s\005' $png ;;
+    esac
+done
+END_OF_CHILD
+d='session d plain sh draws.sh\n'
+pngs='- {image/png;base64: 12 bytes, sum 929e08d5}\n+ {image/png;base64: 12 bytes, sum 3765c2fa}\n'
+checked 'a picture that differs' "$d"'new 0 d png\neval 1\nwait\n' 1 "#1 d\n> png\n${pngs}same 0 differ 1 unanswered 0\n"
+checks 'the same, whole' 1 "#1 d\n> png\n${pngs}same 0 differ 1 unanswered 0\n" --whole
+words 'the same worksheet, shown' 0 '#1 d\n> png\n{image/png;base64:iVBORw0KGgo=}\n' show sheet
+# Beside a field of another session, so that it isn't known what each took.
+checked 'a picture that differs, as TAP' "$d"'session e plain sh draws.sh\nnew 0 d png\nnew 1 e same\neval 1\neval 2\nwait\n' 1 \
+    'TAP version 13\nnot ok 1 - field 1 of d\n# #1 d\n# > png\n# - {image/png;base64: 12 bytes, sum 929e08d5}\n# + {image/png;base64: 12 bytes, sum 3765c2fa}\nok 2 - field 2 of e\n1..2\n' --format tap
+objects 'objects of the same' 1 <<'END_OF_JSON'
+{"format":1,"program":"tmhost","protocol":2,"type":"hello","version":"0.1.0"}
+{"came":{"output":{"items":["iVBORw0KGgoA"],"kind":"format","tag":"image/png;base64"},"prompt":"> ","shown":"{image/png;base64:iVBORw0KGgoA}"},"id":1,"input":"png","session":"d","shows":{"output":{"items":["iVBORw0KGgo="],"kind":"format","tag":"image/png;base64"},"prompt":"> ","shown":"{image/png;base64:iVBORw0KGgo=}"},"took":null,"type":"checked","verdict":"differs"}
+{"id":2,"session":"e","took":null,"type":"checked","verdict":"same"}
+{"differ":1,"errors":0,"left_out":0,"new":0,"same":1,"type":"compared","unanswered":0}
+{"type":"end"}
+END_OF_JSON
+checked 'an SVG that differs' "$d"'new 0 d svg\neval 1\nwait\n' 1 '#1 d\n> svg\n  a line\n- {image/svg+xml: 6 bytes, sum d4dc5666}\n+ {image/svg+xml: 12 bytes, sum 04cc5fa4}\nsame 0 differ 1 unanswered 0\n'
+checked 'a text that differs beside a picture that does not' "$d"'new 0 d text\neval 1\nwait\n' 1 '#1 d\n> text\n- one\n+ two\n  {image/png;base64: 12 bytes, sum 929e08d5}\nsame 0 differ 1 unanswered 0\n'
+checked 'a long picture' "$d"'new 0 d long\neval 1\nwait\n' 1 '#1 d\n> long\n- {image/jpeg;base64: 1000012 bytes, sum 3640e0d1}\n+ {image/jpeg;base64: 1000012 bytes, sum e65d7178}\nsame 0 differ 1 unanswered 0\n'
+checked 'a picture to which no answer came' "$d"'new 0 d ends\neval 1\nwait\n' 1 '#1 d\n> ends\n- {image/png;base64: 12 bytes, sum 929e08d5}\n+ ?\nsame 0 differ 0 unanswered 1\n'
+checked 'a picture that came to a field without an answer' "$d"'new 0 d png\n' 0 '#1 d\n> png\n+ {image/png;base64: 12 bytes, sum 3765c2fa}\nsame 0 differ 0 unanswered 0 new 1\n' --all
+checked 'what is no picture' "$d"'new 0 d channel\nnew 1 d holds\nnew 2 d none\nnew 3 d latex\neval 1\neval 2\neval 3\neval 4\nwait\n' 1 \
+    '#1 d\n> channel\n- {image/png;base64#iVBORw0KGgo=}\n+ {image/png;base64#iVBORw0KGgoA}\n#2 d\n> holds\n- {image/png;base64:iVBORw0KGgo=}\n+ {image/png;base64:iVBORw0KGgoA}\n#3 d\n> none\n- {image/png;base64: 12 bytes, sum 929e08d5}\n+ {image/png;base64:}\n#4 d\n> latex\n- {latex:iVBORw0KGgo=}\n+ {latex:iVBORw0KGgoA}\nsame 0 differ 4 unanswered 0\n'
+rm -f again sent lives many other report wanted cases.py met.*
 
 counted checks
