@@ -113,7 +113,7 @@ const DOES = {
     return askSession();
   },
   showKeys,
-  showRemoved: () => byId("removed-dialog", HTMLDialogElement).showModal(),
+  showRemoved: () => bars.openRemoved(),
   showEarlier: () => earlier.open(),
   showExport: async () => {
     if (await actions.saveIdle()) byId("export-dialog", HTMLDialogElement).showModal();
