@@ -84,6 +84,12 @@ export class Cells {
     for (const view of this.views.values()) view.grow();
   }
 
+  /** All texts are in colours, as for paper, where no page ends within a text area. */
+  paintAll() {
+    this.growAll();
+    for (const view of this.views.values()) if (!view.isProse || view.box.classList.contains("editing")) view.paint();
+  }
+
   /**
    * What isn't an answer yet goes where its cell is no longer evaluated.
    * @param {Message} message

@@ -276,7 +276,7 @@ cells.place.addEventListener("change", (event) => {
 document.addEventListener("visibilitychange", () => document.hidden && saveAll());
 
 // What the browser prints and looks through is all there.
-addEventListener("beforeprint", () => cells.growAll());
+addEventListener("beforeprint", () => cells.paintAll());
 document.addEventListener("keydown", ({ key, ctrlKey, metaKey }) => (ctrlKey || metaKey) && key === "f" && cells.growAll(), true);
 
 addEventListener("beforeunload", (event) => {
