@@ -113,5 +113,5 @@ export async function openRemoved() {
   byId("removed-dialog", HTMLDialogElement).showModal();
   says.textContent = "What was removed before is looked for.";
   const told = await ask("past_removed");
-  says.textContent = told.refused ? `What was removed before isn't here: ${visible(told.says ?? told.refused)}` : "";
+  says.textContent = told.refused ? `What was removed before isn't here: ${visible(told.says ?? told.refused)}` : told.warning ?? "";
 }

@@ -113,6 +113,19 @@ class Server(Case):
             pass
         self.assertEqual(self.removed(page), ["b", "a"] if page.snapshot()["removed"][0]["input"] == "b" else ["a", "b"])
 
+    def test_what_takes_too_long(self) -> None:
+        """What isn't found in time is missing, and nothing is wrong."""
+        page = self.begin("a", "b")
+        for id in page.snapshot()["order"]:
+            self.step(page, remove=[{"id": id}])
+        self.server.kill()
+        worksheet, within = past.Past(self.sheet, PROGRAM), past.LOOKED_WITHIN
+        wanted = past.removals_in(worksheet.changes(is_new=True))
+        self.assertEqual([(field.input, place) for _, field, place in worksheet.removed(wanted)], [("a", 0), ("b", 1)])
+        self.addCleanup(setattr, past, "LOOKED_WITHIN", within)
+        past.LOOKED_WITHIN = -1.0
+        self.assertEqual(worksheet.removed(wanted), [])
+
     def test_many(self) -> None:
         """300 cells: the last 200 are there."""
         page = self.begin(*(f"say {number}" for number in range(300)), "say last")

@@ -182,19 +182,21 @@ class Book:
         self.removed.insert(0 if is_older else len(self.removed), one)
         del self.removed[:-MOST_REMOVED]
 
-    def find_removed(self) -> None:
+    def find_removed(self) -> bool:
         """Takes into the list what was removed before the worksheet was opened, or in the moment in which the program ended, as its journal has it. One
-        whose text another cell has, or a later one in the list, is left out: it was pasted, or it came back. Raises NoPast."""
+        whose text another cell has, or a later one in the list, is left out: it was pasted, or it came back. False where it takes too long
+        to find all. Raises NoPast."""
         if self._has_older:
-            return
+            return True
         past, changes = self.past, self.past.changes(is_new=True)
         with self.order:  # what is in these changes is in the list then
             known = set(self._were_removed)
-        found = past.removed([one for one in removals_in(changes) if one.id not in known][-MOST_REMOVED:])
+        wanted = [one for one in removals_in(changes) if one.id not in known][-MOST_REMOVED:]
+        found = past.removed(wanted)
         with self.lock:
             if self._has_older or past is not self.past:
-                return
-            self._has_older = True
+                return True
+            self._has_older = len(found) == len(wanted)
             fields = [*self.sheet.fields, *(one["field"] for one in self.removed)]
             texts = {(field.session, field.input) for field in fields}
             for one, field, place in sorted(found, key=lambda one: -one[0].at):
@@ -203,6 +205,7 @@ class Book:
                     texts.add(text)
                     self._were_removed.add(one.id)
                     self._bin(field, field.answer, place, is_older=True)
+            return self._has_older
 
     def unbin(self, number: Optional[int]) -> Optional[Dict[str, Any]]:
         """Takes a removed cell out, the last one for None."""

@@ -24,8 +24,7 @@ from .folder import NotDone, free_path
 WITHIN = 30.0  # seconds that a command may take, and that one waits for another
 LARGEST = 500_000_000  # bytes of a worksheet of which a copy is made for a look
 MOST_KEPT = 100  # answers that a page has looked at, of each worksheet
-MOST_LOOKS = 50  # at worksheets of then, to find what was removed
-LOOKED_WITHIN = 20.0  # seconds behind which no further one is begun
+LOOKED_WITHIN = 20.0  # seconds behind which no further worksheet of then is looked at for what was removed
 
 NEW_TEXT = ("new", "set")  # what gives a cell a text, and takes its answer away
 
@@ -85,10 +84,10 @@ class Past:
         return self._answers.get((at, id))
 
     def removed(self, wanted: "List[Removal]") -> "List[Tuple[Removal, Field, int]]":
-        """These cells as they were when they were removed, each with its place of then: the last changed first, as many as so many looks have."""
+        """These cells as they were when they were removed, each with its place of then: the last changed first, as many as are found in time."""
         found: "List[Tuple[Removal, Field, int]]" = []
         end = time.monotonic() + LOOKED_WITHIN
-        for at in moments(wanted)[:MOST_LOOKS]:
+        for at in moments(wanted):
             if time.monotonic() > end:
                 break
             sheet = self.sheet(at)

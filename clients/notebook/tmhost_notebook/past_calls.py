@@ -86,8 +86,7 @@ def call_past_output(book: Book, asked: Facts) -> Facts:
 def call_past_removed(book: Book, asked: Facts) -> Facts:
     """Has what was removed before in the list of removed cells, of which pages are told."""
     with refused():
-        book.find_removed()
-    return {}
+        return {} if book.find_removed() else {"warning": "Not all that was removed before is here yet: open the list again."}
 
 
 def call_past_restore(book: Book, asked: Facts) -> Facts:
