@@ -10,6 +10,7 @@ import { setInto } from "./setter.js";
 /** @typedef {import("./types").Part} Part */
 
 const LONGEST = 50_000; // characters of a formula that the server tells as one
+const MOST_LONG = 1_000_000; // characters of all long formulas that are set in the page at once
 
 /** @type {(number: number) => string} */
 const grouped = (number) => number.toLocaleString("en");
@@ -21,9 +22,15 @@ const grouped = (number) => number.toLocaleString("en");
 function formulaOf(tex, tell) {
   const place = make("span", "formula", visible(tex));
   place.dataset.tex = tex;
-  const isOver = setInto(place, "tex", tex);
-  if (tex.length > LONG) isOver.then((isOver) => longIsOver(place, tex, isOver, tell));
+  if (tex.length <= LONG) setInto(place, "tex", tex);
+  else setInto(place, "tex", tex, () => hasRoomFor(tex)).then((isOver) => longIsOver(place, tex, isOver, tell));
   return place;
+}
+
+/** @type {(tex: string) => boolean} */
+function hasRoomFor(tex) {
+  const set = /** @type {HTMLElement[]} */ ([...document.querySelectorAll(".formula[role=math]")]);
+  return set.reduce((sum, { dataset }) => sum + (dataset.tex?.length ?? 0), tex.length) <= MOST_LONG;
 }
 
 /** @type {(place: HTMLElement, tex: string, isOver: boolean, tell: (why: string) => void) => void} */
@@ -35,7 +42,7 @@ function longIsOver(place, tex, isOver, tell) {
   }
   const parts = partsOf(tex), canBreak = parts?.every((part) => part.kind === "words" || piecesOf(part.tex, true, 0));
   const why = !parts ? "it is no text with formulas" : !canBreak ? "it has no signs between terms at which it could be broken"
-    : isOver ? "it can't be set" : "to set it takes too long";
+    : !isOver ? "to set it takes too long" : hasRoomFor(tex) ? "it can't be set" : "more would hold the page up";
   tell(`A formula of ${grouped(tex.length)} characters is shown as text: ${why}.`);
 }
 

@@ -107,7 +107,7 @@ function treesOf(kind, text) {
   count += 1;
   const number = count;
   const trees = /** @type {Promise<Found>} */ (new Promise((done) => first.add({ number, kind, text, done })));
-  known.set(key, trees);
+  if (kind !== "tex" || text.length <= LONG) known.set(key, trees); // those of a long sum take megabytes
   return trees;
 }
 

@@ -31,6 +31,28 @@ LINES = """
   return [new Set(boxes.map((box) => Math.round(box.bottom / 10))).size > 3, Math.max(...boxes.map((box) => box.right)) <= innerWidth];
 })
 """
+# Whether a long formula is set where the page has as many as it can hold, and again where it hasn't.
+FULL = """
+(async () => {
+  const { OutputView, outputShape } = await import('./output.js');
+  const tex = document.querySelector('#cell-1 .formula').dataset.tex, many = document.createElement('div');
+  const isSet = async () => {
+    const box = document.body.appendChild(outputShape());
+    new OutputView(0, box).update({ parts: [{ tex }], isError: false, text: tex, isCut: false, length: tex.length, unset: 0 }, false);
+    while (!box.querySelector('.set, .more')) await new Promise((done) => setTimeout(done, 20));
+    const why = box.querySelector('.more')?.textContent ?? '';
+    box.remove();
+    return why === '' || !why.endsWith('more would hold the page up.');
+  };
+  many.className = 'formula';
+  many.setAttribute('role', 'math');
+  many.dataset.tex = 'x'.repeat(1_000_000);
+  document.body.append(many);
+  const found = [await isSet()];
+  many.remove();
+  return [...found, await isSet()];
+})()
+"""
 SET_AGAIN = """
 (async () => {
   const { setInto } = await import('./setter.js'), place = document.querySelector('#cell-3 .formula'), start = performance.now();
@@ -127,6 +149,7 @@ class Reading(PageCase):
             self.assertEqual(tab.value(LINES), [[True, True]] * 4, (media, width))
         self.assertEqual(tab.value("[...document.querySelectorAll('.formula')].map((node) => [node.getAttribute('role'), node.getAttribute('aria-label') === node.dataset.tex])"),
             [["math", True]] * 4)
+        self.assertEqual(tab.value(FULL), [False, True])
         tab.click("#cell-3 .number")
         tab.key("t")
         self.assertIn("20,000 of", tab.value("document.querySelector('#cell-3 .more').textContent"))
