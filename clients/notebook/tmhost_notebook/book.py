@@ -41,7 +41,7 @@ class Book:
         self.ended: Optional[str] = None
         self.changes = 0  # that cells had by calls, counted by `order`; a message says how many of them it has seen
         self._removed_ever = 0
-        self._were_removed: Set[int] = set()  # cells that have been in that list
+        self._were_removed: Set[int] = set()  # cells that have been in that list, or were left out of it
         self._has_older = False  # whether the list has those that were removed before the worksheet was opened
         self.steps, self.helper = Steps(self), Helper(program)
         self._is_closed = False
@@ -203,8 +203,8 @@ class Book:
                 text = field.session, field.input
                 if one.id not in self._were_removed and field.input.strip() and text not in texts:
                     texts.add(text)
-                    self._were_removed.add(one.id)
                     self._bin(field, field.answer, place, is_older=True)
+                self._were_removed.add(one.id)
             return self._has_older
 
     def unbin(self, number: Optional[int]) -> Optional[Dict[str, Any]]:
