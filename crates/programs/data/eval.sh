@@ -202,14 +202,14 @@ ended_so strictly 'strictly' 3 'asked\nbanner a\nanswered 1\nasked\nover 5\nende
 cat >wanted <<'END'
 {"format":1,"program":"tmhost","protocol":2,"type":"hello","version":"0.1.0"}
 {"life":1,"line":1,"type":"asked"}
-{"life":1,"output":{"items":[],"kind":"format","tag":"verbatim"},"session":"a","shown":"","type":"banner"}
-{"id":1,"life":1,"output":{"items":["x"],"kind":"format","tag":"verbatim"},"prompt":"> ","session":"a","shown":"x","type":"answered"}
+{"life":1,"next":"> ","output":{"items":[],"kind":"format","tag":"verbatim"},"session":"a","shown":"","type":"banner"}
+{"id":1,"life":1,"next":"> ","output":{"items":["x"],"kind":"format","tag":"verbatim"},"prompt":"> ","session":"a","shown":"x","type":"answered"}
 {"life":1,"line":3,"type":"asked"}
 {"id":5,"outcome":"sent","type":"over"}
 {"life":1,"lost":[{"id":5,"text":"deaf"}],"reason":"Stalled","session":"a","type":"ended"}
 {"life":2,"line":7,"type":"asked"}
-{"life":2,"output":{"items":[],"kind":"format","tag":"verbatim"},"session":"b","shown":"","type":"banner"}
-{"id":4,"life":2,"output":{"items":["z 1"],"kind":"format","tag":"verbatim"},"prompt":"> ","session":"b","shown":"z 1","type":"answered"}
+{"life":2,"next":"> ","output":{"items":[],"kind":"format","tag":"verbatim"},"session":"b","shown":"","type":"banner"}
+{"id":4,"life":2,"next":"> ","output":{"items":["z 1"],"kind":"format","tag":"verbatim"},"prompt":"> ","session":"b","shown":"z 1","type":"answered"}
 {"answered":3,"over":1,"passed":1,"type":"counted","unanswered":1}
 {"type":"end"}
 status 1
@@ -339,8 +339,8 @@ made 'session a plain sh count.sh\nnew 0 a x\n'
 cat >wanted <<'END'
 {"format":1,"program":"tmhost","protocol":2,"type":"hello","version":"0.1.0"}
 {"life":1,"line":1,"type":"asked"}
-{"life":1,"output":{"items":[],"kind":"format","tag":"verbatim"},"session":"a","shown":"","type":"banner"}
-{"id":1,"life":1,"output":{"items":["x 1"],"kind":"format","tag":"verbatim"},"prompt":"> ","session":"a","shown":"x 1","type":"answered"}
+{"life":1,"next":"> ","output":{"items":[],"kind":"format","tag":"verbatim"},"session":"a","shown":"","type":"banner"}
+{"id":1,"life":1,"next":"> ","output":{"items":["x 1"],"kind":"format","tag":"verbatim"},"prompt":"> ","session":"a","shown":"x 1","type":"answered"}
 {"answered":1,"type":"counted","unanswered":0}
 {"type":"end"}
 status 0

@@ -55,22 +55,22 @@ json 'what an interpreter writes' 0 'session a plain sh p.sh\nnew 0 a x^2\neval 
 {"line":1,"type":"done"}
 {"id":1,"line":2,"type":"made"}
 {"life":1,"line":3,"type":"asked"}
-{"life":1,"output":{"items":["Hello"],"kind":"format","tag":"verbatim"},"session":"a","shown":"Hello","type":"banner"}
-{"id":1,"life":1,"output":{"items":[{"items":["$x^2$"],"kind":"format","tag":"latex"}],"kind":"format","tag":"verbatim"},"prompt":"Input 1] ","session":"a","shown":"{latex:$x^2$}","type":"answered"}
+{"life":1,"next":"Input 1] ","output":{"items":["Hello"],"kind":"format","tag":"verbatim"},"session":"a","shown":"Hello","type":"banner"}
+{"id":1,"life":1,"next":"Input 2] ","output":{"items":[{"items":["$x^2$"],"kind":"format","tag":"latex"}],"kind":"format","tag":"verbatim"},"prompt":"Input 1] ","session":"a","shown":"{latex:$x^2$}","type":"answered"}
 {"line":4,"over":"idle","type":"waited"}
 {"field":{"id":1,"input":"x^2","output":{"items":[{"items":["$x^2$"],"kind":"format","tag":"latex"}],"kind":"format","tag":"verbatim"},"prompt":"Input 1] ","session":"a","shown":"{latex:$x^2$}","state":"answered"},"line":5,"type":"field"}
 {"life":1,"line":6,"type":"asked"}
-{"id":1,"life":1,"output":{"items":[{"base64":"Y2Fm6Q=="}],"kind":"format","tag":"verbatim"},"prompt":"Input 2] ","session":"a","shown":{"base64":"Y2Fm6Q=="},"type":"answered"}
+{"id":1,"life":1,"next":"Input 2] ","output":{"items":[{"base64":"Y2Fm6Q=="}],"kind":"format","tag":"verbatim"},"prompt":"Input 2] ","session":"a","shown":{"base64":"Y2Fm6Q=="},"type":"answered"}
 {"life":1,"session":"a","text":"print(","type":"default"}
 {"line":7,"over":"idle","type":"waited"}
 {"life":1,"line":8,"type":"asked"}
-{"id":1,"life":1,"output":{"items":["{\"line\":3,\"type\":\"done\"}\n\u0001\u001b"],"kind":"format","tag":"verbatim"},"prompt":"Input 2] ","session":"a","shown":"{\"line\":3,\"type\":\"done\"}\n\\x01\\x1b\\x7f","type":"answered"}
+{"id":1,"life":1,"next":"Input 2] ","output":{"items":["{\"line\":3,\"type\":\"done\"}\n\u0001\u001b"],"kind":"format","tag":"verbatim"},"prompt":"Input 2] ","session":"a","shown":"{\"line\":3,\"type\":\"done\"}\n\\x01\\x1b\\x7f","type":"answered"}
 {"line":9,"over":"idle","type":"waited"}
 {"life":1,"line":10,"type":"asked"}
-{"id":1,"life":1,"output":{"items":[],"kind":"channel","tag":{"base64":"6Q=="}},"prompt":"Input 2] ","session":"a","shown":{"base64":"e+kjfQ=="},"type":"answered"}
+{"id":1,"life":1,"next":"Input 2] ","output":{"items":[],"kind":"channel","tag":{"base64":"6Q=="}},"prompt":"Input 2] ","session":"a","shown":{"base64":"e+kjfQ=="},"type":"answered"}
 {"line":11,"over":"idle","type":"waited"}
 {"life":1,"line":12,"type":"asked"}
-{"id":1,"life":1,"output":{"items":["?"],"kind":"format","tag":"verbatim"},"prompt":"Input 2] ","session":"a","shown":"?","type":"answered"}
+{"id":1,"life":1,"next":"Input 2] ","output":{"items":["?"],"kind":"format","tag":"verbatim"},"prompt":"Input 2] ","session":"a","shown":"?","type":"answered"}
 {"line":13,"over":"idle","type":"waited"}
 {"field":{"id":1,"input":"x^2","output":{"items":["?"],"kind":"format","tag":"verbatim"},"prompt":"Input 2] ","session":"a","shown":"?","state":"answered"},"line":14,"type":"field"}
 {"type":"end"}
@@ -99,7 +99,7 @@ json 'completions' 0 'session t tab sh p.sh\nnew 0 t h\ncomplete 1 1\ncomplete 1
 {"id":1,"line":2,"type":"made"}
 {"life":1,"line":3,"type":"asked"}
 {"life":1,"line":4,"type":"asked"}
-{"life":1,"output":{"items":[],"kind":"format","tag":"verbatim"},"session":"t","shown":"","type":"banner"}
+{"life":1,"next":"> ","output":{"items":[],"kind":"format","tag":"verbatim"},"session":"t","shown":"","type":"banner"}
 {"id":1,"life":1,"session":"t","told":{"rest":["ello","i there"],"root":"h"},"type":"completed"}
 {"id":1,"life":1,"session":"t","told":null,"type":"completed"}
 {"line":5,"over":"idle","type":"waited"}
@@ -154,8 +154,8 @@ cat >wanted <<END_OF_JSON
 {"line":7,"type":"nothing"}
 {"line":8,"name":"InFlight","number":3,"type":"refused"}
 {"field":{"id":1,"input":"x","session":"a","state":"waiting"},"line":9,"type":"field"}
-{"life":1,"output":{"items":[],"kind":"format","tag":"verbatim"},"session":"a","shown":"","type":"banner"}
-{"id":1,"life":1,"output":$block,"prompt":"> ","session":"a","shown":"A","type":"answered"}
+{"life":1,"next":"> ","output":{"items":[],"kind":"format","tag":"verbatim"},"session":"a","shown":"","type":"banner"}
+{"id":1,"life":1,"next":"> ","output":$block,"prompt":"> ","session":"a","shown":"A","type":"answered"}
 {"line":10,"over":"idle","type":"waited"}
 {"line":11,"over":"idle","type":"waited"}
 {"line":12,"outcome":"idle","type":"interrupted"}
@@ -218,7 +218,7 @@ cat >wanted <<'END_OF_JSON'
 {"line":1,"type":"done"}
 {"id":1,"line":2,"type":"made"}
 {"life":1,"line":3,"type":"asked"}
-{"life":1,"output":{"items":[],"kind":"format","tag":"verbatim"},"session":"a","shown":"","type":"banner"}
+{"life":1,"next":"> ","output":{"items":[],"kind":"format","tag":"verbatim"},"session":"a","shown":"","type":"banner"}
 {"life":1,"outcome":"sent","session":"a","type":"interrupted"}
 {"life":1,"lost":[{"id":1,"text":"deaf"}],"reason":"Stalled","session":"a","type":"ended"}
 {"line":4,"over":"time","type":"waited"}
@@ -246,7 +246,7 @@ hears 'an object of a reply' '{"line":1,"type":"done"}\n'
 say 'new 0 a x\n'
 hears 'an object of a number' '{"id":1,"line":2,"type":"made"}\n'
 say 'eval 1\n'
-hears 'objects of an answer without a wait' '{"life":1,"line":3,"type":"asked"}\n{"life":1,"output":{"items":[],"kind":"format","tag":"verbatim"},"session":"a","shown":"","type":"banner"}\n{"id":1,"life":1,"output":'"$block"',"prompt":"> ","session":"a","shown":"A","type":"answered"}\n'
+hears 'objects of an answer without a wait' '{"life":1,"line":3,"type":"asked"}\n{"life":1,"next":"> ","output":{"items":[],"kind":"format","tag":"verbatim"},"session":"a","shown":"","type":"banner"}\n{"id":1,"life":1,"next":"> ","output":'"$block"',"prompt":"> ","session":"a","shown":"A","type":"answered"}\n'
 say 'print 1\n'
 hears 'an object of a field' '{"field":{"id":1,"input":"x","output":'"$block"',"prompt":"> ","session":"a","shown":"A","state":"answered"},"line":4,"type":"field"}\n'
 say 'foo\n'
@@ -364,9 +364,9 @@ for flags in '--json --partial' --partial; do
 {"line":1,"type":"done"}
 {"id":1,"line":2,"type":"made"}
 {"life":1,"line":3,"type":"asked"}
-{"life":1,"output":{"items":[],"kind":"format","tag":"verbatim"},"session":"a","shown":"","type":"banner"}
+{"life":1,"next":"> ","output":{"items":[],"kind":"format","tag":"verbatim"},"session":"a","shown":"","type":"banner"}
 {"bytes":"\u0002verbatim:x","life":1,"session":"a","type":"partial"}
-{"id":1,"life":1,"output":{"items":["x done"],"kind":"format","tag":"verbatim"},"prompt":"> ","session":"a","shown":"x done","type":"answered"}
+{"id":1,"life":1,"next":"> ","output":{"items":["x done"],"kind":"format","tag":"verbatim"},"prompt":"> ","session":"a","shown":"x done","type":"answered"}
 {"line":4,"over":"idle","type":"waited"}
 {"type":"end"}
 END_OF_JSON
@@ -377,9 +377,9 @@ partial "one that isn't UTF-8" --partial '\0377' <<'END_OF_JSON'
 {"line":1,"type":"done"}
 {"id":1,"line":2,"type":"made"}
 {"life":1,"line":3,"type":"asked"}
-{"life":1,"output":{"items":[],"kind":"format","tag":"verbatim"},"session":"a","shown":"","type":"banner"}
+{"life":1,"next":"> ","output":{"items":[],"kind":"format","tag":"verbatim"},"session":"a","shown":"","type":"banner"}
 {"bytes":{"base64":"AnZlcmJhdGltOv8="},"life":1,"session":"a","type":"partial"}
-{"id":1,"life":1,"output":{"items":[{"base64":"/yBkb25l"}],"kind":"format","tag":"verbatim"},"prompt":"> ","session":"a","shown":{"base64":"/yBkb25l"},"type":"answered"}
+{"id":1,"life":1,"next":"> ","output":{"items":[{"base64":"/yBkb25l"}],"kind":"format","tag":"verbatim"},"prompt":"> ","session":"a","shown":{"base64":"/yBkb25l"},"type":"answered"}
 {"line":4,"over":"idle","type":"waited"}
 {"type":"end"}
 END_OF_JSON
@@ -389,8 +389,8 @@ partial "one that isn't complete, unasked" --json 'at once' <<'END_OF_JSON'
 {"line":1,"type":"done"}
 {"id":1,"line":2,"type":"made"}
 {"life":1,"line":3,"type":"asked"}
-{"life":1,"output":{"items":[],"kind":"format","tag":"verbatim"},"session":"a","shown":"","type":"banner"}
-{"id":1,"life":1,"output":{"items":["at once done"],"kind":"format","tag":"verbatim"},"prompt":"> ","session":"a","shown":"at once done","type":"answered"}
+{"life":1,"next":"> ","output":{"items":[],"kind":"format","tag":"verbatim"},"session":"a","shown":"","type":"banner"}
+{"id":1,"life":1,"next":"> ","output":{"items":["at once done"],"kind":"format","tag":"verbatim"},"prompt":"> ","session":"a","shown":"at once done","type":"answered"}
 {"line":4,"over":"idle","type":"waited"}
 {"type":"end"}
 END_OF_JSON
