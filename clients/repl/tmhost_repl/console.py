@@ -7,7 +7,7 @@ from typing import Optional
 
 from tmhost import Answer, Field, Text
 
-from .texts import columns, cut, harmless, last_line, rows, under
+from .texts import behind, columns, cut, harmless, last_line, rows
 
 BOLD, FAINT, ERROR = 1, 2, 31  # the styles of a prompt, of a note, and, in red, of a mark
 READLINE_HIDES = "\x01{}\x02"  # around what takes no room in a prompt of readline
@@ -38,8 +38,8 @@ class Console:
         """The answer to the line that was read last."""
         raise NotImplementedError
 
-    def evaluating(self, field: Field) -> None:
-        """A field of the worksheet is evaluated next, as if its line had been read."""
+    def evaluating(self, field: Field, prompt: Optional[Text]) -> None:
+        """A field of the worksheet is evaluated next, as if its line had been read at this prompt, where that is known."""
 
     def choose(self, question: str, keys: str) -> Optional[str]:
         """Which of the keys the user gives; None where nobody can be asked."""
@@ -61,7 +61,7 @@ class Console:
         """A field with all that it has."""
         self.show(f"#{field.id} {field.session}")
         prompt = field.answer.prompt if field.answer else "> "
-        self.show(under(harmless(prompt), harmless(field.input)))
+        self.show(harmless(prompt) + behind(harmless(prompt), harmless(field.input)))
         if field.answer:
             self.show(harmless(field.answer.brief))
             if field.answer.errors:
@@ -133,10 +133,10 @@ class Terminal(Console):
         """The next line that is read is a new one."""
         self._typed = self._last = None
 
-    def evaluating(self, field: Field) -> None:
+    def evaluating(self, field: Field, prompt: Optional[Text]) -> None:
         self.show(f"#{field.id} {field.session}")
-        typed = Typed("> ", under("> ", harmless(field.input))[2:], self._size())
-        self._put(typed)
+        front = "> " if prompt is None else harmless(prompt)
+        self._put(Typed(front, behind(front, harmless(field.input)), self._size()))
 
     def show(self, text: str) -> None:
         if text:
@@ -174,7 +174,7 @@ class Terminal(Console):
 
     def answer(self, input: str, answer: Answer) -> None:
         prompt = harmless(answer.prompt)
-        text = under(prompt, harmless(input))[len(prompt) :]
+        text = behind(prompt, harmless(input))
         last = self._last
         if prompt.strip() and not (last and (last.prompt, last.text) == (prompt, text)):
             if self._take_off():
