@@ -53,7 +53,7 @@ module _ (room : ℕ) (before : Image) (found : List Op) (opened : HostView) (be
       let at = stands_after es os mid calls in
       let played = (meets.took at.0 at.2).played in
       let taken : take (length outcomes.items) group ≡ played.done =
-          ap (take (length outcomes.items)) played.split ∙ take_at played.done (meets.took at.0 at.2).rest (length outcomes.items) (runs_length at.0 played.done outcomes.items played.leads played.runs) in (
+      ap (take (length outcomes.items)) played.split ∙ take_at played.done (meets.took at.0 at.2).rest (length outcomes.items) (runs_length at.0 played.done outcomes.items played.leads played.runs) in (
         played.leads,
         subst (λ (l : List Event). Runs (world_at_opening found room opened.store.end) (es ++ l) (os ++ outcomes.items) played.leads) (sym taken)
             (runs_on (world_at_opening found room opened.store.end) es os at.0 played.done outcomes.items played.leads at.1 played.runs),
