@@ -106,6 +106,16 @@ def opened(path: str, folder: Optional[str] = None) -> Worksheet:
             time.sleep(PAUSE)
 
 
+def make(path: str) -> None:
+    """Makes the worksheet under another name first: a run that is killed meanwhile leaves none here, and not a file that doesn't open."""
+    fresh = path + ".new"
+    remove(fresh)
+    made = subprocess.run([find_program(), "create", os.path.join(".", fresh)], stdin=subprocess.DEVNULL, capture_output=True)
+    if made.returncode != 0:
+        raise Trouble(f"{path} can't be made: {made.stderr.decode('utf-8', 'backslashreplace').strip()}")
+    os.replace(fresh, path)
+
+
 def begin(path: str, suite: Suite) -> Kept:
     """A new run, in the place of an earlier one."""
     folder = os.path.dirname(path) or "."
@@ -117,9 +127,7 @@ def begin(path: str, suite: Suite) -> Kept:
     if os.path.lexists(path):
         opened(path).close()  # so that the worksheet of a run that goes on isn't taken away
     remove(path)
-    made = subprocess.run([find_program(), "create", os.path.join(".", path)], stdin=subprocess.DEVNULL, capture_output=True)
-    if made.returncode != 0:
-        raise Trouble(f"{path} can't be made: {made.stderr.decode('utf-8', 'backslashreplace').strip()}")
+    make(path)
     sheet = opened(path, suite.folder)
     try:
         return fill(sheet, suite)
