@@ -164,7 +164,7 @@ pub(crate) struct Came {
 /// What it came to, by whether the line was asked and its time wasn't over; by the clock's two readings; and by
 /// whether no interpreter was there.
 fn came_of(asked: bool, in_time: bool, begun: u64, ended: u64, started: bool) -> Came
-    ensures checked_count { result.is_there ≡ (asked && in_time) }
+    ensures answered { result.is_there ≡ (asked && in_time) }
     ensures took { result.took ≡ record { millis = ended - begun; started = started } }
 {
     Came {
