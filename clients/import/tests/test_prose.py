@@ -108,6 +108,22 @@ class Imports(Case):
         self.assertEqual(done.out, f"session prose plain true\nnew 0 prose {LINE_END.join(['# Title', '', '```julia', '1', '```'])}\n")
         self.assertIn("no fence is of a language or a session that is known, so all of it is prose. Fences: julia\n", done.errors)
 
+    def test_fences_that_are_taken_for_answers_are_told(self) -> None:
+        """A text of an author's own may have such fences, too, which are gone then."""
+        one, two = "```sh\na\nb\n```\n\n```\nx\n```\n", "\ntext\n\n```sh\nc\n```\n\n```\ny\n```\n"
+        after = ", and the code before each is one field. A fence with a word, as ```text, isn't taken\n"
+        for text, said in (
+            (one, "1 fence was taken for an answer of an export, the first in line 6: it is left out" + after),
+            (one + two, "2 fences were taken for answers of an export, the first in line 6: they are left out" + after),
+            (one + two.replace("```\ny\n```", "*no answer*"), "1 fence was taken for an answer of an export, the first in line 6: it is left out" + after),
+        ):
+            done = self.do("--script", "--format", "markdown", data=text)
+            self.assertEqual(done.status, 0, done.errors)
+            self.assertIn("tmhost-import: " + said, done.errors)
+        for text in (one + two.replace("```\ny", "```text\ny"), one.replace("```\nx\n```", "*no answer*"), one.replace("```\nx\n```", "$x$")):
+            done = self.do("--script", "--format", "markdown", data=text)
+            self.assertEqual((done.status, "taken for" in done.errors), (0, False), done.errors)
+
     def test_texts_in_markdown(self) -> None:
         for document, fields in MARKDOWN.items():
             with self.subTest(document):

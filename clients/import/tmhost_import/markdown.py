@@ -41,6 +41,15 @@ def without_answers(lines: list[str], first: int) -> list[str]:
     return kept
 
 
+def told_of(lines: list[int]) -> list[str]:
+    """What is told of fences that stand in these lines, from 1, and look like answers of an export: a text of an author's own may have such, too."""
+    if not lines:
+        return []
+    are = "fence was taken for an answer" if len(lines) == 1 else "fences were taken for answers"
+    left = "it is left out" if len(lines) == 1 else "they are left out"
+    return [f"{len(lines)} {are} of an export, the first in line {lines[0]}: {left}, and the code before each is one field. A fence with a word, as ```text, isn't taken"]
+
+
 class Reader:
     """Takes the fences of a text, and with prose the lines between them. What is no field stays in the text where it stands. Of a text for
     tmhost-weave the fences of its own sessions are code, and of those that are given. Of one whose code is in chunks (`{r, echo=FALSE}`), as
@@ -102,6 +111,7 @@ class Reader:
         if len(found) < len(ends) or not ends:
             return {}
         self.document.left_out["answers"] += len(found)
+        self.document.notes += told_of([block.end + 2 for block in self.blocks if block.end + 1 < found.get(block.begin, 0) and block.end + 1 in by_line])
         return found
 
     # ---- cells

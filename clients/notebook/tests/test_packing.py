@@ -80,7 +80,8 @@ class Packing(Case):
         self.fill().kill()
         self.assertEqual(self.run_command("pack", self.sheet, self.zip)[0], 0)
         for words, wanted in ((("pack", self.sheet, self.zip), "already"), (("pack", self.sheet + "x", self.zip + "x"), "No such file"),
-            (("unpack", self.adapter, self.theirs), "can't be unpacked"), (("unpack", self.zip, self.theirs + "x"), "No such file"),
+            (("unpack", self.adapter, self.theirs), "can't be unpacked"), (("unpack", self.zip, self.theirs + "x"), f"there is no folder {self.theirs}x\n"),
+            (("unpack", self.zip, self.adapter), f"there is no folder {self.adapter}\n"), (("pack", self.sheet, "none/x.zip"), "there is no folder none\n"),
             (("unpack", self.zip, self.mine), "already")):
             with self.subTest(words=words):
                 status, said = self.run_command(*words)

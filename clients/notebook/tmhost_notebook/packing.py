@@ -74,8 +74,14 @@ class Packed:
                 self.members["pictures/" + path] = os.path.join(folder, path)
 
 
+def need_folder(path: str) -> None:
+    if not os.path.isdir(path):
+        raise NotDone(f"there is no folder {path}")
+
+
 def pack(sheet: str, target: str, program: Optional[str]) -> List[str]:
     """Writes a worksheet as one file, also while it is open, and gives the names of what is in it. Raises NotDone."""
+    need_folder(os.path.dirname(target) or ".")
     if os.path.lexists(target):
         raise NotDone(f"there is a file {target} already")
     sheet = os.path.abspath(sheet)
@@ -136,6 +142,7 @@ def write(file: zipfile.ZipFile, member: str, path: str) -> None:
 
 def unpack(source: str, folder: str, program: Optional[str]) -> List[str]:
     """Makes the worksheet of a packed file in a folder, and gives what has to be said of it. Raises NotDone."""
+    need_folder(folder)
     folder = os.path.realpath(folder)
     try:
         with zipfile.ZipFile(source) as file:

@@ -207,10 +207,8 @@ class Weaving(Case):
 
     def test_a_text_without_code_of_a_session_is_told(self) -> None:
         """With what it has, since a session may have another name than its fences."""
-        quarto = "```{python}\nx\n```\n```{r, echo=FALSE}\ny\n```\n```{python}\nz\n```\n"
         for text, sessions, found in (
-            (quarto, "none, as `sessions: {py: [tmhost-python]}`", "{python} (2), {r, echo=FALSE} (1)"),
-            (self.front("py", "r") + quarto, "py, r", "{python} (2), {r, echo=FALSE} (1)"),
+            ("```python\nx\n```\n```r\ny\n```\n```python\nz\n```\n", "none, as `sessions: {py: [tmhost-python]}`", "python (2), r (1)"),
             (self.front("a") + "```\nx\n```\n", "a", "without a word (1)"),
             ("text\n", "none, as `sessions: {py: [tmhost-python]}`", "none"),
             (self.front("a") + "".join(f"```x{number}\n```\n" for number in range(9)), "a", "x0 (1), x1 (1), x2 (1), x3 (1), x4 (1), .."),
@@ -220,6 +218,36 @@ class Weaving(Case):
             self.assertEqual(self.run_weave(self.text), (0, "", said))
         self.assertEqual(self.weave(self.front("a") + "```a\nx\n```\n").count("tmhost-answer"), 1)
         self.assertEqual(self.run_weave(self.text).errors, "")
+
+    def test_chunks_and_fences_with_flags_of_no_session(self) -> None:
+        """They are meant to be evaluated, so each is reported with its line, and the status is 1; the others are woven as before."""
+        plain = "```json\n{}\n```\n\n```r\nx\n```\n\n```{.r .numberLines}\nx\n```\n\n```{r, eval=FALSE}\nx\n```\n\n```{r}\n#| eval: false\nx\n```\n\n````md\n```{r}\n```\n````\n\n"
+        self.weave(self.front("a") + plain + "```a\nx\n```\n")
+        self.assertEqual(self.run_weave("--check", self.text), (0, "", ""))
+        none = "no session is called {}, so this fence isn't evaluated"
+        for info, why in (
+            ("{r}", none.format("r")),
+            ("{r, echo=FALSE}", none.format("r")),
+            ("{python plot}", none.format("python")),
+            ("{\u00e9\u00e9}", none.format("\\xe9\\xe9")),
+            ("r {hide}", none.format("r")),
+            ("{.r .whole}", none.format("r")),
+            ("{#one .a .fold}", "no session is named here, so this fence isn't evaluated"),
+            ("{a}", "the chunk {a} isn't evaluated: a fence of the session begins with a or {.a}"),
+        ):
+            with self.subTest(info):
+                text = self.front("a") + "```a\nx\n```\n\n> ```" + info + "\n> y\n> ```\n"
+                woven = self.weave(text, 1)
+                said = f"{self.text}: line {woven[: woven.index('> ```')].count(chr(10)) + 1}: {why}\n"
+                self.assertEqual(woven, text.replace("x\n```\n", f"x\n```\n\n```tmhost-answer\n{value(['x'])}\n```\n"))
+                self.assertEqual(self.run_weave("--check", self.text), (1, "", said))
+                self.assertEqual(self.run_weave(self.text), (1, "", said))
+        self.write("```{r}\nx\n```\n\n```{python}\ny\n```\n")
+        for words in ([self.text], ["--check", self.text]):
+            done = self.run_weave(*words)
+            self.assertEqual((done.status, done.output), (1, ""))
+            self.assertEqual(done.errors.split("\n")[:2], [f"{self.text}: line 1: {none.format('r')}", f"{self.text}: line 5: {none.format('python')}"])
+            self.assertIn("Fences: {r} (1), {python} (1)", done.errors)
 
     def test_fences_that_are_not_to_be_evaluated(self) -> None:
         shown = "```a {eval=FALSE}\nx\n```\n\n```a\n#| eval: false\ny\n```\n\n```{.a eval=no}\nz\n```\n\n"
@@ -338,6 +366,21 @@ class Failures(Case):
         self.logged("a")
         self.weave(self.read())
         self.assertEqual(self.logged("a"), [])
+
+    def test_killed_within_a_fence(self) -> None:
+        """The fences that were answered whole are kept, and that one is evaluated again from its first line on."""
+        lines = ["one", "two", "three", f"until {self.place('end')}", "four"]
+        self.write(self.front("a") + fences([("a", "\n".join(lines[:2])), ("a", "\n".join(lines[2:]))]))
+        with subprocess.Popen(command_words(self.text), env=environment(), stderr=subprocess.DEVNULL) as weave:
+            while not os.path.exists(self.place("a.log")) or lines[3] not in self.read(self.place("a.log")):
+                time.sleep(0.02)
+            weave.kill()
+        self.assertEqual([field["state"] for field in self.fields()][:3], ["answered"] * 3)
+        self.write("", self.place("end"))
+        self.logged("a")
+        self.assertEqual(self.run_weave(), (0, "", f"{self.text}: a: 2 fields kept, 3 stale, 2 replayed\n"))
+        self.assertEqual(self.logged("a"), lines)
+        self.assertEqual(answers(self.read()), expected(lines))
 
     def test_in_use(self) -> None:
         """A worksheet that another program has for a moment is waited for."""

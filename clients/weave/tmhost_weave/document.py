@@ -15,6 +15,7 @@ BARE_WORD = re.compile(r"[A-Za-z][A-Za-z-]*")
 TAB = 4  # columns
 HIDE, FOLD, PURE, WHOLE = "hide", "fold", "pure", "whole"
 FLAGS = (HIDE, FOLD, PURE, WHOLE)
+LONGEST_NAME = 40  # characters of what isn't a session's, in a message
 
 
 @dataclasses.dataclass
@@ -58,6 +59,17 @@ def named_in(block: Block, sessions: Sessions) -> Optional[Tuple[str, FrozenSet[
     return info.name, info.flags(FLAGS)
 
 
+def why_unevaluated(block: Block, sessions: Sessions) -> Optional[str]:
+    """Why a fence that is no session's isn't evaluated, where its form says that it is meant to be: a chunk (`{r}`), or one with a flag."""
+    info = block.info
+    if not block.is_evaluated or not (info.is_chunk or info.flags(FLAGS)):
+        return None
+    name = ascii(info.name[:LONGEST_NAME])[1:-1]
+    if info.name in sessions:
+        return f"the chunk {{{name}}} isn't evaluated: a fence of the session begins with {name} or {{.{name}}}"
+    return f"no session is called {name}, so this fence isn't evaluated" if name else "no session is named here, so this fence isn't evaluated"
+
+
 class Document:
     def __init__(self, text: str) -> None:
         self.lines: List[str] = LINE.findall(text)
@@ -67,6 +79,7 @@ class Document:
         self.fences: List[Fence] = []
         self.strays: List[int] = []  # lines, from 1, at which an answer begins that belongs to no fence
         self.others: Counter[str] = collections.Counter()  # fences of no session, by what stands at them
+        self.unevaluated: List[Tuple[int, str]] = []  # those of them that are meant to be evaluated: the line, from 1, and why they aren't
         self._read(contents[front.lines :], front.lines)
 
     def _read(self, body: List[str], first: int) -> None:
@@ -87,6 +100,8 @@ class Document:
                 self.strays.append(block.begin + 1)
             else:
                 self.others[block.info_text] += 1
+                why = why_unevaluated(block, self.sessions)
+                self.unevaluated += [(block.begin + 1, why)] if why else []
 
     def _fence(self, block: Block, named: Tuple[str, FrozenSet[str]], finder: Finder, first: int) -> Fence:
         if not block.is_closed:

@@ -15,7 +15,8 @@ NOTES = """
 The front matter of TEXT names the sessions, as `sessions: {py: [tmhost-python]}`. Behind the session of a fence may
 stand {whole}, {pure}, {hide} and {fold}. The answers are kept in the worksheet beside TEXT, whose name ends in .sheet.
 The program is the one that TMHOST names, or tmhost on PATH. The status is 0 where all fields are answered, 1 where one
-isn't, where --check says that something would change, or where something went wrong, and 2 where the words are refused.
+isn't, where a fence such as {r} or r {hide} is that of no session, where --check says that something would change, or
+where something went wrong, and 2 where the words are refused.
 """
 INTERRUPTED = 130
 

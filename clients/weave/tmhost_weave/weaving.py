@@ -75,6 +75,8 @@ class Weave:
         self.pictures = Pictures(self.target or self.path)
         for line in self.document.strays:
             self.say(f"line {line}: an answer that is behind no fence of a session stays as text")
+        for line, why in self.document.unevaluated:
+            self.say(f"line {line}: {why}")
         if not self.document.fences:
             self.say(why_nothing(self.document))
 
@@ -155,16 +157,16 @@ class Weave:
     # ---- what is asked for
 
     def weave(self, seconds: Optional[float]) -> bool:
-        """Whether all is answered."""
+        """Whether all is answered that is meant to be evaluated."""
         plan = self.evaluated(seconds)
         self.write(self.woven(plan))
         failures = [wanted for wanted in plan.wanted if wanted.failure]
         for wanted in failures:
             self.say(f"line {wanted.line}: {wanted.fence.session}: {wanted.failure}")
-        return not failures
+        return not failures and not self.document.unevaluated
 
     def check(self) -> bool:
-        """Whether nothing would change; says what would."""
+        """Whether all is answered that is meant to be evaluated, and nothing would change; says what would."""
         plan = self.as_it_is()
         for name in plan.words:
             stale = plan.stale(name)
@@ -180,4 +182,4 @@ class Weave:
             print(f"{self.name}: nothing would be evaluated, and the text would change from line {first_other_line(old, woven)} on")
         for name in self.pictures.missing():
             print(f"{self.name}: the picture {name} isn't there")
-        return woven == old and not self.pictures.missing()
+        return woven == old and not self.pictures.missing() and not self.document.unevaluated
