@@ -15,7 +15,8 @@ enum { LONGEST = 1 << 24, DEEPEST = 32, NAME = 64, BUFFER = 1 << 16 };
 static const byte *input, *end;
 static byte *buffer, *out;                     // what is to be written, and its end
 static uint32_t escapes[256], numbers[10000];  // `\x09` of 9; `0042` of 42
-static uint32_t pairs[256];                    // what a 27 in front of this byte is written as, or both are
+static uint32_t pairs[256];                    // of a byte after a 27: what stands for the 27, or for both
+static byte lengths[256];                      // of a byte after a 27: how long that is, with the byte where it is text
 static byte kinds[256];                        // in a body: 0 of a byte of text, 1 of a control byte of text, itself of 2, 5 and 27
 
 static void flush(void) {
@@ -128,7 +129,7 @@ static const byte *put_block(const byte *start) {
                 for (; *at == 27 && at < last; at += 2) {
                     memcpy(to, &pairs[at[1]], 4);
                     to[4] = at[1];
-                    to += 4 + (kinds[at[1]] == 0);
+                    to += lengths[at[1]];
                     if (kinds[at[1]] == 1) {
                         at++;
                         break;
@@ -174,7 +175,7 @@ int main(void) {
         kinds[c] = c == 2 || c == 5 || c == 27 ? c : c < 32 || c == 127;
     }
     for (int c = 0; c < 256; c++)
-        pairs[c] = escapes[kinds[c] > 1 ? c : 27];
+        pairs[c] = escapes[kinds[c] > 1 ? c : 27], lengths[c] = kinds[c] == 0 ? 5 : 4;
     for (int n = 0; n < 10000; n++) {
         byte digits[4] = {'0' + n / 1000, '0' + n / 100 % 10, '0' + n / 10 % 10, '0' + n % 10};
         memcpy(&numbers[n], digits, 4);
