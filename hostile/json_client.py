@@ -7,7 +7,7 @@ from typing import Any, NamedTuple, Optional
 from area import Sheet
 from json_blocks import completions_in
 from json_plays import Play
-from json_words import Object, block_of, bytes_of
+from json_words import Object, block_of, bytes_of, prompt_or_none
 from model import Difference
 
 # What an object may say of a line of each form, beside that it is refused or bad.
@@ -45,6 +45,8 @@ class Client:
         self.last: Object = {}
         # The life whose default input must be reported next, and that.
         self.due: Optional[tuple[int, bytes]] = None
+        # Lives that have no next prompt, whose end is reported before anything about a line.
+        self.over: set[int] = set()
         self.lives: dict[bytes, Life] = {}
         self.inputs = {id: field[1] for id, field in sheet.fields.items()}
         self.owners = {id: field[0] for id, field in sheet.fields.items()}
@@ -65,6 +67,7 @@ class Client:
         self.must((kind == "default") == (self.due is not None), it, f"the default input {self.due}")
         self.must((kind == "hello") == (not self.last) or (kind == "fault" and not self.last), it, "`hello` isn't first, or not alone")
         line = b""
+        self.must(not self.over or kind in (*EVENTS, "fault"), it, f"the lives {self.over} have no next prompt, and go on")
         if "line" in it:
             line = self.take_reply(it, kind)
         elif kind in EVENTS:
@@ -133,6 +136,7 @@ class Client:
     def end_life(self, it: Object) -> Life:
         """The life of an object that says how it ended."""
         life = self.lives.pop(it["session"].encode(), Life(0, b""))
+        self.over.discard(life.number)
         self.must(it["life"] == life.number and it["lost"] == [item.lost() for item in life.waiting], it, f"life {life.number} with {life.waiting}")
         if life.waiting and life.waiting[0].cursor is None:
             # Whether the field keeps the reason isn't reported where the same event may have answered an item.
@@ -213,3 +217,7 @@ class Client:
         self.due = None if told.default is None else (life.number, told.default)
         life.at += 1
         life.prompt = life.prompt if told.prompt is None else told.prompt
+        if kind != "completed":
+            following = prompt_or_none(it["next"])
+            self.must(following in (life.prompt, None), it, f"the next prompt is {life.prompt!r}")
+            self.over |= {life.number} if following is None else set()

@@ -2,7 +2,7 @@
 
 import base64
 import json
-from typing import Any, Callable, NoReturn
+from typing import Any, Callable, NoReturn, Optional
 
 from json_blocks import MOST_DEPTH, MOST_PROMPT, Block, Item, escaped, printed, quoted, read, shown
 from model import Difference
@@ -240,15 +240,22 @@ def interrupted(it: Object, line: bytes) -> bytes:
     return words[outcome] + name + b"\n"
 
 
+def prompt_or_none(it: Any) -> Optional[bytes]:
+    """The prompt of the next line, and nothing where the interpreter has ended meanwhile."""
+    return None if it is None else bytes_of(it)
+
+
 def banner(it: Object, _: bytes) -> bytes:
-    _life, session, output, as_shown = members(it, "life", "session", "output", "shown")
+    _life, session, following, output, as_shown = members(it, "life", "session", "next", "output", "shown")
     output_of(output, as_shown)
+    prompt_or_none(following)
     return b"banner %s\n" % text_of(session)
 
 
 def answered(it: Object, _: bytes) -> bytes:
-    _life, _session, id, output, prompt, as_shown = members(it, "life", "session", "id", "output", "prompt", "shown")
+    _life, _session, id, following, output, prompt, as_shown = members(it, "life", "session", "id", "next", "output", "prompt", "shown")
     output_of(output, as_shown)
+    prompt_or_none(following)
     bytes_of(prompt)
     return b"answered %d\n" % number_of(id)
 

@@ -1,6 +1,7 @@
 // What stands above and below the cells: the worksheet, its sessions, what is wrong.
 
 import { button, byId, make, visible } from "./dom.js";
+import { ask } from "./talk.js";
 
 /** @typedef {import("./types").Message} Message */
 /** @typedef {import("./types").Session} Session */
@@ -96,8 +97,7 @@ export function note(text) {
 /** @param {import("./types").Removed[]} removed */
 export function showRemoved(removed) {
   const opener = byId("removed", HTMLButtonElement);
-  opener.hidden = removed.length === 0;
-  opener.textContent = `Removed (${removed.length})`;
+  opener.textContent = removed.length === 0 ? "Removed" : `Removed (${removed.length})`;
   byId("removed-list", HTMLUListElement).replaceChildren(...[...removed].reverse().map((one) => {
     const item = make("li");
     const back = button("restore", "Bring back", `Bring back: ${visible(one.input)}`);
@@ -105,4 +105,13 @@ export function showRemoved(removed) {
     item.append(make("code", "", visible(one.input) || "(empty)"), " ", make("span", "", one.session), " ", back);
     return item;
   }));
+}
+
+/** Shows the list of removed cells, and has those looked for that were removed before the server was started. */
+export async function openRemoved() {
+  const says = byId("removed-says", HTMLElement);
+  byId("removed-dialog", HTMLDialogElement).showModal();
+  says.textContent = "What was removed before is looked for.";
+  const told = await ask("past_removed");
+  says.textContent = told.refused ? `What was removed before isn't here: ${visible(told.says ?? told.refused)}` : told.warning ?? "";
 }

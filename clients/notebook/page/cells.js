@@ -10,6 +10,16 @@ import { toolbarOf } from "./toolbar.js";
 /** @typedef {import("./types").Message} Message */
 
 const AT_ONCE = 200; // new cells that get their parts before they are in the page
+const TOLD_WITHIN = 5_000; // milliseconds until the page is told of what was done
+
+/**
+ * Waits until a cell has come or gone.
+ * @type {(waiting: Map<number, (() => void)[]>, id: number) => Promise<void>}
+ */
+const told = (waiting, id) => new Promise((done) => {
+  waiting.set(id, [...(waiting.get(id) ?? []), done]);
+  setTimeout(done, TOLD_WITHIN);
+});
 
 export class Cells {
   /** @param {import("./cell").Page} page */
@@ -27,6 +37,8 @@ export class Cells {
     this.choice = new Choice(this);
     /** @type {Map<number, (() => void)[]>} */
     this.awaited = new Map();
+    /** @type {Map<number, (() => void)[]>} */
+    this.leaving = new Map();
   }
 
   // ---- what the server tells
@@ -70,6 +82,12 @@ export class Cells {
   /** All cells get their parts, as for what the browser looks through. */
   growAll() {
     for (const view of this.views.values()) view.grow();
+  }
+
+  /** All texts are in colours, as for paper, where no page ends within a text area. */
+  paintAll() {
+    this.growAll();
+    for (const view of this.views.values()) if (!view.isProse || view.box.classList.contains("editing")) view.paint();
   }
 
   /**
@@ -120,6 +138,8 @@ export class Cells {
     if (view.isDraft) this.page.note(`cell ${id} was removed in another page; what was not saved of it: ${view.value}`);
     view.box.remove();
     this.views.delete(id);
+    this.leaving.get(id)?.forEach((done) => done());
+    this.leaving.delete(id);
     if (this.selected === view) this.selected = undefined;
     return hadFocus;
   }
@@ -199,15 +219,16 @@ export class Cells {
    */
   async whenThere(id) {
     if (id === undefined) return undefined;
-    if (!this.views.has(id)) {
-      /** @type {Promise<void>} */
-      const there = new Promise((done) => {
-        this.awaited.set(id, [...(this.awaited.get(id) ?? []), done]);
-        setTimeout(done, 5_000);
-      });
-      await there;
-    }
+    if (!this.views.has(id)) await told(this.awaited, id);
     return this.views.get(id);
+  }
+
+  /**
+   * Waits until these cells are in the page no more: a key that is for the selected cell isn't for one of them then.
+   * @param {number[]} ids
+   */
+  async whenGone(ids) {
+    await Promise.all(ids.filter((id) => this.views.has(id)).map((id) => told(this.leaving, id)));
   }
 
   /** @type {() => CellView[]} */

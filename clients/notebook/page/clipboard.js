@@ -38,18 +38,20 @@ function copiedOf(cell) {
 export class Clipboard {
   /**
    * @param {() => CellView[]} chosen
+   * @param {() => boolean} mayCut
    * @param {(views: CellView[]) => void} cut
    * @param {(cells: Copied[]) => void} paste
    */
-  constructor(chosen, cut, paste) {
+  constructor(chosen, mayCut, cut, paste) {
     this.chosen = chosen;
+    this.mayCut = mayCut;
     this.cut = cut;
     this.paste = paste;
     this.isAsked = false; // by a key of the page, which is for cells whatever is chosen in an answer
     /** @type {Copied[]} */
     this.own = []; // where the browser keeps nothing for the page
     document.addEventListener("copy", (event) => this.take(event));
-    document.addEventListener("cut", (event) => this.take(event) && this.cut(this.chosen()));
+    document.addEventListener("cut", (event) => this.take(event, true) && this.cut(this.chosen()));
     document.addEventListener("paste", (event) => this.give(event));
   }
 
@@ -82,11 +84,12 @@ export class Clipboard {
 
   /**
    * Puts the chosen cells on the clipboard; true where the event was for cells.
-   * @type {(event: ClipboardEvent) => boolean}
+   * @type {(event: ClipboardEvent, isCut?: boolean) => boolean}
    */
-  take(event) {
+  take(event, isCut = false) {
     const isForText = isInText(event) || getSelection()?.isCollapsed === false;
     if ((isForText && !this.isAsked) || !event.clipboardData || this.chosen().length === 0) return false;
+    if (isCut && !this.mayCut()) return false;
     const cells = this.keep();
     this.isAsked = false;
     event.clipboardData.setData("text/plain", cells.map(({ text }) => text).join("\n\n"));

@@ -100,3 +100,83 @@ export function wordsOfKatex(tex) {
   if ([...words].some(([, name]) => DEFINING.has(name))) return null;
   return plain.replace(WORD, (word, name) => KNOWN_AS.get(name) ?? word);
 }
+
+// ---- long sums
+
+export const LONG = 5_000; // characters of a formula that is set in one piece
+
+const TOKEN = /\\(?:[A-Za-z]+|[^]?)|[^]/gu;
+const BLANK = new Set([" ", "\t", "\n", "~", "\\,", "\\:", "\\;", "\\>", "\\!", "\\ ", "\\quad", "\\qquad"]);
+const OPENING = new Set(["(", "[", "\\{"]);
+const CLOSING = new Set([")", "]", "\\}"]);
+
+// A sign behind one of these is that of a number.
+const OPERATORS = new Set([..."=<>*/,:;", ...("cdot times div pm mp ast star circ bullet wedge vee cap cup oplus otimes le leq ge geq ne neq lt gt in ni notin subset supset to "
+  + "rightarrow leftarrow Rightarrow mapsto equiv sim simeq approx cong propto mid ll gg sum prod int oint lim max min sup inf det gcd sin cos tan cot sec csc sinh cosh tanh coth "
+  + "arcsin arccos arctan exp log ln lg arg deg dim hom ker Pr kern mkern hskip mskip limits nolimits not").split(" ").map((name) => `\\${name}`)]);
+
+// These are about all that stands before or behind them.
+const OF_THE_WHOLE = new Set(["&", "\\\\", ...("over atop above choose brace brack color tag label verb char cr newline rm bf it sf tt cal mit textstyle scriptstyle scriptscriptstyle tiny small "
+  + "normalsize large Large LARGE huge Huge").split(" ").map((name) => `\\${name}`)]);
+
+/** @type {[string, string][]} */
+const PAIRS = [["{", "}"], ["\\left", "\\right"], ["\\begin", "\\end"]];
+const ENDS = new Map(PAIRS);
+const BEGINS = new Map(PAIRS.map(([begin, end]) => [end, begin]));
+
+/**
+ * The places behind the signs between terms, outside of braces, fences and environments, and in how many brackets each is. null where one of those has
+ * no end, or no beginning, and where a word is about the whole.
+ * @type {(tex: string) => {at: number, brackets: number}[] | null}
+ */
+function signsOf(tex) {
+  /** @type {{at: number, brackets: number}[]} */
+  const signs = [];
+  /** @type {string[]} */
+  const open = [];
+  let brackets = 0, isBehindTerm = false, isScript = false, isFence = false;
+  for (const { 0: token, index } of tex.matchAll(TOKEN)) {
+    if (BLANK.has(token)) continue;
+    if (token === "%" || (open.length === 0 && OF_THE_WHOLE.has(token))) return null;
+    const begin = BEGINS.get(token);
+    /** @type {boolean} */
+    const isTaken = isFence || isScript;
+    if (!isFence && begin !== undefined && open.pop() !== begin) return null;
+    if (!isFence && ENDS.has(token)) open.push(token);
+    if (open.length === 0 && !isTaken) {
+      if (OPENING.has(token)) brackets += 1;
+      else if (CLOSING.has(token)) brackets = Math.max(0, brackets - 1);
+      else if ((token === "+" || token === "-") && isBehindTerm) signs.push({ at: (index ?? 0) + 1, brackets });
+    }
+    isFence = token === "\\left" || token === "\\right" || token === "\\middle";
+    isScript = !isTaken && (token === "^" || token === "_");
+    isBehindTerm = isTaken || !(isScript || token === "+" || token === "-" || OPENING.has(token) || OPERATORS.has(token) || ENDS.has(token));
+  }
+  return open.length === 0 ? signs : null;
+}
+
+/**
+ * A formula in pieces that are set one behind the other, each but the last with the sign at its end: so a line ends where it would end anyway, between
+ * two terms. A piece ends at the first sign behind so many characters, `least`. One piece where it is no long formula; null where there is no sign for that.
+ * @type {(tex: string, isDisplay: boolean, least: number) => string[] | null}
+ */
+export function piecesOf(tex, isDisplay, least) {
+  if (tex.length <= LONG) return [tex];
+  const rest = tex.replace(/^(?:\s|\\displaystyle(?![A-Za-z]))+/, "");
+  const signs = signsOf(rest), front = isDisplay || rest.length < tex.trimStart().length ? "\\displaystyle " : "";
+  if (!signs) return null;
+  /** @type {string[]} */
+  const pieces = [];
+  let start = 0, last = 0;
+  const end = (/** @type {number} */ at) => {
+    pieces.push(`${front}${rest.slice(start, at)}${at < rest.length ? "{}" : ""}`);
+    start = at;
+  };
+  for (const { at, brackets } of [...signs, { at: rest.length, brackets: 0 }]) {
+    if (at - start > LONG && last > start) end(last); // within the brackets of a long term
+    if (at - start > LONG) return null;
+    if (at === rest.length || (brackets === 0 && at - start >= least)) end(at);
+    last = at;
+  }
+  return pieces;
+}

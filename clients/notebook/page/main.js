@@ -113,7 +113,7 @@ const DOES = {
     return askSession();
   },
   showKeys,
-  showRemoved: () => byId("removed-dialog", HTMLDialogElement).showModal(),
+  showRemoved: () => bars.openRemoved(),
   showEarlier: () => earlier.open(),
   showExport: async () => {
     if (await actions.saveIdle()) byId("export-dialog", HTMLDialogElement).showModal();
@@ -276,7 +276,7 @@ cells.place.addEventListener("change", (event) => {
 document.addEventListener("visibilitychange", () => document.hidden && saveAll());
 
 // What the browser prints and looks through is all there.
-addEventListener("beforeprint", () => cells.growAll());
+addEventListener("beforeprint", () => cells.paintAll());
 document.addEventListener("keydown", ({ key, ctrlKey, metaKey }) => (ctrlKey || metaKey) && key === "f" && cells.growAll(), true);
 
 addEventListener("beforeunload", (event) => {

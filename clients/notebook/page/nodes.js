@@ -7,6 +7,7 @@ const MATHML = "http://www.w3.org/1998/Math/MathML";
 const SVG = "http://www.w3.org/2000/svg";
 const DEEPEST = 200;
 const MOST_NODES = 20_000;
+const MOST_LONG_NODES = 150_000; // of a long sum
 
 /** @type {(form: RegExp) => Form} */
 const like = (form) => (value) => form.test(value);
@@ -89,16 +90,16 @@ function elementOf(name, attributes) {
 
 /**
  * The nodes of trees.
- * @type {(trees: Tree[]) => DocumentFragment}
+ * @type {(trees: Tree[], isLong?: boolean) => DocumentFragment}
  */
-export function nodesOf(trees) {
+export function nodesOf(trees, isLong = false) {
   let count = 0;
   /** @type {(into: Node, children: Tree[], depth: number) => void} */
   const fill = (into, children, depth) => {
     if (depth > DEEPEST) throw new NotAllowed("too deep");
     for (const child of children) {
       count += 1;
-      if (count > MOST_NODES) throw new NotAllowed("too much");
+      if (count > (isLong ? MOST_LONG_NODES : MOST_NODES)) throw new NotAllowed("too much");
       if (typeof child === "string") {
         into.appendChild(document.createTextNode(child));
       } else {

@@ -3,20 +3,47 @@
 import { ask } from "./talk.js";
 import { button, make, visible } from "./dom.js";
 import { errorOf, markError } from "./errors.js";
+import { LONG, partsOf, piecesOf } from "./latex.js";
 import { setInto } from "./setter.js";
 
 /** @typedef {import("./types").Output} Output */
 /** @typedef {import("./types").Part} Part */
 
+const LONGEST = 50_000; // characters of a formula that the server tells as one
+const MOST_LONG = 1_000_000; // characters of all long formulas that are set in the page at once
+
 /** @type {(number: number) => string} */
 const grouped = (number) => number.toLocaleString("en");
 
-/** @type {(tex: string) => HTMLElement} */
-function formulaOf(tex) {
+/**
+ * A formula, as its source until it is set; of a long one it is told why it isn't.
+ * @type {(tex: string, tell: (why: string) => void) => HTMLElement}
+ */
+function formulaOf(tex, tell) {
   const place = make("span", "formula", visible(tex));
   place.dataset.tex = tex;
-  setInto(place, "tex", tex);
+  if (tex.length <= LONG) setInto(place, "tex", tex);
+  else setInto(place, "tex", tex, () => hasRoomFor(tex)).then((isOver) => longIsOver(place, tex, isOver, tell));
   return place;
+}
+
+/** @type {(tex: string) => boolean} */
+function hasRoomFor(tex) {
+  const set = /** @type {HTMLElement[]} */ ([...document.querySelectorAll(".formula[role=math]")]);
+  return set.reduce((sum, { dataset }) => sum + (dataset.tex?.length ?? 0), tex.length) <= MOST_LONG;
+}
+
+/** @type {(place: HTMLElement, tex: string, isOver: boolean, tell: (why: string) => void) => void} */
+function longIsOver(place, tex, isOver, tell) {
+  if (place.classList.contains("set")) {
+    place.setAttribute("role", "math");
+    place.setAttribute("aria-label", visible(tex));
+    return;
+  }
+  const parts = partsOf(tex), canBreak = parts?.every((part) => part.kind === "words" || piecesOf(part.tex, true, 0));
+  const why = !parts ? "it is no text with formulas" : !canBreak ? "it has no signs between terms at which it could be broken"
+    : !isOver ? "to set it takes too long" : hasRoomFor(tex) ? "it can't be set" : "more would hold the page up";
+  tell(`A formula of ${grouped(tex.length)} characters is shown as text: ${why}.`);
 }
 
 /**
@@ -69,11 +96,11 @@ export function showPicture(button) {
   /** @type {HTMLElement | null} */ (place.querySelector("button"))?.focus(); // the one that had it is gone
 }
 
-/** @type {(part: Part) => Node | string} */
-function nodeOf(part) {
+/** @type {(part: Part, tell?: (why: string) => void) => Node | string} */
+function nodeOf(part, tell = () => undefined) {
   if (isPicture(part)) return pictureOf(part);
   if (part.error !== undefined) return errorOf(part.error);
-  return part.tex === undefined ? visible(part.text ?? "") : formulaOf(part.tex);
+  return part.tex === undefined ? visible(part.text ?? "") : formulaOf(part.tex, tell);
 }
 
 /**
@@ -97,8 +124,9 @@ export function savePicture(button, name) {
  * @type {(shown: Output) => string}
  */
 function whyNotSet({ parts, isCut, unset }) {
+  if (unset > LONGEST) return `A formula of ${grouped(unset)} characters is shown as text: at most ${grouped(LONGEST)} are set, since more would hold the page up.`;
   if (isCut && (unset || parts.some(({ tex }) => tex !== undefined))) return "Formulas in so long an answer are shown as text.";
-  return unset ? `A formula of ${grouped(unset)} characters is shown as text: at most 5,000 are set.` : "";
+  return unset ? `A formula of ${grouped(unset)} characters is shown as text: the long ones of an answer may have ${grouped(LONGEST)}.` : "";
 }
 
 /** What each answer is shown in. */
@@ -151,13 +179,30 @@ export class OutputView {
     this.box.hidden = !shown || shown.length === 0;
     if (!shown) return;
     if (this.isText || shown.isCut) this.body.append(visible(shown.text));
-    else this.body.append(...shown.parts.map(nodeOf));
+    else this.body.append(...this.nodesOf(shown));
     this.end = [...shown.text].length;
     const why = this.isText ? "" : whyNotSet(shown);
-    if (why) this.body.before(this.why = make("p", "more", why));
-    if (!shown.isCut) return;
+    if (why) this.tell(why);
+    if (!shown.isCut && !(this.isText && this.end < shown.length)) return;
     this.offerMore();
     if (!this.isText) this.appendPictures(shown);
+  }
+
+  /** @param {Output} shown */
+  nodesOf(shown) {
+    const tell = (/** @type {string} */ why) => {
+      if (this.shown === shown && !this.isText) this.tell(why);
+    };
+    return shown.parts.map((part) => nodeOf(part, tell));
+  }
+
+  /**
+   * Says why a formula is shown as text.
+   * @param {string} why
+   */
+  tell(why) {
+    this.why?.remove();
+    this.body.before(this.why = make("p", "more", why));
   }
 
   /**
@@ -166,7 +211,7 @@ export class OutputView {
    */
   appendPictures(shown) {
     this.pictures = make("div", "pictures");
-    this.pictures.append(...shown.parts.filter(isPicture).map(nodeOf));
+    this.pictures.append(...shown.parts.filter(isPicture).map((part) => nodeOf(part)));
     this.box.append(this.pictures);
   }
 

@@ -1,14 +1,15 @@
 // Sets formulas and Markdown, away from the page: what takes too long is ended without the page standing still. It tells trees, of which the
 // page makes nodes by its own list.
 
-import { partsOf, wordsOfKatex } from "./latex.js";
+import { LONG, partsOf, piecesOf, wordsOfKatex } from "./latex.js";
 import { linkElsewhere, readerOf } from "./markdown.js";
 
 /** @typedef {import("./types").Tree} Tree */
 /** @typedef {{number: number, kind: "tex" | "markdown", text: string}} Job */
 
-const OPTIONS = { throwOnError: true, trust: false, strict: "ignore", maxSize: 20, maxExpand: 500 };
+const OPTIONS = { throwOnError: true, trust: false, strict: "ignore", maxSize: 20, maxExpand: 20_000 }; // of its own words: `\\,` takes several
 const LONGEST_PROSE = 100_000;
+const PIECE = 1_000; // characters of a long formula that are set at once
 const HEADINGS_DOWN = 2; // the page has a heading, and each of its cells
 
 // Both are scripts that put themselves onto `self`; where they aren't installed the server gives empty ones.
@@ -62,12 +63,19 @@ function symbolOf(node) {
   return ["span", { ...classOf(node.classes), ...stylesOf(node.style), ...slant }, [node.text]];
 }
 
-/** @type {(tex: string, displayMode: boolean) => Tree[]} */
+/**
+ * Of a long formula each piece is set without what is for readers of screens, which would double it: the page says its source there.
+ * @type {(tex: string, displayMode: boolean) => Tree[]}
+ */
 function formula(tex, displayMode) {
-  const words = wordsOfKatex(tex);
-  if (words === null || !here.katex) throw new Error("it can't be set");
-  const macros = { "\\pmatrix": "\\begin{pmatrix}#1\\end{pmatrix}" }; // as gp writes it; anew each time, since KaTeX may change it
-  return treesOf(here.katex.__renderToDomTree(words, { ...OPTIONS, displayMode, macros }));
+  const words = wordsOfKatex(tex), pieces = words === null ? null : piecesOf(words, displayMode, PIECE);
+  if (words === null || !pieces || !here.katex) throw new Error("it can't be set");
+  const isLong = words.length > LONG;
+  const options = { ...OPTIONS, displayMode: displayMode && !isLong, output: isLong ? "html" : "htmlAndMathml" };
+  return pieces.flatMap((piece) => {
+    const macros = { "\\pmatrix": "\\begin{pmatrix}#1\\end{pmatrix}" }; // as gp writes it; anew each time, since KaTeX may change it
+    return treesOf(here.katex.__renderToDomTree(piece, { ...options, macros }));
+  });
 }
 
 /** @type {(text: string) => Tree[] | null} */

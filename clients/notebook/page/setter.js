@@ -1,5 +1,6 @@
 // Has formulas and Markdown set by workers, within a limit of time for each.
 
+import { LONG } from "./latex.js";
 import { NotAllowed, nodesOf } from "./nodes.js";
 
 /** @typedef {import("./types").Tree} Tree */
@@ -106,7 +107,7 @@ function treesOf(kind, text) {
   count += 1;
   const number = count;
   const trees = /** @type {Promise<Found>} */ (new Promise((done) => first.add({ number, kind, text, done })));
-  known.set(key, trees);
+  if (kind !== "tex" || text.length <= LONG) known.set(key, trees); // those of a long sum take megabytes
   return trees;
 }
 
@@ -118,7 +119,7 @@ export async function setInto(place, kind, text, isWanted = () => true) {
   const trees = await treesOf(kind, text);
   if (!trees || !isWanted()) return trees !== undefined;
   try {
-    place.replaceChildren(nodesOf(trees));
+    place.replaceChildren(nodesOf(trees, kind === "tex" && text.length > LONG));
     place.classList.add("set");
   } catch (error) {
     if (!(error instanceof NotAllowed)) throw error;

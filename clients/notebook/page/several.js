@@ -12,7 +12,7 @@ export class Several {
   constructor(actions) {
     this.actions = actions;
     this.cells = actions.cells;
-    this.clipboard = new Clipboard(() => this.cells.choice.views, () => this.remove("cut"), (copied) => this.paste(copied));
+    this.clipboard = new Clipboard(() => this.cells.choice.views, () => this.mayCut(), () => this.remove("cut"), (copied) => this.paste(copied));
   }
 
   /**
@@ -34,9 +34,18 @@ export class Several {
       for (const view of views) if (!(await actions.isSaved(view))) return false;
       const told = await actions.ask("step", { what, new: [], set: [], move: [], remove: [], ...change() });
       if (told.refused) return false;
-      await this.select(told.ids ?? []);
+      await this.follow(told);
       return cells.selected !== undefined;
     });
+  }
+
+  /**
+   * Waits until the page shows what came of a step, so that the next key finds it, and selects that.
+   * @param {import("./types").Reply} told
+   */
+  async follow({ ids = [], gone = [] }) {
+    await this.cells.whenGone(gone);
+    await this.select(ids);
   }
 
   /**
@@ -61,8 +70,16 @@ export class Several {
   }
 
   cut() {
+    if (!this.mayCut()) return Promise.resolve(false);
     this.clipboard.copy();
     return this.remove("cut");
+  }
+
+  /** Where a cell can't go the clipboard keeps what it has. */
+  mayCut() {
+    const waiting = this.cells.choice.views.find((view) => view.waits);
+    if (waiting) this.actions.note(`cell ${waiting.id} waits for its answer, so nothing is done`);
+    return waiting === undefined;
   }
 
   copy() {
@@ -188,7 +205,7 @@ export class Several {
     return this.actions.held.during(async () => {
       const told = await this.actions.ask("undo", { isBack });
       if (told.refused) return false;
-      await this.select(told.ids ?? []);
+      await this.follow(told);
       this.actions.note(told.says ?? "");
       return this.cells.selected !== undefined;
     });

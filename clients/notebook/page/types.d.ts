@@ -98,6 +98,7 @@ export interface Reply {
   isDraft?: boolean;
   id?: number;
   ids?: number[];
+  gone?: number[];
   count?: number;
   lost?: number;
   outcome?: string;

@@ -7,7 +7,7 @@ import path from "node:path";
 import { test } from "node:test";
 import { fileURLToPath } from "node:url";
 
-import { partsOf, wordsOfKatex } from "../page/latex.js";
+import { partsOf, piecesOf, wordsOfKatex } from "../page/latex.js";
 
 const require = createRequire(import.meta.url);
 const typeset = path.join(path.dirname(fileURLToPath(import.meta.url)), "..", "..", "typeset");
@@ -55,6 +55,22 @@ test("formulas as interpreters wrote them", () => {
     assert.notEqual(partsOf(text), null, text);
     assert.deepEqual(partsOf(text), theirs.partsOf(text));
   }
+});
+
+test("pieces of a long sum, as typeset has them", () => {
+  let broken = 0, whole = 0;
+  const all = [...texts(20_000)];
+  for (let at = 0; at < all.length; at += 60) {
+    const text = all.slice(at, at + 60).map((one) => one.replaceAll("$", "")).join(at % 120 ? " + " : " - ") + " + x_1 - y".repeat(at % 240 ? 600 : 0);
+    const plain = text.replace(/[{}%&]|\\\\|\\(?:begin|end|ifx|else|fi|pmatrix|endpmatrix|undefined)\b/g, "");
+    for (const tex of [text, plain, `${plain} + ${plain}`]) {
+      const ours = piecesOf(tex, at % 2 === 0, 50);
+      assert.deepEqual(ours, theirs.piecesOf(tex, at % 2 === 0, 50), JSON.stringify(tex));
+      if (ours === null) whole += 1;
+      else if (ours.length > 1) broken += 1;
+    }
+  }
+  assert.ok(broken > 20 && whole > 20, `${broken} broken, ${whole} whole`);
 });
 
 test("words that KaTeX knows, as typeset has them", () => {

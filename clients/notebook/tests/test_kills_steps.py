@@ -1,6 +1,6 @@
 """Kills of the server, the program and the browser while a user types, evaluates, cuts, pastes, takes back, brings back, takes earlier texts back and restores
-earlier worksheets. Each word is in the file yet, or in what was cut and removed; each text that was shown as saved stands in the journal; each answer is whole;
-and each worksheet that was told as restored opens. TMHOST_KILLS says how many (20)."""
+earlier worksheets. Each word is in a cell yet, or in what was cut last, or in the list "Removed", which has what was removed since the last checkpoint; each text
+that was shown as saved stands in the journal; each answer is whole; and each worksheet that was told as restored opens. TMHOST_KILLS says how many (20)."""
 
 import json
 import os
@@ -18,8 +18,8 @@ KILLS = int(os.environ.get("TMHOST_KILLS", "20"))
 WORDS = [f"word{number}." for number in range(12)]
 MOST_CELLS = 24
 
-# What is cut is pasted then, or both are taken back; and a cell is removed only where another one has its word. So no word is to go.
-# Who is told that nothing is done any more does nothing.
+# What is cut is mostly pasted then, or both are taken back; else its word is in the list alone, as soon as another cell is cut. Who is told that nothing is done
+# any more does nothing.
 WORK = """
 (() => {
   let count = %d;
@@ -46,7 +46,7 @@ WORK = """
       press(box, "x");
       await idle();
       const other = any(boxes());
-      if (!other) return;
+      if (!other || Math.random() < .2) return;
       other.focus();
       press(other, "v");
       await idle();
@@ -56,7 +56,7 @@ WORK = """
       }
     },
     remove: async (box, all) => {
-      if (all.length < most || !all.some((one) => one !== box && wordOf(one) === wordOf(box))) return;
+      if (all.length < most) return;
       box.focus();
       press(box, "d");
       press(box, "d");
@@ -79,14 +79,19 @@ WORK = """
       document.querySelector("#earlier-dialog").close();
     },
   };
-  // What a kill left in the clipboard or in the list of removed cells alone comes back first: both are kept for a while, and not for ever.
+  // What is in the clipboard or in the list of removed cells alone comes back first.
+  const itemOf = (word) => [...document.querySelectorAll("#removed-list li")].find((one) => one.textContent.includes(word));
   const mend = async () => {
     for (const word of words.filter((one) => !boxes().some((box) => wordOf(box) === one))) {
-      const box = boxes()[0], item = [...document.querySelectorAll("#removed-list li")].find((one) => one.textContent.includes(word));
-      if ((localStorage.getItem("tmhost-cells") ?? "").includes(word)) {
+      const box = boxes()[0];
+      if (box && (localStorage.getItem("tmhost-cells") ?? "").includes(word)) {
         box.focus();
         press(box, "v");
-      } else item?.querySelector("button").click();
+      } else {
+        document.querySelector("#removed").click();
+        while (!itemOf(word)) await later(30);
+        itemOf(word).querySelector("button").click();
+      }
       while (!boxes().some((one) => wordOf(one) === word)) await later(30);
     }
     window.isMended = true;
@@ -141,9 +146,10 @@ class Steps(test_kills.Kills):
         self.looks += 1
 
     def kept(self) -> None:
-        """Compares with the files, with what the browser has that was cut, and the server that was removed."""
-        shown = self.show()
-        removed = json.dumps(Page(self.server).snapshot().get("removed", []))
+        """Compares with the files, with what the browser has that was cut, and with the list of removed cells."""
+        shown, page = self.show(), Page(self.server)
+        self.assertNotIn("refused", page.call("past_removed"))
+        removed = json.dumps(page.snapshot()["removed"])
         there = shown + removed + self.cut
         self.assertEqual([word for word in WORDS if word not in there], [])
         for text, answer in ANSWERED.findall(shown):

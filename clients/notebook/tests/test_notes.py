@@ -4,7 +4,7 @@ import os
 import random
 import sys
 import unittest
-from typing import Dict, List, Optional, Set, Tuple, Union
+from typing import Any, Dict, List, Optional, Set, Tuple, Union
 
 import harness
 
@@ -237,11 +237,29 @@ class Shown(unittest.TestCase):
         self.assertEqual(sum(len(part["text"]) for part in facts["parts"]), shown.LONGEST)
         self.assertEqual(shown.piece_of(Answer("> ", Block("verbatim", "format", (text,)), text), shown.LONGEST)["text"], "xxxxx")
 
-    def test_a_long_formula_is_text(self) -> None:
-        tex = "$" + "x" * shown.LONGEST_FORMULA + "$"
-        self.assertEqual(self.facts(tex, tag="latex"), [{"text": "{latex:" + tex + "}"}])
-        for items, unset in (((tex,), len(tex)), (("$x$",), 0)):
-            self.assertEqual(shown.facts_of(Answer("> ", Block("latex", "format", items), ""))["unset"], unset)
+    def test_long_formulas(self) -> None:
+        """They aren't counted with the texts of an answer, but all of its long ones together. What is more is text."""
+        def formula(length: int) -> str:
+            return "$" + "x" * (length - 2) + "$"
+
+        def facts(*lengths: int, text: str = "so") -> Tuple[List[Any], bool, int]:
+            items = [Block("latex", "format", (formula(length),)) for length in lengths]
+            block = Block("verbatim", "format", (text, *items))
+            told = shown.facts_of(Answer("> ", block, shown.text_of(block, {})))
+            return [*(len(part["tex"]) if "tex" in part else "text" for part in told["parts"])], told["isCut"], told["unset"]
+
+        most, one = shown.LONGEST_FORMULAS, shown.LONG_FORMULA
+        self.assertEqual(facts(3), (["text", 3], False, 0))
+        self.assertEqual(facts(one, one + 1, most - one - 1), (["text", one, one + 1, most - one - 1], False, 0))
+        self.assertEqual(facts(most), (["text", most], False, 0))
+        self.assertEqual(facts(most + 1), (["text"], True, most + 1))
+        self.assertEqual(facts(most - 10, one + 1), (["text", most - 10, "text"], False, one + 1))
+        self.assertEqual(facts(most - 10, one + 1, 3), (["text", most - 10, "text", 3], False, one + 1))
+        self.assertEqual(facts(most, text="x" * (shown.LONGEST + 1)), (["text"], True, 0))
+        self.assertEqual(facts(*[one] * 5), (["text", one, one, one, "text"], True, one))
+        tex = formula(one + 1)
+        told = shown.facts_of(Answer("> ", Block("latex", "format", (tex,)), "{latex:" + tex + "}"))
+        self.assertEqual((told["text"], told["length"]), ("{latex:" + tex + "}", one + 9))
 
 
 class Prose(unittest.TestCase):

@@ -23,6 +23,44 @@ WIDTHS = """
 """
 
 
+LONG = " + ".join(f"{number} x^{{{number}}}" for number in range(500))
+# Of each formula whether it has several lines, and none that is wider than the page.
+LINES = """
+[...document.querySelectorAll('.formula.set')].map((node) => {
+  const boxes = [...node.querySelectorAll('.base')].map((one) => one.getBoundingClientRect());
+  return [new Set(boxes.map((box) => Math.round(box.bottom / 10))).size > 3, Math.max(...boxes.map((box) => box.right)) <= innerWidth];
+})
+"""
+# Whether a long formula is set where the page has as many as it can hold, and again where it hasn't.
+FULL = """
+(async () => {
+  const { OutputView, outputShape } = await import('./output.js');
+  const tex = document.querySelector('#cell-1 .formula').dataset.tex, many = document.createElement('div');
+  const isSet = async () => {
+    const box = document.body.appendChild(outputShape());
+    new OutputView(0, box).update({ parts: [{ tex }], isError: false, text: tex, isCut: false, length: tex.length, unset: 0 }, false);
+    while (!box.querySelector('.set, .more')) await new Promise((done) => setTimeout(done, 20));
+    const why = box.querySelector('.more')?.textContent ?? '';
+    box.remove();
+    return why === '' || !why.endsWith('more would hold the page up.');
+  };
+  many.className = 'formula';
+  many.setAttribute('role', 'math');
+  many.dataset.tex = 'x'.repeat(1_000_000);
+  document.body.append(many);
+  const found = [await isSet()];
+  many.remove();
+  return [...found, await isSet()];
+})()
+"""
+SET_AGAIN = """
+(async () => {
+  const { setInto } = await import('./setter.js'), place = document.querySelector('#cell-3 .formula'), start = performance.now();
+  await setInto(place, 'tex', place.dataset.tex + ' ');
+  place.getBoundingClientRect();
+  return Math.round(performance.now() - start);
+})()
+"""
 WHY = "[...document.querySelectorAll('.output')].map((box) => box.querySelector('pre').previousElementSibling?.textContent ?? '')"
 
 
@@ -72,19 +110,54 @@ class Reading(PageCase):
 
     def test_formulas_that_are_not_set(self) -> None:
         """It is said why, and no more where all is wanted as text."""
-        self.begin()
-        for after, text in enumerate(("$" + "x" * 6_000 + "$", "$" + "x" * 30_000 + "$", "$x$")):
-            path = os.path.join(self.folder, f"formula{after}")
-            with open(path, "w") as file:
-                file.write(text)
-            self.page.call("eval", id=self.page.call("new", session="s", text=f"file latex {path}", after=after)["id"])
-        self.page.until_idle()
+        self.answer("$" + "x" * 6_000 + "$", "$" + "x" * 60_000 + "$", "$x$", f"${LONG} + {{$", f"$\\left({LONG}$", f"${LONG} + \\nonsense$")
         tab = opened(self.browser, self.server)
         tab.until("document.querySelectorAll('.formula.set').length", 1)
-        self.assertEqual(tab.value(WHY), ["A formula of 6,002 characters is shown as text: at most 5,000 are set.", "Formulas in so long an answer are shown as text.", ""])
+        alone = "it has no signs between terms at which it could be broken"
+        wanted = [
+            f"A formula of 6,002 characters is shown as text: {alone}.",
+            "A formula of 60,002 characters is shown as text: at most 50,000 are set, since more would hold the page up.", "",
+            f"A formula of {len(LONG) + 6:,} characters is shown as text: it is no text with formulas.",
+            f"A formula of {len(LONG) + 8:,} characters is shown as text: {alone}.", f"A formula of {len(LONG) + 14:,} characters is shown as text: it can't be set.",
+        ]
+        tab.until(WHY, wanted)
         tab.click("#cell-1 .number")
         tab.key("t")
         self.assertEqual(tab.value(WHY)[0], "")
+
+    def answer(self, *formulas: str) -> None:
+        self.begin()
+        for after, text in enumerate(formulas):
+            path = os.path.join(self.folder, f"formula{after}")
+            with open(path, "w", encoding="utf-8") as file:
+                file.write(text)
+            self.page.call("eval", id=self.page.call("new", session="s", text=f"file latex {path}", after=after)["id"])
+        self.page.until_idle()
+
+    def test_long_sums(self) -> None:
+        """They are set in lines, none of which is wider than the page, on paper too; T shows the source of one, piece by piece. The time for one of 50,000
+        characters is printed."""
+        longest = " - ".join(f"{number}\\*\\frac{{x^{{{number}}}}}{{y + {number}}}" for number in range(1_500))
+        self.answer(f"${LONG}$", f"a $\\displaystyle {LONG}$ and $$x$$", f"${longest}$", f"$3({LONG.replace(' + ', '+')}) + 1$")
+        tab = opened(self.browser, self.server)
+        tab.until("document.querySelectorAll('.formula.set').length", 4)
+        self.assertEqual(tab.value(WHY), [""] * 4)
+        self.assertIn(len(longest), range(45_000, 49_000))
+        for media, width in (("", 1000), ("", 360), ("print", 700)):
+            tab.ask("Emulation.setEmulatedMedia", {"media": media})
+            tab.size(width, 800)
+            self.assertEqual(tab.value(LINES), [[True, True]] * 4, (media, width))
+        self.assertEqual(tab.value("[...document.querySelectorAll('.formula')].map((node) => [node.getAttribute('role'), node.getAttribute('aria-label') === node.dataset.tex])"),
+            [["math", True]] * 4)
+        self.assertEqual(tab.value(FULL), [False, True])
+        tab.click("#cell-3 .number")
+        tab.key("t")
+        self.assertIn("20,000 of", tab.value("document.querySelector('#cell-3 .more').textContent"))
+        tab.key("t")
+        milliseconds = tab.value(SET_AGAIN)
+        print(f" {len(longest):,} characters were set and laid out in {milliseconds} ms", end="")
+        if os.environ.get("TMHOST_LIMITS"):
+            self.assertLess(milliseconds, 1_000)
 
     def test_headings_on_paper(self) -> None:
         """None stands at the foot of a page, also where its text is in the next cell."""

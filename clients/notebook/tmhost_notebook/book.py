@@ -14,7 +14,7 @@ from .helping import Helper
 from .notes import Notes
 from .opening import opened
 from .partial import Partials
-from .past import Past
+from .past import Past, removals_in
 from .places import Places
 from .sayings import SAYINGS
 from .steps import Steps
@@ -41,6 +41,8 @@ class Book:
         self.ended: Optional[str] = None
         self.changes = 0  # that cells had by calls, counted by `order`; a message says how many of them it has seen
         self._removed_ever = 0
+        self._were_removed: Set[int] = set()  # cells that have been in that list, or were left out of it
+        self._has_older = False  # whether the list has those that were removed before the worksheet was opened
         self.steps, self.helper = Steps(self), Helper(program)
         self._is_closed = False
         self._can_feed = threading.Event()
@@ -59,7 +61,7 @@ class Book:
         self.notes, self.places, self.feed, self.past = Notes(), Places(sheet.fields), Feed(), Past(self.path, self.program)
         self.partials = Partials()
         self.in_doubt: Set[int] = set()  # the cells that a call changes, until it is known that it did or didn't
-        self.is_looking, self.ended = False, None
+        self.is_looking, self.ended, self._has_older = False, None, False
 
     def _read_drafts(self) -> None:
         """Takes the drafts that were kept. Where the cell has the text by now there is none any more."""
@@ -163,6 +165,7 @@ class Book:
         with self.lock:
             note = self.notes.of.get(field.id)
             self._bin(field, field.answer or (note.old if note else None), place)
+            self._were_removed.add(field.id)
             self.notes.drop(field.id)
         self.bin_draft(field.id, place)
 
@@ -173,10 +176,36 @@ class Book:
             if draft and not any(one["is_draft"] and one["field"].id == id for one in self.removed):
                 self._bin(Field(id, draft.session, draft.text), None, place, is_draft=True)
 
-    def _bin(self, field: Field, old: Optional[Answer], place: int, is_draft: bool = False) -> None:
+    def _bin(self, field: Field, old: Optional[Answer], place: int, is_draft: bool = False, is_older: bool = False) -> None:
         self._removed_ever += 1
-        self.removed.append({"number": self._removed_ever, "field": field, "old": old, "place": place, "is_draft": is_draft})
+        one = {"number": self._removed_ever, "field": field, "old": old, "place": place, "is_draft": is_draft}
+        self.removed.insert(0 if is_older else len(self.removed), one)
         del self.removed[:-MOST_REMOVED]
+
+    def find_removed(self) -> bool:
+        """Takes into the list what was removed before the worksheet was opened, or in the moment in which the program ended, as its journal has it. One
+        whose text another cell has, or a later one in the list, is left out: it was pasted, or it came back. False where it takes too long
+        to find all. Raises NoPast."""
+        if self._has_older:
+            return True
+        past, changes = self.past, self.past.changes(is_new=True)
+        with self.order:  # what is in these changes is in the list then
+            known = set(self._were_removed)
+        wanted = [one for one in removals_in(changes) if one.id not in known][-MOST_REMOVED:]
+        found = past.removed(wanted)
+        with self.lock:
+            if self._has_older or past is not self.past:
+                return True
+            self._has_older = len(found) == len(wanted)
+            fields = [*self.sheet.fields, *(one["field"] for one in self.removed)]
+            texts = {(field.session, field.input) for field in fields}
+            for one, field, place in sorted(found, key=lambda one: -one[0].at):
+                text = field.session, field.input
+                if one.id not in self._were_removed and field.input.strip() and text not in texts:
+                    texts.add(text)
+                    self._bin(field, field.answer, place, is_older=True)
+                self._were_removed.add(one.id)
+            return self._has_older
 
     def unbin(self, number: Optional[int]) -> Optional[Dict[str, Any]]:
         """Takes a removed cell out, the last one for None."""

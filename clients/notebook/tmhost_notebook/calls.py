@@ -91,21 +91,21 @@ def made(book: Book, asked: Facts) -> Made:
 
 
 def call_step(book: Book, asked: Facts) -> Facts:
-    """Changes several cells in one step: new ones, then texts, then places, then removals. Gives the cells that were made or changed."""
+    """Changes several cells in one step: new ones, then texts, then places, then removals. Gives the cells that were made or changed, and those that are gone."""
     with book.order:
         given = [Given(number(one, "id"), text(one, "base"), text(one, "text"), answer_of_then(book, one)) for one in members(asked, "set")]
         moved = [(number(one, "id"), number(one, "after")) for one in members(asked, "move")]
         removed = [number(one, "id") for one in members(asked, "remove")]
-        ids = book.steps.do(Step(text(asked, "what")[:40], [made(book, one) for one in members(asked, "new")], given, moved, removed))
-        return {"ids": ids, "at": book.changes}
+        came = book.steps.do(Step(text(asked, "what")[:40], [made(book, one) for one in members(asked, "new")], given, moved, removed))
+        return {"ids": came.ids, "gone": came.gone, "at": book.changes}
 
 
 def call_undo(book: Book, asked: Facts) -> Facts:
     """Takes the last step back, or does again what was taken back last."""
     is_back = member(asked, "isBack", bool, bool)
     with book.order:
-        what, ids = book.steps.go(is_back)
-        return {"ids": ids, "says": f"{'taken back' if is_back else 'done again'}: {what}"}
+        what, came = book.steps.go(is_back)
+        return {"ids": came.ids, "gone": came.gone, "says": f"{'taken back' if is_back else 'done again'}: {what}"}
 
 
 def call_restore(book: Book, asked: Facts) -> Facts:
@@ -141,7 +141,7 @@ def call_change(book: Book, asked: Facts) -> Facts:
         if field_of(book, id).session == session:
             return {"id": id}
         field = idle_field(book, id)
-        return {"id": book.steps.do(Step("another session", [Made(id, session, text_of(field))], removed=[id]))[0]}
+        return {"id": book.steps.do(Step("another session", [Made(id, session, text_of(field))], removed=[id])).ids[0]}
 
 
 def call_move(book: Book, asked: Facts) -> Facts:

@@ -10,6 +10,7 @@ import os
 import secrets
 import tempfile
 import threading
+import time
 from typing import Any, Callable, Dict, Iterable, Iterator, List, NamedTuple, Optional, Tuple
 
 from tmhost import Answer, Field, Session
@@ -23,6 +24,7 @@ from .folder import NotDone, free_path
 WITHIN = 30.0  # seconds that a command may take, and that one waits for another
 LARGEST = 500_000_000  # bytes of a worksheet of which a copy is made for a look
 MOST_KEPT = 100  # answers that a page has looked at, of each worksheet
+LOOKED_WITHIN = 20.0  # seconds behind which no further worksheet of then is looked at for what was removed
 
 NEW_TEXT = ("new", "set")  # what gives a cell a text, and takes its answer away
 
@@ -80,6 +82,18 @@ class Past:
     def kept(self, at: int, id: int) -> Optional[Answer]:
         """The answer that a cell had, where somebody has looked at it."""
         return self._answers.get((at, id))
+
+    def removed(self, wanted: "List[Removal]") -> "List[Tuple[Removal, Field, int]]":
+        """These cells as they were when they were removed, each with its place of then: the last changed first, as many as are found in time."""
+        found: "List[Tuple[Removal, Field, int]]" = []
+        end = time.monotonic() + LOOKED_WITHIN
+        for at in moments(wanted):
+            if time.monotonic() > end:
+                break
+            sheet = self.sheet(at)
+            had = {one.id for one, _, _ in found}
+            found += [(one, sheet.field(one.id), sheet.order.index(one.id)) for one in wanted if one.since <= at < one.at and one.id not in had]
+        return found
 
     def restore(self, at: int, name: str) -> str:
         """Makes a new worksheet beside this one, of what this one was, and gives its path. Raises NotDone where there is a file with this name."""
@@ -157,3 +171,36 @@ def versions_of(changes: Iterable[str], id: int) -> List[Version]:
     if found and told[-1][1] != "remove" and (found[-1].what != "answered" or told[-1][1] == "answered"):
         found.pop()  # the cell has it
     return found[::-1]
+
+
+# ---- cells that were removed
+
+
+class Removal(NamedTuple):
+    """A cell that was removed by the change `at`: what it had then it had from the change `since` on."""
+
+    id: int
+    since: int
+    at: int
+
+
+def removals_in(changes: Iterable[str]) -> List[Removal]:
+    """The cells that were removed, the last one at the end."""
+    since: Dict[str, int] = {}
+    found: List[Removal] = []
+    for line in changes:
+        number, what, *about = line.split(" ")
+        if what == "remove" and about[0] in since:
+            found.append(Removal(int(about[0]), since[about[0]], int(number)))
+        elif what not in ("session", "ids", "remove"):
+            since[about[0]] = int(number)
+    return found
+
+
+def moments(removals: Iterable[Removal]) -> List[int]:
+    """Behind which changes the worksheet is to be looked at, so that each of these cells is seen as it was last; as few as can be, the last one first."""
+    found: List[int] = []
+    for one in sorted(removals, key=lambda one: -one.since):
+        if not found or not one.since <= found[-1] < one.at:
+            found.append(one.since)
+    return found

@@ -83,6 +83,12 @@ def call_past_output(book: Book, asked: Facts) -> Facts:
     return shown.piece_of(answer, number(asked, "start"))
 
 
+def call_past_removed(book: Book, asked: Facts) -> Facts:
+    """Has what was removed before in the list of removed cells, of which pages are told."""
+    with refused():
+        return {} if book.find_removed() else {"warning": "Not all that was removed before is here yet: open the list again."}
+
+
 def call_past_restore(book: Book, asked: Facts) -> Facts:
     """Makes a new worksheet, beside this one, of what this one was."""
     with refused():

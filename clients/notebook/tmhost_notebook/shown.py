@@ -8,7 +8,8 @@ from .pictures import Picture, pictures_in
 
 LONGEST = 20_000  # characters of an answer that the page gets unasked; the rest is asked for piece by piece
 PIECE = 400_000  # characters of such a piece
-LONGEST_FORMULA = 5_000
+LONG_FORMULA = 5_000  # characters of one that the page sets in one piece
+LONGEST_FORMULAS = 50_000  # of the longer ones of an answer, which the page sets in pieces
 
 SHOWN_WITHOUT_TAG = ("verbatim", "output")
 
@@ -17,13 +18,14 @@ Part = Dict[str, str]
 
 
 class Parts:
-    """The parts of an answer, up to `LONGEST` characters, and all of its pictures."""
+    """The parts of an answer, up to `LONGEST` characters beside long formulas, and all of its pictures."""
 
     def __init__(self, pictures: Dict[int, Picture], errors: List[Block]) -> None:
         self.pictures = pictures
         self.errors = {id(error) for error in errors}
         self.parts: List[Part] = []
         self.left = LONGEST
+        self.left_long, self.long = LONGEST_FORMULAS, 0  # characters that long formulas may have yet, and those that they have as text
         self.kind = "text"
         self.unset = 0  # characters of the longest formula that is too long to be set
 
@@ -43,9 +45,14 @@ class Parts:
             return
         tag = readable(block.tag)
         tex = formula_of(block)
-        if tex is not None and len(tex) <= min(LONGEST_FORMULA, self.left):
+        if tex is not None and len(tex) <= min(LONG_FORMULA, self.left):
             self.parts.append({"tex": tex})
             self.left -= len(tex)
+            return
+        if tex is not None and LONG_FORMULA < len(tex) <= self.left_long and self.left > 0:
+            self.parts.append({"tex": tex})
+            self.left_long -= len(tex)
+            self.long += len(text_of(block, {}))
             return
         self.unset = max(self.unset, len(tex or ""))
         is_error = id(block) in self.errors
@@ -102,7 +109,8 @@ def facts_of(answer: Answer) -> Dict[str, Any]:
     parts = Parts(pictures, errors)
     parts.add(answer.output)
     text = whole_text(answer, pictures)
-    return {"parts": parts.parts, "isError": bool(errors), "text": text[:LONGEST], "isCut": len(text) > LONGEST, "length": len(text), "unset": parts.unset}
+    is_cut = len(text) - parts.long > LONGEST
+    return {"parts": parts.parts, "isError": bool(errors), "text": text[:LONGEST], "isCut": is_cut, "length": len(text), "unset": parts.unset}
 
 
 def piece_of(answer: Answer, start: int) -> Dict[str, Any]:

@@ -5,7 +5,7 @@ be there twice then, and none is lost. The commands of each of the three parts a
 """
 
 import dataclasses
-from typing import TYPE_CHECKING, Dict, Iterable, List, Optional, Sequence, Set as SetOf, Tuple, Union
+from typing import TYPE_CHECKING, Dict, Iterable, List, NamedTuple, Optional, Sequence, Set as SetOf, Tuple, Union
 
 from tmhost import Answer, Field, TmhostError
 from tmhost.commands import Move, New, Remove, Set, input_of, length_of
@@ -61,6 +61,13 @@ class Step:
     removed: Sequence[int] = ()
 
 
+class Came(NamedTuple):
+    """What came of a step: the cells that it made or changed, and those that are gone by it."""
+
+    ids: List[int]
+    gone: Sequence[int]
+
+
 class Steps:
     """The steps of a worksheet, to be used with the book's `order`."""
 
@@ -73,15 +80,15 @@ class Steps:
 
     # ---- what is done
 
-    def do(self, step: Step) -> List[int]:
-        """Does a step, which can be taken back, and gives the cells that it made or changed."""
+    def do(self, step: Step) -> Came:
+        """Does a step, which can be taken back."""
         back, ids = self._done(step)
         self.past.append(back)
         del self.past[:-MOST_STEPS]
         self.ahead.clear()
-        return ids
+        return Came(ids, step.removed)
 
-    def go(self, is_back: bool) -> Tuple[str, List[int]]:
+    def go(self, is_back: bool) -> Tuple[str, Came]:
         """Takes the last step back, or does the last one again that was taken back. One that can't be isn't tried a second time."""
         steps, others = (self.past, self.ahead) if is_back else (self.ahead, self.past)
         if not steps:
@@ -89,7 +96,7 @@ class Steps:
         step = self._as_now(steps.pop())
         other, ids = self._done(step)
         others.append(other)
-        return step.what, ids
+        return step.what, Came(ids, step.removed)
 
     def id_now(self, id: int) -> int:
         while id in self._now:

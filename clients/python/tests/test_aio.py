@@ -174,7 +174,7 @@ class Ends(AsyncCase):
             await asyncio.sleep(0.01)
         await sheet.close()
         await asyncio.wait_for(finished.wait(), SECONDS)
-        self.assertIn(Answered("a", 1, 1, answer), events)
+        self.assertIn(Answered("a", 1, 1, answer, "> "), events)
         self.assertEqual(events[-1], Finished(None))
         finished.clear()
         sheet.listen(heard)

@@ -76,10 +76,10 @@ class Answers(Case):
 
     def test_lines_in_turn(self) -> None:
         sheet = self.sheet()
-        cells = [sheet.new("a", "count") for _ in range(30)]
+        cells = [sheet.new("a", "sleep 1"), *(sheet.new("a", "count") for _ in range(30))]
         evaluations = [cell.eval() for cell in cells]
-        self.assertEqual(cells[29].state, "waiting")
-        self.assertEqual([one.result(SECONDS).text for one in evaluations], [str(number) for number in range(1, 31)])
+        self.assertEqual(cells[30].state, "waiting")
+        self.assertEqual([one.result(SECONDS).text for one in evaluations[1:]], [str(number) for number in range(2, 32)])
         self.assertTrue(all(one.done() for one in evaluations))
         self.assert_exact(sheet)
 

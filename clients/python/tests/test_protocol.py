@@ -1,6 +1,7 @@
 """The protocol without a program: the talk of docs/use/JSON.md, and lines that are not of it."""
 
 import concurrent.futures
+import dataclasses
 import json
 import os
 import re
@@ -9,7 +10,7 @@ from typing import Any, Dict, List, Tuple
 
 from support import ROOT
 
-from tmhost import Answer, Answered, Block, BadLine, Field, Lost, Partial, Protocol, ProtocolError, Refused, Session, Stopped, Warned
+from tmhost import Answer, Answered, Banner, Block, BadLine, Field, Lost, Partial, Protocol, ProtocolError, Refused, Session, Stopped, Warned
 from tmhost import commands
 from tmhost.protocol import Lines, Taken
 from tmhost.reading import read
@@ -71,7 +72,7 @@ class Pages(unittest.TestCase):
         self.assertEqual((type(again.exception(0)), waits[8].result()), (Lost, events[-1].lost))
         self.assertEqual(self.protocol.mirror.fields(), [Field(1, "a", "x^2", "lost", None, "Stopped")])
         self.assertEqual([type(event).__name__ for event in events], ["Done", "Done", "Done", "Banner", "Answered", "Done", "Stopped"])
-        self.assertEqual(events[4], Answered("a", 1, 1, answer))
+        self.assertEqual((events[3].next, events[4]), ("In 1] ", Answered("a", 1, 1, answer, "In 1] ")))
         self.protocol.feed(talk[-1][2:].encode())
         self.assertTrue(self.protocol.is_over)
 
@@ -138,6 +139,18 @@ class Objects(unittest.TestCase):
         """What comes of one has no line: of a wait it is about an interpreter, and no command asks for one of a field."""
         self.assertEqual(read(b'{"life":2,"outcome":"failed","session":"a","type":"interrupted"}'), Warned("a", 2, "failed"))
         self.assertIsNone(read(b'{"id":3,"outcome":"sent","type":"over"}'))
+
+    def test_the_prompt_of_the_next_line(self) -> None:
+        """None where the interpreter has ended, and where an older program doesn't tell it."""
+        answered: Dict[str, Any] = {"id": 1, "life": 1, "output": BLOCK, "prompt": "", "session": "a", "shown": "", "type": "answered"}
+        empty = Block("verbatim", "format", ())
+        banner, answer = Banner("a", 1, empty, ""), Answered("a", 1, 1, Answer("", empty, ""))
+        for told, it in ((BANNER, banner), (answered, answer)):
+            self.assertEqual(read(json.dumps(told).encode()), it)
+            for value, text in ((None, None), ("In [2]: ", "In [2]: "), ("", ""), ({"base64": "/yA="}, b"\xff ")):
+                self.assertEqual(read(json.dumps({**told, "next": value}).encode()), dataclasses.replace(it, next=text))
+            for broken in (1, [], False, {"base64": "YQ=="}, BLOCK):
+                self.assertRaises(ProtocolError, read, json.dumps({**told, "next": broken}).encode())
 
     def test_what_is_no_answer_yet(self) -> None:
         """It has its bytes as they came, and changes nothing of what is shown."""

@@ -140,10 +140,10 @@ class Listening(Case):
         self.assertIsNotNone(cell.eval().exception())
         kinds = [event for event in self.all_of(sheet, events) if not isinstance(event, Banner)]
         self.assertEqual(kinds[:3], [Done("session", None, "a"), Done("new", 1, "a", 0), Done("eval", 1)])
-        self.assertEqual(kinds[3:5], [Answered("a", 1, 1, answer), Default("a", 1, "next")])
+        self.assertEqual(kinds[3:5], [Answered("a", 1, 1, answer, "> "), Default("a", 1, "next")])
         self.assertEqual(kinds[5:9], [Done("set", 1), Done("eval", 1), Stopped("a", 1, lost), Done("set", 1)])
         self.assertEqual(kinds[9:], [Done("eval", 1), Ended("a", 2, "Ended", tuple(self.lost(cell))), Finished(None)])
-        self.assertEqual(events[3], Banner("a", 1, Block("verbatim", "format", ("ready",)), "ready"))
+        self.assertEqual(events[3], Banner("a", 1, Block("verbatim", "format", ("ready",)), "ready", "> "))
 
     def test_a_listener_that_calls_and_one_that_fails(self) -> None:
         sheet = self.sheet()

@@ -9,6 +9,7 @@
     count         how many lines this process has answered
     formula       a block in the answer
     error TEXT    an error
+    prompt TEXT   the prompt from now on, in place of a numbered one, where \\xNN and the like stand for characters
     work FILE     says `half of it` beside its blocks, and answers when that file is there
 
 Another line is answered by itself. Completed are the words above. A line that an interrupt ends is answered by `interrupted`.
@@ -32,6 +33,7 @@ class Interrupted(Exception):
 class Interpreter:
     def __init__(self) -> None:
         self.answered = 0
+        self.given_prompt: Optional[str] = None
         self.is_at_a_line = False
         self.is_stuck = False
         signal.signal(signal.SIGINT, self._signalled)
@@ -43,9 +45,12 @@ class Interpreter:
     def answer(self, line: str) -> bytes:
         word, _, rest = line.partition(" ")
         if word == "say":
-            return escaped(rest.encode("latin-1", "backslashreplace").decode("unicode_escape").encode())
+            return escaped(unescaped(rest).encode())
         if word == "bytes":
             return escaped(bytes.fromhex(rest))
+        if word == "prompt":
+            self.given_prompt = unescaped(rest)
+            return b"ok"
         if word == "count":
             return str(self.answered).encode()
         if word == "formula":
@@ -78,12 +83,16 @@ class Interpreter:
         return told
 
 
+def unescaped(text: str) -> str:
+    return text.encode("latin-1", "backslashreplace").decode("unicode_escape")
+
+
 def escaped(text: bytes) -> bytes:
     return re.sub(rb"[\x02\x05\x1b]", lambda found: b"\x1b" + found[0], text)
 
 
-def write(text: bytes, number: int) -> None:
-    sys.stdout.buffer.write(b"\x02verbatim:" + text + b"\x02prompt#%d] \x05\x05" % number)
+def write(text: bytes, prompt: str) -> None:
+    sys.stdout.buffer.write(b"\x02verbatim:" + text + b"\x02prompt#" + escaped(prompt.encode()) + b"\x05\x05")
     sys.stdout.buffer.flush()
 
 
@@ -98,14 +107,15 @@ def completed(request: str) -> str:
 
 def main() -> None:
     interpreter = Interpreter()
-    write(b"Tester 1.0", 1)
+    write(b"Tester 1.0", "1] ")
     for line in sys.stdin:
         line = line.rstrip("\n")
         if line.startswith("\x10"):
             sys.stdout.write("\x02scheme:" + completed(line) + "\x05")
             sys.stdout.flush()
         else:
-            write(interpreter.evaluated(line), interpreter.answered + 1)
+            told = interpreter.evaluated(line)
+            write(told, f"{interpreter.answered + 1}] " if interpreter.given_prompt is None else interpreter.given_prompt)
 
 
 main()

@@ -113,7 +113,7 @@ class Commands:
         would be evaluated without the variables of the ones before."""
         for place, id in enumerate(ids):
             cell = self.worksheet.cell(id)
-            self.console.evaluating(cell.field)
+            self.console.evaluating(cell.field, self.evaluator.next_prompt(cell.session))
             outcome = self.evaluator.evaluate(cell)
             if outcome is not Outcome.ANSWERED or self.evaluator.was_interrupted:
                 left = len(ids) - place - 1

@@ -10,6 +10,7 @@ from typing import List, Optional, Sequence
 
 from tmhost import Cell, Completions, Refused, TmhostError, Worksheet, readable
 
+from .console import Terminal
 from .evaluation import Evaluator
 from .texts import LINE_END, harmless
 
@@ -64,8 +65,8 @@ def matches(completions: Optional[Completions], front: str) -> List[str]:
 class Completer:
     """What readline asks at TAB. `prefix` are the lines before this one that belong to it."""
 
-    def __init__(self, worksheet: Worksheet, evaluator: Evaluator, draft: Draft) -> None:
-        self.worksheet, self.evaluator, self.draft = worksheet, evaluator, draft
+    def __init__(self, worksheet: Worksheet, evaluator: Evaluator, draft: Draft, terminal: Terminal) -> None:
+        self.worksheet, self.evaluator, self.draft, self.terminal = worksheet, evaluator, draft, terminal
         self.session = ""
         self.prefix = ""
         self.prompt = ""
@@ -103,4 +104,4 @@ class Completer:
         """The words alone, and the line again below them."""
         shared = max(substitution.rfind(c) for c in " \t\n([{,;=") + 1
         print("\n" + "  ".join(one[shared:] for one in found))
-        print(self.prompt + readline.get_line_buffer(), end="", flush=True)
+        print(self.terminal.styled_prompt(self.prompt) + readline.get_line_buffer(), end="", flush=True)

@@ -5,11 +5,13 @@ import sys
 import termios
 from typing import Optional
 
-from tmhost import Answer, Field
+from tmhost import Answer, Field, Text
 
-from .texts import cut, harmless, last_line, rows, under
+from .texts import behind, columns, cut, harmless, last_line, rows
 
-ERROR = 31  # the style of a mark: red
+BOLD, FAINT, ERROR = 1, 2, 31  # the styles of a prompt, of a note, and, in red, of a mark
+READLINE_HIDES = "\x01{}\x02"  # around what takes no room in a prompt of readline
+WIDEST = 40  # columns of a prompt at which lines are typed
 
 
 class Console:
@@ -36,8 +38,8 @@ class Console:
         """The answer to the line that was read last."""
         raise NotImplementedError
 
-    def evaluating(self, field: Field) -> None:
-        """A field of the worksheet is evaluated next, as if its line had been read."""
+    def evaluating(self, field: Field, prompt: Optional[Text]) -> None:
+        """A field of the worksheet is evaluated next, as if its line had been read at this prompt, where that is known."""
 
     def choose(self, question: str, keys: str) -> Optional[str]:
         """Which of the keys the user gives; None where nobody can be asked."""
@@ -59,7 +61,7 @@ class Console:
         """A field with all that it has."""
         self.show(f"#{field.id} {field.session}")
         prompt = field.answer.prompt if field.answer else "> "
-        self.show(under(harmless(prompt), harmless(field.input)))
+        self.show(harmless(prompt) + behind(harmless(prompt), harmless(field.input)))
         if field.answer:
             self.show(harmless(field.answer.brief))
             if field.answer.errors:
@@ -93,20 +95,21 @@ class Pipe(Console):
 class Typed:
     """A line that was typed in, with its prompt, and the rows that it takes where they are known."""
 
-    def __init__(self, text: str, size: os.terminal_size) -> None:
-        self.text, self.size = text, size
-        self.rows = rows(text, size.columns)
+    def __init__(self, prompt: str, text: str, size: os.terminal_size) -> None:
+        self.prompt, self.text, self.size = prompt, text, size
+        self.rows = rows(prompt + text, size.columns)
 
 
 class Terminal(Console):
-    """The prompt of an interpreter is told with the answer, so it takes the place of ours then: the line that was typed in is written anew,
-    where it is sure which rows of the screen it has."""
+    """Where a line was typed at the prompt that its answer tells, it stays as it is. Else that prompt takes the place of the other one: the line is
+    written anew, where it is sure which rows of the screen it has."""
 
     is_terminal = True
 
     def __init__(self) -> None:
         super().__init__()
-        self._typed: Optional[Typed] = None
+        self._typed: Optional[Typed] = None  # nothing was written below it yet
+        self._last: Optional[Typed] = None  # also where something was
         self._modes = termios.tcgetattr(0)
         self._can_steer = os.environ.get("TERM", "dumb") != "dumb"
         self._has_style = self._can_steer and not os.environ.get("NO_COLOR")
@@ -114,24 +117,26 @@ class Terminal(Console):
         self._echo(False)
 
     def read(self, prompt: str) -> str:
-        """What the user types, up to Enter."""
-        text = self._ask(prompt)
-        self.took(prompt + text)
+        """What the user types, up to Enter. Lines that are read one after another are one, at the first prompt."""
+        text = self._ask(self.styled_prompt(prompt, READLINE_HIDES))
+        self._typed = self._last = (
+            Typed(self._typed.prompt, f"{self._typed.text}\n{prompt}{text}", self._size()) if self._typed else Typed(prompt, text, self._size())
+        )
         return text
 
-    def took(self, text: str) -> None:
-        before = self._typed.text + "\n" if self._typed else ""
-        self._typed = Typed(before + text, self._size())
+    def prompt(self, name: str, told: Optional[Text]) -> str:
+        """The prompt that an interpreter has told, where it has one that is plainly seen on a part of a row; else the name of its session."""
+        text = harmless(told) if told else ""
+        return text if text.strip() and 0 < (columns(text) or 0) <= min(WIDEST, self._size().columns // 2) else f"{name}> "
 
     def begin(self) -> None:
         """The next line that is read is a new one."""
-        self._typed = None
+        self._typed = self._last = None
 
-    def evaluating(self, field: Field) -> None:
+    def evaluating(self, field: Field, prompt: Optional[Text]) -> None:
         self.show(f"#{field.id} {field.session}")
-        text = under("> ", harmless(field.input))
-        self._print(text + "\n")
-        self.took(text)
+        front = "> " if prompt is None else harmless(prompt)
+        self._put(Typed(front, behind(front, harmless(field.input)), self._size()))
 
     def show(self, text: str) -> None:
         if text:
@@ -140,7 +145,7 @@ class Terminal(Console):
 
     def note(self, text: str) -> None:
         self._typed = None
-        self._print(self._styled(f"({harmless(text)})", 2) + "\n")
+        self._print(self._styled(f"({harmless(text)})", FAINT) + "\n")
 
     def mark(self, text: str) -> None:
         self._typed = None
@@ -158,19 +163,25 @@ class Terminal(Console):
         is_off = self._take_off()
         self.show(harmless(text))
         if typed and is_off:
-            self._print(typed.text + "\n")
-            self._typed = typed
+            self._put(typed)
 
     def working(self, said: bytes) -> None:
         """The last line of it, on a row that the next text takes."""
         text = last_line(said)
         if self._can_steer and text:
-            self._print(self._styled(cut(text, self._size().columns - 1), 2))
+            self._print(self._styled(cut(text, self._size().columns - 1), FAINT))
             self._is_working = True
 
     def answer(self, input: str, answer: Answer) -> None:
         prompt = harmless(answer.prompt)
-        self.show(self._styled(under(prompt, harmless(input)) if self._take_off() else prompt.rstrip(), 1) if prompt.strip() else "")
+        text = behind(prompt, harmless(input))
+        last = self._last
+        if prompt.strip() and not (last and (last.prompt, last.text) == (prompt, text)):
+            if self._take_off():
+                self._print(f"{self._styled(prompt, BOLD)}{text}\n")
+            elif not last or last.prompt != prompt:
+                self.show(self._styled(prompt.rstrip(), BOLD))
+        self.begin()
         self.show(harmless(answer.brief))
 
     def choose(self, question: str, keys: str) -> Optional[str]:
@@ -183,6 +194,10 @@ class Terminal(Console):
 
     def close(self) -> None:
         self._echo(True)
+
+    def styled_prompt(self, prompt: str, hidden: str = "{}") -> str:
+        """A prompt as it is printed; `hidden` is what stands around bytes that take no room."""
+        return self._styled(prompt, BOLD, hidden) if not self._typed else prompt
 
     def _ask(self, prompt: str) -> str:
         """What is typed while nothing is asked isn't echoed, since it would stand among answers: it is shown where it is asked for."""
@@ -211,8 +226,13 @@ class Terminal(Console):
         size = os.get_terminal_size(1)
         return size if size.columns and size.lines else os.terminal_size((80, 24))
 
-    def _styled(self, text: str, style: int) -> str:
-        return f"\x1b[{style}m{text}\x1b[0m" if self._has_style else text
+    def _put(self, typed: Typed) -> None:
+        """Writes a line as if it had been typed in."""
+        self._print(f"{self._styled(typed.prompt, BOLD)}{typed.text}\n")
+        self._typed = self._last = typed
+
+    def _styled(self, text: str, style: int, hidden: str = "{}") -> str:
+        return hidden.format(f"\x1b[{style}m") + text + hidden.format("\x1b[0m") if self._has_style else text
 
     def _print(self, text: str) -> None:
         if self._is_working:

@@ -7,9 +7,9 @@ import queue
 import signal
 import time
 from types import FrameType
-from typing import Counter, Deque, Iterator, Optional, Tuple, Union
+from typing import Counter, Deque, Dict, Iterator, Optional, Tuple, Union
 
-from tmhost import Answer, Answered, Banner, Cell, Closed, Done, Ended, Event, Finished, LostItem, Partial, Stopped, Worksheet
+from tmhost import Answer, Answered, Banner, Cell, Closed, Done, Ended, Event, Finished, LostItem, Partial, Stopped, Text, Worksheet
 
 from .console import Console
 
@@ -48,6 +48,9 @@ class Evaluator:
         self._happenings: "queue.SimpleQueue[Union[Event, Interrupt]]" = queue.SimpleQueue()
         # How many ends of evaluations are to be told of each cell. An event may come late, when the cell is evaluated again already.
         self._owed: Counter[int] = collections.Counter()
+        # Of each session how many lines are to be answered, and the prompt that was told last.
+        self._asked: Counter[str] = collections.Counter()
+        self._next: Dict[str, Optional[Text]] = {}
         self._interrupted_at = float("-inf")
         self._typed: Deque[float] = collections.deque(maxlen=ENOUGH)  # when control-C was
         worksheet.listen(self._happenings.put)
@@ -69,11 +72,18 @@ class Evaluator:
             raise KeyboardInterrupt
         self._happenings.put(Interrupt())
 
+    def next_prompt(self, session: str) -> Optional[Text]:
+        """The prompt of the next line of a session, where its interpreter has told that and still runs. While a line is left running, the last one that
+        was told is the prompt of that line."""
+        is_idle = not self._asked[session] and self.worksheet.sessions[session].life is not None
+        return self._next.get(session) if is_idle else None
+
     def evaluate(self, cell: Cell) -> Outcome:
         """Evaluates a cell and shows its answer, which stands below the line that was read last."""
         self.was_interrupted, self._interrupted_at = False, float("-inf")
         cell.eval()
         self._owed[cell.id] += 1
+        self._asked[cell.session] += 1
         while True:
             outcome = self._awaited(cell, self._happenings.get())
             if outcome:
@@ -110,7 +120,7 @@ class Evaluator:
             return None
         if self._owed[cell.id] == 1:
             if isinstance(happening, Answered) and happening.id == cell.id:
-                self._owed[cell.id] = 0
+                self._heed_answer(happening)
                 self._show(cell.id, cell.input, happening.answer)
                 return Outcome.ANSWERED
             if isinstance(happening, (Ended, Stopped)) and cell.id in lines_of(happening.lost):
@@ -121,15 +131,21 @@ class Evaluator:
 
     def _tell(self, event: Event) -> None:
         if isinstance(event, Banner):
+            self._next[event.session] = event.next
             self.console.banner(text_of(event))
         elif isinstance(event, Answered):
-            self._owed[event.id] -= 1
+            self._heed_answer(event)
             self.console.note(f"the answer of #{event.id}:")
             self._show(event.id, "", event.answer)
         elif isinstance(event, (Ended, Stopped)):
             self._tell_end(event)
         elif isinstance(event, Finished):
             raise event.error or Closed()
+
+    def _heed_answer(self, event: Answered) -> None:
+        self._owed[event.id] -= 1
+        self._asked[event.session] -= 1
+        self._next[event.session] = event.next
 
     def _show(self, id: int, input: str, answer: Answer) -> None:
         self.console.answer(input, answer)
@@ -141,6 +157,8 @@ class Evaluator:
         ids = lines_of(event.lost)
         for id in ids:
             self._owed[id] -= 1
+        self._asked[event.session] -= len(ids)
+        self._next.pop(event.session, None)
         self.console.note(f"the interpreter of {event.session} has ended: {reason}; its variables are gone")
         if ids:
             self.console.fail("lost: " + ", ".join(f"#{id}" for id in ids) + f" ({reason})")

@@ -11,7 +11,7 @@ from tmhost import Session, Worksheet
 from .completion import Completer, Draft
 from .console import Console, Terminal
 from .evaluation import Evaluator, control_c_raises
-from .texts import LINE_END
+from .texts import LINE_END, columns
 
 TEXT_OF_GP = re.compile(r'"(?:\\.|[^"\\])*"|\\\\.*')  # a string, or a remark: no backslash in them is one of the line
 
@@ -77,11 +77,12 @@ class TerminalLines(Lines):
 
     def __init__(self, console: Terminal, worksheet: Worksheet, evaluator: Evaluator, draft: Draft) -> None:
         super().__init__(console)
-        self.terminal, self.worksheet, self.draft = console, worksheet, draft
+        self.terminal, self.worksheet, self.evaluator, self.draft = console, worksheet, evaluator, draft
         self.session = ""
+        self.first = ""  # the prompt of the first line of those that belong together
         readline.set_auto_history(False)
         readline.parse_and_bind("set enable-bracketed-paste on")
-        self.completer = Completer(worksheet, evaluator, draft)
+        self.completer = Completer(worksheet, evaluator, draft, console)
 
     def know(self, words: Sequence[str]) -> None:
         self.completer.commands = words
@@ -106,7 +107,6 @@ class TerminalLines(Lines):
     def next(self) -> Optional[str]:
         while True:
             try:
-                self.terminal.begin()
                 text = super().next()
             except KeyboardInterrupt:
                 self.draft.give_up()
@@ -116,9 +116,16 @@ class TerminalLines(Lines):
                 self.remember(text)
             return text
 
+    def prompt(self) -> str:
+        """That of the interpreter, where its next one is known. Beside other sessions it is the name, so that nobody types into the wrong one."""
+        is_alone = len(self.worksheet.sessions) == 1
+        return self.terminal.prompt(self.session, self.evaluator.next_prompt(self.session) if is_alone else None)
+
     def read(self, prefix: str) -> Optional[str]:
-        name = f"{self.session}> "
-        prompt = "..> ".rjust(len(name)) if prefix else name
+        if not prefix:
+            self.terminal.begin()
+            self.first = self.prompt()
+        prompt = "..> ".rjust(columns(self.first) or 0) if prefix else self.first
         self.completer.prefix, self.completer.prompt = prefix, prompt
         while True:
             self.completer.is_on = True

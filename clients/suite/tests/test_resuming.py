@@ -64,6 +64,13 @@ class Resuming(Case):
             found = self.verdicts(self.path, "--resume")
             self.assertEqual(found, ["differs" if at == self.wrong else "ok" for at in range(len(found))], self.read())
 
+    def test_a_run_that_was_killed_while_its_worksheet_was_made(self) -> None:
+        self.write(case("say 1", "1"))
+        with open(self.path + ".run.new", "wb") as torn:
+            torn.write(b"TM")
+        self.assertEqual(self.verdicts(self.path, "--resume"), ["ok"])
+        self.assertFalse(os.path.lexists(self.path + ".run.new"))
+
     def test_what_is_done_is_not_done_again(self) -> None:
         self.write(case("say 1", "1"), case("say 2", "2"), case("say 3", "3", "b"))
         self.assertEqual(self.verdicts(self.path), ["ok"] * 3)

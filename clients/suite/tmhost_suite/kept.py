@@ -25,13 +25,15 @@ PATIENCE, PAUSE = 10.0, 0.05  # seconds; the program of a run that was killed ne
 @dataclasses.dataclass
 class Result:
     """What came of a case. `got` is what is compared, and `errors` are those that are apart; `tries` is how often it was evaluated; `began_anew` says that its interpreter was
-    started for it, other than for the first case of its session; `is_error` that an answer is an error, or has one."""
+    started for it, other than for the first case of its session; `is_error` that an answer is an error, or has one; `is_lost` that a field has no
+    answer."""
 
     got: str
     seconds: float
     tries: int = 1
     began_anew: bool = False
     is_error: bool = False
+    is_lost: bool = False
     errors: str = ""
     verdict: str = ""
 
@@ -106,6 +108,16 @@ def opened(path: str, folder: Optional[str] = None) -> Worksheet:
             time.sleep(PAUSE)
 
 
+def make(path: str) -> None:
+    """Makes the worksheet under another name first: a run that is killed meanwhile leaves none here, and not a file that doesn't open."""
+    fresh = path + ".new"
+    remove(fresh)
+    made = subprocess.run([find_program(), "create", os.path.join(".", fresh)], stdin=subprocess.DEVNULL, capture_output=True)
+    if made.returncode != 0:
+        raise Trouble(f"{path} can't be made: {made.stderr.decode('utf-8', 'backslashreplace').strip()}")
+    os.replace(fresh, path)
+
+
 def begin(path: str, suite: Suite) -> Kept:
     """A new run, in the place of an earlier one."""
     folder = os.path.dirname(path) or "."
@@ -117,9 +129,7 @@ def begin(path: str, suite: Suite) -> Kept:
     if os.path.lexists(path):
         opened(path).close()  # so that the worksheet of a run that goes on isn't taken away
     remove(path)
-    made = subprocess.run([find_program(), "create", os.path.join(".", path)], stdin=subprocess.DEVNULL, capture_output=True)
-    if made.returncode != 0:
-        raise Trouble(f"{path} can't be made: {made.stderr.decode('utf-8', 'backslashreplace').strip()}")
+    make(path)
     sheet = opened(path, suite.folder)
     try:
         return fill(sheet, suite)

@@ -222,7 +222,11 @@ class Runner:
             raise Trouble("nothing is accepted into a file of this form: --convert writes the text form")
         answers: Dict[int, str] = {}
         errors: Dict[int, str] = {}
-        accepted = [at for at, one in enumerate(told) if one.verdict in ("differs", "new") and (not self.given.interactive or self._is_wanted(one))]
+        wrong = [at for at, one in enumerate(told) if one.verdict in ("differs", "new")]
+        lost = [] if self.given.interactive else [at for at in wrong if told[at].is_lost]
+        if lost:
+            self.accepted.append(f"{text.suite.path}: {len(lost)} not accepted, since no answer came to a field")
+        accepted = [at for at in wrong if (self._is_wanted(told[at]) if self.given.interactive else at not in lost)]
         for at in accepted:
             case, rules = told[at].case, text.suite.rules_of(told[at].case)
             if not rules.is_wanted(case.wanted, told[at].got, set()):

@@ -45,6 +45,11 @@ class Told:
         return bool(self.result and self.result.is_error)
 
     @property
+    def is_lost(self) -> bool:
+        """Whether no answer came to a field of it."""
+        return bool(self.result and self.result.is_lost)
+
+    @property
     def got(self) -> str:
         return self.result.got if self.result else ""
 

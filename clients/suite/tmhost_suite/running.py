@@ -131,22 +131,23 @@ class Chain:
         began = time.monotonic()
         until = began + (case.marks.timeout or self.suite.timeout or self.plan.seconds)
         got: List[Shown] = []
+        lost: List[Shown] = []
         is_error, rules = False, self.suite.rules_of(case)
         try:
             for cell in self.kept.cells[at]:
                 answer = self._answer(cell, until)
                 got.append(shown_of(answer, rules))
                 is_error = is_error or bool(answer.errors)
-        except Lost as lost:
-            got.append(Shown(f"? {lost.reason}"))
+        except Lost as ended:
+            lost.append(Shown(f"? {ended.reason}"))
         except Over:
-            got.append(Shown(f"? over {until - began:g} s"))
+            lost.append(Shown(f"? over {until - began:g} s"))
         except Refused as refused:
-            got.append(Shown(f"? {refused}"))
+            lost.append(Shown(f"? {refused}"))
         if at in self.kept.misfits:
-            got.append(Shown(f"? {self.kept.misfits[at]}"))
-        shown = joined(got)
-        return Result(shown.text, time.monotonic() - began, began_anew=began_anew, is_error=is_error, errors=shown.errors)
+            lost.append(Shown(f"? {self.kept.misfits[at]}"))
+        shown, taken = joined(got + lost), time.monotonic() - began
+        return Result(shown.text, taken, began_anew=began_anew, is_error=is_error, is_lost=bool(lost), errors=shown.errors)
 
     def _answer(self, cell: Cell, until: float) -> Answer:
         """The answer of a cell. Raises Lost, where its interpreter ended, Over, where the time is, and Refused."""

@@ -2,10 +2,10 @@
 // A page with its formulas and its prose set, and what is left of them.
 
 const { spansOf, proseOf, proseSection, textOf, escapedText, pageWith, STYLE, PROSE_STYLE } = require("./page.js");
-const { partsOf, wordsOfKatex, isSeen } = require("./latex.js");
+const { partsOf, wordsOfKatex, piecesOf, isSeen } = require("./latex.js");
 const { answersTo } = require("./setter.js");
 const { mathOf } = require("./mathml.js");
-const { piecesOf } = require("./prose.js");
+const { piecesOf: piecesOfProse } = require("./prose.js");
 const { Refused } = require("./refused.js");
 
 /**
@@ -23,6 +23,7 @@ const { Refused } = require("./refused.js");
 
 const LONGEST_FACTOR = 200; // characters of MathML for each of TeX, so that a page grows by no more; of HTML for each of prose
 const LONGEST_REST = 2_000;
+const LONGEST_PIECE = 20_000; // characters of a formula, or of a piece of one
 
 /** @type {(text: string) => number} */
 function longestFor(text) {
@@ -48,11 +49,17 @@ function askedFormula(tex, display) {
 }
 
 /**
- * A part of a block. A formula that has its line for itself gets the room of one, as between double dollars.
- * @type {(part: Part, alone: boolean) => Asked}
+ * A part of a block. A formula that has its line for itself gets the room of one, as between double dollars. Of a long sum each term is a formula of its
+ * own, since browsers break lines between formulas, and in none.
+ * @type {(part: Part, alone: boolean) => Asked[]}
  */
 function asked(part, alone) {
-  return part.kind === "words" ? { html: escapedText(part.text) } : askedFormula(part.tex, part.display || alone);
+  if (part.kind === "words") return [{ html: escapedText(part.text) }];
+  const display = part.display || alone;
+  const words = wordsOfKatex(part.tex), pieces = piecesOf(words, display, 0) ?? [words];
+  if (pieces.length > 1) return pieces.map((piece) => askedFormula(piece, false));
+  if (words.length > LONGEST_PIECE) throw new Refused(`more than ${LONGEST_PIECE} characters, and no sign between terms at which it could be broken`);
+  return [askedFormula(part.tex, display)];
 }
 
 /**
@@ -74,7 +81,7 @@ function formulasIn(page) {
   return spansOf(page).map(({ start, end, alone }) => {
     const text = textOf(page.subarray(start, end));
     if (text === null) return { start, end, kind: "formula", text: "", parts: [], reason: "no text of an export" };
-    const told = orReason(() => ({ parts: partsOf(text).map((part) => asked(part, alone)) }));
+    const told = orReason(() => ({ parts: partsOf(text).flatMap((part) => asked(part, alone)) }));
     return { start, end, kind: "formula", text, parts: [], ...told };
   });
 }
@@ -97,7 +104,7 @@ function askedInProse({ tex, display }, left) {
 /** @type {(read: Read, text: string, left: Left[]) => Asked[]} */
 function partsOfProse(read, text, left) {
   if ("reason" in read) throw new Refused(read.reason);
-  const pieces = piecesOf(read.trees);
+  const pieces = piecesOfProse(read.trees);
   const html = pieces.filter((piece) => typeof piece === "string").join("");
   if (html.length > longestFor(text)) throw new Refused("too long");
   return pieces.map((piece) => (typeof piece === "string" ? { html: piece } : askedInProse(piece, left)));

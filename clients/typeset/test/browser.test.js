@@ -53,6 +53,17 @@ const MISPLACED = `(() => {
     .map((node) => node.outerHTML);
 })()`;
 
+test("a long sum has lines, of which none is wider than the page", options, async () => {
+  const tex = Array.from({ length: 500 }, (_, at) => `\\frac{${at}}{${at + 1}}x^{${at}}`).join(" + ");
+  await open().load(run(pageOf("long", [{ output: span(`$${tex}$`) }])).page);
+  const lines = await open().value(`(() => {
+    const [out] = document.querySelectorAll(".out"), all = [...out.querySelectorAll("math")];
+    const tops = new Set(all.map((one) => Math.round(one.getBoundingClientRect().bottom / 8)));
+    return [all.length, tops.size, out.scrollWidth <= out.clientWidth];
+  })()`);
+  assert.deepEqual([lines[0], lines[1] > 20, lines[2]], [500, true, true], lines.join(" "));
+});
+
 test("formulas are drawn as formulas", options, async () => {
   const page = run(pageOf("formulas", FORMULAS.map(({ from, tex }) => ({ session: from, input: tex, output: span(tex) })))).page;
   await open().load(page);

@@ -39,7 +39,7 @@ const STAYS = [
   ["$}$", /character 1 /], ["\\(x$", /character 1 /], ["\\[x\\)", /character 1 /], ["\\frac12", /character 1 /], ["\\magentax $b$", /character 1 /],
   ["x_1 $b$", /character 2 /], ["50% of $b$", /character 3 /], ["a~b $c$", /character 2 /], ["\\textbf{a} $b$", /character 1 /],
   ["\\begin{tabular}$x$\\end{tabular}", /character 1 /], ["\\", /character 1 /], ["$x$\\", /character 4 /], ["$\u202e$", /not seen/], ["$\0$", /not seen/],
-  [`$${"x".repeat(20_000)}$`, /20000/],
+  [`$${"x".repeat(50_000)}$`, /50000/],
 ];
 
 test("blocks that have formulas", () => {

@@ -112,7 +112,7 @@ const STOP_AT_ERROR: Word = Word {
 const ACCEPT: Word = Word {
     name: "accept",
     given: Given::Flag,
-    help: "Put the answers that differ into the worksheet",
+    help: "Put the answers that differ, or are new, into the worksheet",
 };
 
 const WHOLE: Word = Word {

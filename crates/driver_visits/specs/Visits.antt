@@ -1,5 +1,5 @@
 -- Whatever is driven over a disk is an invocation of the theorem, and what it had printed when it was cut off was durable.
--- (docs/trust/THEOREM.md; premises A1 to A6 in the README of crate `theorem`.)
+-- (docs/trust/THEOREM.md; premises A1 to A7 in the README of crate `theorem`.)
 use Rattle.std.specs.Prelude.{◌≡◌, IsTrue, List, ◌∷◌, ◌++◌, true, Result}
 use Rattle.disk_model.specs.Disk.{LeavesOnly, bytes_on}
 use Rattle.host_events.specs.declared.event.Event.{Event}

@@ -12,7 +12,7 @@ use evaluation::{Plan, Which};
 use sheet_text::read_number;
 use std::alloc::Global;
 
-/// The most seconds that a field may be given.
+/// The most seconds that a field may be given, or a line of `run`.
 const MOST_SECONDS: u32 = 1_000_000;
 
 /// The most sessions in which fields may wait at a time.
@@ -40,7 +40,7 @@ pub enum PlanFault {
 pub enum JobsFault {
     /// They name no number from 1 to 64.
     Number,
-    /// Answers that differ are to be accepted, too.
+    /// Answers that differ or are new are to be accepted, too.
     Accepting,
 }
 
@@ -49,7 +49,7 @@ pub enum JobsFault {
 pub enum SeveralFault {
     /// Their reports are in words alone.
     Format,
-    /// Answers that differ are to be accepted.
+    /// Answers that differ or are new are to be accepted.
     Accepting,
     /// Fields are to be left out by their numbers.
     LeftOut,

@@ -1,6 +1,7 @@
 -- A host, from its opening to a crash, call after call.
-use Rattle.std.proofs.Common.{ℕ, List, ◌++◌, refl}
-use Rattle.std.specs.Prelude.{Result, Ok}
+use Rattle.std.proofs.Common.{◌≡◌, ◌∙◌, ⊎_elim, ℕ, List, ◌++◌, length, take, refl, sym, ap, subst}
+use Rattle.std.proofs.lemmas.List.{take_at}
+use Rattle.std.specs.Prelude.{Result, Ok, Err}
 use Rattle.std.specs.declared.alloc.Global.{Global}
 use Rattle.std.specs.declared.vec.Vec.{Vec}
 use Rattle.disk_model.specs.Disk.{Image}
@@ -8,16 +9,33 @@ use Rattle.worksheet.specs.declared.op.Op.{Op}
 use Rattle.host_events.specs.declared.event.Event.{Event}
 use Rattle.host_events.specs.declared.outcome.Outcome.{Outcome}
 use Rattle.session_engine.specs.declared.play.GroupFault.{GroupFault}
+use Rattle.session_engine.specs.declared.play.GroupFault.TheVariants as halt
 use Rattle.session_engine.specs.World.{World, world_at_opening}
 use Rattle.session_engine.specs.Does.{Runs}
 use Rattle.session_engine.specs.Host.{HostView, IsHost}
 use Rattle.host_laws.specs.Turns.{CrashesAreTurns}
 use Rattle.host_laws.specs.OneHost.{JustOpened}
 use Rattle.host_laws.specs.Together.{GroupMeets, UpToMeets, returned}
-use Rattle.host_laws.specs.Calls.{CallsLeavePrefixes, TookByCalls, and_group, and_group_up_to, and_step, no_call}
+use Rattle.host_laws.specs.Calls.{CallsLeavePrefixes, GaveBack, TookByCalls, and_given_back, and_group, and_group_up_to, and_step, no_call}
+use Rattle.host_laws.proofs.Going.{runs_on}
 use Rattle.host_laws.proofs.Stepwise.{steps_are_turns}
 use Rattle.host_laws.proofs.Stepping.{after, within}
-use Rattle.host_laws.proofs.Groups.{groups_are_turns, groups_up_to_are_turns}
+use Rattle.host_laws.proofs.Groups.{groups_are_turns, groups_up_to_are_turns, runs_length}
+
+-- a host that gave a group back stands for the world that it stood for
+stands_given_back : (w : World) (old new : HostView) (group : List Event) → IsHost old w → (answer : Result (Vec Outcome Global) GroupFault) → GroupMeets group old answer new → GaveBack answer → IsHost new w
+stands_given_back w old new group is (Ok outcomes) m gave = absurd gave
+stands_given_back w old new group is (Err (halt.Checkpoint back)) m gave = subst (λ (h : HostView). IsHost h w) (sym (m.halts w is).2) is
+stands_given_back w old new group is (Err (halt.NoRoom back)) m gave = (m.halts w is).stands
+stands_given_back w old new group is (Err (halt.Stopped outcomes fault)) m gave = absurd gave
+stands_given_back w old new group is (Err halt.Disk) m gave = absurd gave
+
+stands_given_back_up_to : (w : World) (old new : HostView) (group : List Event) → IsHost old w → (answer : Result (Vec Outcome Global) GroupFault) → UpToMeets group old answer new → GaveBack answer → IsHost new w
+stands_given_back_up_to w old new group is (Ok outcomes) m gave = absurd gave
+stands_given_back_up_to w old new group is (Err (halt.Checkpoint back)) m gave = subst (λ (h : HostView). IsHost h w) (sym (m.halts w is).2) is
+stands_given_back_up_to w old new group is (Err (halt.NoRoom back)) m gave = (m.halts w is).stands
+stands_given_back_up_to w old new group is (Err (halt.Stopped outcomes fault)) m gave = absurd gave
+stands_given_back_up_to w old new group is (Err halt.Disk) m gave = absurd gave
 
 module _ (room : ℕ) (before : Image) (found : List Op) (opened : HostView) (begun : JustOpened room before found opened) where
   -- the host stands for the world that the events lead to
@@ -31,9 +49,19 @@ module _ (room : ℕ) (before : Image) (found : List Op) (opened : HostView) (be
   stands_after events told old (and_group {mid = mid} {group = group} {outcomes = outcomes} {events = es} {told = os} calls meets) =
       let at = stands_after es os mid calls in
       (groups_are_turns room opened.store.end before found begun.allowed begun.image begun.ends es os at.0 at.1 group mid old (Ok outcomes) at.2 meets).2
-  stands_after events told old (and_group_up_to {mid = mid} {group = group} {outcomes = outcomes} {events = es} {told = os} calls meets many) =
+  stands_after events told old (and_group_up_to {mid = mid} {group = group} {outcomes = outcomes} {events = es} {told = os} calls meets) =
       let at = stands_after es os mid calls in
-      (groups_up_to_are_turns room opened.store.end before found begun.allowed begun.image begun.ends es os at.0 at.1 group mid old (Ok outcomes) at.2 meets).2 many
+      let played = (meets.took at.0 at.2).played in
+      let taken : take (length outcomes.items) group ≡ played.done =
+      ap (take (length outcomes.items)) played.split ∙ take_at played.done (meets.took at.0 at.2).rest (length outcomes.items) (runs_length at.0 played.done outcomes.items played.leads played.runs) in (
+        played.leads,
+        subst (λ (l : List Event). Runs (world_at_opening found room opened.store.end) (es ++ l) (os ++ outcomes.items) played.leads) (sym taken)
+            (runs_on (world_at_opening found room opened.store.end) es os at.0 played.done outcomes.items played.leads at.1 played.runs),
+        played.stands,
+      )
+  stands_after events told old (and_given_back {mid = mid} {group = group} {answer = answer} calls meets gave) =
+      let at = stands_after events told mid calls in
+      (at.0, at.1, ⊎_elim (λ m. stands_given_back at.0 mid old group at.2 answer m gave) (λ m. stands_given_back_up_to at.0 mid old group at.2 answer m gave) meets)
 
   -- a crash within one group more that stops at a refusal, and one after it
   within_up_to : (events : List Event) (told : List Outcome) (old : HostView) (w : World) → Runs (world_at_opening found room opened.store.end) events told w → IsHost old w

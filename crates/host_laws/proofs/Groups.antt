@@ -23,7 +23,7 @@ use Rattle.host_laws.specs.Turns.{CrashesAreTurns, LeftByTurn}
 use Rattle.host_laws.specs.Together.{GroupMeets, GroupsAreTurns, GroupsUpToAreTurns, UpToMeets, returned}
 use Rattle.host_laws.proofs.Going.{plays_are_turns, runs_on}
 
-runs_length : (w : World) (es : List Event) (os : List Outcome) (v : World) → Runs w es os v → length es ≡ length os
+pub runs_length : (w : World) (es : List Event) (os : List Outcome) (v : World) → Runs w es os v → length es ≡ length os
 runs_length w [] [] v run = refl
 runs_length w [] (o ∷ os) v run = absurd run
 runs_length w (e ∷ es) [] v run = absurd run

@@ -38,7 +38,7 @@ use Rattle.host_laws.proofs.ApartLives.{same_name}
 use Rattle.host_laws.proofs.Totals.{total, total-put, total-out, total-push}
 
 -- What becomes of the lives: all stay as they are; one changes, which keeps its name and its number; one ends; or one begins, of
--- a session that has none, and is started_by with the next number.
+-- a session that has none, and is started by with the next number.
 pub data Becomes (w : World) (d : Does) : Type 0 where
   all_stay : d.lives ≡ w.lives → d.begun ≡ w.begun → started_by d.told.effect ≡ [] → Becomes w d
   one_changes : (l m : Going) → life_of w l.name ≡ Some l → m.name ≡ l.name → m.number ≡ l.number → d.lives ≡ replace_named (λ g. g.name) l.name m w.lives

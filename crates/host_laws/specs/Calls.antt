@@ -1,5 +1,5 @@
 -- One host that is given events by steps and by groups, as programs give them: what the contracts of its calls say together. (docs/dev/HOST.md.)
-use Rattle.std.specs.Prelude.{◌≡◌, List, [], ◌∷◌, ◌++◌, length, ℕ, Result, Ok}
+use Rattle.std.specs.Prelude.{◌⊎◌, ℕ, List, [], ◌∷◌, ◌++◌, length, take, Result, Ok, Err}
 use Rattle.std.specs.declared.alloc.Global.{Global}
 use Rattle.std.specs.declared.vec.Vec.{Vec}
 use Rattle.disk_model.specs.Disk.{Image}
@@ -8,21 +8,33 @@ use Rattle.host_events.specs.declared.event.Event.{Event}
 use Rattle.host_events.specs.declared.outcome.HostFault.{HostFault}
 use Rattle.host_events.specs.declared.outcome.Outcome.{Outcome}
 use Rattle.session_engine.specs.declared.play.GroupFault.{GroupFault}
+use Rattle.session_engine.specs.declared.play.GroupFault.TheVariants as halt
 use Rattle.session_engine.specs.Host.{HostView}
 use Rattle.host_laws.specs.Turns.{CrashesAreTurns}
 use Rattle.host_laws.specs.OneHost.{JustOpened, StepMeets}
 use Rattle.host_laws.specs.Together.{GroupMeets, UpToMeets, returned}
 
--- The host was given these events, each by a step or in a group, and they returned these outcomes.
+-- The call took no event and gave all back: there was no memory, or a checkpoint was among them.
+abbrev pub GaveBack : Result (Vec Outcome Global) GroupFault → Type 0
+GaveBack (Ok outcomes) = ⊥
+GaveBack (Err (halt.Checkpoint back)) = Unit {0}
+GaveBack (Err (halt.NoRoom back)) = Unit {0}
+GaveBack (Err (halt.Stopped outcomes fault)) = ⊥
+GaveBack (Err halt.Disk) = ⊥
+
+-- The host took these events, each by a step or in a group, and they returned these outcomes.
 pub data TookByCalls : HostView → List Event → List Outcome → HostView → Type 0 where
   no_call : {h : HostView} → TookByCalls h [] [] h
   and_step : {h mid new : HostView} {e : Event} {o : Outcome} {events : List Event} {told : List Outcome}
       → TookByCalls h events told mid → StepMeets e mid (Ok o) new → TookByCalls h (events ++ e ∷ []) (told ++ o ∷ []) new
   and_group : {h mid new : HostView} {group : List Event} {outcomes : Vec Outcome Global} {events : List Event} {told : List Outcome}
       → TookByCalls h events told mid → GroupMeets group mid (Ok outcomes) new → TookByCalls h (events ++ group) (told ++ outcomes.items) new
-  -- in one that stops at a refusal, which none of them met before the last
+  -- of one that stops at a refusal those that have outcomes
   and_group_up_to : {h mid new : HostView} {group : List Event} {outcomes : Vec Outcome Global} {events : List Event} {told : List Outcome}
-      → TookByCalls h events told mid → UpToMeets group mid (Ok outcomes) new → length outcomes.items ≡ length group → TookByCalls h (events ++ group) (told ++ outcomes.items) new
+      → TookByCalls h events told mid → UpToMeets group mid (Ok outcomes) new → TookByCalls h (events ++ take (length outcomes.items) group) (told ++ outcomes.items) new
+  -- none of a group that was given back
+  and_given_back : {h mid new : HostView} {group : List Event} {answer : Result (Vec Outcome Global) GroupFault} {events : List Event} {told : List Outcome}
+      → TookByCalls h events told mid → GroupMeets group mid answer new ⊎ UpToMeets group mid answer new → GaveBack answer → TookByCalls h events told new
 
 -- A host was opened, and given events by steps and groups. A crash after the last call leaves the worksheet after a prefix of the events that
 -- has each of them, since each was acknowledged; and so does a crash at any moment of one step or one group more, whatever that answers. One after a

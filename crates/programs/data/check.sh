@@ -873,6 +873,7 @@ objects 'objects of the same' 1 <<'END_OF_JSON'
 {"differ":1,"errors":0,"left_out":0,"new":0,"same":1,"type":"compared","unanswered":0}
 {"type":"end"}
 END_OF_JSON
+checks 'the same, as JUnit' 1 "$head"'<testcase classname="d" name="field 1: png"><failure message="differs">#1 d\n&gt; png\n- {image/png;base64: 12 bytes, sum 929e08d5}\n+ {image/png;base64: 12 bytes, sum 3765c2fa}\n</failure></testcase>\n<testcase classname="e" name="field 2: same"></testcase>\n'"$tail" --format junit
 checked 'an SVG that differs' "$d"'new 0 d svg\neval 1\nwait\n' 1 '#1 d\n> svg\n  a line\n- {image/svg+xml: 6 bytes, sum d4dc5666}\n+ {image/svg+xml: 12 bytes, sum 04cc5fa4}\nsame 0 differ 1 unanswered 0\n'
 checked 'a text that differs beside a picture that does not' "$d"'new 0 d text\neval 1\nwait\n' 1 '#1 d\n> text\n- one\n+ two\n  {image/png;base64: 12 bytes, sum 929e08d5}\nsame 0 differ 1 unanswered 0\n'
 checked 'a long picture' "$d"'new 0 d long\neval 1\nwait\n' 1 '#1 d\n> long\n- {image/jpeg;base64: 1000012 bytes, sum 3640e0d1}\n+ {image/jpeg;base64: 1000012 bytes, sum e65d7178}\nsame 0 differ 1 unanswered 0\n'

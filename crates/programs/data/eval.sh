@@ -202,14 +202,14 @@ ended_so strictly 'strictly' 3 'asked\nbanner a\nanswered 1\nasked\nover 5\nende
 cat >wanted <<'END'
 {"format":1,"program":"tmhost","protocol":2,"type":"hello","version":"0.1.0"}
 {"life":1,"line":1,"type":"asked"}
-{"life":1,"output":{"items":[],"kind":"format","tag":"verbatim"},"session":"a","shown":"","type":"banner"}
-{"id":1,"life":1,"output":{"items":["x"],"kind":"format","tag":"verbatim"},"prompt":"> ","session":"a","shown":"x","type":"answered"}
+{"life":1,"next":"> ","output":{"items":[],"kind":"format","tag":"verbatim"},"session":"a","shown":"","type":"banner"}
+{"id":1,"life":1,"next":"> ","output":{"items":["x"],"kind":"format","tag":"verbatim"},"prompt":"> ","session":"a","shown":"x","type":"answered"}
 {"life":1,"line":3,"type":"asked"}
 {"id":5,"outcome":"sent","type":"over"}
 {"life":1,"lost":[{"id":5,"text":"deaf"}],"reason":"Stalled","session":"a","type":"ended"}
 {"life":2,"line":7,"type":"asked"}
-{"life":2,"output":{"items":[],"kind":"format","tag":"verbatim"},"session":"b","shown":"","type":"banner"}
-{"id":4,"life":2,"output":{"items":["z 1"],"kind":"format","tag":"verbatim"},"prompt":"> ","session":"b","shown":"z 1","type":"answered"}
+{"life":2,"next":"> ","output":{"items":[],"kind":"format","tag":"verbatim"},"session":"b","shown":"","type":"banner"}
+{"id":4,"life":2,"next":"> ","output":{"items":["z 1"],"kind":"format","tag":"verbatim"},"prompt":"> ","session":"b","shown":"z 1","type":"answered"}
 {"answered":3,"over":1,"passed":1,"type":"counted","unanswered":1}
 {"type":"end"}
 status 1
@@ -339,8 +339,8 @@ made 'session a plain sh count.sh\nnew 0 a x\n'
 cat >wanted <<'END'
 {"format":1,"program":"tmhost","protocol":2,"type":"hello","version":"0.1.0"}
 {"life":1,"line":1,"type":"asked"}
-{"life":1,"output":{"items":[],"kind":"format","tag":"verbatim"},"session":"a","shown":"","type":"banner"}
-{"id":1,"life":1,"output":{"items":["x 1"],"kind":"format","tag":"verbatim"},"prompt":"> ","session":"a","shown":"x 1","type":"answered"}
+{"life":1,"next":"> ","output":{"items":[],"kind":"format","tag":"verbatim"},"session":"a","shown":"","type":"banner"}
+{"id":1,"life":1,"next":"> ","output":{"items":["x 1"],"kind":"format","tag":"verbatim"},"prompt":"> ","session":"a","shown":"x 1","type":"answered"}
 {"answered":1,"type":"counted","unanswered":0}
 {"type":"end"}
 status 0
@@ -350,6 +350,33 @@ sed 's/"answered":1,/"answered":1,"over":0,"passed":0,/' wanted >wanted.time
 compare 'as JSON, with a limit' "$(answer eval --json --timeout 60 sheet </dev/null)" "$(cat wanted.time)"
 compare 'as JSON, a number that no field has' "$(answer eval --json sheet 9 </dev/null)" "$(head -n 1 wanted; printf '{"id":9,"name":"NoField","number":37,"type":"fault"}\nfault 37 NoField 9\nstatus 1')"
 compare 'as JSON, no worksheet' "$(answer eval --json missing </dev/null)" "$(printf '{"name":"Disk","number":32,"type":"fault"}\nfault 32 Disk\nstatus 1')"
+
+# The prompt of the next line, told with a banner and with an answer; none where a fault comes with the answer.
+cat >prompts.sh <<'END'
+printf '\002verbatim:\002prompt#In [1]: \005\005'
+IFS= read -r l
+printf '\002verbatim:%s\002prompt#In [2]: \005\005' "$l"
+IFS= read -r l
+printf '\002verbatim:%s\002prompt#In [3]: \005\005\002verb\002' "$l"
+IFS= read -r l
+END
+made 'session a plain sh prompts.sh\nnew 0 a x\nnew 1 a y\nnew 2 a z\n'
+cat >wanted <<'END'
+{"format":1,"program":"tmhost","protocol":2,"type":"hello","version":"0.1.0"}
+{"life":1,"line":1,"type":"asked"}
+{"life":1,"next":"In [1]: ","output":{"items":[],"kind":"format","tag":"verbatim"},"session":"a","shown":"","type":"banner"}
+{"id":1,"life":1,"next":"In [2]: ","output":{"items":["x"],"kind":"format","tag":"verbatim"},"prompt":"In [1]: ","session":"a","shown":"x","type":"answered"}
+{"life":1,"line":3,"type":"asked"}
+{"id":2,"life":1,"next":null,"output":{"items":["y"],"kind":"format","tag":"verbatim"},"prompt":"In [2]: ","session":"a","shown":"y","type":"answered"}
+{"life":1,"lost":[],"reason":"BadTag","session":"a","type":"ended"}
+{"life":2,"line":5,"type":"asked"}
+{"life":2,"next":"In [1]: ","output":{"items":[],"kind":"format","tag":"verbatim"},"session":"a","shown":"","type":"banner"}
+{"id":3,"life":2,"next":"In [2]: ","output":{"items":["z"],"kind":"format","tag":"verbatim"},"prompt":"In [1]: ","session":"a","shown":"z","type":"answered"}
+{"answered":3,"type":"counted","unanswered":0}
+{"type":"end"}
+status 0
+END
+compare 'the prompt of the next line, as JSON' "$(answer eval --json sheet </dev/null)" "$(cat wanted)"
 
 # Many fields.
 rm -f sheet sheet.alt

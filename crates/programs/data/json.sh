@@ -55,22 +55,22 @@ json 'what an interpreter writes' 0 'session a plain sh p.sh\nnew 0 a x^2\neval 
 {"line":1,"type":"done"}
 {"id":1,"line":2,"type":"made"}
 {"life":1,"line":3,"type":"asked"}
-{"life":1,"output":{"items":["Hello"],"kind":"format","tag":"verbatim"},"session":"a","shown":"Hello","type":"banner"}
-{"id":1,"life":1,"output":{"items":[{"items":["$x^2$"],"kind":"format","tag":"latex"}],"kind":"format","tag":"verbatim"},"prompt":"Input 1] ","session":"a","shown":"{latex:$x^2$}","type":"answered"}
+{"life":1,"next":"Input 1] ","output":{"items":["Hello"],"kind":"format","tag":"verbatim"},"session":"a","shown":"Hello","type":"banner"}
+{"id":1,"life":1,"next":"Input 2] ","output":{"items":[{"items":["$x^2$"],"kind":"format","tag":"latex"}],"kind":"format","tag":"verbatim"},"prompt":"Input 1] ","session":"a","shown":"{latex:$x^2$}","type":"answered"}
 {"line":4,"over":"idle","type":"waited"}
 {"field":{"id":1,"input":"x^2","output":{"items":[{"items":["$x^2$"],"kind":"format","tag":"latex"}],"kind":"format","tag":"verbatim"},"prompt":"Input 1] ","session":"a","shown":"{latex:$x^2$}","state":"answered"},"line":5,"type":"field"}
 {"life":1,"line":6,"type":"asked"}
-{"id":1,"life":1,"output":{"items":[{"base64":"Y2Fm6Q=="}],"kind":"format","tag":"verbatim"},"prompt":"Input 2] ","session":"a","shown":{"base64":"Y2Fm6Q=="},"type":"answered"}
+{"id":1,"life":1,"next":"Input 2] ","output":{"items":[{"base64":"Y2Fm6Q=="}],"kind":"format","tag":"verbatim"},"prompt":"Input 2] ","session":"a","shown":{"base64":"Y2Fm6Q=="},"type":"answered"}
 {"life":1,"session":"a","text":"print(","type":"default"}
 {"line":7,"over":"idle","type":"waited"}
 {"life":1,"line":8,"type":"asked"}
-{"id":1,"life":1,"output":{"items":["{\"line\":3,\"type\":\"done\"}\n\u0001\u001b"],"kind":"format","tag":"verbatim"},"prompt":"Input 2] ","session":"a","shown":"{\"line\":3,\"type\":\"done\"}\n\\x01\\x1b\\x7f","type":"answered"}
+{"id":1,"life":1,"next":"Input 2] ","output":{"items":["{\"line\":3,\"type\":\"done\"}\n\u0001\u001b"],"kind":"format","tag":"verbatim"},"prompt":"Input 2] ","session":"a","shown":"{\"line\":3,\"type\":\"done\"}\n\\x01\\x1b\\x7f","type":"answered"}
 {"line":9,"over":"idle","type":"waited"}
 {"life":1,"line":10,"type":"asked"}
-{"id":1,"life":1,"output":{"items":[],"kind":"channel","tag":{"base64":"6Q=="}},"prompt":"Input 2] ","session":"a","shown":{"base64":"e+kjfQ=="},"type":"answered"}
+{"id":1,"life":1,"next":"Input 2] ","output":{"items":[],"kind":"channel","tag":{"base64":"6Q=="}},"prompt":"Input 2] ","session":"a","shown":{"base64":"e+kjfQ=="},"type":"answered"}
 {"line":11,"over":"idle","type":"waited"}
 {"life":1,"line":12,"type":"asked"}
-{"id":1,"life":1,"output":{"items":["?"],"kind":"format","tag":"verbatim"},"prompt":"Input 2] ","session":"a","shown":"?","type":"answered"}
+{"id":1,"life":1,"next":"Input 2] ","output":{"items":["?"],"kind":"format","tag":"verbatim"},"prompt":"Input 2] ","session":"a","shown":"?","type":"answered"}
 {"line":13,"over":"idle","type":"waited"}
 {"field":{"id":1,"input":"x^2","output":{"items":["?"],"kind":"format","tag":"verbatim"},"prompt":"Input 2] ","session":"a","shown":"?","state":"answered"},"line":14,"type":"field"}
 {"type":"end"}
@@ -99,7 +99,7 @@ json 'completions' 0 'session t tab sh p.sh\nnew 0 t h\ncomplete 1 1\ncomplete 1
 {"id":1,"line":2,"type":"made"}
 {"life":1,"line":3,"type":"asked"}
 {"life":1,"line":4,"type":"asked"}
-{"life":1,"output":{"items":[],"kind":"format","tag":"verbatim"},"session":"t","shown":"","type":"banner"}
+{"life":1,"next":"> ","output":{"items":[],"kind":"format","tag":"verbatim"},"session":"t","shown":"","type":"banner"}
 {"id":1,"life":1,"session":"t","told":{"rest":["ello","i there"],"root":"h"},"type":"completed"}
 {"id":1,"life":1,"session":"t","told":null,"type":"completed"}
 {"line":5,"over":"idle","type":"waited"}
@@ -154,8 +154,8 @@ cat >wanted <<END_OF_JSON
 {"line":7,"type":"nothing"}
 {"line":8,"name":"InFlight","number":3,"type":"refused"}
 {"field":{"id":1,"input":"x","session":"a","state":"waiting"},"line":9,"type":"field"}
-{"life":1,"output":{"items":[],"kind":"format","tag":"verbatim"},"session":"a","shown":"","type":"banner"}
-{"id":1,"life":1,"output":$block,"prompt":"> ","session":"a","shown":"A","type":"answered"}
+{"life":1,"next":"> ","output":{"items":[],"kind":"format","tag":"verbatim"},"session":"a","shown":"","type":"banner"}
+{"id":1,"life":1,"next":"> ","output":$block,"prompt":"> ","session":"a","shown":"A","type":"answered"}
 {"line":10,"over":"idle","type":"waited"}
 {"line":11,"over":"idle","type":"waited"}
 {"line":12,"outcome":"idle","type":"interrupted"}
@@ -218,7 +218,7 @@ cat >wanted <<'END_OF_JSON'
 {"line":1,"type":"done"}
 {"id":1,"line":2,"type":"made"}
 {"life":1,"line":3,"type":"asked"}
-{"life":1,"output":{"items":[],"kind":"format","tag":"verbatim"},"session":"a","shown":"","type":"banner"}
+{"life":1,"next":"> ","output":{"items":[],"kind":"format","tag":"verbatim"},"session":"a","shown":"","type":"banner"}
 {"life":1,"outcome":"sent","session":"a","type":"interrupted"}
 {"life":1,"lost":[{"id":1,"text":"deaf"}],"reason":"Stalled","session":"a","type":"ended"}
 {"line":4,"over":"time","type":"waited"}
@@ -246,7 +246,7 @@ hears 'an object of a reply' '{"line":1,"type":"done"}\n'
 say 'new 0 a x\n'
 hears 'an object of a number' '{"id":1,"line":2,"type":"made"}\n'
 say 'eval 1\n'
-hears 'objects of an answer without a wait' '{"life":1,"line":3,"type":"asked"}\n{"life":1,"output":{"items":[],"kind":"format","tag":"verbatim"},"session":"a","shown":"","type":"banner"}\n{"id":1,"life":1,"output":'"$block"',"prompt":"> ","session":"a","shown":"A","type":"answered"}\n'
+hears 'objects of an answer without a wait' '{"life":1,"line":3,"type":"asked"}\n{"life":1,"next":"> ","output":{"items":[],"kind":"format","tag":"verbatim"},"session":"a","shown":"","type":"banner"}\n{"id":1,"life":1,"next":"> ","output":'"$block"',"prompt":"> ","session":"a","shown":"A","type":"answered"}\n'
 say 'print 1\n'
 hears 'an object of a field' '{"field":{"id":1,"input":"x","output":'"$block"',"prompt":"> ","session":"a","shown":"A","state":"answered"},"line":4,"type":"field"}\n'
 say 'foo\n'
@@ -364,9 +364,9 @@ for flags in '--json --partial' --partial; do
 {"line":1,"type":"done"}
 {"id":1,"line":2,"type":"made"}
 {"life":1,"line":3,"type":"asked"}
-{"life":1,"output":{"items":[],"kind":"format","tag":"verbatim"},"session":"a","shown":"","type":"banner"}
+{"life":1,"next":"> ","output":{"items":[],"kind":"format","tag":"verbatim"},"session":"a","shown":"","type":"banner"}
 {"bytes":"\u0002verbatim:x","life":1,"session":"a","type":"partial"}
-{"id":1,"life":1,"output":{"items":["x done"],"kind":"format","tag":"verbatim"},"prompt":"> ","session":"a","shown":"x done","type":"answered"}
+{"id":1,"life":1,"next":"> ","output":{"items":["x done"],"kind":"format","tag":"verbatim"},"prompt":"> ","session":"a","shown":"x done","type":"answered"}
 {"line":4,"over":"idle","type":"waited"}
 {"type":"end"}
 END_OF_JSON
@@ -377,9 +377,9 @@ partial "one that isn't UTF-8" --partial '\0377' <<'END_OF_JSON'
 {"line":1,"type":"done"}
 {"id":1,"line":2,"type":"made"}
 {"life":1,"line":3,"type":"asked"}
-{"life":1,"output":{"items":[],"kind":"format","tag":"verbatim"},"session":"a","shown":"","type":"banner"}
+{"life":1,"next":"> ","output":{"items":[],"kind":"format","tag":"verbatim"},"session":"a","shown":"","type":"banner"}
 {"bytes":{"base64":"AnZlcmJhdGltOv8="},"life":1,"session":"a","type":"partial"}
-{"id":1,"life":1,"output":{"items":[{"base64":"/yBkb25l"}],"kind":"format","tag":"verbatim"},"prompt":"> ","session":"a","shown":{"base64":"/yBkb25l"},"type":"answered"}
+{"id":1,"life":1,"next":"> ","output":{"items":[{"base64":"/yBkb25l"}],"kind":"format","tag":"verbatim"},"prompt":"> ","session":"a","shown":{"base64":"/yBkb25l"},"type":"answered"}
 {"line":4,"over":"idle","type":"waited"}
 {"type":"end"}
 END_OF_JSON
@@ -389,9 +389,181 @@ partial "one that isn't complete, unasked" --json 'at once' <<'END_OF_JSON'
 {"line":1,"type":"done"}
 {"id":1,"line":2,"type":"made"}
 {"life":1,"line":3,"type":"asked"}
-{"life":1,"output":{"items":[],"kind":"format","tag":"verbatim"},"session":"a","shown":"","type":"banner"}
-{"id":1,"life":1,"output":{"items":["at once done"],"kind":"format","tag":"verbatim"},"prompt":"> ","session":"a","shown":"at once done","type":"answered"}
+{"life":1,"next":"> ","output":{"items":[],"kind":"format","tag":"verbatim"},"session":"a","shown":"","type":"banner"}
+{"id":1,"life":1,"next":"> ","output":{"items":["at once done"],"kind":"format","tag":"verbatim"},"prompt":"> ","session":"a","shown":"at once done","type":"answered"}
 {"line":4,"over":"idle","type":"waited"}
 {"type":"end"}
 END_OF_JSON
+
+# The prompt of the next line, told with a banner and with an answer: the one that the interpreter sent last, which the next answer has as its own.
+interpreter p '\002verbatim:\002prompt#In [1]: \005\005' '\002verbatim:A\002prompt#In [2]: \005\005' '\002verbatim:B\002prompt#In [3]: \005\005'
+for task in live run; do
+    told_in_json $task "a prompt that changes, by $task" 0 'session a plain sh p.sh\nnew 0 a x\nnew 1 a y\neval 1\neval 2\nwait\nprint 2\n' <<'END_OF_JSON'
+{"format":1,"program":"tmhost","protocol":2,"type":"hello","version":"0.1.0"}
+{"line":1,"type":"done"}
+{"id":1,"line":2,"type":"made"}
+{"id":2,"line":3,"type":"made"}
+{"life":1,"line":4,"type":"asked"}
+{"life":1,"line":5,"type":"asked"}
+{"life":1,"next":"In [1]: ","output":{"items":[],"kind":"format","tag":"verbatim"},"session":"a","shown":"","type":"banner"}
+{"id":1,"life":1,"next":"In [2]: ","output":{"items":["A"],"kind":"format","tag":"verbatim"},"prompt":"In [1]: ","session":"a","shown":"A","type":"answered"}
+{"id":2,"life":1,"next":"In [3]: ","output":{"items":["B"],"kind":"format","tag":"verbatim"},"prompt":"In [2]: ","session":"a","shown":"B","type":"answered"}
+{"line":6,"over":"idle","type":"waited"}
+{"field":{"id":2,"input":"y","output":{"items":["B"],"kind":"format","tag":"verbatim"},"prompt":"In [2]: ","session":"a","shown":"B","state":"answered"},"line":7,"type":"field"}
+{"type":"end"}
+END_OF_JSON
+done
+interpreter p '\002verbatim:\002prompt#\377> \005\005' '\002verbatim:A\002prompt#\303\251> \005\005' '\002verbatim:B\002prompt#\005\005'
+json 'a prompt that is not UTF-8, one that is, and an empty one' 0 'session a plain sh p.sh\nnew 0 a x\neval 1\nwait\neval 1\nwait\n' <<'END_OF_JSON'
+{"format":1,"program":"tmhost","protocol":2,"type":"hello","version":"0.1.0"}
+{"line":1,"type":"done"}
+{"id":1,"line":2,"type":"made"}
+{"life":1,"line":3,"type":"asked"}
+{"life":1,"next":{"base64":"/z4g"},"output":{"items":[],"kind":"format","tag":"verbatim"},"session":"a","shown":"","type":"banner"}
+{"id":1,"life":1,"next":"é> ","output":{"items":["A"],"kind":"format","tag":"verbatim"},"prompt":{"base64":"/z4g"},"session":"a","shown":"A","type":"answered"}
+{"line":4,"over":"idle","type":"waited"}
+{"life":1,"line":5,"type":"asked"}
+{"id":1,"life":1,"next":"","output":{"items":["B"],"kind":"format","tag":"verbatim"},"prompt":"é> ","session":"a","shown":"B","type":"answered"}
+{"line":6,"over":"idle","type":"waited"}
+{"type":"end"}
+END_OF_JSON
+interpreter p "$banner" '\002verbatim:A\005' '\002scheme:(tuple "h" "i")\005' '\002verbatim:B\005'
+json 'an interpreter that never sends a prompt' 0 'session t tab sh p.sh\nnew 0 t h\neval 1\nwait\ncomplete 1 1\nwait\neval 1\nwait\n' <<'END_OF_JSON'
+{"format":1,"program":"tmhost","protocol":2,"type":"hello","version":"0.1.0"}
+{"line":1,"type":"done"}
+{"id":1,"line":2,"type":"made"}
+{"life":1,"line":3,"type":"asked"}
+{"life":1,"next":"> ","output":{"items":[],"kind":"format","tag":"verbatim"},"session":"t","shown":"","type":"banner"}
+{"id":1,"life":1,"next":"> ","output":{"items":["A"],"kind":"format","tag":"verbatim"},"prompt":"> ","session":"t","shown":"A","type":"answered"}
+{"line":4,"over":"idle","type":"waited"}
+{"life":1,"line":5,"type":"asked"}
+{"id":1,"life":1,"session":"t","told":{"rest":["i"],"root":"h"},"type":"completed"}
+{"line":6,"over":"idle","type":"waited"}
+{"life":1,"line":7,"type":"asked"}
+{"id":1,"life":1,"next":"> ","output":{"items":["B"],"kind":"format","tag":"verbatim"},"prompt":"> ","session":"t","shown":"B","type":"answered"}
+{"line":8,"over":"idle","type":"waited"}
+{"type":"end"}
+END_OF_JSON
+interpreter p '\002verbatim:\002prompt#a> \005\005' '\002verbatim:A\005' '\002scheme:(tuple "h" "i")\002prompt#b> \005\005' '\002verbatim:B\005'
+json 'a prompt that comes with completions' 0 'session t tab sh p.sh\nnew 0 t h\neval 1\nwait\ncomplete 1 1\nwait\neval 1\nwait\n' <<'END_OF_JSON'
+{"format":1,"program":"tmhost","protocol":2,"type":"hello","version":"0.1.0"}
+{"line":1,"type":"done"}
+{"id":1,"line":2,"type":"made"}
+{"life":1,"line":3,"type":"asked"}
+{"life":1,"next":"a> ","output":{"items":[],"kind":"format","tag":"verbatim"},"session":"t","shown":"","type":"banner"}
+{"id":1,"life":1,"next":"a> ","output":{"items":["A"],"kind":"format","tag":"verbatim"},"prompt":"a> ","session":"t","shown":"A","type":"answered"}
+{"line":4,"over":"idle","type":"waited"}
+{"life":1,"line":5,"type":"asked"}
+{"id":1,"life":1,"session":"t","told":{"rest":["i"],"root":"h"},"type":"completed"}
+{"line":6,"over":"idle","type":"waited"}
+{"life":1,"line":7,"type":"asked"}
+{"id":1,"life":1,"next":"b> ","output":{"items":["B"],"kind":"format","tag":"verbatim"},"prompt":"b> ","session":"t","shown":"B","type":"answered"}
+{"line":8,"over":"idle","type":"waited"}
+{"type":"end"}
+END_OF_JSON
+
+# What one reading of an interpreter brings is one event (docs/dev/EDGE.md): a fault behind an answer ends the life with it, so there is no next
+# prompt. The end of the output is a reading of its own, which comes after: the answer before it still has one.
+interpreter p '\002verbatim:\002prompt#1> \005\005' '\002verbatim:A\002prompt#2> \005\005\002verb\002'
+for task in live run; do
+    told_in_json $task "an answer and a fault in one reading, by $task" 0 'session a plain sh p.sh\nnew 0 a x\nnew 1 a y\neval 1\neval 2\nwait\neval 2\nstop a\n' <<'END_OF_JSON'
+{"format":1,"program":"tmhost","protocol":2,"type":"hello","version":"0.1.0"}
+{"line":1,"type":"done"}
+{"id":1,"line":2,"type":"made"}
+{"id":2,"line":3,"type":"made"}
+{"life":1,"line":4,"type":"asked"}
+{"life":1,"line":5,"type":"asked"}
+{"life":1,"next":"1> ","output":{"items":[],"kind":"format","tag":"verbatim"},"session":"a","shown":"","type":"banner"}
+{"id":1,"life":1,"next":null,"output":{"items":["A"],"kind":"format","tag":"verbatim"},"prompt":"1> ","session":"a","shown":"A","type":"answered"}
+{"life":1,"lost":[{"id":2,"text":"y"}],"reason":"BadTag","session":"a","type":"ended"}
+{"line":6,"over":"idle","type":"waited"}
+{"life":2,"line":7,"type":"asked"}
+{"life":2,"line":8,"lost":[{"id":2,"text":"y"}],"session":"a","type":"stopped"}
+{"type":"end"}
+END_OF_JSON
+done
+interpreter p '\002verbatim:Hi\002prompt#1> \005\005\002verb\002'
+json 'a banner and a fault in one reading' 0 'session a plain sh p.sh\nnew 0 a x\neval 1\nwait\n' <<'END_OF_JSON'
+{"format":1,"program":"tmhost","protocol":2,"type":"hello","version":"0.1.0"}
+{"line":1,"type":"done"}
+{"id":1,"line":2,"type":"made"}
+{"life":1,"line":3,"type":"asked"}
+{"life":1,"next":null,"output":{"items":["Hi"],"kind":"format","tag":"verbatim"},"session":"a","shown":"Hi","type":"banner"}
+{"life":1,"lost":[{"id":1,"text":"x"}],"reason":"BadTag","session":"a","type":"ended"}
+{"line":4,"over":"idle","type":"waited"}
+{"type":"end"}
+END_OF_JSON
+then=exit
+interpreter p '\002verbatim:\002prompt#1> \005\005' '\002verbatim:A\002prompt#2> \005\005'
+then='read -r line'
+talk --json
+say 'session a plain sh p.sh\nnew 0 a x\n'
+hears 'before an answer and an end' '{"format":1,"program":"tmhost","protocol":2,"type":"hello","version":"0.1.0"}\n{"line":1,"type":"done"}\n{"id":1,"line":2,"type":"made"}\n'
+say 'eval 1\n'
+hears 'an answer and an end' '{"life":1,"line":3,"type":"asked"}\n{"life":1,"next":"1> ","output":{"items":[],"kind":"format","tag":"verbatim"},"session":"a","shown":"","type":"banner"}\n{"id":1,"life":1,"next":"2> ","output":'"$block"',"prompt":"1> ","session":"a","shown":"A","type":"answered"}\n{"life":1,"lost":[],"reason":"Ended","session":"a","type":"ended"}\n'
+hang_up 'an answer and an end' '{"type":"end"}\n' '#1 a\n1> x\nA\n'
+
+# A banner whose interpreter has closed its input: the line that is sent then finds nobody, which is told in the same turn, so there is no next prompt.
+cat >closes.sh <<'END_OF_CHILD'
+exec <&-
+printf '\002verbatim:\002prompt#1> \005\005'
+sleep 5
+END_OF_CHILD
+json 'a banner whose line is not taken' 0 'session a plain sh closes.sh\nnew 0 a x\neval 1\nwait\n' <<'END_OF_JSON'
+{"format":1,"program":"tmhost","protocol":2,"type":"hello","version":"0.1.0"}
+{"line":1,"type":"done"}
+{"id":1,"line":2,"type":"made"}
+{"life":1,"line":3,"type":"asked"}
+{"life":1,"next":null,"output":{"items":[],"kind":"format","tag":"verbatim"},"session":"a","shown":"","type":"banner"}
+{"life":1,"lost":[{"id":1,"text":"x"}],"reason":"SendFault","session":"a","type":"ended"}
+{"line":4,"over":"idle","type":"waited"}
+{"type":"end"}
+END_OF_JSON
+
+# Two sessions in one group: both answer while the host stands still, `b` with a fault behind its answer. Each has a next prompt of its own, or none.
+cat >both.sh <<'END_OF_CHILD'
+printf '\002verbatim:\002prompt#%s 1> \005\005' "$1"
+IFS= read -r l
+echo "$l" >>got
+until [ -e go ]; do sleep 0.05; done
+case $1 in b) fault='\002verb\002' ;; esac
+printf "\002verbatim:%s\002prompt#%s 2> \005\005$fault" "$l" "$1"
+echo "$l" >>answered
+IFS= read -r l
+END_OF_CHILD
+rm -f sheet sheet.alt go got answered talk.in
+mkfifo talk.in
+"$tmhost" create sheet
+"$tmhost" live --json sheet <talk.in >text 2>&1 &
+host=$!
+exec 3>talk.in
+say 'session a plain sh both.sh a\nsession b plain sh both.sh b\nnew 0 a x\nnew 1 b y\neval 1\neval 2\n'
+until [ "$(cat got 2>/dev/null | wc -l)" = 2 ]; do sleep 0.05; done
+sleep 0.1
+kill -STOP "$host"
+until [ "$(cut -d ' ' -f 3 "/proc/$host/stat")" = T ]; do sleep 0.01; done
+: >go
+until [ "$(cat answered 2>/dev/null | wc -l)" = 2 ]; do sleep 0.05; done
+kill -CONT "$host"
+say 'wait\n'
+exec 3>&-
+wait "$host"
+cat >wanted <<'END_OF_JSON'
+{"format":1,"program":"tmhost","protocol":2,"type":"hello","version":"0.1.0"}
+{"id":1,"life":1,"next":"a 2> ","output":{"items":["x"],"kind":"format","tag":"verbatim"},"prompt":"a 1> ","session":"a","shown":"x","type":"answered"}
+{"id":1,"line":3,"type":"made"}
+{"id":2,"life":2,"next":null,"output":{"items":["y"],"kind":"format","tag":"verbatim"},"prompt":"b 1> ","session":"b","shown":"y","type":"answered"}
+{"id":2,"line":4,"type":"made"}
+{"life":1,"line":5,"type":"asked"}
+{"life":1,"next":"a 1> ","output":{"items":[],"kind":"format","tag":"verbatim"},"session":"a","shown":"","type":"banner"}
+{"life":2,"line":6,"type":"asked"}
+{"life":2,"lost":[],"reason":"BadTag","session":"b","type":"ended"}
+{"life":2,"next":"b 1> ","output":{"items":[],"kind":"format","tag":"verbatim"},"session":"b","shown":"","type":"banner"}
+{"line":1,"type":"done"}
+{"line":2,"type":"done"}
+{"line":7,"over":"idle","type":"waited"}
+{"type":"end"}
+END_OF_JSON
+compare 'two answers that came together, in JSON' "$(LC_ALL=C sort text)" "$(LC_ALL=C sort wanted)"
+
 counted json

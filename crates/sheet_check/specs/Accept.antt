@@ -1,4 +1,4 @@
--- What `check` leaves where answers that differ are accepted: on the copy what it leaves without, and on the disk those answers.
+-- What `check` leaves where answers that differ or are new are accepted: on the copy what it leaves without, and on the disk those answers.
 use Rattle.std.specs.Prelude.{◌≡◌, ◌⊎◌, ℕ, List, [], ◌∷◌, ◌++◌, Option, Some, None, Result, Ok, Err}
 use Rattle.std.specs.List.{flat_map}
 use Rattle.std.specs.Io.KnownBytes.{Appends}
@@ -95,7 +95,7 @@ pub data AcceptLeft {C : Type 0} (o : OneByOne C) (sheet : Contents) (q : Passag
   -- the writer failed at the text of the last field, or at the counts
   unwritten : (cases : List Case) → why ≡ fault.Output → SheetLed o sheet q.sources q.left cases (FirstLed o.way o.chosen) → FiledAll x cases → AcceptLeft o sheet q x why
 
--- What becomes of the check of a worksheet whose answers that differ are accepted: the report of them is written, and exactly those
+-- What becomes of the check of a worksheet whose answers that differ or are new are accepted: the report of them is written, and exactly those
 -- answers are put after its ops. A lack of memory may be reported before the copy is there.
 abbrev pub SheetAccepts : {C : Type 0} → OneByOne C → Contents → Passage C → Type 0 → Filing → Result Counts RunFault → Type 0
 SheetAccepts o sheet q nothing x (Ok counts) = (checked : SheetChecked o sheet q counts) × FiledAll x checked.cases

@@ -21,10 +21,10 @@ use Rattle.sheet_check.specs.Named.{ByNames, missing_named}
 use Rattle.sheet_check.specs.declared.named.CheckFault.{CheckFault}
 use Rattle.sheet_check.specs.declared.named.CheckFault.TheVariants as checks
 
--- how many of these fields show an answer, and are of a session that is checked
-abbrev pub answered : Chosen → List Field → ℕ
-answered chosen [] = 0
-answered chosen (field ∷ fields) = (if is_chosen chosen field then 1 else 0) + answered chosen fields
+-- how many of these fields are checked
+abbrev pub checked_count : Chosen → List Field → ℕ
+checked_count chosen [] = 0
+checked_count chosen (field ∷ fields) = (if is_chosen chosen field then 1 else 0) + checked_count chosen fields
 
 -- the line is taken away, or left
 abbrev pub TakesLine : {P : Type 0} → Bool → (P → Sight → P → Type 0) → P → P → Type 0
@@ -67,4 +67,4 @@ SheetShows {P = P} m all p q (Err why) = (last : P) × FieldsLeft m all p last �
 pub data CheckShows {P : Type 0} (m : Display P) (chosen : Chosen) (disk : DiskView) (p q : P) (answer : Result Counts CheckFault) : Type 0 where
   unopened : (why : OpenCause) → answer ≡ Err (checks.Run (fault.Open why)) → q ≡ p → CheckShows m chosen disk p q answer
   opened : (sheet : Contents) → InModel disk (IsSheetImage sheet (bytes_on disk))
-      → ByNames (missing_named chosen sheet.fields) (q ≡ p) (SheetShows m (answered chosen sheet.fields) p q) answer → CheckShows m chosen disk p q answer
+      → ByNames (missing_named chosen sheet.fields) (q ≡ p) (SheetShows m (checked_count chosen sheet.fields) p q) answer → CheckShows m chosen disk p q answer

@@ -15,7 +15,7 @@ ghost use Rattle.check_report.specs.Verdicts.{total};
 ghost use Rattle.sheet_check.specs.Evaluated.{one_by_one, way};
 ghost use Rattle.sheet_check.specs.Check.{CheckAnswer, OnlyRead, SheetAnswer, passage};
 ghost use Rattle.sheet_check.specs.declared.named.CheckFault.TheVariants as named;
-ghost use Rattle.sheet_check.specs.Progress.{CheckShows, FieldsLeft, FieldsShow, LeavesLine, MakesRoom, SheetShows, answered, display};
+ghost use Rattle.sheet_check.specs.Progress.{CheckShows, FieldsLeft, FieldsShow, LeavesLine, MakesRoom, SheetShows, checked_count, display};
 ghost use Rattle.sheet_check.specs.declared.progress.Sight.TheVariants as sight;
 ghost use Rattle.sheet_check.specs.inside.Checking.{FieldFailed, FieldShown, FieldWrote, FieldsEnded, FieldsFailed, FieldsStopped, FieldsWrote, OnCopy, ShownWrote, question};
 ghost use Rattle.live.specs.Records.{left};
@@ -191,9 +191,9 @@ fn check_fields<D: Disk, C: Sources, W: Write, P: Progress>(
 }
 
 /// How many fields of a worksheet are checked.
-pub(crate) fn count_answered(chosen: &Chosen, sheet: &Sheet) -> u32
+pub(crate) fn count_checked(chosen: &Chosen, sheet: &Sheet) -> u32
     requires { length sheet.now.contents.fields < 2 ^ 31 }
-    ensures { result ≡ answered chosen.now sheet.now.contents.fields }
+    ensures { result ≡ checked_count chosen.now sheet.now.contents.fields }
 {
     let mut count: u32 = 0;
     let mut fields = sheet.fields();
@@ -225,10 +225,10 @@ fn check_and_stop<D: Disk, C: Sources, W: Write, P: Progress>(
         sheet.now.contents.fields w host.old.store.disk
         (passage sources.old sources.new (W.contents writer.old) (W.contents writer.new))) }
     ensures shown { SheetShows (display request.now.format P.shows)
-        (answered request.now.chosen sheet.now.contents.fields)
+        (checked_count request.now.chosen sheet.now.contents.fields)
         progress.old progress.new result }
 {
-    let all = count_answered(&request.chosen, sheet);
+    let all = count_checked(&request.chosen, sheet);
     let counted = check_fields(alloc, request, sheet, host, sources, all, progress, writer);
     progress.show(Sight::Nothing);
     stop_all(host, sources);
@@ -253,7 +253,7 @@ fn checked_on_copy<C: Sources, W: Write, P: Progress>(
         sheet.now.contents
         (passage sources.old sources.new (W.contents writer.old) (W.contents writer.new)) counted) }
     ensures shown { IfSome result (λ counted. SheetShows (display request.now.format P.shows)
-        (answered request.now.chosen sheet.now.contents.fields)
+        (checked_count request.now.chosen sheet.now.contents.fields)
         progress.old progress.new counted) }
 {
     match open_copy(alloc, sheet) {
@@ -279,7 +279,7 @@ pub(crate) fn check_sheet<C: Sources, W: Write, P: Progress>(
         sheet.now.contents (passage sources.old sources.new (W.contents writer.old) (W.contents writer.new))
         ((writer.new ≡ writer.old) × (sources.new ≡ sources.old)) result }
     ensures shown { SheetShows (display request.now.format P.shows)
-        (answered request.now.chosen sheet.now.contents.fields)
+        (checked_count request.now.chosen sheet.now.contents.fields)
         progress.old progress.new result }
 {
     worksheet::laws::ops_make_worksheets();

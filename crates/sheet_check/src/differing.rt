@@ -1,4 +1,4 @@
-//! The check of a worksheet whose answers that differ are accepted.
+//! The check of a worksheet whose answers that differ, or are new, are accepted.
 ghost use Rattle.std.specs.Prelude.{◌≡◌, ◌+◌, ◌++◌, ◌≤◌, ◌<◌, ◌^◌, [], List, Err, IfErr, IfNone, IfOk, IfSome, Some, false, length, true};
 ghost use Rattle.disk_model.specs.Disk.{DiskView, Rises};
 ghost use Rattle.worksheet.specs.declared.field.Field.{Field};
@@ -18,14 +18,14 @@ ghost use Rattle.sheet_check.specs.Accept.{AcceptAnswer, AcceptLeft, SheetAccept
 ghost use Rattle.sheet_check.specs.Evaluated.{way};
 ghost use Rattle.sheet_check.specs.Check.{IsCopy, passage};
 ghost use Rattle.sheet_check.specs.declared.named.CheckFault.TheVariants as named;
-ghost use Rattle.sheet_check.specs.Progress.{CheckShows, FieldsLeft, FieldsShow, LeavesLine, MakesRoom, SheetShows, answered, display};
+ghost use Rattle.sheet_check.specs.Progress.{CheckShows, FieldsLeft, FieldsShow, LeavesLine, MakesRoom, SheetShows, checked_count, display};
 ghost use Rattle.sheet_check.specs.declared.progress.Sight.TheVariants as sight;
 ghost use Rattle.sheet_check.specs.inside.Accepting.{FieldBroke, FieldsBroke, FieldsTook, GoesOn, OnCopy, PutAll, ShownTook, storing};
 ghost use Rattle.sheet_check.specs.inside.Checking.{FieldShown, FieldWrote, FieldsEnded, question};
 ghost use Rattle.live.specs.Records.{left};
 
 use crate::accepting::{find_on_copy, take};
-use crate::checking::{Checked, count_answered, show_counts, tell_closing};
+use crate::checking::{Checked, count_checked, show_counts, tell_closing};
 use crate::copying::open_copy;
 use crate::evaluating::evaluate;
 use crate::named::{CheckFault, accept_named};
@@ -130,7 +130,7 @@ fn accept_field<D: Disk, S: Disk, C: Sources, W: Write, P: Progress>(
     }
 }
 
-/// Checks the fields of a worksheet in their order, and accepts the answers that differ.
+/// Checks the fields of a worksheet in their order, and accepts the answers that differ or are new.
 fn accept_fields<D: Disk, S: Disk, C: Sources, W: Write, P: Progress>(
     alloc: Global,
     request: &Request,
@@ -202,10 +202,10 @@ fn accept_and_stop<D: Disk, S: Disk, C: Sources, W: Write, P: Progress>(
         sheet.now.contents
         (passage sources.old sources.new (W.contents writer.old) (W.contents writer.new)) (filing ops disk store.new.disk)) }
     ensures shown { SheetShows (display formats.Accepting P.shows)
-        (answered request.now.chosen sheet.now.contents.fields)
+        (checked_count request.now.chosen sheet.now.contents.fields)
         progress.old progress.new result }
 {
-    let all = count_answered(&request.chosen, sheet);
+    let all = count_checked(&request.chosen, sheet);
     let counted = accept_fields(
         alloc, request, sheet, host, sources, store, all, progress, writer,
     );
@@ -214,8 +214,8 @@ fn accept_and_stop<D: Disk, S: Disk, C: Sources, W: Write, P: Progress>(
     counted
 }
 
-/// Checks a worksheet on a copy of it, and accepts the answers that differ in the store, which had the
-/// same. None where there is no memory for the copy.
+/// Checks a worksheet on a copy of it, and accepts the answers that differ or are new in the store, which had
+/// the same. None where there is no memory for the copy.
 fn accepted_on_copy<S: Disk, C: Sources, W: Write, P: Progress>(
     alloc: Global,
     request: &Request,
@@ -237,7 +237,7 @@ fn accepted_on_copy<S: Disk, C: Sources, W: Write, P: Progress>(
         sheet.now.contents
         (passage sources.old sources.new (W.contents writer.old) (W.contents writer.new)) (storing ops [] disk store.new)) }
     ensures shown { IfSome result (λ counted. SheetShows (display formats.Accepting P.shows)
-        (answered request.now.chosen sheet.now.contents.fields)
+        (checked_count request.now.chosen sheet.now.contents.fields)
         progress.old progress.new counted) }
 {
     match open_copy(alloc, sheet) {
@@ -270,7 +270,7 @@ fn accepted_on_copies<S: Disk, C: Sources, W: Write, P: Progress>(
         store.old.sheet.contents
         (passage sources.old sources.new (W.contents writer.old) (W.contents writer.new)) (storing ops [] disk store.new)) }
     ensures shown { IfSome result (λ counted. SheetShows (display formats.Accepting P.shows)
-        (answered request.now.chosen store.old.sheet.contents.fields)
+        (checked_count request.now.chosen store.old.sheet.contents.fields)
         progress.old progress.new counted) }
 {
     one_sheet();
@@ -288,7 +288,7 @@ fn accepted_on_copies<S: Disk, C: Sources, W: Write, P: Progress>(
     }
 }
 
-/// Checks the worksheet of a store, accepts the answers that differ, and tells the counts.
+/// Checks the worksheet of a store, accepts the answers that differ or are new, and tells the counts.
 pub(crate) fn accept_sheet<S: Disk, C: Sources, W: Write, P: Progress>(
     alloc: Global,
     request: &Request,
@@ -307,7 +307,7 @@ pub(crate) fn accept_sheet<S: Disk, C: Sources, W: Write, P: Progress>(
         (passage sources.old sources.new (W.contents writer.old) (W.contents writer.new))
         ((writer.new ≡ writer.old) × (sources.new ≡ sources.old)) (filing ops disk store.new.disk) result }
     ensures shown { SheetShows (display formats.Accepting P.shows)
-        (answered request.now.chosen store.old.sheet.contents.fields)
+        (checked_count request.now.chosen store.old.sheet.contents.fields)
         progress.old progress.new result }
 {
     worksheet::laws::ops_make_worksheets();

@@ -1,5 +1,5 @@
-//! A worksheet as a test suite: the fields that show an answer are evaluated again on a copy in memory, and
-//! what differs is reported.
+//! A worksheet as a test suite: its fields are evaluated again on a copy in memory, those without an answer where
+//! all are checked, and what differs or is new is reported.
 #![tactic(auto)]
 
 mod accepting;
@@ -19,5 +19,5 @@ mod together;
 pub use checking::{Checked, check};
 pub use differing::check_accepting;
 pub use named::CheckFault;
-pub use progress::{NoProgress, Progress, ProgressLine, Sight};
+pub use progress::{Progress, ProgressLine, Sight};
 pub use together::check_together;

@@ -11,7 +11,7 @@ ghost use Rattle.sheet_check.specs.Evaluated.{one_by_one, way};
 ghost use Rattle.sheet_check.specs.Kept.{Stores};
 ghost use Rattle.sheet_check.specs.Named.{ByNames, missing_named};
 ghost use Rattle.sheet_check.specs.Named as named;
-ghost use Rattle.sheet_check.specs.Progress.{SheetShows, answered, display};
+ghost use Rattle.sheet_check.specs.Progress.{SheetShows, checked_count, display};
 ghost use Rattle.sheet_check.specs.Together.{TellsBySessions, side_by_side};
 ghost use Rattle.sheet_check.specs.inside.Accepting.{GoesOn};
 
@@ -31,8 +31,8 @@ use worksheet::Sheet;
 /// Why a check didn't come to its end.
 #[derive(Clone, Copy, Debug, PartialEq, Eq)]
 pub enum CheckFault {
-    /// 37: no field has this number, which is one of those that are left out or compared. Nothing was evaluated or
-    /// written.
+    /// 37: no field has this number, which is one of those that are left out or compared. Nothing was evaluated,
+    /// and nothing of a field was written.
     NoField(u32),
     /// A fault that other programs have too.
     Run(RunFault),
@@ -129,7 +129,7 @@ pub(crate) fn check_named<C: Sources, W: Write, P: Progress>(
     ensures shown { ByNames (missing_named request.now.chosen sheet.now.contents.fields)
         (progress.new ≡ progress.old)
         (SheetShows (display request.now.format P.shows)
-        (answered request.now.chosen sheet.now.contents.fields) progress.old progress.new) result }
+        (checked_count request.now.chosen sheet.now.contents.fields) progress.old progress.new) result }
 {
     match missing_named(&request.chosen, sheet) {
         Some(id) => Err(CheckFault::NoField(id)),
@@ -157,7 +157,7 @@ pub(crate) fn check_named_together<C: Sources, W: Write, P: Progress>(
     ensures shown { ByNames (missing_named request.now.chosen sheet.now.contents.fields)
         (progress.new ≡ progress.old)
         (SheetShows (display request.now.format P.shows)
-        (answered request.now.chosen sheet.now.contents.fields) progress.old progress.new) result }
+        (checked_count request.now.chosen sheet.now.contents.fields) progress.old progress.new) result }
 {
     match missing_named(&request.chosen, sheet) {
         Some(id) => Err(CheckFault::NoField(id)),
@@ -167,7 +167,7 @@ pub(crate) fn check_named_together<C: Sources, W: Write, P: Progress>(
     }
 }
 
-/// The same of the worksheet of a store, and accepts the answers that differ.
+/// The same of the worksheet of a store, and accepts the answers that differ or are new.
 pub(crate) fn accept_named<S: Disk, C: Sources, W: Write, P: Progress>(
     alloc: Global,
     request: &Request,
@@ -190,7 +190,7 @@ pub(crate) fn accept_named<S: Disk, C: Sources, W: Write, P: Progress>(
     ensures shown { ByNames (missing_named request.now.chosen store.old.sheet.contents.fields)
         (progress.new ≡ progress.old)
         (SheetShows (display formats.Accepting P.shows)
-        (answered request.now.chosen store.old.sheet.contents.fields) progress.old progress.new) result }
+        (checked_count request.now.chosen store.old.sheet.contents.fields) progress.old progress.new) result }
 {
     let missing = missing_named(&request.chosen, store.sheet());
     match missing {

@@ -37,20 +37,6 @@ pub trait Progress {
         ensures { shows self.old sight self.new };
 }
 
-/// Shows nothing.
-#[derive(Clone, Copy, Debug, PartialEq, Eq)]
-pub struct NoProgress;
-
-impl Progress for NoProgress {
-    ghost use Rattle.std.specs.Prelude.{◌≡◌};
-
-    ghost shows = { λ p _ q. q ≡ p };
-
-    fn show(&mut self, sight: Sight) {
-        let _sight = sight;
-    }
-}
-
 /// A line of a terminal that is rewritten, as `12 of 340, 1 differs`. Each sight is one message.
 #[derive(Drop)]
 pub struct ProgressLine<W: Says> {

@@ -12,11 +12,11 @@ ghost use Rattle.live.specs.Records.{left};
 ghost use Rattle.sheet_check.specs.Evaluated.{way};
 ghost use Rattle.sheet_check.specs.Check.{IsCopy, OnlyRead, passage};
 ghost use Rattle.sheet_check.specs.declared.named.CheckFault.TheVariants as named;
-ghost use Rattle.sheet_check.specs.Progress.{CheckShows, FieldsLeft, FieldsShow, SheetShows, answered, display};
+ghost use Rattle.sheet_check.specs.Progress.{CheckShows, FieldsLeft, FieldsShow, SheetShows, checked_count, display};
 ghost use Rattle.sheet_check.specs.Together.{TellsBySessions, TellsTogether, TogetherAnswer, TogetherTells, checking_plan as plan_of_check, cleared, side_by_side};
 ghost use Rattle.sheet_check.specs.inside.Comparing.{BrokeTogether, CameTogether, EndedTogether, FailedTogether, OnCleared, ReportedTogether};
 
-use crate::checking::{Checked, check_sheet, count_answered, tell_closing};
+use crate::checking::{Checked, check_sheet, count_checked, tell_closing};
 use crate::clearing::{checked_ids, open_cleared};
 use crate::comparing::compare_fields;
 use crate::evaluating::wait_fault;
@@ -146,10 +146,10 @@ fn check_together_and_stop<D: Disk, C: Sources, W: Write, P: Progress>(
         (side_by_side (way C.after C.clock C.wakes request.now.limit) jobs request.now.chosen request.now.format)
         sheet.now.contents (passage sources.old sources.new (W.contents writer.old) (W.contents writer.new)) ⊥) }
     ensures shown { SheetShows (display request.now.format P.shows)
-        (answered request.now.chosen sheet.now.contents.fields)
+        (checked_count request.now.chosen sheet.now.contents.fields)
         progress.old progress.new result }
 {
-    let all = count_answered(&request.chosen, sheet);
+    let all = count_checked(&request.chosen, sheet);
     let counted = check_together_on(
         alloc, request, jobs, sheet, host, sources, all, progress, writer,
     );
@@ -176,7 +176,7 @@ fn together_on_copy<C: Sources, W: Write, P: Progress>(
         (side_by_side (way C.after C.clock C.wakes request.now.limit) jobs request.now.chosen request.now.format)
         sheet.now.contents (passage sources.old sources.new (W.contents writer.old) (W.contents writer.new))) }
     ensures shown { IfSome result (λ counted. SheetShows (display request.now.format P.shows)
-        (answered request.now.chosen sheet.now.contents.fields)
+        (checked_count request.now.chosen sheet.now.contents.fields)
         progress.old progress.new counted) }
 {
     match open_cleared(alloc, &request.chosen, sheet) {
@@ -203,7 +203,7 @@ fn check_sheet_together<C: Sources, W: Write, P: Progress>(
         sheet.now.contents (passage sources.old sources.new (W.contents writer.old) (W.contents writer.new))
         ((writer.new ≡ writer.old) × (sources.new ≡ sources.old)) result }
     ensures shown { SheetShows (display request.now.format P.shows)
-        (answered request.now.chosen sheet.now.contents.fields)
+        (checked_count request.now.chosen sheet.now.contents.fields)
         progress.old progress.new result }
 {
     worksheet::laws::ops_make_worksheets();
@@ -238,7 +238,7 @@ pub(crate) fn check_by_sessions<C: Sources, W: Write, P: Progress>(
         sheet.now.contents (passage sources.old sources.new (W.contents writer.old) (W.contents writer.new))
         ((writer.new ≡ writer.old) × (sources.new ≡ sources.old)) result }
     ensures shown { SheetShows (display request.now.format P.shows)
-        (answered request.now.chosen sheet.now.contents.fields)
+        (checked_count request.now.chosen sheet.now.contents.fields)
         progress.old progress.new result }
 {
     if has_several(&request.chosen, sheet) {

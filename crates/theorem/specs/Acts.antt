@@ -1,5 +1,5 @@
 -- All that the program may do to a worksheet: turns of hosts, and answers that `check --accept` puts in; and whence each answer then comes.
--- (docs/trust/THEOREM.md; premises A1 to A6 in README.md.)
+-- (docs/trust/THEOREM.md; premises A1 to A7 in README.md.)
 use Rattle.std.specs.Prelude.{◌≡◌, ◌⊎◌, ℕ, IsTrue, List, [], ◌∷◌, ◌++◌, Some, Result}
 use Rattle.block_tree.specs.Tree.{Tree}
 use Rattle.disk_model.specs.Disk.{DiskView, Image, InModel, Leaves, LeavesOnly, SameDisk, bytes_on}

@@ -1,5 +1,5 @@
 -- What `run`, `live` and `eval` leave of a worksheet's disk, as their contracts say it: each invocation is a turn of a host.
--- (docs/trust/THEOREM.md; premises A1 to A6 in README.md.)
+-- (docs/trust/THEOREM.md; premises A1 to A7 in README.md.)
 use Rattle.std.specs.Prelude.{◌≡◌, ℕ, IsTrue, List, [], ◌∷◌, ◌++◌, Result}
 use Rattle.disk_model.specs.Disk.{DiskView, History, Image, InModel, IsRestarted, Leaves, LeavesOnly, Looks, SameDisk, bytes_on}
 use Rattle.journal.specs.declared.journal.OpenFault.{OpenFault}

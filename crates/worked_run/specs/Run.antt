@@ -1,4 +1,4 @@
--- A run of six events with a crash in the fourth. (docs/trust/THEOREM.md, "A worked run, with a crash".)
+-- A run of six events with a crash in the fourth. (docs/trust/WORKED_RUN.md.)
 use Rattle.std.specs.Prelude.{◌≡◌, ◌≢◌, ◌⊎◌, ℕ, false, List, [], ◌∷◌, ◌++◌, take, get_or, codes, Option, Some, None}
 use Rattle.block_tree.specs.Tree.{Tree, end, text}
 use Rattle.disk_model.specs.Disk.{greatest_room, Written, DiskState, Image, IsImage, Leaves, overwritten}

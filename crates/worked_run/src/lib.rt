@@ -1,5 +1,5 @@
 //! A run of six events with a crash in the fourth, from its events to its bytes, computed from the definitions of the host, of the
-//! journal and of a crash (docs/trust/THEOREM.md, "A worked run, with a crash").
+//! journal and of a crash (docs/trust/WORKED_RUN.md).
 #![tactic(auto)]
 
 ghost use Rattle.worked_run.specs.Run.{WorkedRun};

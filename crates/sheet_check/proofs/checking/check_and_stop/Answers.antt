@@ -23,5 +23,5 @@ returns-clause-err g c = λ w h.
 
 pub returns-clause-shown : goal.returns-clause-shown
 returns-clause-shown g c =
-    subst (λ all. SheetShows (display c.args.request.now.format g.P.Progress.shows) all c.args.progress.now c.show.new.self c.check_fields-counted.result) c.count_answered-all.ensures
-    (sheet_shows c.args.request.now.format g.P.Progress.shows c.count_answered-all.result c.args.progress.now c.check_fields-counted.result c.check_fields-counted.new.progress c.show.new.self c.check_fields-counted.ensures.shown c.check_fields-counted.ensures.left c.show.ensures)
+    subst (λ all. SheetShows (display c.args.request.now.format g.P.Progress.shows) all c.args.progress.now c.show.new.self c.check_fields-counted.result) c.count_checked-all.ensures
+    (sheet_shows c.args.request.now.format g.P.Progress.shows c.count_checked-all.result c.args.progress.now c.check_fields-counted.result c.check_fields-counted.new.progress c.show.new.self c.check_fields-counted.ensures.shown c.check_fields-counted.ensures.left c.show.ensures)

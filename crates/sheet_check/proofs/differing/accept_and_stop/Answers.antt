@@ -23,5 +23,5 @@ returns-clause-err g c = λ w h copied ops disk stores.
 
 pub returns-clause-shown : goal.returns-clause-shown
 returns-clause-shown g c =
-    subst (λ all. SheetShows (display format.Accepting g.P.Progress.shows) all c.args.progress.now c.show.new.self c.accept_fields-counted.result) c.count_answered-all.ensures
-    (sheet_shows format.Accepting g.P.Progress.shows c.count_answered-all.result c.args.progress.now c.accept_fields-counted.result c.accept_fields-counted.new.progress c.show.new.self c.accept_fields-counted.ensures.shown c.accept_fields-counted.ensures.left c.show.ensures)
+    subst (λ all. SheetShows (display format.Accepting g.P.Progress.shows) all c.args.progress.now c.show.new.self c.accept_fields-counted.result) c.count_checked-all.ensures
+    (sheet_shows format.Accepting g.P.Progress.shows c.count_checked-all.result c.args.progress.now c.accept_fields-counted.result c.accept_fields-counted.new.progress c.show.new.self c.accept_fields-counted.ensures.shown c.accept_fields-counted.ensures.left c.show.ensures)

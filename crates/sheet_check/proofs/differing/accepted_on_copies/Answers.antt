@@ -3,7 +3,7 @@ use Rattle.std.specs.Prelude.{IfSome}
 use Rattle.worksheet.specs.Contents.{Contents, SheetView}
 use Rattle.check_report.specs.declared.report.Format.TheVariants as format
 use Rattle.sheet_check.specs.Evaluated.{way}
-use Rattle.sheet_check.specs.Progress.{SheetShows, answered, display}
+use Rattle.sheet_check.specs.Progress.{SheetShows, checked_count, display}
 use Rattle.sheet_check.specs.inside.Accepting.{GoesOn, OnCopy, storing}
 use Rattle.sheet_check.specs.Check.{passage}
 use Rattle.sheet_check.specs.Accept.{to_accept}
@@ -37,5 +37,5 @@ returns-in-Some-clause-shown g c =
     let o = c.in-Some.ensures in
     let same : c.sheet-in-Some.result.now.contents ≡ c.args.store.now.sheet.contents =
     ap (λ (s : SheetView). s.contents) c.sheet-in-Some.ensures.sheet ∙ copy_is c.one_sheet.ensures c.sheet.result.now.contents o.0 c.in-Some.was o.1 o.2 ∙ ap (λ (s : SheetView). s.contents) c.sheet.ensures.sheet in
-    subst (λ (s : Contents). IfSome c.accepted_on_copy.result (λ counted. SheetShows (display format.Accepting g.P.Progress.shows) (answered c.args.request.now.chosen s.fields) c.args.progress.now c.accepted_on_copy.new.progress counted)) same
+    subst (λ (s : Contents). IfSome c.accepted_on_copy.result (λ counted. SheetShows (display format.Accepting g.P.Progress.shows) (checked_count c.args.request.now.chosen s.fields) c.args.progress.now c.accepted_on_copy.new.progress counted)) same
     c.accepted_on_copy.ensures.shown

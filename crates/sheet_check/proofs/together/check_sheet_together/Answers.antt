@@ -2,7 +2,7 @@ use Rattle.std.proofs.Common.{[], inl, refl, subst}
 use Rattle.sheet_programs.proofs.Runs.{if_err_is, if_ok_is}
 use Rattle.check_report.specs.Verdicts.{counts_of}
 use Rattle.sheet_check.specs.Evaluated.{way}
-use Rattle.sheet_check.specs.Progress.{SheetShows, answered, display, none}
+use Rattle.sheet_check.specs.Progress.{SheetShows, checked_count, display, none}
 use Rattle.sheet_check.specs.Check.{passage}
 use Rattle.sheet_check.specs.Together.{side_by_side}
 use Rattle.sheet_check.specs.declared.progress.Sight.TheVariants as sight
@@ -31,16 +31,16 @@ returns-in-Err-clause-checked g c =
 
 pub returns-in-Ok-tell_closing-clause-shown : goal.returns-in-Ok-tell_closing-clause-shown
 returns-in-Ok-tell_closing-clause-shown g c =
-    subst (SheetShows (display c.args.request.now.format g.P.Progress.shows) (answered c.args.request.now.chosen c.args.sheet.now.contents.fields) c.args.progress.now c.together_on_copy.new.progress) c.in-Ok.is c.in-Some.ensures.shown
+    subst (SheetShows (display c.args.request.now.format g.P.Progress.shows) (checked_count c.args.request.now.chosen c.args.sheet.now.contents.fields) c.args.progress.now c.together_on_copy.new.progress) c.in-Ok.is c.in-Some.ensures.shown
 
 pub returns-in-Err-tell_closing-clause-shown : goal.returns-in-Err-tell_closing-clause-shown
 returns-in-Err-tell_closing-clause-shown g c =
-    let p = subst (SheetShows (display c.args.request.now.format g.P.Progress.shows) (answered c.args.request.now.chosen c.args.sheet.now.contents.fields) c.args.progress.now c.together_on_copy.new.progress) c.in-Ok.is c.in-Some.ensures.shown in
+    let p = subst (SheetShows (display c.args.request.now.format g.P.Progress.shows) (checked_count c.args.request.now.chosen c.args.sheet.now.contents.fields) c.args.progress.now c.together_on_copy.new.progress) c.in-Ok.is c.in-Some.ensures.shown in
     (p.0, (c.in-Ok.counts, p.0, p.1, inl refl), p.2)
 
 pub returns-in-Err-clause-shown : goal.returns-in-Err-clause-shown
 returns-in-Err-clause-shown g c =
-    subst (SheetShows (display c.args.request.now.format g.P.Progress.shows) (answered c.args.request.now.chosen c.args.sheet.now.contents.fields) c.args.progress.now c.together_on_copy.new.progress) c.in-Err.is c.in-Some.ensures.shown
+    subst (SheetShows (display c.args.request.now.format g.P.Progress.shows) (checked_count c.args.request.now.chosen c.args.sheet.now.contents.fields) c.args.progress.now c.together_on_copy.new.progress) c.in-Err.is c.in-Some.ensures.shown
 
 pub returns-in_default-clause-shown : goal.returns-in_default-clause-shown
 returns-in_default-clause-shown g c = (
