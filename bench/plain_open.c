@@ -1,4 +1,5 @@
-// A plain pass over a journal of News and Sets: it keeps the last input of each field in memory, and prints them as `tmhost show` does.
+// A plain pass over a journal of News, Sets, Clears and Answers, which it trusts: it keeps the last input and the last answer of each field in memory,
+// and prints them as `tmhost show` does. An answer is one text of the format `verbatim`, and each prompt is `> `.
 #include <fcntl.h>
 #include <stdint.h>
 #include <stdio.h>
@@ -8,8 +9,8 @@
 #include <unistd.h>
 
 struct field {
-    size_t length;
-    char *input;
+    size_t length, answer_length, room;
+    char *input, *answer;
 };
 
 static struct field fields[1000001];
@@ -43,16 +44,36 @@ int main(int count, char **words) {
         } else if (payload[0] == 3) {
             id = number(payload + 1);
             text = payload + 5;
+        } else if (payload[0] == 6) {
+            fields[number(payload + 1)].answer_length = 0;
+            continue;
+        } else if (payload[0] == 7) {
+            struct field *field = &fields[number(payload + 1)];
+            text = payload + 7 + ((size_t)payload[5] << 8 | payload[6]);
+            field->answer_length = bytes + at - text;
+            if (field->answer_length > field->room) {
+                field->room = field->answer_length;
+                field->answer = realloc(field->answer, field->room);
+            }
+            memcpy(field->answer, text, field->answer_length);
+            continue;
         } else {
             continue;
         }
         struct field *field = &fields[id];
         field->length = (size_t)text[0] << 8 | text[1];
+        field->answer_length = 0;
         if (field->input == NULL)
             field->input = malloc(4096);
         memcpy(field->input, text + 2, field->length);
     }
-    for (uint32_t id = 1; id < next; id++)
-        printf("#%u a\n> %.*s\n?\n", id, (int)fields[id].length, fields[id].input);
+    for (uint32_t id = 1; id < next; id++) {
+        struct field *field = &fields[id];
+        printf("#%u a\n> %.*s\n", id, (int)field->length, field->input);
+        if (field->answer_length == 0)
+            puts("?");
+        else
+            printf("%.*s\n", (int)field->answer_length - 11, field->answer + 10);
+    }
     return 0;
 }
