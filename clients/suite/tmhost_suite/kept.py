@@ -115,6 +115,8 @@ def make(path: str) -> None:
     made = subprocess.run([find_program(), "create", os.path.join(".", fresh)], stdin=subprocess.DEVNULL, capture_output=True)
     if made.returncode != 0:
         raise Trouble(f"{path} can't be made: {made.stderr.decode('utf-8', 'backslashreplace').strip()}")
+    with contextlib.suppress(FileNotFoundError):
+        os.replace(fresh + SECOND, path + SECOND)
     os.replace(fresh, path)
 
 
