@@ -101,6 +101,21 @@ class Kills(Lesson):
 
 
 @needs_program
+class Asked(Lesson):
+    def test_a_cell_that_waits_is_never_told_as_an_empty_one(self) -> None:
+        """Also between its turn and the reply to its evaluation."""
+        subprocess.run([PROGRAM or "", "create", self.sheet], check=True, stdin=subprocess.DEVNULL, stdout=subprocess.DEVNULL)
+        made = [f"session {SESSIONS[0]} plain {self.words}", *(f"new {number} {SESSIONS[0]} say {number}" for number in range(CELLS))]
+        subprocess.run([PROGRAM or "", "run", self.sheet], input=script(*made), check=True, stdout=subprocess.DEVNULL)
+        page = Page(self.serve())
+        self.assertEqual(page.call("eval_from", id=None)["count"], CELLS)
+        seen: List[List[str]] = []
+        while not seen or any(state != "answered" for state in seen[-1]):
+            seen.append([cell["state"] for cell in page.cells().values()])
+        self.assertEqual([states for states in seen if "empty" in states], [])
+
+
+@needs_program
 @needs_chromium
 class Stops(Lesson):
     def begin(self, slow: str = "60") -> None:

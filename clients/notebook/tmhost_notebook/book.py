@@ -305,6 +305,7 @@ class Book:
                 stops = id is not None and self.feed.stops(id)
                 if id is not None:
                     self.feed.take(id)
+                    self.feed.being_asked = None if field is None else id
             if field is None:
                 return id is not None
             try:
@@ -316,6 +317,8 @@ class Book:
             except (BadLine, Gone, TimedOut, Died, Closed, ProtocolError, OSError) as error:
                 why = str(error)
         if why is not None:
+            with self.lock:
+                self.feed.being_asked = None
             self.touch(field.id)
             self.drop_fed(field.session, why)
         return True
@@ -356,6 +359,8 @@ class Book:
             cells.add(event.id)
         elif isinstance(event, (Ended, Stopped)):
             cells |= {item.id for item in event.lost}
+        if self.feed.being_asked in cells:
+            self.feed.being_asked = None
         for id in cells:
             marked |= self._look(id)
         telling.touch(self.watchers, cells, marked)

@@ -22,9 +22,10 @@ class Feed:
         self._asked: Dict[str, Evaluation] = {}  # of each session the last one
         self._stopping: Set[int] = set()  # the cells that wait, and stop where another one of them is an error
         self._may_stop: Dict[str, int] = {}  # of each session the one of them that was asked last
+        self.being_asked: Optional[int] = None  # a cell that was taken out, and of which it wasn't heard yet that it is asked
 
     def __contains__(self, id: int) -> bool:
-        return id in self._session_of
+        return id in self._session_of or id == self.being_asked
 
     def count(self, session: str) -> int:
         return len(self._rows.get(session, ()))
