@@ -1,5 +1,5 @@
 -- What a node or an item has, by its tree.
-use Rattle.std.specs.Prelude.{ℕ, max, Bool, true, false, ◌&&◌, nat_le, not, List, [], ◌∷◌, length, map}
+use Rattle.std.specs.Prelude.{ℕ, Bool, true, false, ◌&&◌, nat_le, not, List, [], ◌∷◌, length, map}
 use Rattle.block_tree.specs.Tree.{Tree, Piece, text_piece, block_piece}
 use Rattle.block_tree.specs.View.{piece_of, tree_of}
 use Rattle.block_tree.specs.inside.Marks.{Mark, letter, marks}
@@ -23,13 +23,6 @@ piece_depth (block_piece b) = depth b
 
 unfoldable pub node_depth : Node → ℕ
 node_depth n = depth (tree_of n)
-
-unfoldable pub item_depth : Item → ℕ
-item_depth x = piece_depth (piece_of x)
-
-abbrev pub largest : List ℕ → ℕ
-largest [] = 0
-largest (n ∷ ns) = max n (largest ns)
 
 -- of an item: whether it is a text, and whether it is right
 abbrev pub Tested : Type 0
