@@ -10,4 +10,5 @@ pub mod Steps
 pub mod Stops
 pub mod Interrupts
 pub mod Together
+pub mod Joined
 pub mod inside

@@ -1,1 +1,2 @@
 pub mod Gating
+pub mod Joining

@@ -4,6 +4,7 @@
 
 mod busy;
 mod interrupting;
+mod joined;
 pub mod listening;
 pub mod serving;
 mod stopping;
@@ -12,6 +13,7 @@ mod waiting;
 
 pub use busy::{is_idle, waiting as waiting_lives};
 pub use interrupting::{Interrupted, interrupt};
+pub use joined::{GaveJoined, serve_joining};
 pub use listening::{listen, stall};
 pub use serving::{EdgeCause, EdgeFault, MOST_TURNS, serve, wait};
 pub use stopping::stop_all;

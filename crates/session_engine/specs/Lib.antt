@@ -8,4 +8,5 @@ pub mod Faults
 pub mod Crash
 pub mod Gathers
 pub mod Groups
+pub mod Joining
 pub mod inside

@@ -5,3 +5,4 @@ pub mod Tables
 pub mod Engines
 pub mod Commits
 pub mod Until
+pub mod Joins

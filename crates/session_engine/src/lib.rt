@@ -11,6 +11,7 @@ mod ends;
 mod engine;
 mod evals;
 pub mod host;
+mod joining;
 mod pieces;
 mod play;
 mod table;
@@ -18,4 +19,5 @@ mod take;
 
 pub use buffered::BufferedHost;
 pub use host::{Host, LifeView};
+pub use joining::{JoinFault, Joined, Joins, Joint, MOST_JOINED};
 pub use play::{GroupFault, PlayFault};

@@ -1,10 +1,10 @@
 //! Events in order.
-ghost use Rattle.std.specs.Prelude.{◌≡◌, ◌≤◌, ◌<◌, ◌+◌, ◌++◌, ◌∷◌, ◌&&◌, [], false, true, List, IfOk, IfErr, vec_len, vec_capacity};
+ghost use Rattle.std.specs.Prelude.{◌≡◌, ◌≤◌, ◌<◌, ◌+◌, ◌++◌, ◌∷◌, ◌&&◌, [], false, true, List, IfOk, IfErr, OnErr, OnOk, length, vec_len, vec_capacity};
 ghost use Rattle.std.specs.List.{list_any};
 ghost use Rattle.disk_model.specs.Disk.{SameDisk};
 ghost use Rattle.session_engine.specs.World.{World};
 ghost use Rattle.session_engine.specs.Host.{IsHost};
-ghost use Rattle.session_engine.specs.Crash.{Halts, HasPlayed, Moments, PlaysClosed, TookEach};
+ghost use Rattle.session_engine.specs.Crash.{Halts, HasPlayed, Moments, PlaysClosed, StoppedAt, TookEach};
 ghost use Rattle.recovery.specs.Sheets.{GathersOn};
 ghost use Rattle.session_engine.specs.Gathers.{NoCheckpoints, OnlyAtOnce, is_checkpoint};
 ghost use Rattle.session_engine.specs.Groups.{HaltsGroup, HaltsUpTo, PlaysGroupClosed, TookGroup, TookUpTo};
@@ -244,21 +244,45 @@ impl<D: Disk> BufferedHost<D> {
         if outcomes.reserve_exact(events.len()).is_err() {
             return Err(PlayFault::NoRoom(events));
         }
+        match self.play_onto(events, up_to, &mut outcomes) {
+            Ok(()) => Ok(outcomes),
+            Err(fault) => Err(PlayFault::Stopped { outcomes, fault }),
+        }
+    }
+
+    // Takes events so, and puts what they gave into this room.
+    pub(crate) fn play_onto(
+        &mut self,
+        events: Vec<Event>,
+        up_to: bool,
+        outcomes: &mut Vec<Outcome>,
+    ) -> Result<(), HostFault>
+        requires empty { outcomes.old.items ≡ [] }
+        requires room { vec_len outcomes.old + length events.items ≤ vec_capacity outcomes.old }
+        ensures same { SameDisk self.old.store.disk self.new.store.disk }
+        ensures played { (w : World) → IsHost self.old w
+            → OnOk result (PlayedBy up_to w events.items outcomes.new.items self.new) }
+        ensures halts { (w : World) → IsHost self.old w
+            → IfErr result (StoppedAt w events.items self.old self.new outcomes.new.items) }
+        ensures right { up_to ≡ true → OnErr result (list_any group.is_refusal outcomes.new.items ≡ false) }
+        ensures gathers { NoCheckpoints events.items → GathersOn self.old.store self.new.store }
+        ensures at_once { NoCheckpoints events.items
+            → IfErr result (λ fault. fault ≡ HostFault.Disk → self.old.store.gathers ≡ false) }
+        ensures few { length outcomes.new.items ≤ length events.items }
+    {
         for event in events {
             match self.step(event) {
                 Ok(outcome) => {
                     let stops = stops(up_to, &outcome);
-                    add(&mut outcomes, outcome);
+                    add(outcomes, outcome);
                     if stops {
-                        return Ok(outcomes);
+                        return Ok(());
                     }
                 }
-                Err(fault) => {
-                    return Err(PlayFault::Stopped { outcomes, fault });
-                }
+                Err(fault) => return Err(fault),
             }
         }
-        Ok(outcomes)
+        Ok(())
     }
 }
 
@@ -268,7 +292,7 @@ fn asks_for_checkpoint(event: &Event) -> bool
     matches!(event, Event::Command(Command::Checkpoint))
 }
 
-fn has_checkpoint(events: &[Event]) -> bool
+pub(crate) fn has_checkpoint(events: &[Event]) -> bool
     ensures { result ≡ list_any is_checkpoint events.now }
 {
     events.iter().any(asks_for_checkpoint)
