@@ -139,7 +139,10 @@ pub fn serve_joining<D: Disk, C: Children, J: Joins>(
         × (length gave.later.items ≤ most_joined)) }
 {
     let mut replies = Vec::new(alloc);
-    if replies.reserve(MOST_EVENTS * events.len() + MOST_EVENTS * MOST_JOINED).is_err() {
+    if replies
+        .reserve(MOST_EVENTS * events.len() + MOST_EVENTS * MOST_JOINED)
+        .is_err()
+    {
         return Err(TogetherFault::OutOfMemory);
     }
     match take_joining(host, joins, events) {

@@ -56,15 +56,19 @@ module _ (w : World) (events : List Event) (told : List Outcome) (v : World) (ru
     pub stops_later : (later : List Outcome) (fault : HostFault) (mid new : HostView) → StoppedAt v more mid new later fault
         → (all : List Event) × ToBeTaken A w events all × Stops w all new fault
     unfolding played_after
-    stops_later later fault mid new s = (events ++ more, with_more told first more joined, record {
-      told = told ++ later;
-      at = s.at;
-      dropped = s.dropped;
-      before = s.before;
-      played = played_after more (s.at ∷ s.dropped) later s.before s.played;
-      failed = s.failed;
-      closed = s.closed;
-    })
+    stops_later later fault mid new s = (
+      events ++ more,
+      with_more told first more joined,
+      record {
+        told = told ++ later;
+        at = s.at;
+        dropped = s.dropped;
+        before = s.before;
+        played = played_after more (s.at ∷ s.dropped) later s.before s.played;
+        failed = s.failed;
+        closed = s.closed;
+      },
+    )
 
 pub stops_at : (w : World) (events : List Event) (told : List Outcome) (fault : HostFault) (old new : HostView) → StoppedAt w events old new told fault → Stops w events new fault
 stops_at w events told fault old new s = record { told = told; at = s.at; dropped = s.dropped; before = s.before; played = s.played; failed = s.failed; closed = s.closed }
