@@ -1,0 +1,80 @@
+//! Answers of one text alone that is spelled as it is, as most short ones are. They are read at once:
+//! a payload that is taken apart so needs no reader of blocks, and isn't written again.
+ghost use Rattle.std.specs.Prelude.{◌≡◌, ◌∷◌, ◌++◌, false, IfOk, IfSome};
+ghost use Rattle.block_tree.specs.Tree.{end, text};
+ghost use Rattle.meta_format.specs.Canonical.{canonical};
+ghost use Rattle.recovery.specs.Code.{IsPayloadOf};
+ghost use Rattle.recovery.specs.inside.Plain.{plain_block};
+
+use crate::reading::asked_of;
+use crate::runs::split_plain;
+use block_tree::{Block, Item, Node, Octets, OutOfMemory, Tag, TagName};
+use memchr::memchr;
+use std::alloc::Global;
+use worksheet::Op;
+
+// What stands in front of the first colon, and what follows that.
+fn split_colon(bytes: &[u8]) -> Option<(&[u8], &[u8])>
+    ensures { IfSome result (λ x. bytes.now ≡ x.0.now ++ 58 ∷ x.1.now) }
+{
+    let place = memchr(b':', bytes)?;
+    let (front, behind) = bytes.split_at(place);
+    let [_, rest @ ..] = behind else {
+        return None;
+    };
+    Some((front, rest))
+}
+
+// The name and the text of a block that has one text and no more, where that is spelled as it is.
+fn plain_parts(bytes: &[u8]) -> Option<(&[u8], &[u8])>
+    ensures { IfSome result (λ x. bytes.now ≡ canonical (plain_block x.0.now x.1.now)) }
+{
+    let [2, inside @ ..] = bytes else {
+        return None;
+    };
+    let (name, body) = split_colon(inside)?;
+    let [text @ .., 5] = body else {
+        return None;
+    };
+    let (plain, special) = split_plain(text);
+    let [] = special else {
+        return None;
+    };
+    Some((name, plain))
+}
+
+// The block of one text.
+fn block_with(alloc: Global, name: &[u8], text: &[u8]) -> Result<Option<Block>, OutOfMemory>
+    ensures { IfOk result (λ found. IfSome found (λ block. block ≡ plain_block name.now text.now)) }
+{
+    let name = TagName::from_slice(alloc, name)?;
+    let text = Octets::from_slice(alloc, text)?;
+    let mut items = Vec::with_capacity(alloc, 1)?;
+    items.push(Item::Text(text))?;
+    let tag = Tag {
+        channel: false,
+        name,
+    };
+    match Block::new(Node { tag, items }) {
+        Ok(block) => Ok(Some(block)),
+        Err(_) => Ok(None),
+    }
+}
+
+/// The answer whose payload has these bytes after its kind, where its output is one text that is
+/// spelled as it is. Of other bytes it says nothing.
+pub(crate) fn plain_answer_of(alloc: Global, bytes: &[u8]) -> Result<Option<Op>, OutOfMemory>
+    ensures { IfOk result (λ found. IfSome found (λ op. IsPayloadOf op (7 ∷ bytes.now))) }
+{
+    let Ok((id, prompt, rest)) = asked_of(bytes) else {
+        return Ok(None);
+    };
+    let Some((name, text)) = plain_parts(rest) else {
+        return Ok(None);
+    };
+    let Some(output) = block_with(alloc, name, text)? else {
+        return Ok(None);
+    };
+    let prompt = Octets::from_slice(alloc, prompt)?;
+    Ok(Some(Op::Answer { id, prompt, output }))
+}
