@@ -1,10 +1,11 @@
 //! Answers of one text alone that is spelled as it is, as most short ones are. They are read at once:
 //! a payload that is taken apart so needs no reader of blocks, and isn't written again.
-ghost use Rattle.std.specs.Prelude.{◌≡◌, ◌∷◌, ◌++◌, false, IfOk, IfSome};
-ghost use Rattle.block_tree.specs.Tree.{end, text};
+ghost use Rattle.std.specs.Prelude.{◌≡◌, ◌∷◌, ◌++◌, map, IfOk, IfSome};
+ghost use Rattle.block_tree.specs.Tree.{items_from};
+ghost use Rattle.block_tree.specs.View.{piece_of};
 ghost use Rattle.meta_format.specs.Canonical.{canonical};
 ghost use Rattle.recovery.specs.Code.{IsPayloadOf};
-ghost use Rattle.recovery.specs.inside.Plain.{plain_block};
+ghost use Rattle.recovery.specs.inside.Plain.{plain_block, plain_items};
 
 use crate::reading::asked_of;
 use crate::runs::split_plain;
@@ -25,7 +26,9 @@ fn split_colon(bytes: &[u8]) -> Option<(&[u8], &[u8])>
     Some((front, rest))
 }
 
-// The name and the text of a block that has one text and no more, where that is spelled as it is.
+// The name and the text of a block that has one text and no more, where that is spelled as it is. The
+// text may be empty.
+#[tactic(auto, using(crate::proofs::OneText::plain_spelling))]
 fn plain_parts(bytes: &[u8]) -> Option<(&[u8], &[u8])>
     ensures { IfSome result (λ x. bytes.now ≡ canonical (plain_block x.0.now x.1.now)) }
 {
@@ -43,14 +46,26 @@ fn plain_parts(bytes: &[u8]) -> Option<(&[u8], &[u8])>
     Some((name, plain))
 }
 
-// The block of one text.
+// What stands in the block of one text: nothing where that is empty.
+#[tactic(auto, using(crate::proofs::OneText::item_rules))]
+fn items_with(alloc: Global, text: &[u8]) -> Result<Vec<Item>, OutOfMemory>
+    ensures { IfOk result (λ items. items_from (map piece_of items.items) ≡ plain_items text.now) }
+{
+    if text.is_empty() {
+        return Ok(Vec::new(alloc));
+    }
+    let text = Octets::from_slice(alloc, text)?;
+    let mut items = Vec::with_capacity(alloc, 1)?;
+    items.push(Item::Text(text))?;
+    Ok(items)
+}
+
+// The block of one text, where this is the name of a tag.
 fn block_with(alloc: Global, name: &[u8], text: &[u8]) -> Result<Option<Block>, OutOfMemory>
     ensures { IfOk result (λ found. IfSome found (λ block. block ≡ plain_block name.now text.now)) }
 {
     let name = TagName::from_slice(alloc, name)?;
-    let text = Octets::from_slice(alloc, text)?;
-    let mut items = Vec::with_capacity(alloc, 1)?;
-    items.push(Item::Text(text))?;
+    let items = items_with(alloc, text)?;
     let tag = Tag {
         channel: false,
         name,

@@ -10,7 +10,7 @@ use crate::parts::{
     last_long_of, last_number_of, long_of, number_of, reason_of, short_of, words_of,
 };
 use crate::plain::plain_answer_of;
-use crate::writing::encode;
+use crate::writing::encode_within;
 use block_tree::Octets;
 use meta_format::{ReadFault, read_block};
 use std::alloc::{AllocError, AllocFailed, Global};
@@ -182,7 +182,7 @@ fn as_written(alloc: Global, read: Result<Op, DecodeFault>, bytes: &[u8]) -> Res
         → IsErrOf result DecodeFault.Unreadable → (op : Op) → IsPayloadOf op bytes.now → ⊥ }
 {
     let op = read?;
-    let payload = encode(alloc, &op)?;
+    let payload = encode_within(alloc, &op, bytes.len())?;
     if payload.as_slice() != bytes {
         return Err(DecodeFault::Unreadable);
     }

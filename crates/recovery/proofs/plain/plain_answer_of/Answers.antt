@@ -1,5 +1,4 @@
 use Rattle.std.proofs.Common.{◌≡◌, rules, ap, sym, ◌∙◌, subst, List, ℕ, ◌∷◌}
-use Rattle.block_tree.specs.Tree.{Tree}
 use Rattle.worksheet.specs.declared.op.Op.TheVariants as op
 use Rattle.meta_format.specs.Canonical.{canonical}
 use Rattle.recovery.specs.Code.{IsPayloadOf}
