@@ -1,5 +1,5 @@
 -- Blocks of one text that is spelled as it is.
-use Rattle.std.proofs.Common.{◌≡◌, ℕ, List, [], ◌∷◌, ◌++◌, refl, ◌∙◌, append-nil}
+use Rattle.std.proofs.Common.{◌≡◌, ℕ, List, [], ◌∷◌, refl, ◌∙◌, append-nil}
 use Rattle.std.specs.List.{flat_map}
 use Rattle.block_tree.specs.View.{piece_text}
 use Rattle.meta_format.specs.Canonical.{escape, canonical_items}

@@ -10,17 +10,17 @@ ghost use Rattle.recovery.specs.inside.Plain.{plain_block, plain_items};
 use crate::reading::asked_of;
 use crate::runs::split_plain;
 use block_tree::{Block, Item, Node, Octets, OutOfMemory, Tag, TagName};
-use memchr::memchr;
+use memchr::memchr2;
 use std::alloc::Global;
 use worksheet::Op;
 
-// What stands in front of the first colon, and what follows that.
+// What stands in front of the first colon, and what follows that, where no # stands in front of it.
 fn split_colon(bytes: &[u8]) -> Option<(&[u8], &[u8])>
     ensures { IfSome result (λ x. bytes.now ≡ x.0.now ++ 58 ∷ x.1.now) }
 {
-    let place = memchr(b':', bytes)?;
+    let place = memchr2(b':', b'#', bytes)?;
     let (front, behind) = bytes.split_at(place);
-    let [_, rest @ ..] = behind else {
+    let [b':', rest @ ..] = behind else {
         return None;
     };
     Some((front, rest))
