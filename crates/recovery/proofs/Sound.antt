@@ -208,7 +208,7 @@ ids_sound bytes o byte read =
     let is = last_number_is bytes a.x byte a.is in
     own 9 bytes (op.Ids a.x) o a.gives (record { typed = is.1; fits = tt; is = ap (λ (l : List ℕ). 9 ∷ l) is.0 })
 
--- behind the number and the prompt of an answer stands a block as it is written
+-- after the number and the prompt of an answer stands a block as it is written
 pub answer_sound : (bytes rest prompt : List ℕ) (id : ℕ) (output : Tree) → AreBytes bytes → asked_at bytes ≡ Some ((id, prompt), rest) → rest ≡ canonical output → is_block output ≡ true
     → IsPayloadOf (op.Answer id prompt output) (7 ∷ bytes)
 unfolding asked_at
