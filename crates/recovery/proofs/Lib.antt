@@ -1,5 +1,6 @@
 pub mod Sizes
 pub mod PlainRuns
+pub mod OneText
 pub mod Fields
 pub mod Words
 pub mod Again

@@ -8,8 +8,11 @@ use Rattle.block_tree.specs.Reasons.{reason_number}
 use Rattle.worksheet.specs.declared.op.Op.{Op}
 use Rattle.worksheet.specs.declared.op.Op.TheVariants as op
 use Rattle.recovery.specs.declared.reading.DecodeFault.{DecodeFault}
+use Rattle.block_tree.specs.Shape.{is_block}
+use Rattle.block_tree.specs.Tree.{Tree}
+use Rattle.meta_format.specs.Canonical.{canonical}
 use Rattle.recovery.specs.Code.{number, short, long, IsLong, IsNumber, IsShort, IsPayloadOf}
-use Rattle.recovery.specs.inside.Reading.{◌>>=◌, ReadsPart, ReadsOrFails, front_at, alone, number_at, last_number_at, short_at, long_at, last_long_at, reason_at, reason_with, new_at, set_at, remove_at, move_at, clear_at, lost_at, ids_at}
+use Rattle.recovery.specs.inside.Reading.{◌>>=◌, ReadsPart, ReadsOrFails, front_at, alone, number_at, last_number_at, short_at, long_at, last_long_at, reason_at, reason_with, new_at, set_at, remove_at, move_at, clear_at, lost_at, asked_at, ids_at}
 use Rattle.recovery.proofs.Again.{just, some_is}
 
 -- bytes as a slice has them
@@ -204,3 +207,22 @@ ids_sound bytes o byte read =
     let a = bound (last_number_at bytes) (λ n. just (op.Ids n)) o read in
     let is = last_number_is bytes a.x byte a.is in
     own 9 bytes (op.Ids a.x) o a.gives (record { typed = is.1; fits = tt; is = ap (λ (l : List ℕ). 9 ∷ l) is.0 })
+
+-- after the number and the prompt of an answer stands a block as it is written
+pub answer_sound : (bytes rest prompt : List ℕ) (id : ℕ) (output : Tree) → AreBytes bytes → asked_at bytes ≡ Some ((id, prompt), rest) → rest ≡ canonical output → is_block output ≡ true
+    → IsPayloadOf (op.Answer id prompt output) (7 ∷ bytes)
+unfolding asked_at
+answer_sound bytes rest prompt id output byte read spelled proper =
+    let a = bound (number_at bytes) (λ x. long_at x.1 >>= λ p. just ((x.0, p.0), p.1)) ((id, prompt), rest) read in
+    let p = bound (long_at a.x.1) (λ p. just ((a.x.0, p.0), p.1)) ((id, prompt), rest) a.gives in
+    let same : ((a.x.0, p.x.0), p.x.1) ≡ ((id, prompt), rest) = some_is ((a.x.0, p.x.0), p.x.1) ((id, prompt), rest) p.gives in
+    let id_same : a.x.0 ≡ id = ap (λ (x : (ℕ × List ℕ) × List ℕ). x.0.0) same in
+    let prompt_same : p.x.0 ≡ prompt = ap (λ (x : (ℕ × List ℕ) × List ℕ). x.0.1) same in
+    let rest_same : p.x.1 ≡ rest = ap (λ (x : (ℕ × List ℕ) × List ℕ). x.1) same in
+    let number_part = number_is bytes a.x.1 a.x.0 byte a.is in
+    let prompt_part = long_is a.x.1 p.x.0 p.x.1 (behind (number a.x.0) a.x.1 (subst AreBytes number_part.0 byte)) p.is in
+    own 7 bytes (op.Answer a.x.0 p.x.0 output) (op.Answer id prompt output) (ap (λ (k : ℕ). just (op.Answer k p.x.0 output)) id_same ∙ ap (λ (l : List ℕ). just (op.Answer id l output)) prompt_same) (record {
+      typed = (number_part.1, proper);
+      fits = prompt_part.1;
+      is = ap (λ (l : List ℕ). 7 ∷ l) (number_part.0 ∙ ap (λ (l : List ℕ). number a.x.0 ++ l) (prompt_part.0 ∙ ap (λ (l : List ℕ). long p.x.0 ++ l) (rest_same ∙ spelled)));
+    })

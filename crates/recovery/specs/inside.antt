@@ -7,3 +7,4 @@ pub mod Records
 pub mod Measured
 pub mod Rescuing
 pub mod Afters
+pub mod Plain

@@ -11,6 +11,7 @@ mod measuring;
 mod opening;
 mod owing;
 mod parts;
+mod plain;
 mod reading;
 mod records;
 mod rescuing;

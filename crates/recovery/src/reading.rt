@@ -9,7 +9,8 @@ ghost use Rattle.recovery.specs.inside.Reading.{ReadsPart, ReadsOrFails, FindsOp
 use crate::parts::{
     last_long_of, last_number_of, long_of, number_of, reason_of, short_of, words_of,
 };
-use crate::writing::encode;
+use crate::plain::plain_answer_of;
+use crate::writing::encode_within;
 use block_tree::Octets;
 use meta_format::{ReadFault, read_block};
 use std::alloc::{AllocError, AllocFailed, Global};
@@ -151,7 +152,7 @@ fn ids_of(bytes: &[u8]) -> Result<Op, DecodeFault>
 }
 
 #[tactic(auto, unfolding(crate::specs::inside::Reading::asked_at))]
-fn asked_of(bytes: &[u8]) -> Result<(u32, &[u8], &[u8]), DecodeFault>
+pub(crate) fn asked_of(bytes: &[u8]) -> Result<(u32, &[u8], &[u8]), DecodeFault>
     ensures read { ReadsOrFails (λ x. ((x.0, x.1.now), x.2.now)) result (asked_at bytes.now) }
     ensures fits { IfOk result (λ x. IsLong x.1.now) }
 {
@@ -181,11 +182,24 @@ fn as_written(alloc: Global, read: Result<Op, DecodeFault>, bytes: &[u8]) -> Res
         → IsErrOf result DecodeFault.Unreadable → (op : Op) → IsPayloadOf op bytes.now → ⊥ }
 {
     let op = read?;
-    let payload = encode(alloc, &op)?;
+    let payload = encode_within(alloc, &op, bytes.len())?;
     if payload.as_slice() != bytes {
         return Err(DecodeFault::Unreadable);
     }
     Ok(op)
+}
+
+// The answer whose payload these bytes are; `rest` is what follows the first of them.
+fn answer_in(alloc: Global, rest: &[u8], bytes: &[u8]) -> Result<Op, DecodeFault>
+    requires { bytes.now ≡ 7 ∷ rest.now }
+    ensures op { IfOk result (λ op. IsPayloadOf op bytes.now) }
+    ensures unreadable { IsErrOf result DecodeFault.Unreadable
+        → (op : Op) → IsPayloadOf op bytes.now → ⊥ }
+{
+    if let Some(op) = plain_answer_of(alloc, rest)? {
+        return Ok(op);
+    }
+    as_written(alloc, answer_of(alloc, rest), bytes)
 }
 
 /// The op of a payload (docs/trust/FORMAT.md, "Payloads"). An op has one payload: other bytes are
@@ -206,7 +220,7 @@ pub fn decode(alloc: Global, bytes: &[u8]) -> Result<Op, DecodeFault>
         4 => remove_of(rest),
         5 => move_of(rest),
         6 => clear_of(rest),
-        7 => as_written(alloc, answer_of(alloc, rest), bytes),
+        7 => answer_in(alloc, rest, bytes),
         8 => lost_of(rest),
         9 => ids_of(rest),
         _ => Err(DecodeFault::Unreadable),

@@ -254,7 +254,16 @@ pub fn encode(alloc: Global, op: &Op) -> Result<Vec<u8>, OutOfMemory>
     // An op in memory has numbers of four bytes and a block, so the payload is read as this op again.
     ensures typed { IfOk result (λ payload. IsTyped op.now) }
 {
-    let mut payload = Vec::new(alloc);
+    encode_within(alloc, op, 0)
+}
+
+/// The same, where memory for so many bytes is taken at once.
+pub(crate) fn encode_within(alloc: Global, op: &Op, len: usize) -> Result<Vec<u8>, OutOfMemory>
+    requires { HasCode op.now }
+    ensures code { IfOk result (λ payload. payload.items ≡ code_of op.now) }
+    ensures typed { IfOk result (λ payload. IsTyped op.now) }
+{
+    let mut payload = Vec::with_capacity(alloc, len)?;
     put_op(op, &mut payload)?;
     Ok(payload)
 }
