@@ -41,7 +41,7 @@ pub trait Joins {
     /// What it may answer, by the world to which events have led, and how it changes.
     ghost joins: { JoinRule Self };
 
-    /// What joins the events that led here. The worksheet is ahead of the disk: nothing may be told of it.
+    /// What joins the events that led here. The worksheet is ahead of the disk: nothing may be reported of it.
     fn join<D: Disk>(&mut self, alloc: Global, host: &BufferedHost<D>) -> Joined
         ensures few { length result.events.items ≤ most_joined }
         ensures none { NoCheckpoints result.events.items }
