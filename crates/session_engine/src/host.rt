@@ -185,6 +185,13 @@ impl<D: Disk> Host<D> {
         self.inner.prompt(name)
     }
 
+    /// The same host, for who only looks at it.
+    pub fn looks(&self) -> &BufferedHost<D>
+        ensures { result.now ≡ self.now }
+    {
+        &self.inner
+    }
+
     /// The same host, as one that may hold records back.
     pub fn buffered(self) -> BufferedHost<D>
         ensures host { result ≡ self }
