@@ -5,5 +5,6 @@ pub mod Timeline
 pub mod Stepping
 pub mod Faulting
 pub mod Gates
+pub mod Joinings
 pub mod Seating
 pub mod Signals

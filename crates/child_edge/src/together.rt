@@ -119,7 +119,7 @@ fn carry_one<D: Disk, C: Children>(
 }
 
 /// Carries out the effect of each of these outcomes in turn.
-fn carry_each<D: Disk, C: Children>(
+pub(crate) fn carry_each<D: Disk, C: Children>(
     host: &mut Host<D>,
     children: &mut C,
     outcomes: &[Outcome],
@@ -133,6 +133,8 @@ fn carry_each<D: Disk, C: Children>(
     ensures err { (w : World) → IsHost host.old w
         → IfErr result (BrokeOff (EachUpTo C.after outcomes.now (at w children.old host.old.store.disk)) replies.old.items
         host.new children.new replies.new.items) }
+    ensures capacity { vec_capacity replies.new ≡ vec_capacity replies.old }
+    ensures len { vec_len replies.new ≤ vec_len replies.old + MOST_EVENTS * length outcomes.now }
 {
     for outcome in outcomes {
         if let Err(fault) = carry_one(host, children, outcome, replies) {

@@ -15,3 +15,4 @@ pub mod Committing
 pub mod Losing
 pub mod Losses
 pub mod Until
+pub mod JoinLaws

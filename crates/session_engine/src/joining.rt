@@ -98,13 +98,14 @@ impl<D: Disk> Host<D> {
 }
 
 /// The rooms for outcomes: of events, and of those that join them.
+#[derive(Drop)]
 struct Rooms {
     outcomes: Vec<Outcome>,
     later: Vec<Outcome>,
 }
 
 /// Rooms for the outcomes of so many events, and of those that may join them.
-fn rooms(alloc: Global, count: usize) -> Result<Rooms, AllocError>
+fn make_rooms(alloc: Global, count: usize) -> Result<Rooms, AllocError>
     ensures { IfOk result (λ rooms. (rooms.outcomes.items ≡ []) × (rooms.later.items ≡ [])
         × (vec_len rooms.outcomes + count ≤ vec_capacity rooms.outcomes)
         × (vec_len rooms.later + most_joined ≤ vec_capacity rooms.later)) }
@@ -142,7 +143,7 @@ impl<D: Disk> BufferedHost<D> {
         }
         // Called for its contract alone: it says that the store isn't closed.
         let _sheet = self.sheet();
-        let Ok(rooms) = rooms(self.engine.alloc, events.len()) else {
+        let Ok(rooms) = make_rooms(self.engine.alloc, events.len()) else {
             return Err(JoinFault::NoRoom);
         };
         match Group::new(self.engine.alloc) {

@@ -1,4 +1,4 @@
-use Rattle.std.proofs.Common.{◌≡◌, ◌≤◌, length, refl, subst, arith}
+use Rattle.std.proofs.Common.{◌≡◌, ◌≤◌, ◌∙◌, length, refl, subst, arith}
 use Rattle.std.proofs.lemmas.Option.{slice_get_read}
 use Rattle.child_edge.specs.Edge.{Ran}
 use Rattle.child_edge.specs.Faithful.{at}
@@ -9,13 +9,14 @@ use Rattle.child_edge.proofs.together.carry_each.Goals as goal
 
 pub loop-outcome-init : goal.loop-outcome-init
 loop-outcome-init g c = record {
-  room = omega (arith, c.requires);
+  capacity = refl;
+  len = omega arith;
   same = same-at c.args.host.now.store.disk;
   runs = λ w h. none_carried g.C.Children.after c.args.outcomes.now (at w c.args.children.now c.args.host.now.store.disk) c.args.replies.now.items w c.args.host.now c.args.children.now h refl;
 }
 
 pub carry_one-requires : goal.carry_one-requires
-carry_one-requires g c = omega (arith, c.loop-outcome.invariant.room, c.loop-outcome-test.true)
+carry_one-requires g c = let so = c.loop-outcome.invariant in omega (arith, c.requires, so.capacity, so.len, c.loop-outcome-test.true)
 
 pub returns-in-Err-clause-same : goal.returns-in-Err-clause-same
 returns-in-Err-clause-same g c = same-on c.args.host.now.store.disk c.loop-outcome.host.store.disk c.carry_one.new.host.store.disk c.loop-outcome.invariant.same c.in-Err.ensures.same
@@ -29,7 +30,8 @@ returns-in-Err-clause-err g c = λ w h.
 
 pub loop-outcome-preserved : goal.loop-outcome-preserved
 loop-outcome-preserved g c = record {
-  room = omega (arith, c.loop-outcome.invariant.room, c.in_default.ensures.capacity, c.in_default.ensures.len);
+  capacity = c.carry_one.ensures.capacity ∙ c.loop-outcome.invariant.capacity;
+  len = omega (arith, c.loop-outcome.invariant.len, c.carry_one.ensures.len);
   same = same-on c.args.host.now.store.disk c.loop-outcome.host.store.disk c.carry_one.new.host.store.disk c.loop-outcome.invariant.same c.in_default.ensures.same;
   runs = λ w h.
       let so = c.loop-outcome.invariant.runs w h in

@@ -1,4 +1,4 @@
-use Rattle.std.proofs.Common.{◌≡◌, ◌∷◌, [], List, refl, sym, ◌∙◌, subst, arith, ap, length, rules}
+use Rattle.std.proofs.Common.{◌≡◌, ◌∷◌, [], List, refl, sym, ◌∙◌, subst, arith, ap, length, length-append, rules}
 use Rattle.std.specs.List.{list_any}
 use Rattle.std.specs.Prelude.{false}
 use Rattle.std.specs.Vec.Iter.{into_iter_items}
@@ -14,20 +14,24 @@ use Rattle.session_engine.specs.inside.Until.{PlayedBy}
 use Rattle.session_engine.proofs.Until.{empty_of, ends_behind, ends_nowhere, goes_on, none_more}
 use Rattle.session_engine.proofs.Gathering.{gathers_on, gathers_self}
 use Rattle.session_engine.proofs.Playing.{PlayedEach, nothing_each, nothing_left, one_more, one_more_each, moments_on, moments_failed, same_on, same_self}
-use Rattle.session_engine.proofs.buffered.BufferedHost.play_until.Goals as goal
+use Rattle.session_engine.proofs.buffered.BufferedHost.play_onto.Goals as goal
 
 pub loop-event-init : goal.loop-event-init
-loop-event-init g c = record {
-  left = search rules;
-  room = search rules;
-  same = same_self c.args.self.now.store.disk;
-  played = λ w h. subst (λ (es : List Event). PlayedEach w c.args.events.items es c.reserve_exact.new.self.items c.args.self.now c.args.self.now) (sym c.into_iter-event-iterator.ensures.into_iter_gives.0)
-      (subst (λ (os : List Outcome). PlayedEach w c.args.events.items c.args.events.items os c.args.self.now c.args.self.now) (sym (c.reserve_exact.ensures.items ∙ c.new-outcomes.ensures.items)) (nothing_each w c.args.events.items c.args.self.now h));
-  moments = λ w h. subst (λ (os : List Outcome). Moments w c.args.events.items os c.args.self.now.store.disk c.args.self.now.store.disk) (sym (c.reserve_exact.ensures.items ∙ c.new-outcomes.ensures.items))
-      (nothing_left w c.args.events.items c.args.events.items [] c.args.self.now (nothing_each w c.args.events.items c.args.self.now h).0);
-  right = λ on. subst (λ (os : List Outcome). list_any is_refusal os ≡ false) (sym (c.reserve_exact.ensures.items ∙ c.new-outcomes.ensures.items)) refl;
-  gathers = λ none. (gathers_self c.args.self.now.store, subst NoCheckpoints (sym c.into_iter-event-iterator.ensures.into_iter_gives.0) none);
-}
+loop-event-init g c =
+    let none : c.args.outcomes.now.items ≡ [] = c.requires.empty in
+    let all = c.into_iter-event-iterator.ensures.into_iter_gives.0 in
+    record {
+      left = search rules;
+      room = let is = ap length all in omega (arith, is, c.requires.room);
+      same = same_self c.args.self.now.store.disk;
+      played = λ w h. subst (λ (es : List Event). PlayedEach w c.args.events.items es c.args.outcomes.now.items c.args.self.now c.args.self.now) (sym all)
+          (subst (λ (os : List Outcome). PlayedEach w c.args.events.items c.args.events.items os c.args.self.now c.args.self.now) (sym none) (nothing_each w c.args.events.items c.args.self.now h));
+      moments = λ w h. subst (λ (os : List Outcome). Moments w c.args.events.items os c.args.self.now.store.disk c.args.self.now.store.disk) (sym none)
+          (nothing_left w c.args.events.items c.args.events.items [] c.args.self.now (nothing_each w c.args.events.items c.args.self.now h).0);
+      right = λ on. subst (λ (os : List Outcome). list_any is_refusal os ≡ false) (sym none) refl;
+      few = let is = ap length all in let no = ap length none in omega (arith, is, no);
+      gathers = λ none. (gathers_self c.args.self.now.store, subst NoCheckpoints (sym all) none);
+    }
 
 pub loop-event-preserved : goal.loop-event-preserved
 loop-event-preserved g c =
@@ -57,6 +61,7 @@ loop-event-preserved g c =
           subst (λ (l : List Outcome). Moments w events l first.store.disk c.step.new.self.store.disk) (sym c.add.ensures.items)
           (moments_on w events rest e os at.self p.0 first.store.disk c.step.new.self o inv.same (inv.moments w h) took);
       right = λ on. subst (λ (l : List Outcome). list_any is_refusal l ≡ false) (sym c.add.ensures.items) (none_more os o (inv.right on) (goes_on c.args.up_to (is_refusal o) c.stops-stops.result c.stops-stops.ensures c.if-stops.false on));
+      few = let one = ap length c.add.ensures.items in let so = length-append os (o ∷ []) in omega (arith, one, so, fewer, inv.few);
       gathers = λ none.
           let was = inv.gathers none in
           let here = subst NoCheckpoints steps was.1 in

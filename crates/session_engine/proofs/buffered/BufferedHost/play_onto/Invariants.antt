@@ -9,7 +9,7 @@ use Rattle.session_engine.specs.Gathers.{NoCheckpoints}
 use Rattle.session_engine.specs.Groups.{is_refusal}
 use Rattle.recovery.specs.Sheets.{GathersOn}
 use Rattle.session_engine.proofs.Playing.{PlayedEach}
-use Rattle.session_engine.proofs.buffered.BufferedHost.play_until.Given as goal
+use Rattle.session_engine.proofs.buffered.BufferedHost.play_onto.Given as goal
 
 abbrev pub invariant-loop-event : goal.invariant-loop-event
 invariant-loop-event g l = record {
@@ -19,5 +19,6 @@ invariant-loop-event g l = record {
   played : (w : World) → IsHost l.fn.self w → PlayedEach w l.fn.events.items (into_iter_items l.event-iterator) l.outcomes.items l.fn.self l.self;
   moments : (w : World) → IsHost l.fn.self w → Moments w l.fn.events.items l.outcomes.items l.fn.self.store.disk l.self.store.disk;
   right : l.fn.up_to ≡ true → list_any is_refusal l.outcomes.items ≡ false;
+  few : length l.outcomes.items + length (into_iter_items l.event-iterator) ≤ length l.fn.events.items;
   gathers : NoCheckpoints l.fn.events.items → GathersOn l.fn.self.store l.self.store × NoCheckpoints (into_iter_items l.event-iterator);
 }
