@@ -6,8 +6,8 @@ ghost use Rattle.child_edge.specs.Seats.{seat_of, waits};
 
 use child_calls::Seat;
 use disk_model::Disk;
-use session_engine::{BufferedHost, Host};
 use session_engine::host::LifeView;
+use session_engine::{BufferedHost, Host};
 use std::alloc::{AllocError, Global};
 use worksheet::Name;
 

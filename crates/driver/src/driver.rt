@@ -95,7 +95,11 @@ impl<D: Disk, S: Sources, K: Sink, A: Agenda> Driver<D, S, K, A> {
     }
 
     /// Prints what events gave, those of lives or of lines from this one on.
-    pub(crate) fn print_outcomes(&mut self, from: Option<u64>, outcomes: &[Outcome]) -> Result<(), RunFault>
+    pub(crate) fn print_outcomes(
+        &mut self,
+        from: Option<u64>,
+        outcomes: &[Outcome],
+    ) -> Result<(), RunFault>
         requires few { length outcomes.now ≤ most_together }
         requires counted { IfSome from (λ number. number + most_together + 1 < 2 ^ 64) }
         ensures same { SameDisk self.old.host.store.disk self.new.host.store.disk }

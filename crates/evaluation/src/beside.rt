@@ -92,7 +92,13 @@ fn joins<D: Disk>(host: &BufferedHost<D>, plan: &Plan, stand: &Stand, at: usize,
 
 /// Whether the field with this number, the first that was neither asked nor passed over, is the next one and
 /// is asked although others wait.
-fn joins_next<D: Disk>(host: &BufferedHost<D>, plan: &Plan, ids: &[u32], stand: &Stand, id: u32) -> bool
+fn joins_next<D: Disk>(
+    host: &BufferedHost<D>,
+    plan: &Plan,
+    ids: &[u32],
+    stand: &Stand,
+    id: u32,
+) -> bool
     requires few { length ids.now < 2 ^ 32 }
     requires there { stand.now.taken < length ids.now }
     ensures { (w : World) → IsHost host.now w → result ≡ (beside.joins plan.now w stand.now stand.now.taken id
@@ -102,7 +108,12 @@ fn joins_next<D: Disk>(host: &BufferedHost<D>, plan: &Plan, ids: &[u32], stand: 
 }
 
 /// The place of the field that is asked although others wait, where there is one.
-pub fn joining<D: Disk>(host: &BufferedHost<D>, plan: &Plan, ids: &[u32], stand: &Stand) -> Option<usize>
+pub fn joining<D: Disk>(
+    host: &BufferedHost<D>,
+    plan: &Plan,
+    ids: &[u32],
+    stand: &Stand,
+) -> Option<usize>
     requires few { length ids.now < 2 ^ 32 }
     requires taken { stand.now.taken ≤ length ids.now }
     ensures within { IfSome result (λ at. at < length ids.now) }

@@ -66,14 +66,26 @@ fn is_passed_over(plan: &Plan, sheet: &Sheet, lasts: &[Last], id: u32) -> bool
 }
 
 /// Whether the field with this number may be asked with these, as far as its session goes.
-fn may_go_with<D: Disk>(host: &BufferedHost<D>, plan: &Plan, lasts: &[Last], group: &[u32], id: u32) -> bool
+fn may_go_with<D: Disk>(
+    host: &BufferedHost<D>,
+    plan: &Plan,
+    lasts: &[Last],
+    group: &[u32],
+    id: u32,
+) -> bool
     ensures { (w : World) → IsHost host.now w → result ≡ together.may_go_with plan.now w lasts.now group.now id }
 {
     is_apart(host, group, host.sheet().field(id)) && !is_passed_over(plan, host.sheet(), lasts, id)
 }
 
 /// Whether the field with this number is asked together with these, which come before it.
-fn goes_with<D: Disk>(host: &BufferedHost<D>, plan: &Plan, lasts: &[Last], group: &[u32], id: u32) -> bool
+fn goes_with<D: Disk>(
+    host: &BufferedHost<D>,
+    plan: &Plan,
+    lasts: &[Last],
+    group: &[u32],
+    id: u32,
+) -> bool
     ensures goes { (w : World) → IsHost host.now w → result ≡ together.goes_with plan.now w lasts.now group.now id }
     ensures few { result ≡ true → length group.now < most_together }
 {

@@ -2,6 +2,7 @@
 ghost use Rattle.std.specs.Prelude.{◌≡◌, ◌≢◌, ◌⊎◌, ◌+◌, ◌<◌, ◌≤◌, ◌^◌, ℕ, Ok, Option, Some, false, length, slice_get, true};
 ghost use Rattle.session_engine.specs.World.{World, sheet_in};
 ghost use Rattle.session_engine.specs.Host.{IsHost};
+ghost use Rattle.session_engine.specs.Gathers.{NoCheckpoints};
 ghost use Rattle.worksheet.specs.Checks.{field_in};
 ghost use Rattle.evaluation.specs.Beside.{NoneJoins};
 ghost use Rattle.evaluation.specs.Evaluation.{not_begun};
@@ -182,9 +183,10 @@ impl<P: Programs> ByFields<P> {
         requires there { at < length self.now.ids }
         requires few { length self.now.ids < 2 ^ 31 }
         requires counted { self.now.stand.asked + most_together + 1 < 2 ^ 64 }
-        ensures { (w : World) (id : ℕ) → IsHost host.now w → slice_get self.now.ids at ≡ Some id
+        ensures asks { (w : World) (id : ℕ) → IsHost host.now w → slice_get self.now.ids at ≡ Some id
             → IfOk result (λ asking. (asking.events.items ≡ map asks_field (asked_with self.now w at id))
             × (asking.stand ≡ standing.asked_together self.now.stand at (sheet_in w).fields (asked_with self.now w at id))) }
+        ensures commands { IfOk result (λ asking. NoCheckpoints asking.events.items) }
     {
         let lasts = self.stand.lasts.as_slice();
         let ids = self.ids.as_slice();
