@@ -137,7 +137,8 @@ pub fails_with_joined : {C : Type 0} (R : Relation C) (A : Asking) (w : World) (
     → FailsJoined (joining_edge R A) (at w c old.store.disk) events new c f
 fails_with_joined R A w events old new c halt.OutOfMemory p = (p.0, p.1, p.2, refl)
 fails_with_joined R A w events old new c halt.Lost (all, to_be, p) = (all, to_be, p, refl)
-fails_with_joined R A w events old new c (halt.Host f) (all, to_be, p) = (all, to_be, fails_at_once R w all old new c (halt.Host f) p)
+fails_with_joined R A w events old new c (halt.Host f) (all, to_be, p) =
+    let q = fails_at_once R w all old new c (halt.Host f) p in (all, to_be, q.0, q.1, q.2, q.3, q.4, q.5)
 
 module _ {C : Type 0} (R : Relation C) (A : Asking) (w : World) (c d : C) (events : List Event) (old mid new : HostView) (joint : Joint) (took : TookWithJoined A w events old mid joint) (replies : List Reply) where
   pub ran_joined : (gave : GaveJoined) → gave.outcomes.items ≡ joint.outcomes.items → gave.first ≡ joint.first → gave.later.items ≡ joint.later.items → gave.replies.items ≡ replies

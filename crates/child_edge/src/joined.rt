@@ -95,7 +95,10 @@ fn carry_joint<D: Disk, C: Children>(
         host.new children.new replies.new.items) }
 {
     match carry_each(host, children, joint.outcomes.as_slice(), replies) {
-        Ok(()) => carry_each(host, children, joint.later.as_slice(), replies),
+        Ok(()) => match carry_each(host, children, joint.later.as_slice(), replies) {
+            Ok(()) => Ok(()),
+            Err(fault) => Err(fault),
+        },
         Err(fault) => Err(fault),
     }
 }
