@@ -3,6 +3,7 @@ use Rattle.std.proofs.Common.{◌≡◌, ◌∙◌, inl, inr, ℕ, ◌+◌, List
 use Rattle.std.proofs.lemmas.List.{length-map}
 use Rattle.std.specs.Prelude.{◌⊎◌, IfSome, Option, None, Some, Result, map, option_map}
 use Rattle.session_engine.specs.World.{World}
+use Rattle.session_engine.specs.Joining.{ToBeTaken, alone, asking, with_more}
 use Rattle.child_edge.specs.Faithful.{Beat}
 use Rattle.arrivals.specs.Lines.{InputLine, whole}
 use Rattle.arrivals.specs.Held.{Held, KeepsLines, left_with, to_come}
@@ -19,7 +20,7 @@ use Rattle.agendas.specs.declared.matter.Matter.{Matter}
 use Rattle.agendas.specs.declared.matter.Matter.TheVariants as matter
 use Rattle.agendas.specs.InputOrder.{TookInOrder}
 use Rattle.agendas.specs.LinesAt.{LinesAt, coming, given_to, heeded}
-use Rattle.agendas.specs.LinesRules.{lines_rules}
+use Rattle.agendas.specs.LinesRules.{LinesJoin, lines_rules}
 use Rattle.agendas.specs.Says.{LinesSay, SaysLimit, SaysMatter, first_of, of_none, says, stopped, uncounted, unlisted, warns}
 use Rattle.agendas.specs.Taking.{ComeNext, ReadsOn, TakesGivenLine, TakesInput, alone, ended, reads_on, together}
 
@@ -111,6 +112,11 @@ of_saying a w now r b (uncounted many is same) = moved a a b same (same_lines a 
 of_saying a w now r b (warns seat rest late is same) = moved a _ b same (same_lines a _ refl refl refl)
 of_saying a w now r b (says m going none about said) = in_order_on a (heeded a) b (same_lines a (heeded a) refl refl refl) (of_matter (heeded a) w now m r b said)
 
+-- no line joined what lives gave
+none_joined : (a b : LinesAt) (w : World) (events all : List Event) → ToBeTaken (asking LinesJoin a b) w events all → TookInOrder a b
+none_joined a b w events all (alone same) = moved a a b same (same_lines a a refl refl refl)
+none_joined a b w events all (with_more told first more j) = moved a a b j.answered.2 (same_lines a a refl refl refl)
+
 module _ {C K : Type 0} (sources : SourceRules C) (sink : SinkRules K) where
   fails_in_order : (p q : RunPlace LinesAt C K) (i : Item) (beats : List Beat) (why : RunFault) → Fails (rules lines_rules sources sink) p i beats why q → TookInOrder p.agenda q.agenda
   fails_in_order p q i beats why (step.unsaid now w a clock said) = of_saying p.agenda p.world now (Err w) a said
@@ -121,9 +127,14 @@ module _ {C K : Type 0} (sources : SourceRules C) (sink : SinkRules K) where
   fails_in_order p q i beats why (step.untaken from events) = same_lines p.agenda p.agenda refl refl refl
   fails_in_order p q i beats why (step.lost from events h l) = same_lines p.agenda p.agenda refl refl refl
   fails_in_order p q i beats why (step.broken from events bs e x w c d h t failed) = same_lines p.agenda p.agenda refl refl refl
+  fails_in_order p q i beats why (step.too_many_heard events many) = same_lines p.agenda p.agenda refl refl refl
+  fails_in_order p q i beats why (step.unjoined events) = same_lines p.agenda p.agenda refl refl refl
+  fails_in_order p q i beats why (step.lost_joined events all a h all_are l) = none_joined p.agenda a p.world events all all_are
+  fails_in_order p q i beats why (step.broken_joined events all a bs e x w c d h all_are t failed) = none_joined p.agenda a p.world events all all_are
   fails_in_order p q i beats why (step.unwritten line x h failed) = same_lines p.agenda p.agenda refl refl refl
   fails_in_order p q i beats why (step.unnumbered line many) = same_lines p.agenda p.agenda refl refl refl
   fails_in_order p q i beats why step.unstalled = same_lines p.agenda p.agenda refl refl refl
+  fails_in_order p q i beats why (step.uncounted_line first outcomes many) = same_lines p.agenda p.agenda refl refl refl
   fails_in_order p q i beats why (step.unprinted s w k is t) = same_lines p.agenda p.agenda refl refl refl
 
   step_in_order : (p q : RunPlace LinesAt C K) (todo next : List Item) (s : RunStep) → Goes (rules lines_rules sources sink) p todo s next q → TookInOrder p.agenda q.agenda
@@ -131,6 +142,7 @@ module _ {C K : Type 0} (sources : SourceRules C) (sink : SinkRules K) where
   step_in_order p q todo next s (step.watches x w c a rest wakes told) = moved p.agenda _ a told (same_lines p.agenda _ refl refl refl)
   step_in_order p q todo next s (step.hears seat most events c rest h) = same_lines p.agenda p.agenda refl refl refl
   step_in_order p q todo next s (step.takes from events outcomes followed w c d rest t) = same_lines p.agenda p.agenda refl refl refl
+  step_in_order p q todo next s (step.joins events outcomes first more later followed a w c d rest j t) = moved p.agenda p.agenda a j.answered.2 (same_lines p.agenda p.agenda refl refl refl)
   step_in_order p q todo next s (step.rewrites line o w d rest gives kept) = same_lines p.agenda p.agenda refl refl refl
   step_in_order p q todo next s (step.stalls_all rest) = same_lines p.agenda p.agenda refl refl refl
   step_in_order p q todo next s (step.interrupts name told c rest i) = same_lines p.agenda p.agenda refl refl refl

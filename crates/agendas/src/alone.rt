@@ -54,7 +54,7 @@ pub(crate) fn bad(at: Reading) -> Chosen
 fn begin<D: Disk>(host: &Host<D>, number: u64, begun: Hold) -> Chosen
     ensures { (w : World) → IsHost host.now w → BeginsWait number w begun result }
 {
-    if is_idle(host) {
+    if is_idle(host.looks()) {
         by_itself(Turn::Show(Show::Note(Note::Waited(number, false))), false)
     } else {
         Chosen {

@@ -17,7 +17,7 @@ use disk_model::Disk;
 use driver::{Agenda, Came, Turn};
 use live::{Hold, Manner};
 use offline_programs::RunFault;
-use session_engine::Host;
+use session_engine::{BufferedHost, Host, Joined, Joins};
 use std::alloc::Global;
 use std::io::Read;
 use std::mem;
@@ -215,13 +215,27 @@ impl<R: Read> ByLines<R> {
     }
 }
 
+impl<R: Read> Joins for ByLines<R> {
+    ghost use Rattle.agendas.specs.LinesAt.{lines_stand};
+    ghost use Rattle.agendas.specs.LinesRules.{LinesJoin};
+
+    ghost joins = { λ a w first more b. LinesJoin (lines_stand R.remaining a) w first more (lines_stand R.remaining b) };
+
+    fn join<D: Disk>(&mut self, alloc: Global, _host: &BufferedHost<D>) -> Joined {
+        Joined {
+            first: None,
+            events: Vec::new(alloc),
+        }
+    }
+}
+
 impl<R: Read> Agenda for ByLines<R> {
-    ghost use Rattle.driver.specs.Place.{agenda_rules};
+    ghost use Rattle.driver.specs.Place.{turn_rules};
     ghost use Rattle.agendas.specs.LinesAt.{lines_stand};
     ghost use Rattle.agendas.specs.Says.{LinesSay, LinesWoken};
     ghost use Rattle.agendas.specs.Heeds.{LinesHeed};
 
-    ghost rules = { agenda_rules
+    ghost rules = { turn_rules
         (λ a w now answer b. LinesSay (lines_stand R.remaining a) w now answer (lines_stand R.remaining b))
         (λ a woken b. LinesWoken (lines_stand R.remaining a) woken (lines_stand R.remaining b))
         (λ a w now came note b. LinesHeed (lines_stand R.remaining a) w now came note (lines_stand R.remaining b)) };

@@ -1,5 +1,5 @@
 //! What is made of what came.
-ghost use Rattle.std.specs.Prelude.{◌≡◌, ◌&&◌, ◌||◌, true, false};
+ghost use Rattle.std.specs.Prelude.{◌≡◌, ◌++◌, ◌&&◌, ◌||◌, true, false};
 ghost use Rattle.std.specs.List.{list_any};
 ghost use Rattle.session_engine.specs.World.{World};
 ghost use Rattle.session_engine.specs.Host.{IsHost};
@@ -14,7 +14,7 @@ use crate::by_lines::ByLines;
 use crate::doing::Doing;
 use crate::waits::{begun_again, is_held, stop_if, warned};
 use child_calls::Seat;
-use child_edge::{GaveTogether, Interrupted, is_idle};
+use child_edge::{GaveJoined, GaveTogether, Interrupted, is_idle};
 use disk_model::Disk;
 use driver::Came;
 use host_events::{Outcome, Reply};
@@ -71,12 +71,31 @@ fn group_wrong(gave: &GaveTogether) -> bool
     any_outcome_wrong(gave.outcomes.as_slice()) || any_wrong(gave.replies.as_slice())
 }
 
+/// Whether something closed by events, by those that joined them, or by what followed.
+fn joined_closed(gave: &GaveJoined) -> bool
+    ensures { result ≡ heeds.closed_one (came (gave.now.outcomes.items ++ gave.now.later.items) gave.now.replies.items) }
+{
+    any_outcome_closed(gave.outcomes.as_slice())
+        || any_outcome_closed(gave.later.as_slice())
+        || any_closed(gave.replies.as_slice())
+}
+
+/// Whether something was refused by events, by those that joined them or by what followed, or items were lost.
+fn joined_wrong(gave: &GaveJoined) -> bool
+    ensures { result ≡ heeds.went_wrong (came (gave.now.outcomes.items ++ gave.now.later.items) gave.now.replies.items) }
+{
+    any_outcome_wrong(gave.outcomes.as_slice())
+        || any_outcome_wrong(gave.later.as_slice())
+        || any_wrong(gave.replies.as_slice())
+}
+
 /// Whether something closed.
 fn closed_one(came: &Came) -> bool
     ensures { result ≡ heeds.closed_one (came_of came.now) }
 {
     match came {
         Came::Gave(gave) => group_closed(gave),
+        Came::Joined(gave) => joined_closed(gave),
         Came::Rewrote(outcome) => has_closed(&outcome.reply),
         Came::Interrupted(_) | Came::Shown => false,
     }
@@ -88,6 +107,7 @@ fn went_wrong(came: &Came) -> bool
 {
     match came {
         Came::Gave(gave) => group_wrong(gave),
+        Came::Joined(gave) => joined_wrong(gave),
         Came::Rewrote(outcome) => is_wrong(&outcome.reply),
         Came::Interrupted(_) | Came::Shown => false,
     }
@@ -99,7 +119,7 @@ pub fn interrupt_of(came: &Came) -> Option<Interrupted>
 {
     match came {
         Came::Interrupted(told) => Some(*told),
-        Came::Gave(_) | Came::Rewrote(_) | Came::Shown => None,
+        Came::Gave(_) | Came::Joined(_) | Came::Rewrote(_) | Came::Shown => None,
     }
 }
 
@@ -144,7 +164,7 @@ fn behind_life<D: Disk>(
 ) -> Hold
     ensures { (w : World) → IsHost host.now w → LifeGoesOn limit w now closed held result }
 {
-    if is_idle(host) {
+    if is_idle(host.looks()) {
         Hold::Free
     } else {
         begun_again(limit, now, closed, held)

@@ -6,8 +6,8 @@ ghost use Rattle.child_edge.specs.Seats.{seat_of, waits};
 
 use child_calls::Seat;
 use disk_model::Disk;
-use session_engine::Host;
 use session_engine::host::LifeView;
+use session_engine::{BufferedHost, Host};
 use std::alloc::{AllocError, Global};
 use worksheet::Name;
 
@@ -50,7 +50,7 @@ fn is_waited_for(view: Option<LifeView>) -> bool
 }
 
 /// Whether no item waits for an answer. No memory is wanted.
-pub fn is_idle<D: Disk>(host: &Host<D>) -> bool
+pub fn is_idle<D: Disk>(host: &BufferedHost<D>) -> bool
     ensures { (w : World) → IsHost host.now w → IsTrue result ↔ (waits w ≡ []) }
 {
     for session in host.sheet().sessions() {

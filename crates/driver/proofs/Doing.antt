@@ -31,7 +31,7 @@ use Rattle.offline_programs.specs.declared.fault.RunFault.{RunFault}
 use Rattle.offline_programs.specs.declared.fault.RunFault.TheVariants as fault
 use Rattle.driver.specs.declared.turn.Turn.{Turn}
 use Rattle.driver.specs.Reports.{TurnCame, Report, interrupt_came, printed_text}
-use Rattle.driver.specs.Items.{Item, after_fault, ask, chose, halt, hear, heard, heed, heeded, interrupt, interrupted, items_by, notes, print, print_fault, printed, printed_fault, printing, rewrite, rewrote, stall, stalled, stalls, take, took, watch, watched}
+use Rattle.driver.specs.Items.{Item, after_fault, ask, chose, halt, hear, heard, heed, heeded, interrupt, interrupted, items_by, join, notes, print, print_fault, printed, printed_fault, printing, rewrite, rewrote, stall, stalled, stalls, take, took, watch, watched}
 use Rattle.driver.specs.Hearing.{HeardReady}
 use Rattle.driver.specs.Place.{RunPlace, Rules, Tries}
 use Rattle.driver.specs.Steps.{Fails, Goes, Run, asks, broken, fault_at_gate, hears, heeds, interrupts, lost, most_together, prints, prints_fault, rewrites, stalls_all, takes, too_many, uncounted, unheard, unnumbered, unprinted, unsaid, unstalled, untaken, unwatched, unwritten, watches}
@@ -110,9 +110,9 @@ module _ {A C K : Type 0} (R : Rules A C K) (n : ℕ) (rest : List Item) (w : Wo
 
 module _ {A C K : Type 0} (R : Rules A C K) (n : ℕ) (rest : List Item) (w : World) (h : HostView) (stands : IsHost h w) (c : C) (k : K) (a : A) where
   pub did_hear : {T : Type 0} (seat : Seat) (most : ℕ) (events : List Event) (d : C) (left : Result T RunFault → List Item) (r : Result T RunFault) (last : ℕ × Parts A C K) → HeardReady R.sources seat most c events d
-      → DidSteps R (seen n w (parts h d k a)) (take None events ∷ rest) left r last → DidSteps R (seen n w (parts h c k a)) (hear seat most ∷ rest) left r last
+      → DidSteps R (seen n w (parts h d k a)) (join events ∷ rest) left r last → DidSteps R (seen n w (parts h c k a)) (hear seat most ∷ rest) left r last
   did_hear seat most events d left r last was did =
-      did_more R (seen n w (parts h c k a)) (hear seat most ∷ rest) (heard events) (take None events ∷ rest) (seen n w (parts h d k a)) left r last (hears seat most events d rest was) did
+      did_more R (seen n w (parts h c k a)) (hear seat most ∷ rest) (heard events) (join events ∷ rest) (seen n w (parts h d k a)) left r last (hears seat most events d rest was) did
 
   pub hear_failed : {T : Type 0} (seat : Seat) (most : ℕ) (d : C) (left : T → List Item) → d ≡ c → DidSteps R (seen n w (parts h c k a)) (hear seat most ∷ rest) (left_by_answer left) (Err fault.OutOfMemory) (n, parts h d k a)
   hear_failed seat most d left same =

@@ -19,7 +19,7 @@ use Rattle.host_events.specs.declared.outcome.HostFault.TheVariants as faults
 use Rattle.offline_programs.specs.declared.fault.RunFault.{RunFault}
 use Rattle.driver.specs.Items.{Item, RunStep, after_fault, beats_of, print_fault, halt}
 use Rattle.driver.specs.Place.{RunPlace, Rules, run_at}
-use Rattle.driver.specs.Steps.{Fails, Goes, Run, asks, breaks, broken, prints_fault, hears, heeds, interrupts, lost, rewrites, stalls_all, takes, prints, too_many, uncounted, unheard, unnumbered, unsaid, unstalled, untaken, unprinted, unwatched, unwritten, watches}
+use Rattle.driver.specs.Steps.{Fails, Goes, Run, asks, breaks, broken, broken_joined, prints_fault, hears, heeds, interrupts, joins, lost, lost_joined, rewrites, stalls_all, takes, prints, too_many, too_many_heard, uncounted, uncounted_line, unheard, unjoined, unnumbered, unsaid, unstalled, untaken, unprinted, unwatched, unwritten, watches}
 use Rattle.driver.specs.Laws.{LeavesFrontsOf, all_printed, broke_at, lost_at, trace}
 use Rattle.driver.proofs.Courses.{Course, course_up_to, either_moments, events_append, moments_on, outcomes_append, runs_on}
 use Rattle.driver.proofs.Gates.{together_course, up_to_course}
@@ -36,9 +36,14 @@ fails_lead R p q i beats why (too_many from events many) = refl
 fails_lead R p q i beats why (untaken from events) = refl
 fails_lead R p q i beats why (lost from events h l) = refl
 fails_lead R p q i beats why (broken from events bs e f w c d h t stopped) = (up_to_course R.sources.after (run_at p) events beats e (at w c d) t).runs
+fails_lead R p q i beats why (too_many_heard events many) = refl
+fails_lead R p q i beats why (unjoined events) = refl
+fails_lead R p q i beats why (lost_joined events all a h all_are l) = refl
+fails_lead R p q i beats why (broken_joined events all a bs e f w c d h all_are t stopped) = (up_to_course R.sources.after (run_at p) all beats e (at w c d) t).runs
 fails_lead R p q i beats why (unwritten line f h stopped) = refl
 fails_lead R p q i beats why (unnumbered line many) = refl
 fails_lead R p q i beats why unstalled = refl
+fails_lead R p q i beats why (uncounted_line first outcomes many) = refl
 fails_lead R p q i beats why (unprinted s w k is tries) = refl
 
 step_leads : {A C K : Type 0} (R : Rules A C K) (p mid : RunPlace A C K) (todo next : List Item) (s : RunStep) → Goes R p todo s next mid → Runs p.world (events_of (beats_of s)) (outcomes_of (beats_of s)) mid.world
@@ -46,6 +51,8 @@ step_leads R p mid todo next s (asks now t a c says) = refl
 step_leads R p mid todo next s (watches q w c a rest wakes woken) = refl
 step_leads R p mid todo next s (hears seat most events c rest h) = refl
 step_leads R p mid todo next s (takes from events outcomes followed w c d rest t) = (together_course R.sources.after (run_at p) events outcomes followed (at w c d) t).runs
+step_leads R p mid todo next s (joins events outcomes first more later followed a w c d rest j t) =
+    (together_course R.sources.after (run_at p) (events ++ more) (outcomes ++ later) followed (at w c d) t).runs
 step_leads R p mid todo next s (rewrites line o w d rest g k) = (w, g, refl)
 step_leads R p mid todo next s (stalls_all rest) = refl
 step_leads R p mid todo next s (interrupts name told c rest i) = refl
@@ -113,10 +120,16 @@ fails_leave R p q i beats why held (untaken from events) = nothing_done p q held
 fails_leave R p q i beats why held (lost from events h l) = lost_at events p.disk h l refl (either_moments p.world l.taken l.untold l.leads p.disk h.store.disk l.runs l.moments)
 fails_leave R p q i beats why held (broken from events bs e f w c d h t stopped) =
     broke_at d h e f stopped refl (course_up_to p.world p.disk beats w d e f h held (up_to_course R.sources.after (run_at p) events beats e (at w c d) t) stopped)
+fails_leave R p q i beats why held (too_many_heard events many) = nothing_done p q held refl
+fails_leave R p q i beats why held (unjoined events) = nothing_done p q held refl
+fails_leave R p q i beats why held (lost_joined events all a h all_are l) = lost_at all p.disk h l refl (either_moments p.world l.taken l.untold l.leads p.disk h.store.disk l.runs l.moments)
+fails_leave R p q i beats why held (broken_joined events all a bs e f w c d h all_are t stopped) =
+    broke_at d h e f stopped refl (course_up_to p.world p.disk beats w d e f h held (up_to_course R.sources.after (run_at p) all beats e (at w c d) t) stopped)
 fails_leave R p q i beats why held (unwritten line f h stopped) =
     broke_at p.disk h (event.Command command.Checkpoint) f stopped refl (course_up_to p.world p.disk [] p.world p.disk (event.Command command.Checkpoint) f h held (no_step p.world p.disk) stopped)
 fails_leave R p q i beats why held (unnumbered line many) = nothing_done p q held refl
 fails_leave R p q i beats why held unstalled = nothing_done p q held refl
+fails_leave R p q i beats why held (uncounted_line first outcomes many) = nothing_done p q held refl
 fails_leave R p q i beats why held (unprinted s w k is tries) = nothing_done p q held refl
 
 -- After a fault no event is taken, and the disk stays.

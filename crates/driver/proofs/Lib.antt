@@ -8,3 +8,4 @@ pub mod Heard
 pub mod Overs
 pub mod Seen
 pub mod TrueFaults
+pub mod Joined

@@ -3,7 +3,10 @@ use Rattle.std.proofs.Common.{◌≡◌, ℕ, List, [], ◌∷◌, ap, Err, Ok}
 use Rattle.std.specs.Prelude.{Bool, Option, Result, true}
 use Rattle.disk_model.specs.Disk.{DiskView}
 use Rattle.arrivals.specs.declared.sources.Woken.{Woken}
+use Rattle.host_events.specs.declared.event.Event.{Event}
+use Rattle.host_events.specs.declared.outcome.Outcome.{Outcome}
 use Rattle.session_engine.specs.World.{World}
+use Rattle.session_engine.specs.Joining.{JoinsAfter, ToBeTaken, alone, asking, with_more}
 use Rattle.child_edge.specs.Faithful.{Beat}
 use Rattle.tellings.specs.declared.note.Note.{Note}
 use Rattle.offline_programs.specs.declared.fault.RunFault.{RunFault}
@@ -19,6 +22,7 @@ module _ {A B C K L : Type 0} (R : Rules A C K) (S : AgendaRules B) (written : L
     (says : (a : A) (w : World) (n : ℕ) (r : Result Turn RunFault) (b : A) → R.agenda.says a w n r b → S.says (f a) w n r (f b))
     (woken : (a : A) (w : Woken) (b : A) → R.agenda.woken a w b → S.woken (f a) w (f b))
     (heeds : (a : A) (w : World) (n : ℕ) (c : TurnCame) (note : Option Note) (b : A) → R.agenda.heeds a w n c note b → S.heeds (f a) w n c note (f b))
+    (joins : (a : A) (w : World) (first : Option ℕ) (more : List Event) (b : A) → R.agenda.joins a w first more b → S.joins (f a) w first more (f b))
     (tries : (k : K) (d : DiskView) (text : List ℕ) (whole : Bool) (l : K) → Tries R.sink k d text whole l → Tries (sink_rules R.sink.voice written tried) (g k) d text whole (g l)) where
   abbrev pub seen_rules : Rules B C L
   seen_rules = rules S R.sources (sink_rules R.sink.voice written tried)
@@ -29,6 +33,14 @@ module _ {A B C K L : Type 0} (R : Rules A C K) (S : AgendaRules B) (written : L
   abbrev pub seen_parts : ProgramParts A C K → ProgramParts B C L
   seen_parts x = record { disk = x.disk; sources = x.sources; sink = g x.sink; agenda = f x.agenda }
 
+  asks_seen : (a b : A) (w : World) (events : List Event) (told : List Outcome) (first : Option ℕ) (more : List Event) → JoinsAfter (asking R.agenda.joins a b) w events told first more
+      → JoinsAfter (asking S.joins (f a) (f b)) w events told first more
+  asks_seen a b w events told first more j = record { world = j.world; runs = j.runs; answered = joins a j.world first more b j.answered }
+
+  all_seen : (a b : A) (w : World) (events all : List Event) → ToBeTaken (asking R.agenda.joins a b) w events all → ToBeTaken (asking S.joins (f a) (f b)) w events all
+  all_seen a b w events all (alone same) = alone (ap f same)
+  all_seen a b w events all (with_more told first more j) = with_more told first more (asks_seen a b w events told first more j)
+
   fails_seen : (p q : RunPlace A C K) (i : Item) (beats : List Beat) (why : RunFault) → Fails R p i beats why q → Fails seen_rules (seen_place p) i beats why (seen_place q)
   fails_seen p q i beats why (step.unsaid now w a clock said) = step.unsaid now w (f a) clock (says p.agenda p.world now (Err w) a said)
   fails_seen p q i beats why (step.uncounted many) = step.uncounted many
@@ -38,9 +50,15 @@ module _ {A B C K L : Type 0} (R : Rules A C K) (S : AgendaRules B) (written : L
   fails_seen p q i beats why (step.untaken from events) = step.untaken from events
   fails_seen p q i beats why (step.lost from events h l) = step.lost from events h l
   fails_seen p q i beats why (step.broken from events bs e x w c d h t stopped) = step.broken from events bs e x w c d h t stopped
+  fails_seen p q i beats why (step.too_many_heard events many) = step.too_many_heard events many
+  fails_seen p q i beats why (step.unjoined events) = step.unjoined events
+  fails_seen p q i beats why (step.lost_joined events all a h all_are l) = step.lost_joined events all (f a) h (all_seen p.agenda a p.world events all all_are) l
+  fails_seen p q i beats why (step.broken_joined events all a bs e x w c d h all_are t stopped) =
+      step.broken_joined events all (f a) bs e x w c d h (all_seen p.agenda a p.world events all all_are) t stopped
   fails_seen p q i beats why (step.unwritten line x h stopped) = step.unwritten line x h stopped
   fails_seen p q i beats why (step.unnumbered line many) = step.unnumbered line many
   fails_seen p q i beats why step.unstalled = step.unstalled
+  fails_seen p q i beats why (step.uncounted_line first outcomes many) = step.uncounted_line first outcomes many
   fails_seen p q i beats why (step.unprinted s w k is t) = step.unprinted s w (g k) is (tries p.sink p.disk (printed_text R.sink.voice p.world s) _ k t)
 
   step_seen : (p q : RunPlace A C K) (todo next : List Item) (s : RunStep) → Goes R p todo s next q → Goes seen_rules (seen_place p) todo s next (seen_place q)
@@ -48,6 +66,8 @@ module _ {A B C K L : Type 0} (R : Rules A C K) (S : AgendaRules B) (written : L
   step_seen p q todo next s (step.watches x w c a rest wakes told) = step.watches x w c (f a) rest wakes (woken p.agenda w a told)
   step_seen p q todo next s (step.hears seat most events c rest h) = step.hears seat most events c rest h
   step_seen p q todo next s (step.takes from events outcomes followed w c d rest t) = step.takes from events outcomes followed w c d rest t
+  step_seen p q todo next s (step.joins events outcomes first more later followed a w c d rest j t) =
+      step.joins events outcomes first more later followed (f a) w c d rest (asks_seen p.agenda a p.world events outcomes first more j) t
   step_seen p q todo next s (step.rewrites line o w d rest gives kept) = step.rewrites line o w d rest gives kept
   step_seen p q todo next s (step.stalls_all rest) = step.stalls_all rest
   step_seen p q todo next s (step.interrupts name told c rest i) = step.interrupts name told c rest i

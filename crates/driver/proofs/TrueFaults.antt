@@ -14,6 +14,8 @@ use Rattle.host_events.specs.declared.outcome.HostFault.TheVariants as hosts
 use Rattle.host_events.specs.declared.outcome.Outcome.{Outcome}
 use Rattle.host_events.specs.declared.reply.Reply.{Reply}
 use Rattle.child_edge.specs.Faithful.{Beat, at}
+use Rattle.child_edge.specs.Together.{beats_behind}
+use Rattle.child_edge.specs.Told.{told}
 use Rattle.child_edge.proofs.Faulting.{same-at}
 use Rattle.tellings.specs.declared.note.Note.{Note}
 use Rattle.tellings.specs.Voice.{Voice, IsUntold}
@@ -21,7 +23,7 @@ use Rattle.offline_programs.specs.declared.fault.RunFault.{RunFault}
 use Rattle.offline_programs.specs.declared.fault.RunFault.TheVariants as fault
 use Rattle.driver.specs.declared.turn.Turn.{Turn}
 use Rattle.driver.specs.declared.turn.Turn.TheVariants as turn
-use Rattle.driver.specs.Items.{Item, RunStep, after_fault, ask, beats_of, items_by, notes, printing, print_fault, halt}
+use Rattle.driver.specs.Items.{Item, RunStep, after_fault, ask, beats_of, items_by, notes, printing, printing_joined, print_fault, halt}
 use Rattle.driver.specs.Items as item
 use Rattle.driver.specs.Place.{RunPlace, Rules, run_at}
 use Rattle.driver.specs.Steps.{Fails, Goes, Run}
@@ -73,6 +75,7 @@ IsDoing item.ask = Unit {0}
 IsDoing (item.watch q) = Unit {0}
 IsDoing (item.hear seat most) = Unit {0}
 IsDoing (item.take from events) = Unit {0}
+IsDoing (item.join events) = Unit {0}
 IsDoing (item.rewrite line) = Unit {0}
 IsDoing item.stall = Unit {0}
 IsDoing (item.interrupt name) = Unit {0}
@@ -107,6 +110,10 @@ notes_doing (Some n) = (tt, tt)
 printing_doing : (from : Option ℕ) (outcomes : List Outcome) (replies : List Reply) → AreDoing (printing from outcomes replies)
 printing_doing from outcomes replies = (tt, (tt, (tt, tt)))
 
+joined_doing : (first : Option ℕ) (outcomes later : List Outcome) (replies : List Reply) (rest : List Item) → AreDoing rest → AreDoing (printing_joined first outcomes later replies rest)
+joined_doing None outcomes later replies rest all = (tt, (tt, (tt, all)))
+joined_doing (Some first) outcomes later replies rest all = (tt, (tt, (tt, (tt, all))))
+
 -- A fault that is left is true.
 
 abbrev pub IsTrueLeft : List Item → DiskView → DiskView → Type 0
@@ -119,6 +126,7 @@ left_doing (item.ask ∷ rest) a b all = tt
 left_doing (item.watch q ∷ rest) a b all = tt
 left_doing (item.hear seat most ∷ rest) a b all = tt
 left_doing (item.take from events ∷ rest) a b all = tt
+left_doing (item.join events ∷ rest) a b all = tt
 left_doing (item.rewrite line ∷ rest) a b all = tt
 left_doing (item.stall ∷ rest) a b all = tt
 left_doing (item.interrupt name ∷ rest) a b all = tt
@@ -133,6 +141,7 @@ left_since (item.ask ∷ rest) a b c same t = tt
 left_since (item.watch q ∷ rest) a b c same t = tt
 left_since (item.hear seat most ∷ rest) a b c same t = tt
 left_since (item.take from events ∷ rest) a b c same t = tt
+left_since (item.join events ∷ rest) a b c same t = tt
 left_since (item.rewrite line ∷ rest) a b c same t = tt
 left_since (item.stall ∷ rest) a b c same t = tt
 left_since (item.interrupt name ∷ rest) a b c same t = tt
@@ -152,9 +161,15 @@ module _ {A C K : Type 0} (R : Rules A C K) (own : (a : A) (w : World) (n : ℕ)
   fails_true p q i beats why (step.lost from events h l) = l.failed
   fails_true p q i beats why (step.broken from events bs e f w c d h t stopped) =
       host_since f p.disk d h.store.disk (up_to_course R.sources.after (run_at p) events beats e (at w c d) t).same (cause_true f w e d h.store.disk stopped.cause)
+  fails_true p q i beats why (step.too_many_heard events many) = tt
+  fails_true p q i beats why (step.unjoined events) = tt
+  fails_true p q i beats why (step.lost_joined events all a h all_are l) = l.failed
+  fails_true p q i beats why (step.broken_joined events all a bs e f w c d h all_are t stopped) =
+      host_since f p.disk d h.store.disk (up_to_course R.sources.after (run_at p) all beats e (at w c d) t).same (cause_true f w e d h.store.disk stopped.cause)
   fails_true p q i beats why (step.unwritten line f h stopped) = cause_true f p.world _ p.disk h.store.disk stopped.cause
   fails_true p q i beats why (step.unnumbered line many) = tt
   fails_true p q i beats why step.unstalled = tt
+  fails_true p q i beats why (step.uncounted_line first outcomes many) = tt
   fails_true p q i beats why (step.unprinted s w k is tries) = untold_true R.sink.voice why p.disk p.disk is
 
   step_doing : (p mid : RunPlace A C K) (todo next : List Item) (s : RunStep) → Goes R p todo s next mid → AreDoing todo → AreDoing next ⊎ Broke R p s next mid
@@ -162,6 +177,8 @@ module _ {A C K : Type 0} (R : Rules A C K) (own : (a : A) (w : World) (n : ℕ)
   step_doing p mid todo next s (step.watches x w c a rest wakes told) all = inl all.1
   step_doing p mid todo next s (step.hears seat most events c rest h) all = inl (tt, all.1)
   step_doing p mid todo next s (step.takes from events outcomes followed w c d rest t) all = inl (tt, (tt, (tt, all.1)))
+  step_doing p mid todo next s (step.joins events outcomes first more later followed a w c d rest j t) all =
+      inl (joined_doing first outcomes later (told (beats_behind followed)) rest all.1)
   step_doing p mid todo next s (step.rewrites line o w d rest gives kept) all = inl (tt, (tt, (tt, all.1)))
   step_doing p mid todo next s (step.stalls_all rest) all = inl (tt, all.1)
   step_doing p mid todo next s (step.interrupts name told c rest i) all = inl (tt, all.1)

@@ -1,5 +1,5 @@
 -- What is to be done, and what was done.
-use Rattle.std.specs.Prelude.{ℕ, Bool, List, [], ◌∷◌, Option, Some, None}
+use Rattle.std.specs.Prelude.{ℕ, Bool, List, [], ◌∷◌, ◌++◌, Option, Some, None}
 use Rattle.host_events.specs.declared.event.Event.{Event}
 use Rattle.host_events.specs.declared.event.Event.TheVariants.{Child}
 use Rattle.host_events.specs.declared.event.ChildEvent.TheVariants as child
@@ -30,6 +30,8 @@ pub data Item : Type 0 where
   hear : Seat → ℕ → Item
   -- these events are taken as one group: those of lives, or of the lines from this one on
   take : Option ℕ → List Event → Item
+  -- these events of lives are taken as one group, with those that the agenda says join them
+  join : List Event → Item
   -- the journal is rewritten, for which this line asks
   rewrite : ℕ → Item
   -- each life in which an item waits has stalled
@@ -80,6 +82,16 @@ group_of (Some first) outcomes = report.lines first outcomes
 
 abbrev pub printing : Option ℕ → List Outcome → List Reply → List Item
 printing from outcomes replies = print (group_of from outcomes) ∷ print (report.followed replies) ∷ heed (came outcomes replies) ∷ []
+
+-- What lives gave is printed, then what those gave that joined, by the numbers of their lines from this one on, and then what followed all of it; the
+-- agenda heeds it all at once. Then there is the rest.
+abbrev pub joined_lines : Option ℕ → List Outcome → List Item → List Item
+joined_lines None later rest = rest
+joined_lines (Some first) later rest = print (report.lines first later) ∷ rest
+
+abbrev pub printing_joined : Option ℕ → List Outcome → List Outcome → List Reply → List Item → List Item
+printing_joined first outcomes later replies rest =
+    print (report.lives outcomes) ∷ joined_lines first later (print (report.followed replies) ∷ heed (came (outcomes ++ later) replies) ∷ rest)
 
 -- what is noted is printed
 abbrev pub notes : Option Note → List Item

@@ -3,6 +3,7 @@ use Rattle.std.specs.Prelude.{◌≡◌, ℕ, Bool, true, List, Option, Result}
 use Rattle.std.specs.Io.KnownBytes.{Appends}
 use Rattle.disk_model.specs.Disk.{DiskView}
 use Rattle.session_engine.specs.World.{World}
+use Rattle.session_engine.specs.Joining.{JoinRule}
 use Rattle.child_edge.specs.Faithful.{At, Relation, at}
 use Rattle.arrivals.specs.Watching.{Asked}
 use Rattle.arrivals.specs.declared.sources.Woken.{Woken}
@@ -37,20 +38,30 @@ pub record SinkRules (K : Type 0) : Type 1 where
   pub written : K → Option (List ℕ)
   pub tried : K → DiskView → List ℕ → Bool → K → Type 0
 
--- What an agenda may do: what it says is next, that it is given whose turn it is, and what it makes of what came.
+-- What an agenda may do from turn to turn: what it says is next, that it is given whose turn it is, and what it makes of what came.
+pub record TurnRules (A : Type 0) : Type 1 where
+  pub says : A → World → ℕ → Result Turn RunFault → A → Type 0
+  pub woken : A → Woken → A → Type 0
+  pub heeds : A → World → ℕ → TurnCame → Option Note → A → Type 0
+
+-- What it may do: that, and what it says joins events of lives that were taken and aren't durable yet.
 pub record AgendaRules (A : Type 0) : Type 1 where
   pub says : A → World → ℕ → Result Turn RunFault → A → Type 0
   pub woken : A → Woken → A → Type 0
   pub heeds : A → World → ℕ → TurnCame → Option Note → A → Type 0
+  pub joins : JoinRule A
 
 pub record Rules (A C K : Type 0) : Type 1 where
   pub agenda : AgendaRules A
   pub sources : SourceRules C
   pub sink : SinkRules K
 
-abbrev pub agenda_rules : {A : Type 0} → (A → World → ℕ → Result Turn RunFault → A → Type 0) → (A → Woken → A → Type 0)
-    → (A → World → ℕ → TurnCame → Option Note → A → Type 0) → AgendaRules A
-agenda_rules says woken heeds = record { says = says; woken = woken; heeds = heeds }
+abbrev pub turn_rules : {A : Type 0} → (A → World → ℕ → Result Turn RunFault → A → Type 0) → (A → Woken → A → Type 0)
+    → (A → World → ℕ → TurnCame → Option Note → A → Type 0) → TurnRules A
+turn_rules says woken heeds = record { says = says; woken = woken; heeds = heeds }
+
+abbrev pub agenda_rules : {A : Type 0} → TurnRules A → JoinRule A → AgendaRules A
+agenda_rules turns joins = record { says = turns.says; woken = turns.woken; heeds = turns.heeds; joins = joins }
 
 abbrev pub source_rules : {C : Type 0} → Relation C → (C → Asked → Option Woken → C → Type 0) → (C → ℕ → Type 0) → SourceRules C
 source_rules after wakes clock = record { after = after; wakes = wakes; clock = clock }

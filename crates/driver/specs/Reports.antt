@@ -1,5 +1,5 @@
 -- What is printed at once, and its text.
-use Rattle.std.specs.Prelude.{ℕ, List, [], ◌∷◌, Option, Some, None}
+use Rattle.std.specs.Prelude.{ℕ, List, [], ◌∷◌, ◌++◌, Option, Some, None}
 use Rattle.std.specs.List.{flat_map}
 use Rattle.host_events.specs.declared.outcome.Outcome.{Outcome}
 use Rattle.host_events.specs.declared.reply.Reply.{Reply}
@@ -53,6 +53,7 @@ interrupt_came result = record { outcomes = []; replies = []; interrupted = Some
 -- as the code has it
 abbrev pub came_of : GivenCame → TurnCame
 came_of (given.Gave gave) = came gave.outcomes.items gave.replies.items
+came_of (given.Joined gave) = came (gave.outcomes.items ++ gave.later.items) gave.replies.items
 came_of (given.Rewrote o) = came (o ∷ []) []
 came_of (given.Interrupted result) = interrupt_came result
 came_of given.Shown = came [] []

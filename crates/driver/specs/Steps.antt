@@ -10,6 +10,7 @@ use Rattle.host_events.specs.declared.outcome.HostFault.TheVariants as hosts
 use Rattle.session_engine.specs.World.{World}
 use Rattle.session_engine.specs.Does.{Gives}
 use Rattle.session_engine.specs.Host.{HostView}
+use Rattle.session_engine.specs.Joining.{JoinsAfter, ToBeTaken, asking}
 use Rattle.child_calls.specs.declared.seat.Seat.{Seat}
 use Rattle.child_edge.specs.Edge.{Stopped}
 use Rattle.child_edge.specs.Faithful.{Beat, at}
@@ -28,9 +29,9 @@ use Rattle.tellings.specs.declared.note.Note.{Note}
 use Rattle.offline_programs.specs.declared.fault.RunFault.{RunFault}
 use Rattle.offline_programs.specs.declared.fault.RunFault.TheVariants as fault
 use Rattle.driver.specs.declared.turn.Turn.{Turn}
-use Rattle.driver.specs.Reports.{TurnCame, Report, interrupt_came, printed_text}
+use Rattle.driver.specs.Reports.{TurnCame, Report, interrupt_came, lines, printed_text}
 use Rattle.driver.specs.Place.{RunPlace, Rules, Tries, run_at}
-use Rattle.driver.specs.Items.{Item, RunStep, after_fault, ask, broke, chose, print_fault, printed_fault, halt, hear, heard, heed, heeded, interrupt, interrupted, items_by, notes, rewrite, rewrote, stall, stalled, stalls, take, print, printing, printed, took, watch, watched}
+use Rattle.driver.specs.Items.{Item, RunStep, after_fault, ask, broke, chose, print_fault, printed_fault, halt, hear, heard, heed, heeded, interrupt, interrupted, items_by, join, notes, rewrite, rewrote, stall, stalled, stalls, take, print, printing, printing_joined, printed, took, watch, watched}
 use Rattle.driver.specs.Hearing.{HeardReady}
 
 -- the most events that are taken as one group
@@ -66,12 +67,22 @@ pub data Fails {A C K : Type 0} (R : Rules A C K) (p : RunPlace A C K) : Item �
   broken : (from : Option ℕ) (events : List Event) (beats : List Beat) (e : Event) (f : HostFault) (w : World) (c : C) (d : DiskView) (h : HostView)
       → TogetherUpTo R.sources.after (run_at p) events beats e (at w c d) → Stopped d h w e f
       → Fails R p (take from events) beats (fault.Host f) (record p { world = w; sources = c; disk = h.store.disk })
+  -- The same of events of lives and those that join them. There are too many, or there was no memory: none was taken, and the agenda wasn't asked.
+  too_many_heard : (events : List Event) → most_together < length events → Fails R p (join events) [] fault.InputTooLong p
+  unjoined : (events : List Event) → Fails R p (join events) [] fault.OutOfMemory p
+  lost_joined : (events all : List Event) (a : A) (h : HostView) → ToBeTaken (asking R.agenda.joins p.agenda a) p.world events all → LostTogether p.world all p.disk h
+      → Fails R p (join events) [] (fault.Host hosts.Disk) (record p { agenda = a; disk = h.store.disk })
+  broken_joined : (events all : List Event) (a : A) (beats : List Beat) (e : Event) (f : HostFault) (w : World) (c : C) (d : DiskView) (h : HostView)
+      → ToBeTaken (asking R.agenda.joins p.agenda a) p.world events all → TogetherUpTo R.sources.after (run_at p) all beats e (at w c d) → Stopped d h w e f
+      → Fails R p (join events) beats (fault.Host f) (record p { agenda = a; world = w; sources = c; disk = h.store.disk })
   -- the host had this fault at the checkpoint
   unwritten : (line : ℕ) (f : HostFault) (h : HostView) → Stopped p.disk h p.world (event.Command command.Checkpoint) f
       → Fails R p (rewrite line) [] (fault.Host f) (record p { disk = h.store.disk })
   unnumbered : (line : ℕ) → 2 ^ 64 ≤ line + most_together + 1 → Fails R p (rewrite line) [] fault.InputTooLong p
   -- there was no memory for the lives that stall
   unstalled : Fails R p stall [] fault.OutOfMemory p
+  -- the number of a line can't be counted: nothing is printed of it
+  uncounted_line : (first : ℕ) (outcomes : List Outcome) → 2 ^ 64 ≤ first + most_together + 1 → Fails R p (print (lines first outcomes)) [] fault.InputTooLong p
   -- the sink failed, or there was no memory for the text
   unprinted : (s : Report) (why : RunFault) (k : K) → IsUntold R.sink.voice why → Tries R.sink p.sink p.disk (printed_text R.sink.voice p.world s) false k
       → Fails R p (print s) [] why (record p { sink = k })
@@ -83,11 +94,17 @@ pub data Goes {A C K : Type 0} (R : Rules A C K) (p : RunPlace A C K) : List Ite
   watches : (q : Asked) (w : Woken) (c : C) (a : A) (rest : List Item) → R.sources.wakes p.sources q (Some w) c → R.agenda.woken p.agenda w a
       → Goes R p (watch q ∷ rest) (watched q w) rest (record p { agenda = a; sources = c })
   hears : (seat : Seat) (most : ℕ) (events : List Event) (c : C) (rest : List Item) → HeardReady R.sources seat most p.sources events c
-      → Goes R p (hear seat most ∷ rest) (heard events) (take None events ∷ rest) (record p { sources = c })
+      → Goes R p (hear seat most ∷ rest) (heard events) (join events ∷ rest) (record p { sources = c })
   -- All that the events give is durable before an effect of theirs is carried out, and before a word of it is printed.
   takes : (from : Option ℕ) (events : List Event) (outcomes : List Outcome) (followed : List Followed) (w : World) (c : C) (d : DiskView) (rest : List Item)
       → Together R.sources.after (run_at p) events outcomes followed (at w c d)
       → Goes R p (take from events ∷ rest) (took events outcomes followed) (printing from outcomes (told (beats_behind followed)) ++ rest) (record p { world = w; sources = c; disk = d })
+  -- The events of lives were taken, and then the agenda said what joins them. All that these and those give is durable before an effect of any of them is
+  -- carried out, and before a word of it is printed.
+  joins : (events : List Event) (outcomes : List Outcome) (first : Option ℕ) (more : List Event) (later : List Outcome) (followed : List Followed) (a : A) (w : World) (c : C) (d : DiskView) (rest : List Item)
+      → JoinsAfter (asking R.agenda.joins p.agenda a) p.world events outcomes first more → Together R.sources.after (run_at p) (events ++ more) (outcomes ++ later) followed (at w c d)
+      → Goes R p (join events ∷ rest) (took (events ++ more) (outcomes ++ later) followed) (printing_joined first outcomes later (told (beats_behind followed)) rest)
+      (record p { agenda = a; world = w; sources = c; disk = d })
   rewrites : (line : ℕ) (o : Outcome) (w : World) (d : DiskView) (rest : List Item) (g : Gives p.world (event.Command command.Checkpoint) o w) → Kept p.world g.0 w p.disk d
       → Goes R p (rewrite line ∷ rest) (rewrote (record { event = event.Command command.Checkpoint; outcome = o; answer = None })) (printing (Some line) (o ∷ []) [] ++ rest) (record p { world = w; disk = d })
   stalls_all : (rest : List Item) → Goes R p (stall ∷ rest) (stalled (waits p.world)) (take None (map stalls (waits p.world)) ∷ rest) p

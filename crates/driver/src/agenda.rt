@@ -5,20 +5,23 @@ use crate::turn::Turn;
 use arrivals::Woken;
 use disk_model::Disk;
 use offline_programs::RunFault;
-use session_engine::Host;
+use session_engine::{Host, Joins};
 use std::alloc::Global;
 use tellings::Note;
 
 /// Who says what is next, and heeds what came of it. It sees the host and what the clock reads, and calls neither a child nor a
 /// watch; it may have an input of its own.
-pub trait Agenda {
+///
+/// Where events of lives were taken and aren't durable yet, it is asked which commands join them ([`Joins`]): what it would say next. It
+/// heeds then what came of all of them at once.
+pub trait Agenda: Joins {
     ghost use Rattle.session_engine.specs.World.{World};
     ghost use Rattle.session_engine.specs.Host.{IsHost};
-    ghost use Rattle.driver.specs.Place.{AgendaRules};
+    ghost use Rattle.driver.specs.Place.{TurnRules};
     ghost use Rattle.driver.specs.Reports.{came_of};
 
     /// What it may say, by the world and what the clock read, and how it changes.
-    ghost rules: { AgendaRules Self };
+    ghost rules: { TurnRules Self };
 
     /// What is done next, where the host stands so and the clock reads this; or why there is no next: its input can't be
     /// read, too much came to be counted, or memory was refused.

@@ -3,7 +3,7 @@ ghost use Rattle.std.specs.Prelude.{◌≡◌, ◌≤◌, ◌+◌, ◌<◌, ◌^
 ghost use Rattle.disk_model.specs.Disk.{SameDisk};
 ghost use Rattle.session_engine.specs.World.{World};
 ghost use Rattle.session_engine.specs.Host.{IsHost};
-ghost use Rattle.driver.specs.Place.{rules, source_rules};
+ghost use Rattle.driver.specs.Place.{agenda_rules, rules, source_rules};
 ghost use Rattle.driver.specs.Items.{Item, ask, group_of, heed as heeding, hear as hearing, interrupt as interrupting, items_by, rewrite as rewriting, stall as stalling, stalls, take as taking, print as to_print, printing, watch as watching};
 ghost use Rattle.driver.specs.Steps.{most_together};
 ghost use Rattle.driver.specs.Reports.{came as came_by, came_of};
@@ -31,7 +31,7 @@ use std::slice;
 use worksheet::Name;
 
 /// The greatest number of a line from which on those of a group can be counted.
-const MOST_COUNTED: u64 = u64::MAX - 1_025;
+pub(crate) const MOST_COUNTED: u64 = u64::MAX - 1_025;
 
 /// A host, the sources of what comes to it, the sink of what comes of that, and the agenda that says what is next.
 pub struct Driver<D: Disk, S, K, A> {
@@ -68,7 +68,7 @@ impl<D: Disk, S: Sources, K: Sink, A: Agenda> Driver<D, S, K, A> {
     fn take(&mut self, from: Option<u64>, events: Vec<Event>) -> Result<GaveTogether, RunFault>
         ensures same { SameDisk self.old.host.store.disk self.new.host.store.disk }
         ensures did { (n : ℕ) (rest : List Item) (w : World) → IsHost self.old.host w
-            → DidSteps (rules A.rules (source_rules S.after S.wakes S.clock) K.rules)
+            → DidSteps (rules (agenda_rules A.rules A.joins) (source_rules S.after S.wakes S.clock) K.rules)
             (seen n w (parts self.old.host self.old.sources self.old.sink self.old.agenda))
             (taking from events.items ∷ rest)
             (left_by_answer (λ gave. printing from gave.outcomes.items gave.replies.items ++ rest)) result
@@ -95,12 +95,16 @@ impl<D: Disk, S: Sources, K: Sink, A: Agenda> Driver<D, S, K, A> {
     }
 
     /// Prints what events gave, those of lives or of lines from this one on.
-    fn print_outcomes(&mut self, from: Option<u64>, outcomes: &[Outcome]) -> Result<(), RunFault>
+    pub(crate) fn print_outcomes(
+        &mut self,
+        from: Option<u64>,
+        outcomes: &[Outcome],
+    ) -> Result<(), RunFault>
         requires few { length outcomes.now ≤ most_together }
         requires counted { IfSome from (λ number. number + most_together + 1 < 2 ^ 64) }
         ensures same { SameDisk self.old.host.store.disk self.new.host.store.disk }
         ensures did { (n : ℕ) (rest : List Item) (w : World) → IsHost self.old.host w
-            → DidSteps (rules A.rules (source_rules S.after S.wakes S.clock) K.rules)
+            → DidSteps (rules (agenda_rules A.rules A.joins) (source_rules S.after S.wakes S.clock) K.rules)
             (seen n w (parts self.old.host self.old.sources self.old.sink self.old.agenda))
             (to_print (group_of from outcomes.now) ∷ rest) (left_by_answer (λ done. rest)) result
             (n, parts self.new.host self.new.sources self.new.sink self.new.agenda) }
@@ -112,10 +116,10 @@ impl<D: Disk, S: Sources, K: Sink, A: Agenda> Driver<D, S, K, A> {
     }
 
     /// Prints the replies to what followed effects.
-    fn print_followed(&mut self, replies: &[Reply]) -> Result<(), RunFault>
+    pub(crate) fn print_followed(&mut self, replies: &[Reply]) -> Result<(), RunFault>
         ensures same { SameDisk self.old.host.store.disk self.new.host.store.disk }
         ensures did { (n : ℕ) (rest : List Item) (w : World) → IsHost self.old.host w
-            → DidSteps (rules A.rules (source_rules S.after S.wakes S.clock) K.rules)
+            → DidSteps (rules (agenda_rules A.rules A.joins) (source_rules S.after S.wakes S.clock) K.rules)
             (seen n w (parts self.old.host self.old.sources self.old.sink self.old.agenda))
             (to_print (report.followed replies.now) ∷ rest) (left_by_answer (λ done. rest)) result
             (n, parts self.new.host self.new.sources self.new.sink self.new.agenda) }
@@ -127,7 +131,7 @@ impl<D: Disk, S: Sources, K: Sink, A: Agenda> Driver<D, S, K, A> {
     fn show(&mut self, show: Show) -> Result<(), RunFault>
         ensures same { SameDisk self.old.host.store.disk self.new.host.store.disk }
         ensures did { (n : ℕ) (rest : List Item) (w : World) → IsHost self.old.host w
-            → DidSteps (rules A.rules (source_rules S.after S.wakes S.clock) K.rules)
+            → DidSteps (rules (agenda_rules A.rules A.joins) (source_rules S.after S.wakes S.clock) K.rules)
             (seen n w (parts self.old.host self.old.sources self.old.sink self.old.agenda))
             (to_print (report.shown show) ∷ rest) (left_by_answer (λ done. rest)) result
             (n, parts self.new.host self.new.sources self.new.sink self.new.agenda) }
@@ -136,10 +140,10 @@ impl<D: Disk, S: Sources, K: Sink, A: Agenda> Driver<D, S, K, A> {
     }
 
     /// Has the agenda heed what came, and prints what it notes of that.
-    fn heed(&mut self, came: &Came) -> Result<(), RunFault>
+    pub(crate) fn heed(&mut self, came: &Came) -> Result<(), RunFault>
         ensures same { SameDisk self.old.host.store.disk self.new.host.store.disk }
         ensures did { (n : ℕ) (rest : List Item) (w : World) → IsHost self.old.host w
-            → DidSteps (rules A.rules (source_rules S.after S.wakes S.clock) K.rules)
+            → DidSteps (rules (agenda_rules A.rules A.joins) (source_rules S.after S.wakes S.clock) K.rules)
             (seen n w (parts self.old.host self.old.sources self.old.sink self.old.agenda))
             (heeding (came_of came.now) ∷ rest) (left_by_answer (λ done. rest)) result
             (n, parts self.new.host self.new.sources self.new.sink self.new.agenda) }
@@ -157,7 +161,7 @@ impl<D: Disk, S: Sources, K: Sink, A: Agenda> Driver<D, S, K, A> {
         requires counted { IfSome from (λ number. number + most_together + 1 < 2 ^ 64) }
         ensures same { SameDisk self.old.host.store.disk self.new.host.store.disk }
         ensures did { (n : ℕ) (rest : List Item) (w : World) → IsHost self.old.host w
-            → DidSteps (rules A.rules (source_rules S.after S.wakes S.clock) K.rules)
+            → DidSteps (rules (agenda_rules A.rules A.joins) (source_rules S.after S.wakes S.clock) K.rules)
             (seen n w (parts self.old.host self.old.sources self.old.sink self.old.agenda))
             (printing from gave.outcomes.items gave.replies.items ++ rest) (left_by_answer (λ done. rest)) result
             (n, parts self.new.host self.new.sources self.new.sink self.new.agenda) }
@@ -175,7 +179,7 @@ impl<D: Disk, S: Sources, K: Sink, A: Agenda> Driver<D, S, K, A> {
     fn take_and_print(&mut self, from: Option<u64>, events: Vec<Event>) -> Result<(), RunFault>
         ensures same { SameDisk self.old.host.store.disk self.new.host.store.disk }
         ensures did { (n : ℕ) (rest : List Item) (w : World) → IsHost self.old.host w
-            → DidSteps (rules A.rules (source_rules S.after S.wakes S.clock) K.rules)
+            → DidSteps (rules (agenda_rules A.rules A.joins) (source_rules S.after S.wakes S.clock) K.rules)
             (seen n w (parts self.old.host self.old.sources self.old.sink self.old.agenda))
             (taking from events.items ∷ rest) (left_by_answer (λ done. rest)) result
             (n, parts self.new.host self.new.sources self.new.sink self.new.agenda) }
@@ -190,13 +194,13 @@ impl<D: Disk, S: Sources, K: Sink, A: Agenda> Driver<D, S, K, A> {
     fn hear(&mut self, seat: Seat, most: u64) -> Result<(), RunFault>
         ensures same { SameDisk self.old.host.store.disk self.new.host.store.disk }
         ensures did { (n : ℕ) (rest : List Item) (w : World) → IsHost self.old.host w
-            → DidSteps (rules A.rules (source_rules S.after S.wakes S.clock) K.rules)
+            → DidSteps (rules (agenda_rules A.rules A.joins) (source_rules S.after S.wakes S.clock) K.rules)
             (seen n w (parts self.old.host self.old.sources self.old.sink self.old.agenda))
             (hearing seat most ∷ rest) (left_by_answer (λ done. rest)) result
             (n, parts self.new.host self.new.sources self.new.sink self.new.agenda) }
     {
         match hear_ready(self.alloc, &mut self.sources, seat, most) {
-            Ok(events) => self.take_and_print(None, events),
+            Ok(events) => self.join_and_print(events),
             Err(_) => Err(RunFault::OutOfMemory),
         }
     }
@@ -206,7 +210,7 @@ impl<D: Disk, S: Sources, K: Sink, A: Agenda> Driver<D, S, K, A> {
         requires { line + most_together + 1 < 2 ^ 64 }
         ensures same { SameDisk self.old.host.store.disk self.new.host.store.disk }
         ensures did { (n : ℕ) (rest : List Item) (w : World) → IsHost self.old.host w
-            → DidSteps (rules A.rules (source_rules S.after S.wakes S.clock) K.rules)
+            → DidSteps (rules (agenda_rules A.rules A.joins) (source_rules S.after S.wakes S.clock) K.rules)
             (seen n w (parts self.old.host self.old.sources self.old.sink self.old.agenda))
             (printing (Some line) (outcome ∷ []) [] ++ rest) (left_by_answer (λ done. rest)) result
             (n, parts self.new.host self.new.sources self.new.sink self.new.agenda) }
@@ -224,7 +228,7 @@ impl<D: Disk, S: Sources, K: Sink, A: Agenda> Driver<D, S, K, A> {
     fn rewrite(&mut self, line: u64) -> Result<(), RunFault>
         ensures same { SameDisk self.old.host.store.disk self.new.host.store.disk }
         ensures did { (n : ℕ) (rest : List Item) (w : World) → IsHost self.old.host w
-            → DidSteps (rules A.rules (source_rules S.after S.wakes S.clock) K.rules)
+            → DidSteps (rules (agenda_rules A.rules A.joins) (source_rules S.after S.wakes S.clock) K.rules)
             (seen n w (parts self.old.host self.old.sources self.old.sink self.old.agenda))
             (rewriting line ∷ rest) (left_by_answer (λ done. rest)) result
             (n, parts self.new.host self.new.sources self.new.sink self.new.agenda) }
@@ -242,7 +246,7 @@ impl<D: Disk, S: Sources, K: Sink, A: Agenda> Driver<D, S, K, A> {
     fn stall(&mut self) -> Result<(), RunFault>
         ensures same { SameDisk self.old.host.store.disk self.new.host.store.disk }
         ensures did { (n : ℕ) (rest : List Item) (w : World) → IsHost self.old.host w
-            → DidSteps (rules A.rules (source_rules S.after S.wakes S.clock) K.rules)
+            → DidSteps (rules (agenda_rules A.rules A.joins) (source_rules S.after S.wakes S.clock) K.rules)
             (seen n w (parts self.old.host self.old.sources self.old.sink self.old.agenda))
             (stalling ∷ rest) (left_by_answer (λ done. rest)) result
             (n, parts self.new.host self.new.sources self.new.sink self.new.agenda) }
@@ -260,7 +264,7 @@ impl<D: Disk, S: Sources, K: Sink, A: Agenda> Driver<D, S, K, A> {
     fn interrupt(&mut self, name: Name) -> Result<(), RunFault>
         ensures same { SameDisk self.old.host.store.disk self.new.host.store.disk }
         ensures did { (n : ℕ) (rest : List Item) (w : World) → IsHost self.old.host w
-            → DidSteps (rules A.rules (source_rules S.after S.wakes S.clock) K.rules)
+            → DidSteps (rules (agenda_rules A.rules A.joins) (source_rules S.after S.wakes S.clock) K.rules)
             (seen n w (parts self.old.host self.old.sources self.old.sink self.old.agenda))
             (interrupting name ∷ rest) (left_by_answer (λ done. rest)) result
             (n, parts self.new.host self.new.sources self.new.sink self.new.agenda) }
@@ -273,7 +277,7 @@ impl<D: Disk, S: Sources, K: Sink, A: Agenda> Driver<D, S, K, A> {
     fn watch(&mut self, input: Input, patience: Option<u64>) -> Result<(), RunFault>
         ensures same { SameDisk self.old.host.store.disk self.new.host.store.disk }
         ensures did { (n : ℕ) (rest : List Item) (w : World) → IsHost self.old.host w
-            → DidSteps (rules A.rules (source_rules S.after S.wakes S.clock) K.rules)
+            → DidSteps (rules (agenda_rules A.rules A.joins) (source_rules S.after S.wakes S.clock) K.rules)
             (seen n w (parts self.old.host self.old.sources self.old.sink self.old.agenda))
             (watching (asked input patience) ∷ rest) (left_by_answer (λ done. rest)) result
             (n, parts self.new.host self.new.sources self.new.sink self.new.agenda) }
@@ -291,7 +295,7 @@ impl<D: Disk, S: Sources, K: Sink, A: Agenda> Driver<D, S, K, A> {
     fn show_and_heed(&mut self, show: Show) -> Result<(), RunFault>
         ensures same { SameDisk self.old.host.store.disk self.new.host.store.disk }
         ensures did { (n : ℕ) (rest : List Item) (w : World) → IsHost self.old.host w
-            → DidSteps (rules A.rules (source_rules S.after S.wakes S.clock) K.rules)
+            → DidSteps (rules (agenda_rules A.rules A.joins) (source_rules S.after S.wakes S.clock) K.rules)
             (seen n w (parts self.old.host self.old.sources self.old.sink self.old.agenda))
             (to_print (report.shown show) ∷ heeding (came_by [] []) ∷ rest) (left_by_answer (λ done. rest)) result
             (n, parts self.new.host self.new.sources self.new.sink self.new.agenda) }
@@ -306,7 +310,7 @@ impl<D: Disk, S: Sources, K: Sink, A: Agenda> Driver<D, S, K, A> {
     fn serve(&mut self, turn: Turn) -> Result<bool, RunFault>
         ensures same { SameDisk self.old.host.store.disk self.new.host.store.disk }
         ensures did { (n : ℕ) (w : World) → IsHost self.old.host w
-            → DidSteps (rules A.rules (source_rules S.after S.wakes S.clock) K.rules)
+            → DidSteps (rules (agenda_rules A.rules A.joins) (source_rules S.after S.wakes S.clock) K.rules)
             (seen n w (parts self.old.host self.old.sources self.old.sink self.old.agenda))
             (items_by turn) (left_by_answer again) result
             (n, parts self.new.host self.new.sources self.new.sink self.new.agenda) }
@@ -328,7 +332,7 @@ impl<D: Disk, S: Sources, K: Sink, A: Agenda> Driver<D, S, K, A> {
     fn step(&mut self) -> Result<bool, RunFault>
         ensures same { SameDisk self.old.host.store.disk self.new.host.store.disk }
         ensures did { (n : ℕ) (w : World) → IsHost self.old.host w
-            → DidSteps (rules A.rules (source_rules S.after S.wakes S.clock) K.rules)
+            → DidSteps (rules (agenda_rules A.rules A.joins) (source_rules S.after S.wakes S.clock) K.rules)
             (seen n w (parts self.old.host self.old.sources self.old.sink self.old.agenda))
             (ask ∷ []) (left_by_answer again) result
             (n + 1, parts self.new.host self.new.sources self.new.sink self.new.agenda) }
@@ -344,7 +348,7 @@ impl<D: Disk, S: Sources, K: Sink, A: Agenda> Driver<D, S, K, A> {
     fn go_on(&mut self) -> Result<(), RunFault>
         ensures same { SameDisk self.old.host.store.disk self.new.host.store.disk }
         ensures did { (w : World) → IsHost self.old.host w → (n : ℕ)
-            × DidSteps (rules A.rules (source_rules S.after S.wakes S.clock) K.rules)
+            × DidSteps (rules (agenda_rules A.rules A.joins) (source_rules S.after S.wakes S.clock) K.rules)
             (seen 0 w (parts self.old.host self.old.sources self.old.sink self.old.agenda))
             (ask ∷ []) (left_by_answer (λ done. [])) result
             (n, parts self.new.host self.new.sources self.new.sink self.new.agenda) }
@@ -364,7 +368,7 @@ impl<D: Disk, S: Sources, K: Sink, A: Agenda> Driver<D, S, K, A> {
     pub fn drive(&mut self) -> Result<(), RunFault>
         ensures same { SameDisk self.old.host.store.disk self.new.host.store.disk }
         ensures did { (w : World) → IsHost self.old.host w → (n : ℕ)
-            × DidSteps (rules A.rules (source_rules S.after S.wakes S.clock) K.rules)
+            × DidSteps (rules (agenda_rules A.rules A.joins) (source_rules S.after S.wakes S.clock) K.rules)
             (seen 0 w (parts self.old.host self.old.sources self.old.sink self.old.agenda))
             (ask ∷ []) left_at_end result
             (n, parts self.new.host self.new.sources self.new.sink self.new.agenda) }

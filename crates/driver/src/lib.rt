@@ -6,6 +6,7 @@ pub mod agenda;
 pub mod driver;
 mod faults;
 mod hearing;
+mod joint;
 pub mod laws;
 pub mod noting;
 pub mod over;

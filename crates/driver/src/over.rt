@@ -5,7 +5,7 @@ ghost use Rattle.session_engine.specs.World.{World, life_of, sheet_in};
 ghost use Rattle.session_engine.specs.Host.{number_in};
 ghost use Rattle.child_edge.specs.Seats.{running};
 ghost use Rattle.child_edge.specs.Stops.{Stops};
-ghost use Rattle.driver.specs.Place.{rules, source_rules};
+ghost use Rattle.driver.specs.Place.{agenda_rules, rules, source_rules};
 ghost use Rattle.driver.specs.Over.{Over as IsOver, program_parts};
 
 use crate::agenda::Agenda;
@@ -41,7 +41,7 @@ pub fn run_over<D: Disk, S: Sources, K: Sink, A: Agenda>(
     agenda: A,
 ) -> Over<D, S, K, A>
     ensures same { SameDisk (D.view disk) (D.view result.disk) }
-    ensures over { IsOver (rules A.rules (source_rules S.after S.wakes S.clock) K.rules)
+    ensures over { IsOver (rules (agenda_rules A.rules A.joins) (source_rules S.after S.wakes S.clock) K.rules)
         (program_parts (D.view disk) sources sink agenda)
         (program_parts (D.view result.disk) result.sources result.sink result.agenda) result.answer }
 {

@@ -1,6 +1,6 @@
 //! What is printed because a line asks for it, and what an agenda is given to heed.
 
-use child_edge::{GaveTogether, Interrupted};
+use child_edge::{GaveJoined, GaveTogether, Interrupted};
 use host_events::Outcome;
 use sheet_export::Format;
 use tellings::Note;
@@ -23,6 +23,8 @@ pub enum Show {
 pub enum Came {
     /// What events gave that were taken as one group, and what followed.
     Gave(GaveTogether),
+    /// What events of lives gave and those that joined them, and what followed.
+    Joined(GaveJoined),
     /// What a checkpoint gave.
     Rewrote(Outcome),
     /// What came of an interrupt.

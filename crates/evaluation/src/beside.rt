@@ -11,8 +11,8 @@ ghost use Rattle.evaluation.specs.inside.Beside as inside;
 use crate::asking::{id_at, is_due};
 use crate::plan::{Plan, Stand};
 use disk_model::Disk;
-use session_engine::Host;
 use session_engine::host::LifeView;
+use session_engine::{BufferedHost, Host};
 use worksheet::Field;
 
 /// A field whose time is over.
@@ -35,7 +35,7 @@ fn is_busy(life: Option<LifeView>) -> bool
 }
 
 /// Whether an item waits in the session of this field.
-pub fn is_session_busy<D: Disk>(host: &Host<D>, field: Option<&Field>) -> bool
+pub fn is_session_busy<D: Disk>(host: &BufferedHost<D>, field: Option<&Field>) -> bool
     ensures { (w : World) → IsHost host.now w → result ≡ beside.is_session_busy w (option_copied field.entry) }
 {
     match field {
@@ -57,7 +57,7 @@ fn left_of(left: u32, is_busy: bool) -> u32
 
 /// Whether items wait in fewer sessions than this.
 #[tactic(auto, using(crate::proofs::Together::none_left))]
-pub fn wait_in_fewer<D: Disk>(host: &Host<D>, most: u32) -> bool
+pub fn wait_in_fewer<D: Disk>(host: &BufferedHost<D>, most: u32) -> bool
     ensures { (w : World) → IsHost host.now w → result ≡ nat_lt (length (waits w)) most }
 {
     let mut left = most;
@@ -68,14 +68,14 @@ pub fn wait_in_fewer<D: Disk>(host: &Host<D>, most: u32) -> bool
 }
 
 /// Whether there is room for the field with this number beside those that wait.
-fn has_room<D: Disk>(host: &Host<D>, plan: &Plan, id: u32) -> bool
+fn has_room<D: Disk>(host: &BufferedHost<D>, plan: &Plan, id: u32) -> bool
     ensures { (w : World) → IsHost host.now w → result ≡ beside.has_room_beside plan.now w id }
 {
     !is_session_busy(host, host.sheet().field(id)) && wait_in_fewer(host, plan.jobs)
 }
 
 /// Whether the field with this number may be asked while others wait.
-fn may_join<D: Disk>(host: &Host<D>, plan: &Plan, stand: &Stand, id: u32) -> bool
+fn may_join<D: Disk>(host: &BufferedHost<D>, plan: &Plan, stand: &Stand, id: u32) -> bool
     ensures { (w : World) → IsHost host.now w
         → result ≡ (not stand.now.warned && beside.has_room_beside plan.now w id) }
 {
@@ -84,7 +84,7 @@ fn may_join<D: Disk>(host: &Host<D>, plan: &Plan, stand: &Stand, id: u32) -> boo
 
 /// Whether the field at this place, with this number, is asked although others wait, if it is the next. Whether
 /// one is passed over is known only when none waits.
-fn joins<D: Disk>(host: &Host<D>, plan: &Plan, stand: &Stand, at: usize, id: u32) -> bool
+fn joins<D: Disk>(host: &BufferedHost<D>, plan: &Plan, stand: &Stand, at: usize, id: u32) -> bool
     ensures { (w : World) → IsHost host.now w → result ≡ beside.joins plan.now w stand.now at id }
 {
     at == stand.taken && may_join(host, plan, stand, id)
@@ -92,7 +92,13 @@ fn joins<D: Disk>(host: &Host<D>, plan: &Plan, stand: &Stand, at: usize, id: u32
 
 /// Whether the field with this number, the first that was neither asked nor passed over, is the next one and
 /// is asked although others wait.
-fn joins_next<D: Disk>(host: &Host<D>, plan: &Plan, ids: &[u32], stand: &Stand, id: u32) -> bool
+fn joins_next<D: Disk>(
+    host: &BufferedHost<D>,
+    plan: &Plan,
+    ids: &[u32],
+    stand: &Stand,
+    id: u32,
+) -> bool
     requires few { length ids.now < 2 ^ 32 }
     requires there { stand.now.taken < length ids.now }
     ensures { (w : World) → IsHost host.now w → result ≡ (beside.joins plan.now w stand.now stand.now.taken id
@@ -102,7 +108,12 @@ fn joins_next<D: Disk>(host: &Host<D>, plan: &Plan, ids: &[u32], stand: &Stand, 
 }
 
 /// The place of the field that is asked although others wait, where there is one.
-pub fn joining<D: Disk>(host: &Host<D>, plan: &Plan, ids: &[u32], stand: &Stand) -> Option<usize>
+pub fn joining<D: Disk>(
+    host: &BufferedHost<D>,
+    plan: &Plan,
+    ids: &[u32],
+    stand: &Stand,
+) -> Option<usize>
     requires few { length ids.now < 2 ^ 32 }
     requires taken { stand.now.taken ≤ length ids.now }
     ensures within { IfSome result (λ at. at < length ids.now) }

@@ -121,7 +121,7 @@ fn ask_field<D: Disk, S: Sources, T: Tells, W: Write>(
         writer,
     ) {
         Ok(_) => {
-            let held = go_on(limit_from(sources, plan.limit), host);
+            let held = go_on(limit_from(sources, plan.limit), host.looks());
             Ok(asked_at(stand, place, id, lasts, held))
         }
         Err(fault) => Err(fault),
@@ -150,7 +150,7 @@ fn take_life<D: Disk, S: Sources, T: Tells, W: Write>(
 {
     match hear(alloc, host, sources, seat, tells, writer) {
         Ok(()) => {
-            let held = go_on(stand.held, host);
+            let held = go_on(stand.held, host.looks());
             Ok(held_at(stand, held))
         }
         Err(fault) => Err(fault),
@@ -310,7 +310,7 @@ fn take_beside<D: Disk, S: Sources, T: Tells, W: Write>(
     ensures counts { IfOk result (λ next.
         (next.asked ≤ stand.asked + 1) × (next.overs ≤ stand.overs + 1)) }
 {
-    match joining(host, plan, ids, &stand) {
+    match joining(host.looks(), plan, ids, &stand) {
         Some(place) => ask_at(alloc, host, sources, plan, ids, place, stand, tells, writer),
         None => take_late_or_turn(alloc, host, sources, plan, ids, stand, tells, writer),
     }

@@ -87,7 +87,7 @@ pub fn wait_within<D: Disk, S: Sources>(
         (waiting S.after S.clock S.wakes seconds) id (at w sources.old host.old.store.disk)
         host.new sources.new) }
 {
-    let held = go_on(limit_from(sources, Some(seconds)), host);
+    let held = go_on(limit_from(sources, Some(seconds)), host.looks());
     let plan = waiting_plan(seconds);
     let ids: Vec<u32> = Vec::new(alloc);
     let mut unwritten: Vec<u8> = Vec::new(alloc);

@@ -1,10 +1,11 @@
 -- What an agenda of fields says, by what its functions found.
-use Rattle.std.proofs.Common.{◌≡◌, ◌∙◌, ◌+◌, ◌<◌, ◌^◌, ◌≤◌, ℕ, List, Some, Ok, ap, get_or, inl, inr, length, map, refl, slice_get, subst, sym, true}
-use Rattle.std.specs.Prelude.{◌≢◌, ◌⊎◌, Option}
+use Rattle.std.proofs.Common.{◌≡◌, ◌∙◌, ◌+◌, ◌<◌, ◌^◌, ◌≤◌, ℕ, List, [], ◌∷◌, None, Some, Ok, ap, get_or, inl, inr, length, map, refl, slice_get, subst, sym, true}
+use Rattle.std.specs.Prelude.{◌≢◌, ◌⊎◌, IfSome, Option}
 use Rattle.std.proofs.lemmas.Option.{slice_get-get_or}
 use Rattle.worksheet.specs.Contents.{Contents}
 use Rattle.worksheet.specs.declared.field.Field.{Field}
 use Rattle.session_engine.specs.World.{World, sheet_in}
+use Rattle.session_engine.specs.Gathers.{NoCheckpoints}
 use Rattle.arrivals.specs.declared.sources.Input.TheVariants as input
 use Rattle.live.specs.declared.holding.Hold.TheVariants as hold
 use Rattle.live.specs.Arrivals.{IsOver, patience_at}
@@ -18,7 +19,7 @@ use Rattle.evaluation.specs.declared.plan.Plan.{Plan}
 use Rattle.evaluation.specs.declared.plan.Stand.{Stand}
 use Rattle.field_agenda.specs.declared.by_fields.ByFields.{ByFields}
 use Rattle.field_agenda.specs.declared.stage.FieldDoing.TheVariants as doing
-use Rattle.field_agenda.specs.Says.{GoesUnheard, IsUncounted, NoneLate, stalls, watches}
+use Rattle.field_agenda.specs.Says.{GoesUnheard, IsUncounted, NoneLate, asks_field, stalls, watches}
 use Rattle.field_agenda.specs.Standing.{asked_together, does_now, lasts_behind}
 use Rattle.field_agenda.specs.Together.{group_at}
 
@@ -65,3 +66,13 @@ group_there plan w lasts asked l ids at id group so is made there =
 pub stands_there : (s : Stand) (at : ℕ) (c d : Contents) (shown group all : List ℕ) (stand : Stand) → shown ≡ group → group ≡ all → c ≡ d → stand ≡ asked_together s at c.fields shown → stand ≡ asked_together s at d.fields all
 stands_there s at c d shown group all stand is so same made =
     made ∙ ap (λ (l : List ℕ). asked_together s at c.fields l) (is ∙ so) ∙ ap (λ (x : Contents). asked_together s at x.fields all) same
+
+-- no command that asks a field is a checkpoint
+pub no_checkpoints : (group : List ℕ) → NoCheckpoints (map asks_field group)
+no_checkpoints [] = tt
+no_checkpoints (id ∷ group) = (refl, no_checkpoints group)
+
+-- what is so of a place, where there is one
+pub at_place : (r : Option ℕ) (P Q : ℕ → Type 0) → ((at : ℕ) → P at → Q at) → IfSome r P → IfSome r Q
+at_place None P Q on so = so
+at_place (Some at) P Q on so = on at so

@@ -1,6 +1,8 @@
 -- A run of fields that has nothing left to be done came to its end.
 use Rattle.std.proofs.Common.{◌≡◌, ◌∙◌, inl, inr, ℕ, ◌+◌, List, [], ◌∷◌, ◌++◌, refl, sym, subst, Ok, Err}
 use Rattle.std.specs.Prelude.{◌⊎◌, Option, None, Some, Result, map}
+use Rattle.host_events.specs.declared.outcome.Outcome.{Outcome}
+use Rattle.host_events.specs.declared.reply.Reply.{Reply}
 use Rattle.session_engine.specs.World.{World}
 use Rattle.offline_programs.specs.declared.fault.RunFault.{RunFault}
 use Rattle.offline_programs.specs.declared.fault.RunFault.TheVariants as fault
@@ -8,10 +10,10 @@ use Rattle.tellings.specs.declared.note.Note.{Note}
 use Rattle.driver.specs.declared.report.Show.TheVariants as show
 use Rattle.driver.specs.declared.turn.Turn.{Turn}
 use Rattle.driver.specs.declared.turn.Turn.TheVariants as turn
-use Rattle.driver.specs.Items.{Item, RunStep, after_fault, ask, group_of, halt, items_by, notes, print, print_fault}
+use Rattle.driver.specs.Items.{Item, RunStep, after_fault, ask, group_of, halt, items_by, notes, print, print_fault, printing_joined}
 use Rattle.driver.specs.Items.{stalls as stalls_now}
 use Rattle.driver.specs.Items as item
-use Rattle.driver.specs.Reports.{Report, TurnCame, came, interrupt_came, shown}
+use Rattle.driver.specs.Reports.{Report, TurnCame, came, interrupt_came, lines, lives, shown}
 use Rattle.driver.specs.Reports.{followed as followed_of}
 use Rattle.child_edge.specs.Seats.{waits}
 use Rattle.child_edge.specs.Together.{beats_behind}
@@ -37,6 +39,7 @@ IsLastItem item.ask = Unit {0}
 IsLastItem (item.watch q) = ⊥
 IsLastItem (item.hear seat most) = ⊥
 IsLastItem (item.take from events) = ⊥
+IsLastItem (item.join events) = ⊥
 IsLastItem (item.rewrite line) = ⊥
 IsLastItem item.stall = ⊥
 IsLastItem (item.interrupt name) = ⊥
@@ -66,6 +69,13 @@ before i (j ∷ rest) last = last
 -- what is printed of a group, and then heeded
 thrice : (s t : Report) (c : TurnCame) (rest : List Item) → AsksLast rest → AsksLast (item.print s ∷ item.print t ∷ item.heed c ∷ rest)
 thrice s t c rest last = before (item.print s) (item.print t ∷ item.heed c ∷ rest) (before (item.print t) (item.heed c ∷ rest) (before (item.heed c) rest last))
+
+-- what is printed of lives and of what joined them, and then heeded
+joined : (first : Option ℕ) (outcomes later : List Outcome) (replies : List Reply) (rest : List Item) → AsksLast rest → AsksLast (printing_joined first outcomes later replies rest)
+joined None outcomes later replies rest last = thrice (lives outcomes) (followed_of replies) (came (outcomes ++ later) replies) rest last
+joined (Some first) outcomes later replies rest last =
+    before (item.print (lives outcomes)) (item.print (lines first later) ∷ item.print (followed_of replies) ∷ item.heed (came (outcomes ++ later) replies) ∷ rest)
+    (thrice (lines first later) (followed_of replies) (came (outcomes ++ later) replies) rest last)
 
 noted : (n : Option Note) (rest : List Item) → AsksLast rest → AsksLast (notes n ++ rest)
 noted None rest last = last
@@ -99,8 +109,8 @@ module _ {P : Type 0} where
   end_of_look finds a w r b end (unlooked is same) = not_fault r _ end is
 
   end_of_asking : (a : ByFields P) (w : World) (k id : ℕ) (r : Result Turn RunFault) (b : ByFields P) → r ≡ Ok turn.End → AsksFrom a w k id r b → ⊥
-  end_of_asking a w k id r b end (asked t (taken, lines, same_events) is same) =
-      let wrong : turn.Lines (k + 1) taken ≡ turn.End = sym lines ∙ not_turn r t end is in absurd cc
+  end_of_asking a w k id r b end (asked t (taken, these, same_events) is same) =
+      let wrong : turn.Lines (k + 1) taken ≡ turn.End = sym these ∙ not_turn r t end is in absurd cc
   end_of_asking a w k id r b end (unasked is same) = not_fault r _ end is
 
   end_of_end : (a : ByFields P) (w : World) (stopped : Option ℕ) (r : Result Turn RunFault) (b : ByFields P) → r ≡ Ok turn.End → ComesToItsEnd a w stopped r b → ⊥
@@ -144,9 +154,11 @@ module _ {P C K : Type 0} (finds : P → Finds) (sources : SourceRules C) (sink 
   stays_open : (p q : RunPlace (ByFields P) C K) (todo next : List Item) (s : RunStep) → AsksLast todo → Goes (rules (fields_rules finds) sources sink) p todo s next q → Open next q.agenda.stage
   stays_open p q todo next s last (step.asks now t a clock said) = open_by finds p.agenda p.world now t a said
   stays_open p q todo next s last (step.watches x w c a rest wakes turned) = inl (behind (item.watch x) rest (λ no. no) last)
-  stays_open p q todo next s last (step.hears seat most events c rest h) = inl (before (item.take None events) rest (behind (item.hear seat most) rest (λ no. no) last))
+  stays_open p q todo next s last (step.hears seat most events c rest h) = inl (before (item.join events) rest (behind (item.hear seat most) rest (λ no. no) last))
   stays_open p q todo next s last (step.takes from events outcomes followed w c d rest t) =
       inl (thrice (group_of from outcomes) (followed_of (told (beats_behind followed))) (came outcomes (told (beats_behind followed))) rest (behind (item.take from events) rest (λ no. no) last))
+  stays_open p q todo next s last (step.joins events outcomes first more later followed a w c d rest j t) =
+      inl (joined first outcomes later (told (beats_behind followed)) rest (behind (item.join events) rest (λ no. no) last))
   stays_open p q todo next s last (step.rewrites line o w d rest gives kept) =
       inl (thrice (group_of (Some line) (o ∷ [])) (followed_of []) (came (o ∷ []) []) rest (behind (item.rewrite line) rest (λ no. no) last))
   stays_open p q todo next s last (step.stalls_all rest) = inl (before (item.take None (map stalls_now (waits p.world))) rest (behind item.stall rest (λ no. no) last))

@@ -1,7 +1,9 @@
 -- Fields and programs are looked for before anything is done.
 use Rattle.std.proofs.Common.{◌≡◌, ◌∙◌, inl, inr, ℕ, ◌+◌, List, [], ◌∷◌, ◌++◌, ap, refl, sym, subst, Ok, Err}
 use Rattle.std.specs.Prelude.{◌⊎◌, Option, None, Some, Result}
+use Rattle.host_events.specs.declared.event.Event.{Event}
 use Rattle.session_engine.specs.World.{World, sheet_in}
+use Rattle.session_engine.specs.Joining.{ToBeTaken, alone, asking, with_more}
 use Rattle.child_edge.specs.Faithful.{Beat}
 use Rattle.offline_programs.specs.declared.fault.RunFault.{RunFault}
 use Rattle.offline_programs.specs.declared.fault.RunFault.TheVariants as fault
@@ -18,6 +20,7 @@ use Rattle.field_agenda.specs.declared.by_fields.ByFields.{ByFields}
 use Rattle.field_agenda.specs.declared.stage.Stage.{Stage}
 use Rattle.field_agenda.specs.declared.stage.Stage.TheVariants as stage
 use Rattle.field_agenda.specs.FieldsRules.{fields_rules}
+use Rattle.field_agenda.specs.Joins.{FieldsJoin, none_join, some_join}
 use Rattle.field_agenda.specs.Looks.{LookFinds, LooksFor, all_there, looked, no_field, no_program, unlooked}
 use Rattle.field_agenda.specs.LooksFirst.{DidNothing, IsUnderWay, LookedFirst, all_found, in_vain, not_looked}
 use Rattle.field_agenda.specs.Says.{AsksFrom, ComesToItsEnd, FieldsSay, FieldsGoOn, GoesUnheard, SaysAt, asked, asks, ends, ends_with, goes_unheard, hears, interrupts, stalls, too_many_fields, unasked, uncounted, watches}
@@ -56,6 +59,14 @@ module _ {P : Type 0} where
   says_on (stage.NoField id) finds a w now r b is under said = absurd (subst IsUnderWay (sym is) under)
   says_on (stage.NoProgram name) finds a w now r b is under said = absurd (subst IsUnderWay (sym is) under)
 
+  joins_on : (a : ByFields P) (w : World) (first : Option ℕ) (more : List Event) (b : ByFields P) → IsUnderWay a.stage → FieldsJoin a w first more b → IsUnderWay b.stage
+  joins_on a w first more b under (none_join no_first none same) = moved b a same under
+  joins_on a w first more b under (some_join held k id life due wait j) = moved b _ j.stands under
+
+  all_on : (a b : ByFields P) (w : World) (events all : List Event) → IsUnderWay a.stage → ToBeTaken (asking FieldsJoin a b) w events all → IsUnderWay b.stage
+  all_on a b w events all under (alone same) = moved b a same under
+  all_on a b w events all under (with_more told first more j) = joins_on a j.world first more b under j.answered
+
 module _ {P C K : Type 0} (finds : P → Finds) (sources : SourceRules C) (sink : SinkRules K) where
   abbrev Place : Type 0
   Place = RunPlace (ByFields P) C K
@@ -72,9 +83,14 @@ module _ {P C K : Type 0} (finds : P → Finds) (sources : SourceRules C) (sink 
   fails_on p q i beats why under (step.untaken from events) = under
   fails_on p q i beats why under (step.lost from events h l) = under
   fails_on p q i beats why under (step.broken from events bs e x w c d h t failed) = under
+  fails_on p q i beats why under (step.too_many_heard events many) = under
+  fails_on p q i beats why under (step.unjoined events) = under
+  fails_on p q i beats why under (step.lost_joined events all a h all_are l) = all_on p.agenda a p.world events all under all_are
+  fails_on p q i beats why under (step.broken_joined events all a bs e x w c d h all_are t failed) = all_on p.agenda a p.world events all under all_are
   fails_on p q i beats why under (step.unwritten line x h failed) = under
   fails_on p q i beats why under (step.unnumbered line many) = under
   fails_on p q i beats why under step.unstalled = under
+  fails_on p q i beats why under (step.uncounted_line first outcomes many) = under
   fails_on p q i beats why under (step.unprinted s w k is t) = under
 
   step_on : (p q : Place) (todo next : List Item) (s : RunStep) → IsUnderWay p.agenda.stage → Goes given p todo s next q → IsUnderWay q.agenda.stage
@@ -82,6 +98,7 @@ module _ {P C K : Type 0} (finds : P → Finds) (sources : SourceRules C) (sink 
   step_on p q todo next s under (step.watches x w c a rest wakes told) = moved a _ told under
   step_on p q todo next s under (step.hears seat most events c rest h) = under
   step_on p q todo next s under (step.takes from events outcomes followed w c d rest t) = under
+  step_on p q todo next s under (step.joins events outcomes first more later followed a w c d rest j t) = joins_on p.agenda j.world first more a under j.answered
   step_on p q todo next s under (step.rewrites line o w d rest gives kept) = under
   step_on p q todo next s under (step.stalls_all rest) = under
   step_on p q todo next s under (step.interrupts name told c rest i) = under

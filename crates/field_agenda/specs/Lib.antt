@@ -3,6 +3,7 @@ pub mod Standing
 pub mod Looks
 pub mod Says
 pub mod Heeds
+pub mod Joins
 pub mod FieldsRules
 pub mod FieldLines
 pub mod Stages

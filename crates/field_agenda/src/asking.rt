@@ -23,7 +23,7 @@ use evaluation::plan::Stand;
 use evaluation::programs::is_needed;
 use host_events::{Command, Event};
 use live::Hold;
-use session_engine::Host;
+use session_engine::BufferedHost;
 use std::alloc::{AllocError, Global};
 use worksheet::{Field, Sheet};
 
@@ -38,14 +38,14 @@ fn shares_session(sheet: &Sheet, group: &[u32], field: Option<&Field>) -> bool
 }
 
 /// Whether no item waits in the session of this field, and none of these fields is of it.
-fn is_apart<D: Disk>(host: &Host<D>, group: &[u32], field: Option<&Field>) -> bool
+fn is_apart<D: Disk>(host: &BufferedHost<D>, group: &[u32], field: Option<&Field>) -> bool
     ensures { (w : World) → IsHost host.now w → result ≡ together.is_apart w group.now (option_copied field.entry) }
 {
     !is_session_busy(host, field) && !shares_session(host.sheet(), group, field)
 }
 
 /// Whether there is room for one field more beside so many, in one group and in sessions.
-fn has_room<D: Disk>(host: &Host<D>, plan: &Plan, count: usize) -> bool
+fn has_room<D: Disk>(host: &BufferedHost<D>, plan: &Plan, count: usize) -> bool
     ensures room { (w : World) → IsHost host.now w → result ≡ together.has_room plan.now w count }
     ensures few { result ≡ true → count < most_together }
 {
@@ -66,14 +66,26 @@ fn is_passed_over(plan: &Plan, sheet: &Sheet, lasts: &[Last], id: u32) -> bool
 }
 
 /// Whether the field with this number may be asked with these, as far as its session goes.
-fn may_go_with<D: Disk>(host: &Host<D>, plan: &Plan, lasts: &[Last], group: &[u32], id: u32) -> bool
+fn may_go_with<D: Disk>(
+    host: &BufferedHost<D>,
+    plan: &Plan,
+    lasts: &[Last],
+    group: &[u32],
+    id: u32,
+) -> bool
     ensures { (w : World) → IsHost host.now w → result ≡ together.may_go_with plan.now w lasts.now group.now id }
 {
     is_apart(host, group, host.sheet().field(id)) && !is_passed_over(plan, host.sheet(), lasts, id)
 }
 
 /// Whether the field with this number is asked together with these, which come before it.
-fn goes_with<D: Disk>(host: &Host<D>, plan: &Plan, lasts: &[Last], group: &[u32], id: u32) -> bool
+fn goes_with<D: Disk>(
+    host: &BufferedHost<D>,
+    plan: &Plan,
+    lasts: &[Last],
+    group: &[u32],
+    id: u32,
+) -> bool
     ensures goes { (w : World) → IsHost host.now w → result ≡ together.goes_with plan.now w lasts.now group.now id }
     ensures few { result ≡ true → length group.now < most_together }
 {
@@ -94,7 +106,7 @@ fn id_at(ids: &[u32], place: usize) -> u32
 /// The fields that are asked together, where the one at this place is asked.
 pub(crate) fn group_from<D: Disk>(
     alloc: Global,
-    host: &Host<D>,
+    host: &BufferedHost<D>,
     plan: &Plan,
     lasts: &[Last],
     ids: &[u32],

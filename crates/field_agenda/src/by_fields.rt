@@ -2,6 +2,7 @@
 ghost use Rattle.std.specs.Prelude.{◌≡◌, ◌≢◌, ◌⊎◌, ◌+◌, ◌<◌, ◌≤◌, ◌^◌, ℕ, Ok, Option, Some, false, length, slice_get, true};
 ghost use Rattle.session_engine.specs.World.{World, sheet_in};
 ghost use Rattle.session_engine.specs.Host.{IsHost};
+ghost use Rattle.session_engine.specs.Gathers.{NoCheckpoints};
 ghost use Rattle.worksheet.specs.Checks.{field_in};
 ghost use Rattle.evaluation.specs.Beside.{NoneJoins};
 ghost use Rattle.evaluation.specs.Evaluation.{not_begun};
@@ -35,7 +36,7 @@ use evaluation::{EvalEnd, Plan, Programs};
 use host_events::Event;
 use live::Hold;
 use offline_programs::RunFault;
-use session_engine::Host;
+use session_engine::{BufferedHost, Host, Joined, Joins};
 use std::alloc::{AllocError, Global};
 use std::mem;
 use tellings::Note;
@@ -65,7 +66,7 @@ pub struct ByFields<P> {
 }
 
 /// Whether the fields of another group can't be counted, or another whose time is over.
-fn is_full(stand: &Stand) -> bool
+pub(crate) fn is_full(stand: &Stand) -> bool
     ensures yes { result ≡ true → (2 ^ 64 ≤ stand.now.asked + most_together + 1) ⊎ (2 ^ 64 ≤ stand.now.overs + 1) }
     ensures no { result ≡ false → (stand.now.asked + most_together + 1 < 2 ^ 64) × (stand.now.overs + 1 < 2 ^ 64) }
 {
@@ -73,7 +74,7 @@ fn is_full(stand: &Stand) -> bool
 }
 
 /// Whether more fields were taken than are evaluated, or those are too many.
-fn is_beyond(taken: usize, all: usize) -> bool
+pub(crate) fn is_beyond(taken: usize, all: usize) -> bool
     ensures yes { result ≡ true → (all < taken) ⊎ (2 ^ 31 ≤ all) }
     ensures no { result ≡ false → (taken ≤ all) × (all < 2 ^ 31) }
 {
@@ -124,9 +125,9 @@ fn nothing_asked(alloc: Global) -> Stand
 }
 
 /// The commands that ask fields, and where it stands then.
-struct Asking {
-    events: Vec<Event>,
-    stand: Stand,
+pub(crate) struct Asking {
+    pub(crate) events: Vec<Event>,
+    pub(crate) stand: Stand,
 }
 
 impl<P: Programs> ByFields<P> {
@@ -173,18 +174,19 @@ impl<P: Programs> ByFields<P> {
     }
 
     /// The commands that ask the fields which are asked together from this place on, and where it stands then.
-    fn asking<D: Disk>(
+    pub(crate) fn asking<D: Disk>(
         &self,
         alloc: Global,
-        host: &Host<D>,
+        host: &BufferedHost<D>,
         at: usize,
     ) -> Result<Asking, AllocError>
         requires there { at < length self.now.ids }
         requires few { length self.now.ids < 2 ^ 31 }
         requires counted { self.now.stand.asked + most_together + 1 < 2 ^ 64 }
-        ensures { (w : World) (id : ℕ) → IsHost host.now w → slice_get self.now.ids at ≡ Some id
+        ensures asks { (w : World) (id : ℕ) → IsHost host.now w → slice_get self.now.ids at ≡ Some id
             → IfOk result (λ asking. (asking.events.items ≡ map asks_field (asked_with self.now w at id))
             × (asking.stand ≡ standing.asked_together self.now.stand at (sheet_in w).fields (asked_with self.now w at id))) }
+        ensures commands { IfOk result (λ asking. NoCheckpoints asking.events.items) }
     {
         let lasts = self.stand.lasts.as_slice();
         let ids = self.ids.as_slice();
@@ -203,7 +205,7 @@ impl<P: Programs> ByFields<P> {
         ensures { (w : World) (id : ℕ) → IsHost host.now w → slice_get self.old.ids at ≡ Some id
             → AsksFrom self.old w at id result self.new }
     {
-        match self.asking(alloc, host, at) {
+        match self.asking(alloc, host.looks(), at) {
             Ok(Asking { events, stand }) => {
                 self.stand = stand;
                 self.doing = FieldDoing::Ask;
@@ -311,7 +313,7 @@ impl<P: Programs> ByFields<P> {
         requires held { self.old.stand.held ≢ Hold.Free }
         ensures { (w : World) → IsHost host.now w → GoesUnheard self.old w now result self.new }
     {
-        match joining(host, &self.plan, self.ids.as_slice(), &self.stand) {
+        match joining(host.looks(), &self.plan, self.ids.as_slice(), &self.stand) {
             Some(at) => self.ask(alloc, host, at),
             None => Ok(self.go_on(host, now)),
         }
@@ -382,10 +384,26 @@ impl<P: Programs> ByFields<P> {
     }
 }
 
-impl<P: Programs> Agenda for ByFields<P> {
-    ghost use Rattle.field_agenda.specs.FieldsRules.{fields_rules};
+impl<P: Programs> Joins for ByFields<P> {
+    ghost use Rattle.field_agenda.specs.Joins.{FieldsJoin};
 
-    ghost rules = { fields_rules P.finds };
+    ghost joins = { FieldsJoin };
+
+    fn join<D: Disk>(&mut self, alloc: Global, host: &BufferedHost<D>) -> Joined {
+        match self.join_after_life(alloc, host) {
+            Some(joined) => joined,
+            None => Joined {
+                first: None,
+                events: Vec::new(alloc),
+            },
+        }
+    }
+}
+
+impl<P: Programs> Agenda for ByFields<P> {
+    ghost use Rattle.field_agenda.specs.FieldsRules.{fields_turns};
+
+    ghost rules = { fields_turns P.finds };
 
     fn next<D: Disk>(&mut self, alloc: Global, host: &Host<D>, now: u64) -> Result<Turn, RunFault> {
         match self.stage {

@@ -52,8 +52,8 @@ pub(crate) fn wait_behind<D: Disk>(
 {
     match doing {
         FieldDoing::Nothing => held,
-        FieldDoing::Ask => go_on(limit_begun(limit, now), host),
-        FieldDoing::Life => go_on(held, host),
+        FieldDoing::Ask => go_on(limit_begun(limit, now), host.looks()),
+        FieldDoing::Life => go_on(held, host.looks()),
         FieldDoing::Over(_) => wait_for(now, RESPITE),
         FieldDoing::Stall => Hold::Free,
     }

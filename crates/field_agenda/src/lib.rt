@@ -5,6 +5,7 @@ mod asking;
 pub mod by_fields;
 pub mod field_lines;
 mod heeding;
+mod joint;
 pub mod laws;
 mod looking;
 pub mod stage;

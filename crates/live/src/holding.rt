@@ -9,7 +9,7 @@ ghost use Rattle.live.specs.Arrivals.{IsOver, input_at, patience_at};
 use arrivals::Input;
 use child_edge::is_idle;
 use disk_model::Disk;
-use session_engine::Host;
+use session_engine::BufferedHost;
 
 /// How many seconds interpreters have that were interrupted.
 pub const RESPITE: u32 = 2;
@@ -47,7 +47,7 @@ pub fn wait_for(now: u64, seconds: u32) -> Hold
 }
 
 /// The wait that goes on after an event, if it does.
-pub fn go_on<D: Disk>(held: Hold, host: &Host<D>) -> Hold
+pub fn go_on<D: Disk>(held: Hold, host: &BufferedHost<D>) -> Hold
     ensures { (w : World) → IsHost host.now w → WaitGoesOn held w result }
 {
     if is_idle(host) { Hold::Free } else { held }

@@ -44,7 +44,7 @@ module _ {P C T W : Type 0} (finds : P → Finds) (V : Voice) (contents : W → 
   over_fields first last run o =
       over_seen field_rules (fields_rules finds) (λ (k : PrintedSoFar). k.text) (λ (k : PrintedSoFar) (disk : DiskView) (text : List ℕ) (whole : Bool) (l : PrintedSoFar). l.whole ≡ whole) (λ (a : ByFields P). a)
       (λ (k : Noting (Voiced T W)). printed_so_far (contents k.sink.writer) k.whole)
-      (λ a w n r b said. said) (λ a w b told. told) (λ a w n c note b heeds. heeds) (λ k d text whole l t. record { tried = t.tried.1; appends = t.appends }) first last run o
+      (λ a w n r b said. said) (λ a w b told. told) (λ a w n c note b heeds. heeds) (λ a w first more b joins. joins) (λ k d text whole l t. record { tried = t.tried.1; appends = t.appends }) first last run o
 
   pub evaluates : {D : Type 0} (k : Closable D) (disk later : D) (c d : C) (start sink : Noting (Voiced T W)) (begun done : ByFields P) (run : Result (Unit {0}) RunFault) (answer : EvaluationAnswer)
       → start.whole ≡ true → begun ≡ first_fields plan programs → Over field_rules (program_parts (k.view disk) c start begun) (program_parts (k.view later) d sink done) run

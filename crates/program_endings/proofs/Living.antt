@@ -12,7 +12,7 @@ use Rattle.live.specs.declared.holding.Hold.TheVariants as hold
 use Rattle.live.specs.declared.manner.Manner.{Manner}
 use Rattle.driver.specs.declared.noting.Noting.{Noting}
 use Rattle.driver.specs.declared.voiced.Voiced.{Voiced}
-use Rattle.driver.specs.Place.{AgendaRules, Rules, SinkRules, SourceRules, agenda_rules, rules, sink_rules}
+use Rattle.driver.specs.Place.{AgendaRules, Rules, SinkRules, SourceRules, agenda_rules, rules, sink_rules, turn_rules}
 use Rattle.driver.specs.Noted.{PrintedSoFar, noting_rules, printed_so_far}
 use Rattle.driver.specs.Over.{Over, ProgramParts, program_parts}
 use Rattle.driver.proofs.Seen.{over_seen}
@@ -22,7 +22,7 @@ use Rattle.agendas.specs.declared.doing.Doing.{Doing}
 use Rattle.agendas.specs.declared.doing.Doing.TheVariants as doing
 use Rattle.agendas.specs.Heeds.{LinesHeed}
 use Rattle.agendas.specs.LinesAt.{LinesAt, first_lines, lines_stand}
-use Rattle.agendas.specs.LinesRules.{lines_rules}
+use Rattle.agendas.specs.LinesRules.{LinesJoin, lines_rules}
 use Rattle.agendas.specs.Says.{LinesSay, LinesWoken}
 use Rattle.agendas.proofs.OwnFaults.{own_faults}
 use Rattle.offline_programs.specs.declared.fault.RunFault.{RunFault}
@@ -53,9 +53,10 @@ before_lines {I = I} remaining a m lines input manner number held what due late 
 -- A driver of lines that prints with a voice on a stream.
 
 abbrev given_agenda : {I : Type 0} → (I → Option (List ℕ)) → AgendaRules (ByLines I)
-given_agenda remaining = agenda_rules (λ a w now answer b. LinesSay (lines_stand remaining a) w now answer (lines_stand remaining b))
+given_agenda remaining = agenda_rules (turn_rules (λ a w now answer b. LinesSay (lines_stand remaining a) w now answer (lines_stand remaining b))
     (λ a woken b. LinesWoken (lines_stand remaining a) woken (lines_stand remaining b))
-    (λ a w now came note b. LinesHeed (lines_stand remaining a) w now came note (lines_stand remaining b))
+    (λ a w now came note b. LinesHeed (lines_stand remaining a) w now came note (lines_stand remaining b)))
+    (λ a w first more b. LinesJoin (lines_stand remaining a) w first more (lines_stand remaining b))
 
 abbrev lines_driven : {C : Type 0} → Voice → SourceRules C → Rules LinesAt C PrintedSoFar
 lines_driven V s = rules lines_rules s (noting_rules V)
@@ -75,7 +76,7 @@ module _ {I C T W : Type 0} (remaining : I → Option (List ℕ)) (V : Voice) (c
       (program_parts last.disk last.sources (printed_so_far (contents last.sink.sink.writer) last.sink.whole) (lines_stand remaining last.agenda)) run
   over_lines first last run o =
       over_seen given_rules lines_rules (λ (k : PrintedSoFar). k.text) (λ (k : PrintedSoFar) (disk : DiskView) (text : List ℕ) (whole : Bool) (l : PrintedSoFar). l.whole ≡ whole) (lines_stand remaining) (λ (k : Noting (Voiced T W)). printed_so_far (contents k.sink.writer) k.whole)
-      (λ a w n r b said. said) (λ a w b told. told) (λ a w n c note b heeds. heeds) (λ k d text whole l t. record { tried = t.tried.1; appends = t.appends }) first last run o
+      (λ a w n r b said. said) (λ a w b told. told) (λ a w n c note b heeds. heeds) (λ a w first more b joins. joins) (λ k d text whole l t. record { tried = t.tried.1; appends = t.appends }) first last run o
 
   -- what is seen of a program's parts, where it begins and where it ended
   abbrev seen_first : DiskView → C → Noting (Voiced T W) → LinesAt → Bool → ProgramParts LinesAt C PrintedSoFar

@@ -1,13 +1,14 @@
-use Rattle.std.proofs.Common.{◌∙◌, List, ap, map, sym}
+use Rattle.std.proofs.Common.{◌∙◌, List, ap, map, subst, sym}
 use Rattle.session_engine.specs.World.{sheet_in}
+use Rattle.session_engine.specs.Gathers.{NoCheckpoints}
 use Rattle.evaluation.specs.declared.lasts.Last.{Last}
 use Rattle.field_agenda.specs.Says.{asked_with, asks_field}
 use Rattle.field_agenda.specs.Standing.{lasts_behind}
-use Rattle.field_agenda.proofs.Choices.{group_there, stands_there}
+use Rattle.field_agenda.proofs.Choices.{group_there, no_checkpoints, stands_there}
 use Rattle.field_agenda.proofs.by_fields.ByFields.asking.Goals as goal
 
-pub returns : goal.returns
-returns g c = λ w id h there.
+pub returns-clause-asks : goal.returns-clause-asks
+returns-clause-asks g c = λ w id h there.
     let a = c.args.self.now in
     let at = c.args.at in
     let group = c.in_ok-group.group.items in
@@ -19,3 +20,6 @@ returns g c = λ w id h there.
           (c.in_ok-asked.ensures ∙ ap (λ (l : List Last). lasts_behind l fields c.as_slice-2.result.now) c.as_slice-lasts.ensures
           ∙ ap (lasts_behind a.stand.lasts fields) (c.as_slice-2.ensures.value ∙ sym c.as_slice-3.ensures.value))),
     )
+
+pub returns-clause-commands : goal.returns-clause-commands
+returns-clause-commands g c = subst NoCheckpoints (sym c.in_ok-events.ensures) (no_checkpoints c.as_slice.result.now)
