@@ -3,6 +3,7 @@ use Rattle.std.proofs.Common.{◌≡◌, ◌∙◌, inl, inr, ℕ, ◌+◌, List
 use Rattle.std.proofs.lemmas.List.{length-map}
 use Rattle.std.specs.Prelude.{◌⊎◌, IfSome, Option, None, Some, Result, map, option_map}
 use Rattle.session_engine.specs.World.{World}
+use Rattle.host_events.specs.declared.event.Event.{Event}
 use Rattle.session_engine.specs.Joining.{ToBeTaken, alone, asking, with_more}
 use Rattle.child_edge.specs.Faithful.{Beat}
 use Rattle.arrivals.specs.Lines.{InputLine, whole}

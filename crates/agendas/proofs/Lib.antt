@@ -1,3 +1,4 @@
+pub mod Both
 pub mod Faults
 pub mod InOrder
 pub mod OwnFaults

@@ -71,12 +71,27 @@ fn group_wrong(gave: &GaveTogether) -> bool
     any_outcome_wrong(gave.outcomes.as_slice()) || any_wrong(gave.replies.as_slice())
 }
 
+/// Whether something closed in one of these outcomes or of those.
+#[tactic(auto, using(crate::proofs::Both::any_of_both))]
+fn any_of_both_closed(outcomes: &[Outcome], later: &[Outcome]) -> bool
+    ensures { result ≡ list_any (λ o. saying.has_closed o.reply) (outcomes.now ++ later.now) }
+{
+    any_outcome_closed(outcomes) || any_outcome_closed(later)
+}
+
+/// Whether something was refused in one of these outcomes or of those, or items were lost.
+#[tactic(auto, using(crate::proofs::Both::any_of_both))]
+fn any_of_both_wrong(outcomes: &[Outcome], later: &[Outcome]) -> bool
+    ensures { result ≡ list_any (λ o. strictly.is_wrong o.reply) (outcomes.now ++ later.now) }
+{
+    any_outcome_wrong(outcomes) || any_outcome_wrong(later)
+}
+
 /// Whether something closed by events, by those that joined them, or by what followed.
 fn joined_closed(gave: &GaveJoined) -> bool
     ensures { result ≡ heeds.closed_one (came (gave.now.outcomes.items ++ gave.now.later.items) gave.now.replies.items) }
 {
-    any_outcome_closed(gave.outcomes.as_slice())
-        || any_outcome_closed(gave.later.as_slice())
+    any_of_both_closed(gave.outcomes.as_slice(), gave.later.as_slice())
         || any_closed(gave.replies.as_slice())
 }
 
@@ -84,8 +99,7 @@ fn joined_closed(gave: &GaveJoined) -> bool
 fn joined_wrong(gave: &GaveJoined) -> bool
     ensures { result ≡ heeds.went_wrong (came (gave.now.outcomes.items ++ gave.now.later.items) gave.now.replies.items) }
 {
-    any_outcome_wrong(gave.outcomes.as_slice())
-        || any_outcome_wrong(gave.later.as_slice())
+    any_of_both_wrong(gave.outcomes.as_slice(), gave.later.as_slice())
         || any_wrong(gave.replies.as_slice())
 }
 

@@ -72,7 +72,7 @@ pub no_checkpoints : (group : List ℕ) → NoCheckpoints (map asks_field group)
 no_checkpoints [] = tt
 no_checkpoints (id ∷ group) = (refl, no_checkpoints group)
 
--- what is so of a place, where there is one
-pub at_place : (r : Option ℕ) (P Q : ℕ → Type 0) → ((at : ℕ) → P at → Q at) → IfSome r P → IfSome r Q
+-- what is so of a place, or of something else, where there is one
+pub at_place : {T : Type 0} (r : Option T) (P Q : T → Type 0) → ((at : T) → P at → Q at) → IfSome r P → IfSome r Q
 at_place None P Q on so = so
 at_place (Some at) P Q on so = on at so
