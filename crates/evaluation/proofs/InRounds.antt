@@ -7,7 +7,7 @@ use Rattle.std.proofs.lemmas.Slice.Eq.{bytes_eq-Decides}
 use Rattle.std.specs.List.{filter, sum_by}
 use Rattle.std.specs.List.Sorted.{IsNonDecreasingBy, IsPermutation, IsStableByKey, ties}
 use Rattle.std.specs.Str.{bytes_eq}
-use Rattle.std.proofs.lemmas.List.Sorted.{All-permutation, IsPermutation-refl, IsPermutation-sym, IsPermutation-cons, IsPermutation-append_left, IsPermutation-trans, IsPermutation-middle, length_permutation}
+use Rattle.std.proofs.lemmas.List.Sorted.{All-permutation, IsPermutation-refl, IsPermutation-sym, IsPermutation-cons, IsPermutation-append_left, IsPermutation-trans, IsPermutation-middle}
 use Rattle.std.proofs.lemmas.List.{length-append, length-map, length-take}
 use Rattle.std.proofs.lemmas.List.Sums.{count_by-le-length, sum_by-append}
 use Rattle.worksheet.specs.Checks.{field_in}
@@ -15,7 +15,6 @@ use Rattle.worksheet.specs.declared.field.Field.{Field}
 use Rattle.evaluation.specs.declared.plan.Plan.{Plan}
 use Rattle.evaluation.specs.declared.rounds.Placed.{Placed}
 use Rattle.evaluation.specs.Meant.{meant_in}
-use Rattle.evaluation.proofs.Meaning.{few_meant}
 use Rattle.evaluation.specs.Rounds.{asking_order, by_rounds, count_of, placed_ids, in_round, in_rounds, is_field_of, of_its_session, order_by, round_of, with_rounds}
 
 -- Each with its round.
@@ -189,9 +188,6 @@ order-permutes false fields ids = rounds-permute fields ids
 
 pub order_permutes : (plan : Plan) (fields : List Field) → IsPermutation (meant_in plan fields) (asking_order plan fields)
 order_permutes plan fields = order-permutes (nat_le plan.jobs 1) fields (meant_in plan fields)
-
-pub few_in_order : (plan : Plan) (fields : List Field) (ids : List ℕ) → ids ≡ asking_order plan fields → length fields < 2 ^ 31 → length ids < 2 ^ 31
-few_in_order plan fields ids is few = omega (arith, ap length is, length_permutation (meant_in plan fields) (asking_order plan fields) (order_permutes plan fields), few_meant plan fields, few)
 
 -- Sorted by their rounds.
 

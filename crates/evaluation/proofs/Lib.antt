@@ -6,4 +6,3 @@ pub mod Taking
 pub mod Goings
 pub mod Unsaid
 pub mod Waits
-pub mod LateOnes

@@ -4,8 +4,6 @@ use Rattle.std.specs.Prelude.{cond, is_some}
 use Rattle.std.specs.List.{filter}
 use Rattle.std.proofs.lemmas.Bool.{cases_lt}
 use Rattle.std.proofs.lemmas.Option.{slice_get_within}
-use Rattle.std.proofs.lemmas.List.{length-map}
-use Rattle.std.proofs.lemmas.List.Sums.{count_by-le-length, length-filter}
 use Rattle.worksheet.specs.declared.field.Field.{Field}
 use Rattle.evaluation.specs.declared.lasts.Last.{Last}
 use Rattle.evaluation.specs.declared.plan.Plan.{Plan}
@@ -84,25 +82,6 @@ all_meant plan all left before ids e so =
     sym (append-nil ids) ∙ ap (λ (fields : List Field). ids ++ ids_of (is_meant plan) fields) (sym (none_left plan.which before)) ∙ ap (λ (fields : List Field). ids ++ meant_left plan before fields) (sym e) ∙ so.whole
 
 pub ruleset meant_steps = (none_meant, more_meant, all_meant)
-
-few-cond : (b : Bool) (field : Field) (fields rest : List Field) → length rest ≤ length fields → length (cond b (field ∷ fields) rest) ≤ length (field ∷ fields)
-few-cond true field fields rest few = omega arith
-few-cond false field fields rest few = omega (arith, few)
-
-few-from : (id : ℕ) (fields : List Field) → length (fields_from id fields) ≤ length fields
-few-from id [] = omega arith
-few-from id (field ∷ fields) = few-cond (field.id == id) field fields (fields_from id fields) (few-from id fields)
-
-few-asked : (which : Which) (fields : List Field) → length (asked_for which fields) ≤ length fields
-few-asked which.All fields = omega arith
-few-asked (which.Named ids) fields = omega (arith, length-filter (is_one_of ids) fields, count_by-le-length (is_one_of ids) fields)
-few-asked (which.From id) fields = few-from id fields
-
--- no more than there are fields
-pub few_meant : (plan : Plan) (fields : List Field) → length (meant_in plan fields) ≤ length fields
-few_meant plan fields =
-    let asked = asked_for plan.which fields in
-    omega (arith, length-map (filter (is_meant plan) asked) (λ (field : Field). field.id), length-filter (is_meant plan) asked, count_by-le-length (is_meant plan) asked, few-asked plan.which fields)
 
 -- one more is passed over
 pub next_one : (plan : Plan) (fields : List Field) (lasts : List Last) (meant : List ℕ) (from at : ℕ) → IsNext plan fields lasts meant from at → is_passed plan fields lasts meant at ≡ true → IsNext plan fields lasts meant from (at + 1)

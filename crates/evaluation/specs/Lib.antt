@@ -9,5 +9,4 @@ pub mod Broken
 pub mod Evaluation
 pub mod Faults
 pub mod Within
-pub mod Silently
 pub mod inside

@@ -1,4 +1,3 @@
 pub mod Choosing
 pub mod Stepping
 pub mod Beside
-pub mod LateFields

@@ -6,15 +6,12 @@ ghost use Rattle.session_engine.specs.Host.{IsHost};
 ghost use Rattle.child_edge.specs.Faithful.{at};
 ghost use Rattle.live.specs.Records.{left};
 ghost use Rattle.evaluation.specs.Steps.{setting, stands};
-ghost use Rattle.evaluation.specs.Evaluation.{not_begun as begins};
 ghost use Rattle.evaluation.specs.inside.Stepping.{BrokeOff, Through};
 
 use crate::plan::{Plan, Stand};
 use crate::stepping::{Stepped, step};
 use arrivals::Sources;
-use block_tree::Sequence;
 use disk_model::Disk;
-use live::Hold;
 use offline_programs::RunFault;
 use session_engine::Host;
 use std::alloc::Global;
@@ -29,23 +26,6 @@ pub struct EvalEnd {
     pub stopped_at: Option<u64>,
     /// What it came to.
     pub counts: Counts,
-}
-
-/// The place where nothing was asked yet.
-pub(crate) fn not_begun(alloc: Global) -> Stand
-    ensures { result ≡ begins }
-{
-    Stand {
-        taken: 0,
-        first: 0,
-        field: 0,
-        held: Hold::Free,
-        warned: false,
-        at_once: false,
-        asked: 0,
-        overs: 0,
-        lasts: Sequence::new(alloc),
-    }
 }
 
 /// Evaluates fields from this place up to the end.
@@ -81,12 +61,4 @@ pub(crate) fn evaluate_on<D: Disk, S: Sources, T: Tells, W: Write>(
     }
     // The loop needs an end; nobody takes so many steps.
     Err(RunFault::InputTooLong)
-}
-
-/// A worksheet has few fields.
-pub(crate) fn few_fields<D: Disk>(host: &Host<D>)
-    requires { (w : World) × IsHost host.now w }
-    ensures { length host.now.store.sheet.contents.fields < 2 ^ 31 }
-{
-    worksheet::laws::ops_make_worksheets();
 }

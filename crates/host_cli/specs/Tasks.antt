@@ -170,10 +170,13 @@ module _ {Y D P S I W E Q : Type 0} (o : OutsideView D P S I W E) where
       × Compares (record old { places = held }) new end path c × (ending ≡ end.ending))
 
   -- `check --accept` of what they open to write
+  abbrev pub AcceptsHeld : Outside Y D P S I W E Q → Outside Y D P S I W E Q → Ending → Text → Request → Type 0
+  AcceptsHeld old new ending path request = (files : Result D FilesFault) × o.places.opens old.places path files new.places
+      × AcceptEnds o.disks (to_accept (way o.sources.after o.sources.clock o.sources.wakes request.limit) request.chosen) files (calling_of old new) (streams_of old new) ending
+
   abbrev pub AcceptsAs : Outside Y D P S I W E Q → Outside Y D P S I W E Q → Ending → Text → Request → Type 0
   AcceptsAs old new ending path request =
-      HeldFirst old new (λ why. (new.sources ≡ old.sources) × EndsWith old new ending (Err why)) (λ held. (files : Result D FilesFault) × o.places.opens held path files new.places
-      × AcceptEnds o.disks (to_accept (way o.sources.after o.sources.clock o.sources.wakes request.limit) request.chosen) files (calling_of old new) (streams_of old new) ending)
+      HeldFirst old new (λ why. (new.sources ≡ old.sources) × EndsWith old new ending (Err why)) (λ held. AcceptsHeld (record old { places = held }) new ending path request)
 
   -- the one or the other
   abbrev pub ChecksIn : Report → Outside Y D P S I W E Q → Outside Y D P S I W E Q → Ending → Text → CheckPlan → Type 0

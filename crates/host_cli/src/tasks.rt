@@ -245,10 +245,7 @@ pub fn do_task<Y: System>(alloc: Global, task: Task<'_>, mut outside: Outside<Y>
             ending: export_as(alloc, &mut outside, Format::Json, path),
             outside,
         },
-        Task::Check(path, words) => Performed {
-            ending: check_at(alloc, &mut outside, path, words),
-            outside,
-        },
+        Task::Check(path, words) => check_at(alloc, outside, path, words),
         Task::Rescue(path, new) => Performed {
             ending: rescue_at(alloc, &mut outside, path, new),
             outside,

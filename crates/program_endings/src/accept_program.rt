@@ -9,7 +9,7 @@ ghost use Rattle.program_endings.specs.AcceptProgram.{AcceptDone, AcceptEnds, ac
 ghost use Rattle.program_endings.specs.CheckProgram.{EndsChecked};
 ghost use Rattle.program_endings.specs.Records.{calling, given_disk, streams, writing};
 
-use crate::check_program::{end_in_words, found_any};
+use crate::check_program::{CheckedSources, end_in_words, found_any};
 use crate::telling::no_files;
 use crate::{Ending, end_program};
 use arrivals::Sources;
@@ -47,38 +47,48 @@ fn accept_on<D: Close, C: Sources, P: Progress, W: Write, E: Says>(
     alloc: Global,
     request: &Request,
     disk: D,
-    sources: &mut C,
+    sources: C,
     progress: &mut P,
     output: &mut W,
     errors: &mut E,
-) -> Ending
+) -> CheckedSources<Ending, C>
     ensures { AcceptDone (to_accept (way C.after C.clock C.wakes request.now.limit) request.now.chosen)
-        (given_disk (closable D.view D.closed) disk) (calling sources.old sources.new)
-        (streams (writing W.contents output.old output.new) (saying E.contents E.tried errors.old errors.new)) result }
+        (given_disk (closable D.view D.closed) disk) (calling sources result.sources)
+        (streams (writing W.contents output.old output.new) (saying E.contents E.tried errors.old errors.new)) result.ending }
 {
-    let Checked { disk, answer } = check_accepting(alloc, request, disk, sources, progress, output);
+    let Checked {
+        disk,
+        sources,
+        answer,
+    } = check_accepting(alloc, request, disk, sources, progress, output);
     disk.close();
-    end_acceptance(&request.chosen, answer, errors)
+    CheckedSources {
+        ending: end_acceptance(&request.chosen, answer, errors),
+        sources,
+    }
 }
 
 /// The whole program `check --accept` on its files, which are opened to write, or on why they weren't
 /// opened: the report goes to `output`, each part flushed once what it tells is on the disk, and the
-/// line of a fault to `errors`. `progress` shows how far it is, and nothing at its end.
+/// line of a fault to `errors`. `progress` shows how far it is, and nothing at its end. The sources are given back.
 pub fn run_accept<D: Close, C: Sources, P: Progress, W: Write, E: Says>(
     alloc: Global,
     request: &Request,
     files: Result<D, FilesFault>,
-    sources: &mut C,
+    sources: C,
     progress: &mut P,
     output: &mut W,
     errors: &mut E,
-) -> Ending
+) -> CheckedSources<Ending, C>
     ensures { AcceptEnds (closable D.view D.closed) (to_accept (way C.after C.clock C.wakes request.now.limit) request.now.chosen)
-        files (calling sources.old sources.new)
-        (streams (writing W.contents output.old output.new) (saying E.contents E.tried errors.old errors.new)) result }
+        files (calling sources result.sources)
+        (streams (writing W.contents output.old output.new) (saying E.contents E.tried errors.old errors.new)) result.ending }
 {
     match files {
         Ok(disk) => accept_on(alloc, request, disk, sources, progress, output, errors),
-        Err(why) => end_program(Err(no_files(why)), errors),
+        Err(why) => CheckedSources {
+            ending: end_program(Err(no_files(why)), errors),
+            sources,
+        },
     }
 }

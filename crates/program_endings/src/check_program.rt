@@ -35,6 +35,12 @@ pub struct CheckEnding {
     pub ending: Ending,
 }
 
+/// How a check ended, and the sources that it gives back.
+pub struct CheckedSources<T, C> {
+    pub ending: T,
+    pub sources: C,
+}
+
 /// Whether no output differs, and no field was left unanswered.
 fn are_same(counts: Counts) -> bool
     ensures { result ≡ all_same counts }
@@ -168,41 +174,51 @@ fn check_on<D: Close, C: Sources, P: Progress, W: Write, E: Says>(
     alloc: Global,
     request: &Request,
     disk: D,
-    sources: &mut C,
+    sources: C,
     progress: &mut P,
     output: &mut W,
     errors: &mut E,
-) -> CheckEnding
+) -> CheckedSources<CheckEnding, C>
     ensures { CheckDone (one_by_one (way C.after C.clock C.wakes request.now.limit) request.now.chosen request.now.format)
-        (given_disk (closable D.view D.closed) disk) (calling sources.old sources.new)
-        (streams (writing W.contents output.old output.new) (saying E.contents E.tried errors.old errors.new)) result }
+        (given_disk (closable D.view D.closed) disk) (calling sources result.sources)
+        (streams (writing W.contents output.old output.new) (saying E.contents E.tried errors.old errors.new)) result.ending }
 {
-    let Checked { disk, answer } = check(alloc, request, disk, sources, progress, output);
+    let Checked {
+        disk,
+        sources,
+        answer,
+    } = check(alloc, request, disk, sources, progress, output);
     disk.close();
     let ending = end_check(alloc, request, answer, output, errors);
-    CheckEnding { answer, ending }
+    CheckedSources {
+        ending: CheckEnding { answer, ending },
+        sources,
+    }
 }
 
 /// The whole program `check` on its files, or on why they weren't opened: the report goes to `output`,
 /// each part flushed when it is known, and the line of a fault to `errors`; one in JSON has the fault
 /// last. `progress` shows how far it is, and nothing at its end. What the check answered is
-/// given beside how the program ends.
+/// given beside how the program ends, and the sources are given back.
 pub fn run_check<D: Close, C: Sources, P: Progress, W: Write, E: Says>(
     alloc: Global,
     request: &Request,
     files: Result<D, FilesFault>,
-    sources: &mut C,
+    sources: C,
     progress: &mut P,
     output: &mut W,
     errors: &mut E,
-) -> CheckEnding
+) -> CheckedSources<CheckEnding, C>
     ensures { CheckEnds (closable D.view D.closed)
         (one_by_one (way C.after C.clock C.wakes request.now.limit) request.now.chosen request.now.format)
-        files (calling sources.old sources.new)
-        (streams (writing W.contents output.old output.new) (saying E.contents E.tried errors.old errors.new)) result }
+        files (calling sources result.sources)
+        (streams (writing W.contents output.old output.new) (saying E.contents E.tried errors.old errors.new)) result.ending }
 {
     match files {
         Ok(disk) => check_on(alloc, request, disk, sources, progress, output, errors),
-        Err(why) => end_unopened(alloc, request.format, why, output, errors),
+        Err(why) => CheckedSources {
+            ending: end_unopened(alloc, request.format, why, output, errors),
+            sources,
+        },
     }
 }

@@ -24,7 +24,7 @@ mod together_program;
 pub use accept_program::run_accept;
 pub use block_lines::blocks;
 pub use blocks_program::run_block_objects;
-pub use check_program::{CheckEnding, run_check};
+pub use check_program::{CheckEnding, CheckedSources, run_check};
 pub use ending::{Ending, end_program, run_blocks};
 pub use eval_program::run_evaluation;
 pub use export_program::run_export;

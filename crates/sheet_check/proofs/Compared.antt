@@ -1,18 +1,19 @@
 -- Fields that were evaluated together, compared one after another, and where such a check ends.
 use Rattle.std.proofs.Common.{◌≡◌, ◌+◌, inl, inr, ℕ, true, false, List, [], ◌∷◌, ◌++◌, Option, Some, None, refl, ap, sym, ◌∙◌, subst, append_assoc, append-nil}
+use Rattle.std.specs.Prelude.{Err, option_map}
 use Rattle.std.proofs.KnownBytes.{Appends-trans, Appends-nil}
 use Rattle.std.specs.Io.KnownBytes.{Appends}
 use Rattle.worksheet.specs.declared.field.Answer.{Answer}
 use Rattle.worksheet.specs.declared.field.Field.{Field}
 use Rattle.worksheet.specs.Contents.{Contents}
-use Rattle.session_engine.specs.World.{World}
-use Rattle.session_engine.specs.Host.{HostView, IsHost}
-use Rattle.child_edge.specs.Faithful.{At, at}
+use Rattle.session_engine.specs.World.{World, life_of, sheet_in}
+use Rattle.session_engine.specs.Host.{HostView, IsHost, number_in}
+use Rattle.child_edge.specs.Faithful.{At, Relation, at}
 use Rattle.child_edge.specs.Seats.{running}
 use Rattle.child_edge.specs.Stops.{Stops}
 use Rattle.offline_programs.specs.declared.fault.RunFault.{RunFault}
 use Rattle.offline_programs.specs.declared.fault.RunFault.TheVariants as fault
-use Rattle.sheet_programs.proofs.Runs.{StopsIn, stops_behind}
+use Rattle.sheet_programs.proofs.Runs.{StopsIn}
 use Rattle.check_report.specs.declared.chosen.Chosen.{Chosen}
 use Rattle.check_report.specs.declared.report.Format.{Format}
 use Rattle.check_report.specs.declared.verdict.Counts.{Counts}
@@ -22,10 +23,10 @@ use Rattle.check_report.specs.Errors.{brings_error}
 use Rattle.check_report.specs.Reports.{Case, case, case_text, cases_text, closing_text, opening_text, report_front, judgements_of}
 use Rattle.check_report.specs.Verdicts.{counts_of, total}
 use Rattle.evaluation.specs.declared.plan.Plan.{Plan}
-use Rattle.evaluation.specs.Evaluation.{not_begun}
-use Rattle.evaluation.specs.Silently.{BrokeSilently, EvaluatedSilently, SilentlyBroke, between, no_memory, of_host, silent_setting, too_long, unwatched}
 use Rattle.live.specs.Records as records
+use Rattle.driver.proofs.Overs.{stops_by}
 use Rattle.sheet_check.specs.Check.{IsCopy, Passage, passage}
+use Rattle.sheet_check.specs.Driven.{DriveBroke, DrivenToEnd, DrivenUpTo, broke_off, copy_rules, unplanned}
 use Rattle.sheet_check.specs.Evaluated.{fault_on_copy, reason_shown_in}
 use Rattle.sheet_check.specs.Together as together
 use Rattle.sheet_check.specs.Together.{EvaluatedTogether, FieldCompared, FieldsCompared, SideBySide, TellsTogether, TogetherChecked, came_by, checked_ids, checking, checking_plan, cleared}
@@ -98,20 +99,20 @@ unopened_report m all a b why is = record { gone = []; left = all; split = refl;
 -- The plan of the evaluation.
 
 module _ {C : Type 0} (o : SideBySide C) (fields : List Field) (s : At C) (h : HostView) (c : C) (plan : Plan) (is : plan ≡ checking_plan (checked_ids o.chosen fields) o.way.limit o.jobs) where
-  pub came_together : (late : List ℕ) → (t : World) × EvaluatedSilently (silent_setting o.way.after o.way.clock o.way.wakes plan s.world) s late (at t c h.store.disk) × IsHost h t → CameTogether o fields s h c late
-  came_together late q = subst (λ (p : Plan). (t : World) × EvaluatedSilently (silent_setting o.way.after o.way.clock o.way.wakes p s.world) s late (at t c h.store.disk) × IsHost h t) is q
+  pub came_together : (late : List ℕ) → (t : World) × DrivenToEnd o.way plan s late (at t c h.store.disk) × IsHost h t → CameTogether o fields s h c late
+  came_together late q = subst (λ (p : Plan). (t : World) × DrivenToEnd o.way p s late (at t c h.store.disk) × IsHost h t) is q
 
-  pub broke_together : (f why : RunFault) → why ≡ fault_on_copy f → BrokeSilently (silent_setting o.way.after o.way.clock o.way.wakes plan s.world) s h c f → BrokeTogether o fields s h c why
-  broke_together f why same q = (q.0, q.1, (f, same, subst (λ (p : Plan). SilentlyBroke (silent_setting o.way.after o.way.clock o.way.wakes p s.world) s q.0 h f) is q.2))
-
--- where there was no memory for the numbers, nothing was done
-pub none_together : {C : Type 0} (o : SideBySide C) (fields : List Field) (w : World) (h : HostView) (c : C) → IsHost h w → BrokeTogether o fields (at w c h.store.disk) h c fault.OutOfMemory
-none_together o fields w h c stands =
-    (at w c h.store.disk, refl, (fault.OutOfMemory, refl, no_memory refl (between [] [] [] not_begun (refl, refl, refl)) (inl (stands, refl))))
+  pub broke_together : (f why : RunFault) → why ≡ fault_on_copy f → DrivenUpTo o.way plan s h c f → BrokeTogether o fields s h c why
+  broke_together f why same q = (f, same, broke_off (subst (λ (p : Plan). DrivenUpTo o.way p s h c f) is q))
 
 -- Where it ends.
 
-module _ {C : Type 0} (o : SideBySide C) (sheet : Contents) (w : World) (h g : HostView) (copied : IsCopy (cleared o.chosen sheet.fields sheet) w h.store.disk) (c m d : C) (a b : Option (List ℕ)) (stops : StopsIn o.way.after g m d) where
+-- the lives of a world are stopped of which a host has the worksheet and each life's number
+abbrev pub StopsNumbered : {C : Type 0} → Relation C → HostView → C → C → Type 0
+StopsNumbered R h c d = (v : World) → h.store.sheet.contents ≡ sheet_in v → ((name : List ℕ) → number_in h.lives name ≡ option_map (λ l. l.number) (life_of v name)) → Stops R (running v) c d
+
+module _ {C : Type 0} (o : SideBySide C) (sheet : Contents) (w : World) (h g : HostView) (copied : IsCopy (cleared o.chosen sheet.fields sheet) w h.store.disk) (c m d : C) (a b : Option (List ℕ)) (stops : StopsIn o.way.after g m d)
+    (numbered : StopsNumbered o.way.after g m d) where
   evaluated : (late : List ℕ) (came : CameTogether o sheet.fields (at w c h.store.disk) g m late) → EvaluatedTogether o sheet c d came.0 late
   evaluated late came = record {
     start = w;
@@ -126,11 +127,9 @@ module _ {C : Type 0} (o : SideBySide C) (sheet : Contents) (w : World) (h g : H
   pub together_ended : (counts : Counts) → ReportedTogether o sheet.fields (at w c h.store.disk) (records.left g m a b) counts → EndedTogether o sheet (passage c d a b) counts
   together_ended counts q = let came = q.1.0 in let told = q.1.1 in (came.0, q.0, evaluated q.0 came, (told.0, told.1, told.2, told.3))
 
-  stopped : (t : At C) (why : RunFault) → t.children ≡ m → SilentlyBroke (checking o sheet.fields w) (at w c h.store.disk) t g why → Stops o.way.after (running t.world) t.children d
-  stopped t why is (of_host f e beats text _ cut broke) = subst (λ x. Stops o.way.after (running t.world) x d) (sym is) (stops.1 t.world e t.disk f broke)
-  stopped t why is (no_memory _ some stands) = subst (λ x. Stops o.way.after (running t.world) x d) (sym is) (stops_behind o.way.after g m d t.world t.disk stops stands)
-  stopped t why is (unwatched beats text _ came stands _) = subst (λ x. Stops o.way.after (running t.world) x d) (sym is) (stops.0 t.world stands)
-  stopped t why is (too_long beats text _ came stands _) = subst (λ x. Stops o.way.after (running t.world) x d) (sym is) (stops.0 t.world stands)
+  stopped : (why : RunFault) → DriveBroke o.way (checking o sheet.fields) (at w c h.store.disk) g m why → (v : World) × (g.store.sheet.contents ≡ sheet_in v) × Stops o.way.after (running v) m d
+  stopped why (unplanned is same stands) = (w, stands.stands.contents, stops.0 w stands)
+  stopped why (broke_off b) = stops_by (copy_rules o.way) g b.world m d stops.0 stops.1 numbered (Err why) b.stands
 
   reported-broke : (late : List ℕ) (came : CameTogether o sheet.fields (at w c h.store.disk) g m late) (why : RunFault) (F : Format) (cases : List Case) (gone left : List Field) → sheet.fields ≡ gone ++ left
       → FieldsCompared o.chosen came.0 late gone cases → LeavesReport o.format cases a b why → TellsTogether o sheet (passage c d a b) ⊥ why
@@ -141,9 +140,10 @@ module _ {C : Type 0} (o : SideBySide C) (sheet : Contents) (w : World) (h g : H
 
   pub together_failed : (why : RunFault) → FailedTogether o sheet.fields (at w c h.store.disk) (records.left g m a b) why → TellsTogether o sheet (passage c d a b) ⊥ why
   together_failed why (inl q) =
-      let broke = q.0.2 in
+      let broke = q.0 in
+      let gone = stopped broke.0 broke.2 in
       together.broke
-      (record { start = w; copy = h.store.disk; copied = copied; leads = q.0.0; host = g; cause = broke.0; is = broke.1; broke = broke.2; stops = stopped q.0.0 broke.0 q.0.1 broke.2 })
+      (record { start = w; copy = h.store.disk; copied = copied; host = g; sources = m; cause = broke.0; is = broke.1; broke = broke.2; alive = gone.0; in_memory = gone.1; stops = gone.2 })
       q.1
   together_failed why (inr q) = let p = q.1.1 in reported-broke q.0 q.1.0 why o.format p.cases p.gone p.left p.split p.compared p.wrote
 

@@ -8,24 +8,21 @@ use Rattle.worksheet.specs.declared.op.Op.{Op}
 use Rattle.journal.specs.declared.opening.OpenCause.{OpenCause}
 use Rattle.host_events.specs.declared.outcome.HostFault.{HostFault}
 use Rattle.host_events.specs.declared.outcome.HostFault.TheVariants as hosts
-use Rattle.session_engine.specs.Host.{HostView}
-use Rattle.child_edge.specs.Faithful.{At}
+use Rattle.child_edge.specs.Faithful.{at}
 use Rattle.offline_programs.specs.declared.fault.RunFault.{RunFault}
 use Rattle.offline_programs.specs.declared.fault.RunFault.TheVariants as fault
 use Rattle.check_report.specs.declared.chosen.Chosen.{Chosen}
 use Rattle.check_report.specs.declared.verdict.Counts.{Counts}
-use Rattle.evaluation.specs.Steps.{Setting}
-use Rattle.evaluation.specs.Silently.{SilentlyBroke}
-use Rattle.evaluation.specs.Silently as silently
 use Rattle.sheet_check.specs.Accept.{SheetAccepts, filing, to_accept}
 use Rattle.sheet_check.specs.Check.{Passage, SheetAnswer, TellsCheck, passage}
 use Rattle.sheet_check.specs.Check as ends
 use Rattle.sheet_check.specs.Evaluated.{OneByOne, Way, fault_on_copy, one_by_one}
 use Rattle.sheet_check.specs.Named.{ByNames, all_named, answer_as, no_field}
-use Rattle.sheet_check.specs.Together.{SideBySide, TellsBySessions, TellsTogether, TogetherTells, have_several}
+use Rattle.sheet_check.specs.Together.{SideBySide, TellsBySessions, TellsTogether, TogetherTells, checking, have_several}
 use Rattle.sheet_check.specs.Together as together
 use Rattle.sheet_check.specs.declared.named.CheckFault.{CheckFault}
 use Rattle.sheet_check.specs.declared.named.CheckFault.TheVariants as checks
+use Rattle.sheet_check.proofs.Driven.{drive_opened}
 use Rattle.sheet_check.proofs.Kept.{was_opened}
 
 -- A field that isn't there is no fault of a run.
@@ -88,15 +85,20 @@ host_unopened x hosts.OutOfMemory e = let no : fault.Host hosts.OutOfMemory ≡ 
 host_unopened x hosts.JournalFull e = let no : fault.Host hosts.JournalFull ≡ fault.Open x = e in cc
 host_unopened x hosts.Closed e = let no : fault.Host hosts.Closed ≡ fault.Open x = e in cc
 
-broke_unopened : {C : Type 0} (o : Setting C) (s t : At C) (h : HostView) (x : OpenCause) (cause : RunFault) → fault_on_copy cause ≡ fault.Open x → SilentlyBroke o s t h cause → ⊥
-broke_unopened o s t h x cause e (silently.of_host f event beats text is cut stopped) = host_unopened x f (sym (ap fault_on_copy is) ∙ e)
-broke_unopened o s t h x cause e (silently.no_memory is taken stands) = let no : fault.OutOfMemory ≡ fault.Open x = sym (ap fault_on_copy is) ∙ e in cc
-broke_unopened o s t h x cause e (silently.unwatched beats text is led stands same) = let no : fault.Input ≡ fault.Open x = sym (ap fault_on_copy is) ∙ e in cc
-broke_unopened o s t h x cause e (silently.too_long beats text is led stands same) = let no : fault.InputTooLong ≡ fault.Open x = sym (ap fault_on_copy is) ∙ e in cc
+cause_unopened : (x : OpenCause) (cause : RunFault) → fault_on_copy cause ≡ fault.Open x → cause ≡ fault.Open x
+cause_unopened x (fault.Host f) e = absurd (host_unopened x f e)
+cause_unopened x fault.OutOfMemory e = let no : fault.OutOfMemory ≡ fault.Open x = e in absurd cc
+cause_unopened x fault.Input e = let no : fault.Input ≡ fault.Open x = e in absurd cc
+cause_unopened x fault.InputTooLong e = let no : fault.InputTooLong ≡ fault.Open x = e in absurd cc
+cause_unopened x fault.Output e = let no : fault.OutOfMemory ≡ fault.Open x = e in absurd cc
+cause_unopened x (fault.Open why) e = e
+cause_unopened x fault.InUse e = let no : fault.InUse ≡ fault.Open x = e in absurd cc
+cause_unopened x fault.SecondFile e = let no : fault.SecondFile ≡ fault.Open x = e in absurd cc
 
 together_unopened : {C : Type 0} (o : SideBySide C) (sheet : Contents) (q : Passage C) (nothing : Type 0) (x : OpenCause) (why : RunFault) → why ≡ fault.Open x → TellsTogether o sheet q nothing why → ⊥
 together_unopened o sheet q nothing x why e (together.not_begun is done) = let no : fault.OutOfMemory ≡ fault.Open x = sym is ∙ e in cc
-together_unopened o sheet q nothing x why e (together.broke p wrote) = broke_unopened _ _ p.leads p.host x p.cause (sym p.is ∙ e) p.broke
+together_unopened o sheet q nothing x why e (together.broke p wrote) =
+    drive_opened o.way (checking o sheet.fields) (at p.start q.sources p.copy) p.host p.sources x p.cause (cause_unopened x p.cause (sym p.is ∙ e)) p.broke
 together_unopened o sheet q nothing x why e (together.no_memory cases is led wrote) = let no : fault.OutOfMemory ≡ fault.Open x = sym is ∙ e in cc
 together_unopened o sheet q nothing x why e (together.unwritten cases is led) = let no : fault.Output ≡ fault.Open x = sym is ∙ e in cc
 

@@ -8,3 +8,4 @@ pub mod Accepted
 pub mod Kept
 pub mod Lacking
 pub mod Compared
+pub mod Driven

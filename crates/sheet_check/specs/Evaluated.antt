@@ -134,7 +134,8 @@ FieldsChecked {C = C} o chosen (field ∷ fields) s cases t =
     (mid : At C) × (one : List Case) × (others : List Case) × FieldChecked o chosen field s one mid
     × FieldsChecked o chosen fields mid others t × (cases ≡ one ++ others)
 
--- the fault of a check by that of a wait or an evaluation on its copy, whose disk lies in memory, so that it fails for lack of that alone
+-- The fault of a check by that of a wait or an evaluation on its copy, whose disk lies in memory, so that it fails for lack of that alone. Nothing is
+-- printed, and what is kept in its place fails where memory is refused.
 abbrev pub fault_on_copy : RunFault → RunFault
 fault_on_copy (fault.Host hosts.Disk) = fault.OutOfMemory
 fault_on_copy (fault.Host hosts.OutOfMemory) = fault.Host hosts.OutOfMemory
@@ -143,7 +144,7 @@ fault_on_copy (fault.Host hosts.Closed) = fault.Host hosts.Closed
 fault_on_copy fault.OutOfMemory = fault.OutOfMemory
 fault_on_copy fault.Input = fault.Input
 fault_on_copy fault.InputTooLong = fault.InputTooLong
-fault_on_copy fault.Output = fault.Output
+fault_on_copy fault.Output = fault.OutOfMemory
 fault_on_copy (fault.Open why) = fault.Open why
 fault_on_copy fault.InUse = fault.InUse
 fault_on_copy fault.SecondFile = fault.SecondFile

@@ -1,5 +1,6 @@
 pub mod Named
 pub mod Evaluated
+pub mod Driven
 pub mod Check
 pub mod Together
 pub mod Kept

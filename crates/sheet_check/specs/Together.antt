@@ -1,4 +1,4 @@
--- What a check leaves whose fields are evaluated side by side: an evaluation in silence of those fields on a copy, and then their report in
+-- What a check leaves whose fields are evaluated side by side: those fields are evaluated on a copy, and nothing is printed; and then comes their report in
 -- the worksheet's order. One whose fields are all of one session goes one after another. (docs/use/CHECK.md, "Side by side".)
 use Rattle.std.specs.Prelude.{◌≡◌, ◌==◌, ◌&&◌, ℕ, Bool, false, true, not, List, [], ◌∷◌, ◌++◌, Option, Some, None, find, Result, Ok, Err}
 use Rattle.std.specs.Bool.{MatchBool}
@@ -16,7 +16,7 @@ use Rattle.worksheet.specs.Edits.{edited}
 use Rattle.journal.specs.declared.opening.OpenCause.{OpenCause}
 use Rattle.recovery.specs.Sheets.{IsSheetImage, TellsOfSheet}
 use Rattle.session_engine.specs.Host.{HostView}
-use Rattle.session_engine.specs.World.{World}
+use Rattle.session_engine.specs.World.{World, sheet_in}
 use Rattle.child_edge.specs.Faithful.{At, at}
 use Rattle.child_edge.specs.Seats.{running}
 use Rattle.child_edge.specs.Stops.{Stops}
@@ -31,9 +31,8 @@ use Rattle.check_report.specs.Reports.{Case, case, report_front, report_text, ju
 use Rattle.check_report.specs.Verdicts.{counts_of}
 use Rattle.evaluation.specs.declared.plan.Plan.{Plan}
 use Rattle.evaluation.specs.declared.plan.Which.TheVariants as which
-use Rattle.evaluation.specs.Steps.{Setting}
-use Rattle.evaluation.specs.Silently.{EvaluatedSilently, SilentlyBroke, silent_setting}
 use Rattle.sheet_check.specs.Check.{IsCopy, Passage, SheetAnswer}
+use Rattle.sheet_check.specs.Driven.{DriveBroke, DrivenToEnd}
 use Rattle.sheet_check.specs.Evaluated.{Way, came_if, fault_on_copy, one_by_one, reason_shown_in, shown_in}
 use Rattle.sheet_check.specs.Named.{ByNames, missing_named}
 use Rattle.sheet_check.specs.declared.named.CheckFault.{CheckFault}
@@ -82,9 +81,9 @@ cleared chosen (field ∷ fields) sheet = cleared chosen fields (cleared_at (is_
 abbrev pub checking_plan : List ℕ → Option ℕ → ℕ → Plan
 checking_plan ids limit jobs = record { which = which.Named ids; unanswered = false; strict = false; at_errors = false; limit = limit; keep_going = true; jobs = jobs }
 
--- how the fields of a worksheet are evaluated that are checked, on a copy that stands so
-abbrev pub checking : {C : Type 0} → SideBySide C → List Field → World → Setting C
-checking o fields w = silent_setting o.way.after o.way.clock o.way.wakes (checking_plan (checked_ids o.chosen fields) o.way.limit o.jobs) w
+-- the plan of those of these fields that are checked
+abbrev pub checking : {C : Type 0} → SideBySide C → List Field → Plan
+checking o fields = checking_plan (checked_ids o.chosen fields) o.way.limit o.jobs
 
 -- whether the time of the field with this number was over
 abbrev pub is_late : List ℕ → ℕ → Bool
@@ -115,7 +114,7 @@ pub record EvaluatedTogether {C : Type 0} (o : SideBySide C) (sheet : Contents) 
   pub copied : IsCopy (cleared o.chosen sheet.fields sheet) start copy
   pub came : At C
   pub world_is : came.world ≡ leads
-  pub evaluated : EvaluatedSilently (checking o sheet.fields start) (at start c copy) late came
+  pub evaluated : DrivenToEnd o.way (checking o sheet.fields) (at start c copy) late came
   pub stops : Stops o.way.after (running leads) came.children d
 
 -- So they were evaluated, and their report was written, in the worksheet's order. These are the counts.
@@ -133,12 +132,15 @@ pub record TogetherBroke {C : Type 0} (o : SideBySide C) (sheet : Contents) (c d
   pub start : World
   pub copy : DiskView
   pub copied : IsCopy (cleared o.chosen sheet.fields sheet) start copy
-  pub leads : At C
   pub host : HostView
+  pub sources : C
   pub cause : RunFault
   pub is : why ≡ fault_on_copy cause
-  pub broke : SilentlyBroke (checking o sheet.fields start) (at start c copy) leads host cause
-  pub stops : Stops o.way.after (running leads.world) leads.children d
+  pub broke : DriveBroke o.way (checking o sheet.fields) (at start c copy) host sources cause
+  -- the lives of the world that the host has in memory
+  pub alive : World
+  pub in_memory : host.store.sheet.contents ≡ sheet_in alive
+  pub stops : Stops o.way.after (running alive) sources d
 
 -- The fields were evaluated, and the first of them were reported, which are these cases.
 pub record TogetherReported {C : Type 0} (o : SideBySide C) (sheet : Contents) (c d : C) (cases : List Case) : Type 0 where

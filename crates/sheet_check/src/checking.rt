@@ -296,11 +296,12 @@ pub(crate) fn check_sheet<C: Sources, W: Write, P: Progress>(
     }
 }
 
-/// What a check answers, and the disk that it was given.
+/// What a check answers, and the disk and the sources that it was given.
 #[derive(Drop)]
-pub struct Checked<D: Disk> {
+pub struct Checked<D: Disk, C> {
     /// The disk, on which reads alone were made.
     pub disk: D,
+    pub sources: C,
     /// How many evaluations came to what, or why the check ended early.
     pub answer: Result<Counts, CheckFault>,
 }
@@ -330,14 +331,14 @@ pub fn check<D: Disk, C: Sources, W: Write, P: Progress>(
     alloc: Global,
     request: &Request,
     disk: D,
-    sources: &mut C,
+    mut sources: C,
     progress: &mut P,
     writer: &mut W,
-) -> Checked<D>
+) -> Checked<D, C>
     ensures checked { CheckAnswer
         (one_by_one (way C.after C.clock C.wakes request.now.limit) request.now.chosen request.now.format)
-        (D.view disk) (passage sources.old sources.new (W.contents writer.old) (W.contents writer.new))
-        ((writer.new ≡ writer.old) × (sources.new ≡ sources.old)) result.answer }
+        (D.view disk) (passage sources result.sources (W.contents writer.old) (W.contents writer.new))
+        ((writer.new ≡ writer.old) × (result.sources ≡ sources)) result.answer }
     ensures read { OnlyRead (D.view disk) (D.view result.disk) }
 
     ensures shown { CheckShows (display request.now.format P.shows) request.now.chosen (D.view disk)
@@ -353,14 +354,23 @@ pub fn check<D: Disk, C: Sources, W: Write, P: Progress>(
 {
     match Store::open(alloc, disk) {
         Ok(store) => {
-            let answer = check_named(alloc, request, store.sheet(), sources, progress, writer);
+            let answer = check_named(
+                alloc,
+                request,
+                store.sheet(),
+                &mut sources,
+                progress,
+                writer,
+            );
             Checked {
                 disk: store.into_disk(),
+                sources,
                 answer,
             }
         }
         Err(OpenFault { cause, disk }) => Checked {
             disk,
+            sources,
             answer: Err(CheckFault::Run(RunFault::Open(cause))),
         },
     }

@@ -339,15 +339,15 @@ pub fn check_accepting<D: Disk, C: Sources, W: Write, P: Progress>(
     alloc: Global,
     request: &Request,
     disk: D,
-    sources: &mut C,
+    mut sources: C,
     progress: &mut P,
     writer: &mut W,
-) -> Checked<D>
+) -> Checked<D, C>
     ensures accepted { AcceptAnswer
         (to_accept (way C.after C.clock C.wakes request.now.limit) request.now.chosen)
         (D.view disk) (D.view result.disk)
-        (passage sources.old sources.new (W.contents writer.old) (W.contents writer.new))
-        ((writer.new ≡ writer.old) × (sources.new ≡ sources.old)) result.answer }
+        (passage sources result.sources (W.contents writer.old) (W.contents writer.new))
+        ((writer.new ≡ writer.old) × (result.sources ≡ sources)) result.answer }
 
     ensures shown { CheckShows (display formats.Accepting P.shows) request.now.chosen (D.view disk)
         progress.old progress.new result.answer }
@@ -362,14 +362,16 @@ pub fn check_accepting<D: Disk, C: Sources, W: Write, P: Progress>(
 {
     match Store::open(alloc, disk) {
         Ok(mut store) => {
-            let answer = accept_named(alloc, request, sources, &mut store, progress, writer);
+            let answer = accept_named(alloc, request, &mut sources, &mut store, progress, writer);
             Checked {
                 disk: store.into_disk(),
+                sources,
                 answer,
             }
         }
         Err(OpenFault { cause, disk }) => Checked {
             disk,
+            sources,
             answer: Err(CheckFault::Run(RunFault::Open(cause))),
         },
     }

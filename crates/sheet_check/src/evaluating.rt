@@ -38,13 +38,14 @@ pub(crate) fn wait_fault(fault: RunFault) -> RunFault
     ensures { result ≡ fault_on_copy fault }
 {
     match fault {
-        RunFault::Host(HostFault::Disk) | RunFault::OutOfMemory => RunFault::OutOfMemory,
+        RunFault::Host(HostFault::Disk) | RunFault::OutOfMemory | RunFault::Output => {
+            RunFault::OutOfMemory
+        }
         RunFault::Host(HostFault::OutOfMemory) => RunFault::Host(HostFault::OutOfMemory),
         RunFault::Host(HostFault::JournalFull) => RunFault::Host(HostFault::JournalFull),
         RunFault::Host(HostFault::Closed) => RunFault::Host(HostFault::Closed),
         RunFault::Input => RunFault::Input,
         RunFault::InputTooLong => RunFault::InputTooLong,
-        RunFault::Output => RunFault::Output,
         RunFault::Open(why) => RunFault::Open(why),
         RunFault::InUse => RunFault::InUse,
         RunFault::SecondFile => RunFault::SecondFile,

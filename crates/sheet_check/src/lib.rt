@@ -8,11 +8,13 @@ mod clearing;
 mod comparing;
 mod copying;
 mod differing;
+mod driving;
 mod evaluating;
 mod named;
 mod progress;
 mod putting;
 mod sessions;
+mod silence;
 mod telling;
 mod together;
 

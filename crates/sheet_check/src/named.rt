@@ -18,7 +18,7 @@ ghost use Rattle.sheet_check.specs.inside.Accepting.{GoesOn};
 use crate::checking::check_sheet;
 use crate::differing::accept_sheet;
 use crate::progress::Progress;
-use crate::together::check_by_sessions;
+use crate::together::{Gave, check_by_sessions};
 use arrivals::Sources;
 use check_report::{Chosen, Counts, Ids, Request};
 use disk_model::Disk;
@@ -143,27 +143,36 @@ pub(crate) fn check_named_together<C: Sources, W: Write, P: Progress>(
     request: &Request,
     jobs: u32,
     sheet: &Sheet,
-    sources: &mut C,
+    sources: C,
     progress: &mut P,
     writer: &mut W,
-) -> Result<Counts, CheckFault>
+) -> Gave<Result<Counts, CheckFault>, C>
     requires { (ops : List Op) × Makes ops sheet.now.contents }
     ensures checked { ByNames (missing_named request.now.chosen sheet.now.contents.fields)
-        ((writer.new ≡ writer.old) × (sources.new ≡ sources.old))
+        ((writer.new ≡ writer.old) × (result.sources ≡ sources))
         (TellsBySessions
         (side_by_side (way C.after C.clock C.wakes request.now.limit) jobs request.now.chosen request.now.format)
-        sheet.now.contents (passage sources.old sources.new (W.contents writer.old) (W.contents writer.new))
-        ((writer.new ≡ writer.old) × (sources.new ≡ sources.old))) result }
+        sheet.now.contents (passage sources result.sources (W.contents writer.old) (W.contents writer.new))
+        ((writer.new ≡ writer.old) × (result.sources ≡ sources))) result.answer }
     ensures shown { ByNames (missing_named request.now.chosen sheet.now.contents.fields)
         (progress.new ≡ progress.old)
         (SheetShows (display request.now.format P.shows)
-        (checked_count request.now.chosen sheet.now.contents.fields) progress.old progress.new) result }
+        (checked_count request.now.chosen sheet.now.contents.fields) progress.old progress.new) result.answer }
 {
     match missing_named(&request.chosen, sheet) {
-        Some(id) => Err(CheckFault::NoField(id)),
-        None => answer_as(check_by_sessions(
-            alloc, request, jobs, sheet, sources, progress, writer,
-        )),
+        Some(id) => Gave {
+            answer: Err(CheckFault::NoField(id)),
+            sources,
+        },
+        None => {
+            let Gave { answer, sources } = check_by_sessions(
+                alloc, request, jobs, sheet, sources, progress, writer,
+            );
+            Gave {
+                answer: answer_as(answer),
+                sources,
+            }
+        }
     }
 }
 

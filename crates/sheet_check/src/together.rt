@@ -19,6 +19,7 @@ ghost use Rattle.sheet_check.specs.inside.Comparing.{BrokeTogether, CameTogether
 use crate::checking::{Checked, check_sheet, count_checked, tell_closing};
 use crate::clearing::{checked_ids, open_cleared};
 use crate::comparing::compare_fields;
+use crate::driving::{CopyDriver, drive_copy, drive_plan};
 use crate::evaluating::wait_fault;
 use crate::named::{CheckFault, check_named_together};
 use crate::progress::{Progress, Sight};
@@ -28,17 +29,17 @@ use block_tree::Sequence;
 use check_report::{Counts, Request};
 use child_edge::stop_all;
 use disk_model::Disk;
-use evaluation::{Plan, Which, evaluate_silently};
+use driver::Driver;
+use evaluation::{Plan, Which};
 use journal::OpenFault;
 use offline_programs::RunFault;
 use recovery::Store;
-use session_engine::Host;
 use std::alloc::Global;
 use std::io::Write;
 use worksheet::Sheet;
 
 /// How the fields with these numbers are evaluated: all of them, up to the end.
-fn checking_plan(ids: Vec<u32>, limit: Option<u32>, jobs: u32) -> Plan
+pub(crate) fn checking_plan(ids: Vec<u32>, limit: Option<u32>, jobs: u32) -> Plan
     ensures { result ≡ plan_of_check ids.items limit jobs }
 {
     Plan {
@@ -53,29 +54,28 @@ fn checking_plan(ids: Vec<u32>, limit: Option<u32>, jobs: u32) -> Plan
 }
 
 /// Evaluates the fields of a worksheet that are checked, on a copy of it. The numbers of those whose time was
-/// over.
+/// over are in the driver's sink.
 fn evaluate_checked<D: Disk, C: Sources>(
     alloc: Global,
     request: &Request,
     jobs: u32,
     sheet: &Sheet,
-    host: &mut Host<D>,
-    sources: &mut C,
-) -> Result<Vec<u32>, RunFault>
-    requires { (w : World) × IsHost host.old w }
-    ensures ok { (w : World) → IsHost host.old w → IfOk result (λ late. CameTogether
+    driver: &mut CopyDriver<D, C>,
+) -> Result<(), RunFault>
+    requires { (w : World) × IsHost driver.old.host w }
+    ensures ok { (w : World) → IsHost driver.old.host w → IfOk result (λ done. CameTogether
         (side_by_side (way C.after C.clock C.wakes request.now.limit) jobs request.now.chosen request.now.format)
-        sheet.now.contents.fields (at w sources.old host.old.store.disk) host.new sources.new late.items) }
-    ensures err { (w : World) → IsHost host.old w → IfErr result (BrokeTogether
+        sheet.now.contents.fields (at w driver.old.sources driver.old.host.store.disk) driver.new.host driver.new.sources driver.new.sink.ids) }
+    ensures err { (w : World) → IsHost driver.old.host w → IfErr result (BrokeTogether
         (side_by_side (way C.after C.clock C.wakes request.now.limit) jobs request.now.chosen request.now.format)
-        sheet.now.contents.fields (at w sources.old host.old.store.disk) host.new sources.new) }
+        sheet.now.contents.fields (at w driver.old.sources driver.old.host.store.disk) driver.new.host driver.new.sources) }
 {
     let Ok(ids) = checked_ids(alloc, &request.chosen, sheet) else {
         return Err(RunFault::OutOfMemory);
     };
     let plan = checking_plan(ids, request.limit, jobs);
-    match evaluate_silently(alloc, &plan, host, sources) {
-        Ok(late) => Ok(late),
+    match drive_plan(driver, plan) {
+        Ok(()) => Ok(()),
         Err(fault) => Err(wait_fault(fault)),
     }
 }
@@ -86,34 +86,33 @@ fn check_together_on<D: Disk, C: Sources, W: Write, P: Progress>(
     request: &Request,
     jobs: u32,
     sheet: &Sheet,
-    host: &mut Host<D>,
-    sources: &mut C,
+    driver: &mut CopyDriver<D, C>,
     all: u32,
     progress: &mut P,
     writer: &mut W,
 ) -> Result<Counts, RunFault>
     requires few { length sheet.now.contents.fields < 2 ^ 31 }
-    requires stands { (w : World) × IsHost host.old w }
-    ensures ok { (w : World) → IsHost host.old w → IfOk result (ReportedTogether
+    requires stands { (w : World) × IsHost driver.old.host w }
+    ensures ok { (w : World) → IsHost driver.old.host w → IfOk result (ReportedTogether
         (side_by_side (way C.after C.clock C.wakes request.now.limit) jobs request.now.chosen request.now.format)
-        sheet.now.contents.fields (at w sources.old host.old.store.disk)
-        (left host.new sources.new (W.contents writer.old) (W.contents writer.new))) }
-    ensures err { (w : World) → IsHost host.old w → IfErr result (FailedTogether
+        sheet.now.contents.fields (at w driver.old.sources driver.old.host.store.disk)
+        (left driver.new.host driver.new.sources (W.contents writer.old) (W.contents writer.new))) }
+    ensures err { (w : World) → IsHost driver.old.host w → IfErr result (FailedTogether
         (side_by_side (way C.after C.clock C.wakes request.now.limit) jobs request.now.chosen request.now.format)
-        sheet.now.contents.fields (at w sources.old host.old.store.disk)
-        (left host.new sources.new (W.contents writer.old) (W.contents writer.new))) }
+        sheet.now.contents.fields (at w driver.old.sources driver.old.host.store.disk)
+        (left driver.new.host driver.new.sources (W.contents writer.old) (W.contents writer.new))) }
     ensures shown { IfOk result (λ counts.
         FieldsShow (display request.now.format P.shows) all progress.old counts progress.new) }
     ensures left { IfErr result (λ _.
         FieldsLeft (display request.now.format P.shows) all progress.old progress.new) }
 {
-    match evaluate_checked(alloc, request, jobs, sheet, host, sources) {
-        Ok(late) => compare_fields(
+    match evaluate_checked(alloc, request, jobs, sheet, driver) {
+        Ok(()) => compare_fields(
             alloc,
             request,
             sheet,
-            host,
-            late.as_slice(),
+            &driver.host,
+            driver.sink.ids.as_slice(),
             all,
             progress,
             writer,
@@ -128,34 +127,37 @@ fn check_together_and_stop<D: Disk, C: Sources, W: Write, P: Progress>(
     request: &Request,
     jobs: u32,
     sheet: &Sheet,
-    host: &mut Host<D>,
-    sources: &mut C,
+    driver: &mut CopyDriver<D, C>,
     progress: &mut P,
     writer: &mut W,
 ) -> Result<Counts, RunFault>
     requires few { length sheet.now.contents.fields < 2 ^ 31 }
-    requires stands { (w : World) × IsHost host.old w }
-    ensures ok { (w : World) → IsHost host.old w
-        → IsCopy (cleared request.now.chosen sheet.now.contents.fields sheet.now.contents) w host.old.store.disk
+    requires stands { (w : World) × IsHost driver.old.host w }
+    ensures ok { (w : World) → IsHost driver.old.host w
+        → IsCopy (cleared request.now.chosen sheet.now.contents.fields sheet.now.contents) w driver.old.host.store.disk
         → IfOk result (EndedTogether
         (side_by_side (way C.after C.clock C.wakes request.now.limit) jobs request.now.chosen request.now.format)
-        sheet.now.contents (passage sources.old sources.new (W.contents writer.old) (W.contents writer.new))) }
-    ensures err { (w : World) → IsHost host.old w
-        → IsCopy (cleared request.now.chosen sheet.now.contents.fields sheet.now.contents) w host.old.store.disk
+        sheet.now.contents (passage driver.old.sources driver.new.sources (W.contents writer.old) (W.contents writer.new))) }
+    ensures err { (w : World) → IsHost driver.old.host w
+        → IsCopy (cleared request.now.chosen sheet.now.contents.fields sheet.now.contents) w driver.old.host.store.disk
         → IfErr result (TellsTogether
         (side_by_side (way C.after C.clock C.wakes request.now.limit) jobs request.now.chosen request.now.format)
-        sheet.now.contents (passage sources.old sources.new (W.contents writer.old) (W.contents writer.new)) ⊥) }
+        sheet.now.contents (passage driver.old.sources driver.new.sources (W.contents writer.old) (W.contents writer.new)) ⊥) }
     ensures shown { SheetShows (display request.now.format P.shows)
         (checked_count request.now.chosen sheet.now.contents.fields)
         progress.old progress.new result }
 {
     let all = count_checked(&request.chosen, sheet);
-    let counted = check_together_on(
-        alloc, request, jobs, sheet, host, sources, all, progress, writer,
-    );
+    let counted = check_together_on(alloc, request, jobs, sheet, driver, all, progress, writer);
     progress.show(Sight::Nothing);
-    stop_all(host, sources);
+    stop_all(&driver.host, &mut driver.sources);
     counted
+}
+
+/// What was answered, and the sources that are given back.
+pub(crate) struct Gave<T, C> {
+    pub(crate) answer: T,
+    pub(crate) sources: C,
 }
 
 /// Checks a worksheet on a copy of it, whose host ends here. None where there is no memory for the copy.
@@ -164,26 +166,47 @@ fn together_on_copy<C: Sources, W: Write, P: Progress>(
     request: &Request,
     jobs: u32,
     sheet: &Sheet,
-    sources: &mut C,
+    sources: C,
     progress: &mut P,
     writer: &mut W,
-) -> Option<Result<Counts, RunFault>>
+) -> Gave<Option<Result<Counts, RunFault>>, C>
     requires made { (ops : List Op) × Makes ops sheet.now.contents }
     requires few { length sheet.now.contents.fields < 2 ^ 31 }
-    ensures none { IfNone result ((sources.new ≡ sources.old) × (writer.new ≡ writer.old)
+    ensures none { IfNone result.answer ((result.sources ≡ sources) × (writer.new ≡ writer.old)
         × (progress.new ≡ progress.old)) }
-    ensures some { IfSome result (OnCleared
+    ensures some { IfSome result.answer (OnCleared
         (side_by_side (way C.after C.clock C.wakes request.now.limit) jobs request.now.chosen request.now.format)
-        sheet.now.contents (passage sources.old sources.new (W.contents writer.old) (W.contents writer.new))) }
-    ensures shown { IfSome result (λ counted. SheetShows (display request.now.format P.shows)
+        sheet.now.contents (passage sources result.sources (W.contents writer.old) (W.contents writer.new))) }
+    ensures shown { IfSome result.answer (λ counted. SheetShows (display request.now.format P.shows)
         (checked_count request.now.chosen sheet.now.contents.fields)
         progress.old progress.new counted) }
 {
-    match open_cleared(alloc, &request.chosen, sheet) {
-        Some(mut host) => Some(check_together_and_stop(
-            alloc, request, jobs, sheet, &mut host, sources, progress, writer,
-        )),
-        None => None,
+    let Some(host) = open_cleared(alloc, &request.chosen, sheet) else {
+        return Gave {
+            answer: None,
+            sources,
+        };
+    };
+    let mut driver = drive_copy(alloc, host, sources);
+    let counted = check_together_and_stop(
+        alloc,
+        request,
+        jobs,
+        sheet,
+        &mut driver,
+        progress,
+        writer,
+    );
+    let Driver {
+        alloc: _,
+        host: _,
+        sources,
+        sink: _,
+        agenda: _,
+    } = driver;
+    Gave {
+        answer: Some(counted),
+        sources,
     }
 }
 
@@ -193,31 +216,47 @@ fn check_sheet_together<C: Sources, W: Write, P: Progress>(
     request: &Request,
     jobs: u32,
     sheet: &Sheet,
-    sources: &mut C,
+    sources: C,
     progress: &mut P,
     writer: &mut W,
-) -> Result<Counts, RunFault>
+) -> Gave<Result<Counts, RunFault>, C>
     requires { (ops : List Op) × Makes ops sheet.now.contents }
     ensures checked { TogetherTells
         (side_by_side (way C.after C.clock C.wakes request.now.limit) jobs request.now.chosen request.now.format)
-        sheet.now.contents (passage sources.old sources.new (W.contents writer.old) (W.contents writer.new))
-        ((writer.new ≡ writer.old) × (sources.new ≡ sources.old)) result }
+        sheet.now.contents (passage sources result.sources (W.contents writer.old) (W.contents writer.new))
+        ((writer.new ≡ writer.old) × (result.sources ≡ sources)) result.answer }
     ensures shown { SheetShows (display request.now.format P.shows)
         (checked_count request.now.chosen sheet.now.contents.fields)
-        progress.old progress.new result }
+        progress.old progress.new result.answer }
 {
     worksheet::laws::ops_make_worksheets();
-    let Some(counted) = together_on_copy(alloc, request, jobs, sheet, sources, progress, writer)
-    else {
-        progress.show(Sight::Nothing);
-        return Err(RunFault::OutOfMemory);
-    };
-    match counted {
-        Ok(counts) => match tell_closing(request.format, counts, writer) {
-            Ok(()) => Ok(counts),
-            Err(fault) => Err(fault),
+    let Gave { answer, sources } = together_on_copy(
+        alloc, request, jobs, sheet, sources, progress, writer,
+    );
+    match answer {
+        Some(counted) => match counted {
+            Ok(counts) => match tell_closing(request.format, counts, writer) {
+                Ok(()) => Gave {
+                    answer: Ok(counts),
+                    sources,
+                },
+                Err(fault) => Gave {
+                    answer: Err(fault),
+                    sources,
+                },
+            },
+            Err(fault) => Gave {
+                answer: Err(fault),
+                sources,
+            },
         },
-        Err(fault) => Err(fault),
+        None => {
+            progress.show(Sight::Nothing);
+            Gave {
+                answer: Err(RunFault::OutOfMemory),
+                sources,
+            }
+        }
     }
 }
 
@@ -228,23 +267,26 @@ pub(crate) fn check_by_sessions<C: Sources, W: Write, P: Progress>(
     request: &Request,
     jobs: u32,
     sheet: &Sheet,
-    sources: &mut C,
+    mut sources: C,
     progress: &mut P,
     writer: &mut W,
-) -> Result<Counts, RunFault>
+) -> Gave<Result<Counts, RunFault>, C>
     requires { (ops : List Op) × Makes ops sheet.now.contents }
     ensures checked { TellsBySessions
         (side_by_side (way C.after C.clock C.wakes request.now.limit) jobs request.now.chosen request.now.format)
-        sheet.now.contents (passage sources.old sources.new (W.contents writer.old) (W.contents writer.new))
-        ((writer.new ≡ writer.old) × (sources.new ≡ sources.old)) result }
+        sheet.now.contents (passage sources result.sources (W.contents writer.old) (W.contents writer.new))
+        ((writer.new ≡ writer.old) × (result.sources ≡ sources)) result.answer }
     ensures shown { SheetShows (display request.now.format P.shows)
         (checked_count request.now.chosen sheet.now.contents.fields)
-        progress.old progress.new result }
+        progress.old progress.new result.answer }
 {
     if has_several(&request.chosen, sheet) {
         check_sheet_together(alloc, request, jobs, sheet, sources, progress, writer)
     } else {
-        check_sheet(alloc, request, sheet, sources, progress, writer)
+        Gave {
+            answer: check_sheet(alloc, request, sheet, &mut sources, progress, writer),
+            sources,
+        }
     }
 }
 
@@ -271,14 +313,14 @@ pub fn check_together<D: Disk, C: Sources, W: Write, P: Progress>(
     request: &Request,
     jobs: u32,
     disk: D,
-    sources: &mut C,
+    sources: C,
     progress: &mut P,
     writer: &mut W,
-) -> Checked<D>
+) -> Checked<D, C>
     ensures checked { TogetherAnswer
         (side_by_side (way C.after C.clock C.wakes request.now.limit) jobs request.now.chosen request.now.format)
-        (D.view disk) (passage sources.old sources.new (W.contents writer.old) (W.contents writer.new))
-        ((writer.new ≡ writer.old) × (sources.new ≡ sources.old)) result.answer }
+        (D.view disk) (passage sources result.sources (W.contents writer.old) (W.contents writer.new))
+        ((writer.new ≡ writer.old) × (result.sources ≡ sources)) result.answer }
     ensures read { OnlyRead (D.view disk) (D.view result.disk) }
 
     ensures shown { CheckShows (display request.now.format P.shows) request.now.chosen (D.view disk)
@@ -294,7 +336,7 @@ pub fn check_together<D: Disk, C: Sources, W: Write, P: Progress>(
 {
     match Store::open(alloc, disk) {
         Ok(store) => {
-            let answer = check_named_together(
+            let Gave { answer, sources } = check_named_together(
                 alloc,
                 request,
                 jobs,
@@ -305,11 +347,13 @@ pub fn check_together<D: Disk, C: Sources, W: Write, P: Progress>(
             );
             Checked {
                 disk: store.into_disk(),
+                sources,
                 answer,
             }
         }
         Err(OpenFault { cause, disk }) => Checked {
             disk,
+            sources,
             answer: Err(CheckFault::Run(RunFault::Open(cause))),
         },
     }

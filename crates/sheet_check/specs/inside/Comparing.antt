@@ -13,10 +13,10 @@ use Rattle.check_report.specs.declared.report.Format.{Format}
 use Rattle.check_report.specs.declared.verdict.Counts.{Counts}
 use Rattle.check_report.specs.Reports.{Case, cases_text, report_front, judgements_of}
 use Rattle.check_report.specs.Verdicts.{counts_of, total}
-use Rattle.evaluation.specs.Silently.{EvaluatedSilently, SilentlyBroke}
 use Rattle.live.specs.Records.{Left}
 use Rattle.sheet_check.specs.Evaluated.{fault_on_copy}
 use Rattle.sheet_check.specs.Check.{Passage}
+use Rattle.sheet_check.specs.Driven.{DriveBroke, DrivenToEnd}
 use Rattle.sheet_check.specs.Together.{EvaluatedTogether, FieldCompared, FieldsCompared, SideBySide, TellsTogether, checking}
 use Rattle.sheet_check.specs.inside.Checking.{counted_on}
 
@@ -55,11 +55,11 @@ pub record ReportBroke (m : Comparing) (fields : List Field) (a b : Option (List
 
 -- The fields that are checked were evaluated on a copy from here, and it stands there.
 abbrev pub CameTogether : {C : Type 0} → SideBySide C → List Field → At C → HostView → C → List ℕ → Type 0
-CameTogether o fields s h c late = (t : World) × EvaluatedSilently (checking o fields s.world) s late (at t c h.store.disk) × IsHost h t
+CameTogether o fields s h c late = (t : World) × DrivenToEnd o.way (checking o fields) s late (at t c h.store.disk) × IsHost h t
 
 -- the evaluation broke off
 abbrev pub BrokeTogether : {C : Type 0} → SideBySide C → List Field → At C → HostView → C → RunFault → Type 0
-BrokeTogether {C = C} o fields s h c why = (t : At C) × (t.children ≡ c) × ((cause : RunFault) × (why ≡ fault_on_copy cause) × SilentlyBroke (checking o fields s.world) s t h cause)
+BrokeTogether o fields s h c why = (cause : RunFault) × (why ≡ fault_on_copy cause) × DriveBroke o.way (checking o fields) s h c cause
 
 -- They were evaluated, and reported.
 abbrev pub ReportedTogether : {C : Type 0} → SideBySide C → List Field → At C → Left C → Counts → Type 0

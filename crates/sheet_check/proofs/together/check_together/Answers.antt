@@ -20,10 +20,10 @@ returns-in-Ok-clause-checked g c =
 pub returns-in-Ok-clause-failed : goal.returns-in-Ok-clause-failed
 returns-in-Ok-clause-failed g c = λ is.
     absurd (together_check_unopened (side_by_side (way g.C.Children.after g.C.Sources.clock g.C.Sources.wakes c.args.request.now.limit) c.args.jobs c.args.request.now.chosen c.args.request.now.format) c.sheet.result.now.contents
-    (passage c.args.sources.now c.check_named_together-answer.new.sources (g.W.Write.contents c.args.writer.now) (g.W.Write.contents c.check_named_together-answer.new.writer))
+    (passage c.args.sources c.check_named_together-answer.result.sources (g.W.Write.contents c.args.writer.now) (g.W.Write.contents c.check_named_together-answer.new.writer))
     (missing_named c.args.request.now.chosen c.sheet.result.now.contents.fields)
-    ((c.check_named_together-answer.new.writer ≡ c.args.writer.now) × (c.check_named_together-answer.new.sources ≡ c.args.sources.now))
-    c.check_named_together-answer.result opens.Disk c.check_named_together-answer.ensures.checked is)
+    ((c.check_named_together-answer.new.writer ≡ c.args.writer.now) × (c.check_named_together-answer.result.sources ≡ c.args.sources))
+    c.check_named_together-answer.result.answer opens.Disk c.check_named_together-answer.ensures.checked is)
 
 pub returns-in-Err-clause-checked : goal.returns-in-Err-clause-checked
 returns-in-Err-clause-checked g c = unopened c.in-Err.field-0.cause refl (refl, refl) c.in-Err.ensures.fault

@@ -1,0 +1,66 @@
+//! Fields of a copy, evaluated by a driver that prints nothing.
+ghost use Rattle.std.specs.Prelude.{◌≡◌, ℕ, [], IfErr, IfOk, Option};
+ghost use Rattle.session_engine.specs.World.{World};
+ghost use Rattle.session_engine.specs.Host.{IsHost};
+ghost use Rattle.child_edge.specs.Faithful.{at};
+ghost use Rattle.sheet_check.specs.Driven.{DrivenToEnd, DrivenUpTo};
+ghost use Rattle.sheet_check.specs.Evaluated.{way};
+
+use crate::silence::{AllThere, LateFields};
+use crate::together::checking_plan;
+use arrivals::Sources;
+use block_tree::Sequence;
+use disk_model::Disk;
+use driver::Driver;
+use evaluation::Plan;
+use field_agenda::ByFields;
+use offline_programs::RunFault;
+use session_engine::Host;
+use std::alloc::Global;
+
+/// A driver over the host of a copy. It prints nothing.
+pub(crate) type CopyDriver<D, C> = Driver<D, C, LateFields, ByFields<AllThere>>;
+
+/// Numbers of fields whose time was over: none yet.
+fn none_late(alloc: Global) -> LateFields
+    ensures { result ≡ record { ids = [] } }
+{
+    LateFields {
+        ids: Sequence::new(alloc),
+    }
+}
+
+/// A driver over this host and these sources, before it is given a plan.
+pub(crate) fn drive_copy<D: Disk, C: Sources>(
+    alloc: Global,
+    host: Host<D>,
+    sources: C,
+) -> CopyDriver<D, C>
+    ensures host { result.host ≡ host }
+    ensures sources { result.sources ≡ sources }
+{
+    Driver {
+        alloc,
+        host,
+        sources,
+        sink: none_late(alloc),
+        agenda: ByFields::new(alloc, checking_plan(Vec::new(alloc), None, 1), AllThere),
+    }
+}
+
+/// Evaluates the fields of a plan. Those whose time was over are in the driver's sink.
+pub(crate) fn drive_plan<D: Disk, C: Sources>(
+    driver: &mut CopyDriver<D, C>,
+    plan: Plan,
+) -> Result<(), RunFault>
+    ensures ok { (w : World) (limit : Option ℕ) → IsHost driver.old.host w → IfOk result (λ done. (t : World)
+        × DrivenToEnd (way C.after C.clock C.wakes limit) plan (at w driver.old.sources driver.old.host.store.disk)
+        driver.new.sink.ids (at t driver.new.sources driver.new.host.store.disk) × IsHost driver.new.host t) }
+    ensures err { (w : World) (limit : Option ℕ) → IsHost driver.old.host w → IfErr result (DrivenUpTo
+        (way C.after C.clock C.wakes limit) plan (at w driver.old.sources driver.old.host.store.disk)
+        driver.new.host driver.new.sources) }
+{
+    driver.sink = none_late(driver.alloc);
+    driver.agenda = ByFields::new(driver.alloc, plan, AllThere);
+    driver.drive()
+}
