@@ -11,7 +11,7 @@ use Rattle.field_agenda.specs.Standing.{asked_together, does_at, life_due, waiti
 
 -- where it stands when this wait goes on after what lives had
 abbrev pub goes_on : {P : Type 0} → ByFields P → Hold → ByFields P
-goes_on a held = does_at a doing.Nothing (waiting_so a.stand held a.stand.at_once)
+goes_on a held = record a { stand = waiting_so a.stand held a.stand.at_once }
 
 -- The field at this place, with this number, is asked, and so are those that go with it: as where it would be asked next.
 pub record JoinsFrom {P : Type 0} (a : ByFields P) (w : World) (k id : ℕ) (told : Option ℕ × List Event) (b : ByFields P) : Type 0 where
