@@ -11,10 +11,10 @@ loop-path-preserved g c =
     let paths = c.args.paths.now in
     let none : Bor Text = record { ref_ptr = (0, 0); now = [] } in (
       one_checked _ _ paths _ (get_or paths c.loop-path.path-index none) _ _ _ _ _ _ _ (drop_more paths c.loop-path.path-index none c.loop-path-test.true) so.0
-          c.compare_next-end.ensures.does (sym c.is_unwritten.ensures ∙ c.if-is_unwritten.false) c.with-total.ensures.total,
+          c.compare_next-left.ensures.does (sym c.is_unwritten.ensures ∙ c.if-is_unwritten.false) c.with-total.ensures.total,
       c.with-total.ensures.bounded,
       c.with-total.ensures.number ∙ ap (λ n. n + 1) so.2,
-      c.compare_next-end.ensures.leaves ∙ so.3,
+      c.compare_next-left.ensures.leaves ∙ so.3,
     )
 
 pub returns-clause-does : goal.returns-clause-does
@@ -28,4 +28,4 @@ returns-then-is_unwritten-clause-does g c =
     let paths = c.args.paths.now in
     let none : Bor Text = record { ref_ptr = (0, 0); now = [] } in
     one_broke _ _ paths _ (get_or paths c.loop-path.path-index none) _ _ _ _ _ _ _ _ (drop_more paths c.loop-path.path-index none c.loop-path-test.true) so.0
-    c.compare_next-end.ensures.does (sym c.is_unwritten.ensures ∙ c.if-is_unwritten.true) c.with-total.ensures.total c.ending.ensures
+    c.compare_next-left.ensures.does (sym c.is_unwritten.ensures ∙ c.if-is_unwritten.true) c.with-total.ensures.total c.ending.ensures
