@@ -18,6 +18,7 @@ PYTHON = {"kernelspec": {"name": "python3", "display_name": "Python 3", "languag
 
 needs_program = unittest.skipUnless(os.path.isfile(PROGRAM), "there is no built tmhost, and TMHOST names none")
 needs_nbformat = unittest.skipUnless(importlib.util.find_spec("nbformat"), "there is no nbformat (Debian's package python3-nbformat)")
+needs_markdown_it = unittest.skipUnless(importlib.util.find_spec("markdown_it"), "there is no markdown_it (Debian's package python3-markdown-it)")
 
 
 @dataclasses.dataclass

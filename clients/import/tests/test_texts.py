@@ -1,7 +1,7 @@
 """Org files and texts with fences."""
 from tmhost_import import fences, org
 
-from .support import LINE_END, Case
+from .support import LINE_END, Case, needs_markdown_it
 
 # Texts in Org, each with the places, sessions, languages and texts of its blocks.
 ORG: dict[str, list[tuple[int, str | None, str, str]]] = {
@@ -89,6 +89,7 @@ class Fences(Case):
             with self.subTest(text):
                 self.assertEqual([(fence.line, fence.info, fence.lines) for fence in fences.fences_of(text)], blocks)
 
+    @needs_markdown_it
     def test_languages(self) -> None:
         wanted = [("python", f"a{LINE_END}{LINE_END}  b"), ("R", "1"), ("python", "c")]
         self.assertEqual(self.inputs(MARKDOWN, "--no-prose", form="markdown"), wanted)
@@ -97,9 +98,11 @@ class Fences(Case):
         self.assertIn("session json plain sh x\n", done.out)
         self.assertIn("left out: blocks without a language: 1\n", done.errors)
 
+    @needs_markdown_it
     def test_a_text_without_code(self) -> None:
         self.refused("# Title\n\n```julia\n1\n```\n", "nothing in it to make a field of", "--no-prose", form="markdown")
 
+    @needs_markdown_it
     def test_fields_are_those_of_weave(self) -> None:
         """A field for each statement, but where the fence says that it is one."""
         gp = "f(n) =\n{\n  n + 1\n}\nm = [1,2;\n3,4]\n"
@@ -113,6 +116,7 @@ class Fences(Case):
             whole = [text[:-1].replace("\n", "|")]
             self.assertEqual([given.replace(LINE_END, "|") for _, given in self.inputs(document, "--whole", form="markdown")], whole)
 
+    @needs_markdown_it
     def test_what_is_not_to_be_evaluated(self) -> None:
         """It stays in the text, as its author shows it; where no text is taken it is counted."""
         off = ["{r, eval=FALSE}", "{r eval = F}", "r {eval=no}", 'python active="md"', '{python active="py,md"}', "{.python eval=false}"]
@@ -127,6 +131,7 @@ class Fences(Case):
         quarto = "```{python}\n#| echo: false\n#| eval: false\nx\n```\n```{python}\n#| eval: true\ny\n```\n"
         self.assertEqual([name for name, _ in self.inputs(quarto, form="markdown")], ["prose", "python", "python"])
 
+    @needs_markdown_it
     def test_blocks_of_knitr_and_quarto(self) -> None:
         """In a text of these only chunks are evaluated, and other blocks are shown."""
         document = "```r\nx\n```\n\n```{r}\ny\n```\n"
@@ -141,6 +146,7 @@ class Fences(Case):
 
 
 class Split(Case):
+    @needs_markdown_it
     def test_lines_and_those_that_go_on(self) -> None:
         source = "x = 1\n\ny = 2\nif x:\n    a\n\n    b\nelse:\n    c\n@d\ndef f():\n\treturn [\n\t1\n]\nendpoint = 3\nprint(\n  1\n)\nwhile y\n y--\nendwhile\n"
         wanted = ["x = 1", "y = 2", "if x:|    a||    b|else:|    c", "@d|def f():|\treturn [|\t1|]", "endpoint = 3", "print(|  1|)", "while y| y--|endwhile"]
@@ -149,9 +155,11 @@ class Split(Case):
             self.assertEqual([given.replace(LINE_END, "|") for _, given in self.inputs(text, "--split", form=form)], wanted)
         self.assertEqual(len(self.inputs(documents["org"], form="org")), 1)
 
+    @needs_markdown_it
     def test_places(self) -> None:
         self.refused("```sh\na\n\nb\x01\n```\n", "the block in line 1, its line 3: no field can hold the control character U+0001", "--split", form="markdown")
 
+    @needs_markdown_it
     def test_a_long_block_of_short_lines(self) -> None:
         text = "```sh\n" + "echo a line\n" * 2000 + "```\n"
         self.assertEqual(len(self.inputs(text, form="markdown")), 2000)
@@ -167,6 +175,7 @@ class Front(Case):
     def first(self, front: str, *words: str) -> list[str]:
         return self.script(f"{front}```mine {{fold}}\nx\n```\n\n```tmhost-answer\n1\n```\n\n```sh\ny\n```\n", *words, form="markdown")
 
+    @needs_markdown_it
     def test_sessions_of_a_woven_text(self) -> None:
         """Its fences are those of its sessions, as tmhost-weave has it: another one is shown there and never evaluated."""
         for front in ("---\nsessions: {mine: [a, b]}\n---\n", "---\r\ntitle: x\r\nsessions:\r\n  mine: a  b\r\n...\r\n"):
@@ -177,6 +186,7 @@ class Front(Case):
         chunk = "---\nsessions: {r: [a]}\n---\n```{r}\nx\n```\n\n```r\ny\n```\n"
         self.assertEqual([field for field in self.inputs(chunk, form="markdown") if field[0] != "prose"], [("r", "y")])
 
+    @needs_markdown_it
     def test_other_front_matter(self) -> None:
         for front in ("---\ntitle: sessions\n---\n", "---\nsessions:\n---\n", "text\n\n---\nsessions: {mine: [a]}\n---\n", "---\nsessions: {mine: [a]}\n"):
             self.assertEqual([line for line in self.first(front, "--no-prose") if line.startswith("new")], ["new 0 sh y"], front)
