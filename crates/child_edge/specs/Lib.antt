@@ -11,4 +11,5 @@ pub mod Stops
 pub mod Interrupts
 pub mod Together
 pub mod Joined
+pub mod Wholly
 pub mod inside

@@ -1,2 +1,3 @@
 pub mod Gating
+pub mod Taking
 pub mod Joining

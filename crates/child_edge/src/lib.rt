@@ -10,6 +10,7 @@ pub mod serving;
 mod stopping;
 pub mod together;
 mod waiting;
+mod whole;
 
 pub use busy::{is_idle, waiting as waiting_lives};
 pub use interrupting::{Interrupted, interrupt};
@@ -19,3 +20,4 @@ pub use serving::{EdgeCause, EdgeFault, MOST_TURNS, serve, wait};
 pub use stopping::stop_all;
 pub use together::{GaveTogether, MOST_TOGETHER, TogetherFault, receive_event, serve_together};
 pub use waiting::Waiting;
+pub use whole::{GaveWhole, serve_whole};

@@ -10,17 +10,21 @@ use Rattle.host_events.specs.declared.event.Event.{Event}
 use Rattle.host_events.specs.declared.outcome.Outcome.{Outcome}
 use Rattle.session_engine.specs.declared.play.GroupFault.{GroupFault}
 use Rattle.session_engine.specs.declared.play.GroupFault.TheVariants as halt
+use Rattle.session_engine.specs.declared.whole.Whole.{Whole}
+use Rattle.session_engine.specs.declared.whole.Whole.TheVariants as whole
+use Rattle.session_engine.specs.declared.whole.WholeFault.{WholeFault}
+use Rattle.session_engine.specs.declared.whole.WholeFault.TheVariants as lacks
 use Rattle.session_engine.specs.World.{World, world_at_opening}
 use Rattle.session_engine.specs.Does.{Runs}
 use Rattle.session_engine.specs.Host.{HostView, IsHost}
 use Rattle.host_laws.specs.Turns.{CrashesAreTurns}
 use Rattle.host_laws.specs.OneHost.{JustOpened}
-use Rattle.host_laws.specs.Together.{GroupMeets, UpToMeets, returned}
-use Rattle.host_laws.specs.Calls.{CallsLeavePrefixes, GaveBack, TookByCalls, and_given_back, and_group, and_group_up_to, and_step, no_call}
+use Rattle.host_laws.specs.Together.{GroupMeets, UpToMeets, WholeMeets, returned, whole_returned}
+use Rattle.host_laws.specs.Calls.{CallsLeavePrefixes, GaveBack, TookByCalls, TookNone, and_given_back, and_group, and_group_up_to, and_none, and_step, and_whole, no_call}
 use Rattle.host_laws.proofs.Going.{runs_on}
 use Rattle.host_laws.proofs.Stepwise.{steps_are_turns}
 use Rattle.host_laws.proofs.Stepping.{after, within}
-use Rattle.host_laws.proofs.Groups.{groups_are_turns, groups_up_to_are_turns, runs_length}
+use Rattle.host_laws.proofs.Groups.{as_group, groups_are_turns, groups_up_to_are_turns, runs_length, wholes_are_turns}
 
 -- a host that gave a group back stands for the world that it stood for
 stands_given_back : (w : World) (old new : HostView) (group : List Event) → IsHost old w → (answer : Result (Vec Outcome Global) GroupFault) → GroupMeets group old answer new → GaveBack answer → IsHost new w
@@ -36,6 +40,14 @@ stands_given_back_up_to w old new group is (Err (halt.Checkpoint back)) m gave =
 stands_given_back_up_to w old new group is (Err (halt.NoRoom back)) m gave = (m.halts w is).stands
 stands_given_back_up_to w old new group is (Err (halt.Stopped outcomes fault)) m gave = absurd gave
 stands_given_back_up_to w old new group is (Err halt.Disk) m gave = absurd gave
+
+-- and one that took none of the commands that it was given as a whole
+stands_without : (w : World) (old new : HostView) (edits : List Event) → IsHost old w → (answer : Result Whole WholeFault) → WholeMeets edits old answer new → TookNone answer → IsHost new w
+stands_without w old new edits is (Ok (whole.Taken outcomes)) m none = absurd none
+stands_without w old new edits is (Ok (whole.Refused first last)) m none = (m.made w is).stands
+stands_without w old new edits is (Err lacks.NoRoom) m none = (m.halts w is).0
+stands_without w old new edits is (Err lacks.Closed) m none = absurd none
+stands_without w old new edits is (Err lacks.Disk) m none = absurd none
 
 module _ (room : ℕ) (before : Image) (found : List Op) (opened : HostView) (begun : JustOpened room before found opened) where
   -- the host stands for the world that the events lead to
@@ -62,6 +74,20 @@ module _ (room : ℕ) (before : Image) (found : List Op) (opened : HostView) (be
   stands_after events told old (and_given_back {mid = mid} {group = group} {answer = answer} calls meets gave) =
       let at = stands_after events told mid calls in
       (at.0, at.1, ⊎_elim (λ m. stands_given_back at.0 mid old group at.2 answer m gave) (λ m. stands_given_back_up_to at.0 mid old group at.2 answer m gave) meets)
+  stands_after events told old (and_whole {mid = mid} {edits = edits} {outcomes = outcomes} {events = es} {told = os} calls meets) =
+      let at = stands_after es os mid calls in
+      (groups_are_turns room opened.store.end before found begun.allowed begun.image begun.ends es os at.0 at.1 edits mid old (Ok outcomes) at.2 (as_group edits outcomes mid old meets)).2
+  stands_after events told old (and_none {mid = mid} {edits = edits} {answer = answer} calls meets none) =
+      let at = stands_after events told mid calls in
+      (at.0, at.1, stands_without at.0 mid old edits at.2 answer meets none)
+
+  -- a crash within commands more that are taken as a whole, and one after them
+  within_whole : (events : List Event) (told : List Outcome) (old : HostView) (w : World) → Runs (world_at_opening found room opened.store.end) events told w → IsHost old w
+      → (edits : List Event) (answer : Result Whole WholeFault) (new : HostView) → WholeMeets edits old answer new
+      → CrashesAreTurns room before found (record { events = events ++ edits; told = told }) old.store.disk new.store.disk
+      × CrashesAreTurns room before found (record { events = events ++ edits; told = told ++ whole_returned answer }) new.store.disk new.store.disk
+  within_whole events told old w run is edits answer new meets =
+      wholes_are_turns room opened.store.end before found begun.allowed begun.image begun.ends events told w run edits old new answer is meets
 
   -- a crash within one group more that stops at a refusal, and one after it
   within_up_to : (events : List Event) (told : List Outcome) (old : HostView) (w : World) → Runs (world_at_opening found room opened.store.end) events told w → IsHost old w
@@ -88,4 +114,5 @@ calls_leave_prefixes room before found opened begun events told old calls =
       within room before found opened begun events told old at.0 at.1 at.2,
       within_group room before found opened begun events told old at.0 at.1 at.2,
       within_up_to room before found opened begun events told old at.0 at.1 at.2,
+      within_whole room before found opened begun events told old at.0 at.1 at.2,
     )

@@ -20,7 +20,11 @@ use Rattle.session_engine.specs.Crash.{HasPlayed}
 use Rattle.session_engine.specs.Gathers.{FlushesTo}
 use Rattle.session_engine.specs.Host.{EndsAt, HostView, IsHost}
 use Rattle.host_laws.specs.Turns.{CrashesAreTurns, LeftByTurn}
-use Rattle.host_laws.specs.Together.{GroupMeets, GroupsAreTurns, GroupsUpToAreTurns, UpToMeets, returned}
+use Rattle.session_engine.specs.declared.whole.Whole.{Whole}
+use Rattle.session_engine.specs.declared.whole.Whole.TheVariants as whole
+use Rattle.session_engine.specs.declared.whole.WholeFault.{WholeFault}
+use Rattle.session_engine.specs.declared.whole.WholeFault.TheVariants as lacks
+use Rattle.host_laws.specs.Together.{GroupMeets, GroupsAreTurns, GroupsUpToAreTurns, UpToMeets, WholeMeets, returned, whole_returned}
 use Rattle.host_laws.proofs.Going.{plays_are_turns, runs_on}
 
 pub runs_length : (w : World) (es : List Event) (os : List Outcome) (v : World) → Runs w es os v → length es ≡ length os
@@ -32,6 +36,16 @@ runs_length w (e ∷ es) (o ∷ os) v run = ap suc (runs_length run.0 es os v ru
 none_left : (done rest : List Event) → length rest ≡ 0 → rest ≡ []
 none_left done [] none = refl
 none_left done (e ∷ rest) none = absurd (omega (arith, none))
+
+-- commands that were taken as a whole are a group
+pub as_group : (edits : List Event) (outcomes : Vec Outcome Global) (old new : HostView) → WholeMeets edits old (Ok (whole.Taken outcomes)) new → GroupMeets edits old (Ok outcomes) new
+as_group edits outcomes old new m = record {
+  took = λ w is. (m.made w is).took;
+  halts = λ w is. tt;
+  before = m.before;
+  after = m.after;
+  same = m.same;
+}
 
 module _ (room end : ℕ) (before : Image) (found : List Op) (allowed : Allowed found) (opens : IsSheetImage (sheet_of found) before) (ends : EndsAt before end) (events : List Event) (told : List Outcome)
     (w : World) (run : Runs (world_at_opening found room end) events told w) (group : List Event) where
@@ -76,9 +90,12 @@ module _ (room end : ℕ) (before : Image) (found : List Op) (allowed : Allowed 
         weakens (IsSheetOf (sheet_in w) (sheet_in w)) (IsTurn told) old.store.disk.history new.store.disk.history
         (λ i either. ⊎_elim (without i) (without i) either) (plain w flushes model)
 
-    stays : new ≡ old → CrashesAreTurns room before found (record { events = events ++ group; told = told }) old.store.disk new.store.disk
-    stays same = subst (λ (h : HostView). InModel old.store.disk (LeavesOnly (IsTurn told) old.store.disk.history h.store.disk.history)) (sym same)
+    untouched : new.store.disk ≡ old.store.disk → CrashesAreTurns room before found (record { events = events ++ group; told = told }) old.store.disk new.store.disk
+    untouched same = subst (λ (d : DiskView). InModel old.store.disk (LeavesOnly (IsTurn told) old.store.disk.history d.history)) (sym same)
         (λ model. started (IsTurn told) old.store.disk.history (λ i image. without i (stands.stands.images model i image)))
+
+    stays : new ≡ old → CrashesAreTurns room before found (record { events = events ++ group; told = told }) old.store.disk new.store.disk
+    stays same = untouched (ap (λ (h : HostView). h.store.disk) same)
 
     -- a crash after a call that returned no outcome
     silent : SameDisk old.store.disk new.store.disk → CrashesAreTurns room before found (record { events = events ++ group; told = told }) old.store.disk new.store.disk
@@ -123,6 +140,25 @@ module _ (room end : ℕ) (before : Image) (found : List Op) (allowed : Allowed 
     left (Err (halt.Checkpoint back)) m =
         let crashes = stays (m.halts w stands).2 in
         (crashes, silent m.same crashes, tt)
+
+    -- the same of commands that are taken as a whole
+    abbrev LeftWhole : Result Whole WholeFault → Type 0
+    LeftWhole answer = CrashesAreTurns room before found (record { events = events ++ group; told = told }) old.store.disk new.store.disk
+        × CrashesAreTurns room before found (record { events = events ++ group; told = told ++ whole_returned answer }) new.store.disk new.store.disk
+
+    left_whole : (answer : Result Whole WholeFault) → WholeMeets group old answer new → LeftWhole answer
+    left_whole (Ok (whole.Taken outcomes)) m = let so = left (Ok outcomes) (as_group group outcomes old new m) in (so.0, so.1)
+    left_whole (Ok (whole.Refused first last)) m =
+        let crashes = untouched (m.made w stands).disk in
+        (crashes, silent m.same crashes)
+    left_whole (Err lacks.NoRoom) m =
+        let crashes = untouched (m.halts w stands).1 in
+        (crashes, silent m.same crashes)
+    left_whole (Err lacks.Closed) m = absurd (m.halts w stands)
+    left_whole (Err lacks.Disk) m =
+        let s = (m.halts w stands).failed in
+        let crashes = during s.rest s.untold s.before s.played s.moments in
+        (crashes, silent m.same crashes)
 
     -- the same of one that stops at a refusal
     abbrev LeftUpTo : Result (Vec Outcome Global) GroupFault → Type 0
@@ -169,3 +205,10 @@ groups_up_to_are_turns room end before found allowed opens ends events told w ru
 pub groups_are_turns : GroupsAreTurns
 groups_are_turns room end before found allowed opens ends events told w run group old new answer stands m =
     left room end before found allowed opens ends events told w run group old new stands m.before m.after answer m
+
+pub wholes_are_turns : (room end : ℕ) (before : Image) (found : List Op) → Allowed found → IsSheetImage (sheet_of found) before → EndsAt before end → (events : List Event) (told : List Outcome) (w : World)
+    → Runs (world_at_opening found room end) events told w → (edits : List Event) (old new : HostView) (answer : Result Whole WholeFault) → IsHost old w → WholeMeets edits old answer new
+    → CrashesAreTurns room before found (record { events = events ++ edits; told = told }) old.store.disk new.store.disk
+    × CrashesAreTurns room before found (record { events = events ++ edits; told = told ++ whole_returned answer }) new.store.disk new.store.disk
+wholes_are_turns room end before found allowed opens ends events told w run edits old new answer stands m =
+    left_whole room end before found allowed opens ends events told w run edits old new stands m.before m.after answer m

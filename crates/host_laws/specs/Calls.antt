@@ -1,4 +1,4 @@
--- One host that is given events by steps and by groups, as programs give them: what the contracts of its calls say together. (docs/dev/HOST.md.)
+-- One host that is given events by steps, by groups and as a whole, as programs give them: what the contracts of its calls say together. (docs/dev/HOST.md.)
 use Rattle.std.specs.Prelude.{◌⊎◌, ℕ, List, [], ◌∷◌, ◌++◌, length, take, Result, Ok, Err}
 use Rattle.std.specs.declared.alloc.Global.{Global}
 use Rattle.std.specs.declared.vec.Vec.{Vec}
@@ -9,10 +9,14 @@ use Rattle.host_events.specs.declared.outcome.HostFault.{HostFault}
 use Rattle.host_events.specs.declared.outcome.Outcome.{Outcome}
 use Rattle.session_engine.specs.declared.play.GroupFault.{GroupFault}
 use Rattle.session_engine.specs.declared.play.GroupFault.TheVariants as halt
+use Rattle.session_engine.specs.declared.whole.Whole.{Whole}
+use Rattle.session_engine.specs.declared.whole.Whole.TheVariants as whole
+use Rattle.session_engine.specs.declared.whole.WholeFault.{WholeFault}
+use Rattle.session_engine.specs.declared.whole.WholeFault.TheVariants as lacks
 use Rattle.session_engine.specs.Host.{HostView}
 use Rattle.host_laws.specs.Turns.{CrashesAreTurns}
 use Rattle.host_laws.specs.OneHost.{JustOpened, StepMeets}
-use Rattle.host_laws.specs.Together.{GroupMeets, UpToMeets, returned}
+use Rattle.host_laws.specs.Together.{GroupMeets, UpToMeets, WholeMeets, returned, whole_returned}
 
 -- The call took no event and gave all back: there was no memory, or a checkpoint was among them.
 abbrev pub GaveBack : Result (Vec Outcome Global) GroupFault → Type 0
@@ -21,6 +25,14 @@ GaveBack (Err (halt.Checkpoint back)) = Unit {0}
 GaveBack (Err (halt.NoRoom back)) = Unit {0}
 GaveBack (Err (halt.Stopped outcomes fault)) = ⊥
 GaveBack (Err halt.Disk) = ⊥
+
+-- No command was taken: one would be refused, or there was no memory.
+abbrev pub TookNone : Result Whole WholeFault → Type 0
+TookNone (Ok (whole.Taken outcomes)) = ⊥
+TookNone (Ok (whole.Refused first last)) = Unit {0}
+TookNone (Err lacks.NoRoom) = Unit {0}
+TookNone (Err lacks.Closed) = ⊥
+TookNone (Err lacks.Disk) = ⊥
 
 -- The host took these events, each by a step or in a group, and they returned these outcomes.
 pub data TookByCalls : HostView → List Event → List Outcome → HostView → Type 0 where
@@ -35,10 +47,16 @@ pub data TookByCalls : HostView → List Event → List Outcome → HostView →
   -- none of a group that was given back
   and_given_back : {h mid new : HostView} {group : List Event} {answer : Result (Vec Outcome Global) GroupFault} {events : List Event} {told : List Outcome}
       → TookByCalls h events told mid → GroupMeets group mid answer new ⊎ UpToMeets group mid answer new → GaveBack answer → TookByCalls h events told new
+  -- commands that were taken as a whole, and none of those that weren't
+  and_whole : {h mid new : HostView} {edits : List Event} {outcomes : Vec Outcome Global} {events : List Event} {told : List Outcome}
+      → TookByCalls h events told mid → WholeMeets edits mid (Ok (whole.Taken outcomes)) new → TookByCalls h (events ++ edits) (told ++ outcomes.items) new
+  and_none : {h mid new : HostView} {edits : List Event} {answer : Result Whole WholeFault} {events : List Event} {told : List Outcome}
+      → TookByCalls h events told mid → WholeMeets edits mid answer new → TookNone answer → TookByCalls h events told new
 
 -- A host was opened, and given events by steps and groups. A crash after the last call leaves the worksheet after a prefix of the events that
 -- has each of them, since each was acknowledged; and so does a crash at any moment of one step or one group more, whatever that answers. One after a
--- group, which a fault or a refusal may have stopped, leaves also each event whose outcome the group returned.
+-- group, which a fault or a refusal may have stopped, leaves also each event whose outcome the group returned. Commands that are taken as a
+-- whole are such a group.
 abbrev pub CallsLeavePrefixes : Type 0
 CallsLeavePrefixes = (room : ℕ) (before : Image) (found : List Op) (opened : HostView) → JustOpened room before found opened
     → (events : List Event) (told : List Outcome) (old : HostView) → TookByCalls opened events told old
@@ -51,3 +69,6 @@ CallsLeavePrefixes = (room : ℕ) (before : Image) (found : List Op) (opened : H
     × ((group : List Event) (answer : Result (Vec Outcome Global) GroupFault) (new : HostView) → UpToMeets group old answer new
     → CrashesAreTurns room before found (record { events = events ++ group; told = told }) old.store.disk new.store.disk
     × CrashesAreTurns room before found (record { events = events ++ group; told = told ++ returned answer }) new.store.disk new.store.disk)
+    × ((edits : List Event) (answer : Result Whole WholeFault) (new : HostView) → WholeMeets edits old answer new
+    → CrashesAreTurns room before found (record { events = events ++ edits; told = told }) old.store.disk new.store.disk
+    × CrashesAreTurns room before found (record { events = events ++ edits; told = told ++ whole_returned answer }) new.store.disk new.store.disk)

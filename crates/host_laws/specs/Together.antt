@@ -15,6 +15,10 @@ use Rattle.session_engine.specs.World.{World, world_at_opening}
 use Rattle.session_engine.specs.Does.{Runs}
 use Rattle.session_engine.specs.Groups.{HaltsGroup, HaltsUpTo, TookGroup, TookUpTo}
 use Rattle.session_engine.specs.Host.{EndsAt, HostView, IsHost}
+use Rattle.session_engine.specs.Whole.{HaltsWhole, MadeWhole}
+use Rattle.session_engine.specs.declared.whole.Whole.{Whole}
+use Rattle.session_engine.specs.declared.whole.Whole.TheVariants as whole
+use Rattle.session_engine.specs.declared.whole.WholeFault.{WholeFault}
 use Rattle.host_laws.specs.Turns.{CrashesAreTurns}
 
 -- One call of `play_group`, as its contract has it, between two moments at which nothing is owed to the host's disk: the events, the
@@ -34,6 +38,14 @@ pub record UpToMeets (group : List Event) (old : HostView) (answer : Result (Vec
   pub after : new.store.real ≡ new.store.disk
   pub same : SameDisk old.store.disk new.store.disk
 
+-- The same of `play_whole`, which takes all of its commands or none.
+pub record WholeMeets (edits : List Event) (old : HostView) (answer : Result Whole WholeFault) (new : HostView) : Type 0 where
+  pub made : (w : World) → IsHost old w → IfOk answer (MadeWhole w edits old new)
+  pub halts : (w : World) → IsHost old w → IfErr answer (HaltsWhole w edits old new)
+  pub before : old.store.real ≡ old.store.disk
+  pub after : new.store.real ≡ new.store.disk
+  pub same : SameDisk old.store.disk new.store.disk
+
 -- the outcomes that such a call returned
 abbrev pub returned : Result (Vec Outcome Global) GroupFault → List Outcome
 returned (Ok outcomes) = outcomes.items
@@ -41,6 +53,12 @@ returned (Err (halt.Stopped outcomes fault)) = outcomes.items
 returned (Err (halt.Checkpoint back)) = []
 returned (Err (halt.NoRoom back)) = []
 returned (Err halt.Disk) = []
+
+-- and those of commands that were taken as a whole: of such that weren't taken none counts
+abbrev pub whole_returned : Result Whole WholeFault → List Outcome
+whole_returned (Ok (whole.Taken outcomes)) = outcomes.items
+whole_returned (Ok (whole.Refused first last)) = []
+whole_returned (Err why) = []
 
 -- A group is a part of a turn, too. A host was opened, took events and returned their outcomes, and stands for the world that they led
 -- to; now it plays a group of events more. A crash at any moment of that, whatever it answers, makes a turn of the events with the group that

@@ -5,12 +5,12 @@ ghost use Rattle.worksheet.specs.declared.op.Op.{Op};
 ghost use Rattle.worksheet.specs.Ops.{sheet_of};
 ghost use Rattle.recovery.specs.Sheets.{IsSheetImage};
 ghost use Rattle.host_laws.specs.OneHost.{JustOpened};
-ghost use Rattle.host_laws.specs.Together.{GroupMeets, UpToMeets};
+ghost use Rattle.host_laws.specs.Together.{GroupMeets, UpToMeets, WholeMeets};
 
 use disk_model::Disk;
 use host_events::{Event, Outcome};
 use journal::{CreateFault, OpenFault, create};
-use session_engine::{GroupFault, Host};
+use session_engine::{Edits, GroupFault, Host, Whole, WholeFault};
 use std::alloc::Global;
 
 /// A host that is opened was just opened on the image that its disk had: from there the laws of turns go on.
@@ -53,6 +53,16 @@ pub fn played_group_up_to<D: Disk>(
 {
     let _before = host.sheet();
     let played = host.play_group_up_to(events);
+    let _after = host.sheet();
+    played
+}
+
+/// The same of commands that are taken as a whole or not at all.
+pub fn played_whole<D: Disk>(host: &mut Host<D>, edits: Edits) -> Result<Whole, WholeFault>
+    ensures { WholeMeets edits host.old result host.new }
+{
+    let _before = host.sheet();
+    let played = host.play_whole(edits);
     let _after = host.sheet();
     played
 }

@@ -1,11 +1,12 @@
 -- The ops that a store keeps.
-use Rattle.std.proofs.Common.{◌≡◌, inl, inr, ⊎_elim, ℕ, false, List, [], ◌∷◌, ◌++◌, ◌≤◌, length, Option, Some, None, refl, sym, ap, ◌∙◌, subst}
+use Rattle.std.proofs.Common.{◌≡◌, inl, inr, ⊎_elim, ℕ, false, List, [], ◌∷◌, ◌++◌, ◌+◌, ◌≤◌, arith, length, Option, Some, None, refl, sym, ap, ◌∙◌, subst}
 use Rattle.disk_model.specs.Disk.{DiskView, History, InModel, Leaves, LeavesOnly}
 use Rattle.disk_model.specs.inside.Moments.{started, weakens}
 use Rattle.worksheet.specs.declared.op.Op.{Op}
 use Rattle.worksheet.specs.Contents.{Contents, SheetView}
 use Rattle.worksheet.specs.Ops.{sheet_of}
 use Rattle.worksheet.specs.Checks.{first_refusal}
+use Rattle.journal.specs.Area.{records}
 use Rattle.journal.specs.inside.Standing.{keeps_images}
 use Rattle.journal.specs.Kept.{Fits, ImageStandsFor, JournalView, Keeps, BeforeOrAfter}
 use Rattle.journal.specs.Limits.{longest_payload}
@@ -14,7 +15,7 @@ use Rattle.recovery.specs.Code.{code_of, IsPayloadOf}
 use Rattle.recovery.specs.Sheets.{StoreView, codes_of, Makes, HasPlace, IsSheetImage, IsStore, KeepsOps, SameStore, StandsWithOrWithout}
 use Rattle.recovery.specs.declared.base.Base.{Base}
 use Rattle.recovery.specs.declared.base.Base.TheVariants.{Open, Gathering, Closed}
-use Rattle.recovery.specs.inside.Base.{disk_of, disk_in, end_in, gathers, gathers_in, is_closed, is_closed_store, owed_in, owed_to, real_in, real_of, KeepsIn, KeepsSheet, IsStoreOf, store_on}
+use Rattle.recovery.specs.inside.Base.{disk_of, disk_in, end_in, end_of_base, gathers, gathers_in, is_closed, is_closed_store, owed_in, owed_to, real_in, real_of, start_in, start_of_base, KeepsIn, KeepsSheet, IsStoreOf, store_on}
 use Rattle.recovery.specs.inside.Taken.{TakesAll}
 use Rattle.recovery.proofs.Allowed.{makes_more}
 use Rattle.recovery.proofs.Images.{all_images, made_in}
@@ -63,6 +64,16 @@ plain_in view (Some (Open journal)) none = refl
 plain_in view (Some (Gathering journal group)) none = owes_none journal.disk journal.end group.payloads none
 plain_in view (Some (Closed disk)) none = refl
 
+-- and ends there
+start_is : (end : ℕ) (payloads : List (List ℕ)) → payloads ≡ [] → end ≡ end + length (records payloads)
+start_is end payloads none = omega (arith, ap (λ (ps : List (List ℕ)). length (records ps)) none)
+
+started_in : {D : Type 0} (base : Option (Base D)) → owed_in base ≡ [] → start_of_base base ≡ end_of_base base
+started_in None none = refl
+started_in (Some (Open journal)) none = refl
+started_in (Some (Gathering journal group)) none = start_is journal.end group.payloads none
+started_in (Some (Closed disk)) none = refl
+
 pub written_in : {D : Type 0} (view : D → DiskView) (base : Option (Base D)) → gathers_in base ≡ false → (owed_in base ≡ []) × (real_in view base ≡ disk_in view base)
 written_in view None at_once = (refl, refl)
 written_in view (Some (Open journal)) at_once = (refl, refl)
@@ -75,16 +86,18 @@ is_store view base sheet holds = record {
   kept = some_kept view base sheet holds;
   images = some_images view base sheet holds;
   none_owed = plain_in view base;
+  started = started_in base;
   written = written_in view base;
 }
 
 -- where memory was made ready, nothing else of a store has changed
 pub ready_same : {D : Type 0} (view : D → DiskView) (at : Option (Base D)) (base new : Base D) (sheet after : SheetView) → at ≡ Some base → after.contents ≡ sheet.contents
     → disk_of view new ≡ disk_of view base → end_in new ≡ end_in base → is_closed new ≡ is_closed base → real_of view new ≡ real_of view base → owed_to new ≡ owed_to base → gathers new ≡ gathers base
+    → start_in new ≡ start_in base
     → SameStore (store_on view at sheet) (store_on view (Some new) after)
-ready_same {D = D} view at base new sheet after is contents disk end closed real owed gathers_still =
+ready_same {D = D} view at base new sheet after is contents disk end closed real owed gathers_still start =
     subst (λ (b : Option (Base D)). SameStore (store_on view b sheet) (store_on view (Some new) after)) (sym is)
-    (record { disk = disk; end = end; contents = contents; closed = closed; real = real; owed = owed; gathers = gathers_still })
+    (record { disk = disk; end = end; contents = contents; closed = closed; real = real; owed = owed; gathers = gathers_still; start = start })
 
 -- what fits once memory was made ready, fitted before
 pub place_before : (old new : StoreView) (n : ℕ) → SameStore old new → HasPlace new n → HasPlace old n

@@ -1,6 +1,6 @@
 -- What is owed to a journal, and written as a group.
 use Rattle.std.specs.Prelude.{OnErr, OnOk}
-use Rattle.std.proofs.Common.{◌≡◌, ◌⊎◌, true, false, Some, Result, Ok, Err, inl, inr, ⊎_elim, ℕ, ◌+◌, List, [], ◌∷◌, ◌++◌, length, refl, sym, ◌∙◌, ap, subst, arith, IsTrue, length-append}
+use Rattle.std.proofs.Common.{◌≡◌, true, false, Some, Result, Ok, Err, inl, inr, ⊎_elim, ℕ, ◌+◌, List, [], ◌∷◌, ◌++◌, length, refl, sym, ◌∙◌, ap, subst, arith, IsTrue, length-append}
 use Rattle.disk_model.specs.Disk.{DiskView, History, InModel, IsImage, Leaves, LeavesOnly, Rises, SameDisk, bytes_on}
 use Rattle.disk_model.specs.declared.disk.DiskFault.{DiskFault}
 use Rattle.disk_model.specs.inside.Moments.{weakens}
@@ -167,6 +167,21 @@ either_sheet v end ops kept before after new sound keeps makes makes_kept leaves
     (λ i stands. ⊎_elim
     (λ old. inl (record { ops = ops; stands = old; makes = subst (λ (s : Contents). Makes ops s) (sym same) makes }))
     (λ all. inr (record { ops = kept; stands = all; makes = makes_kept })) stands) run
+
+-- What is owed is dropped.
+
+pub withdrawn_base : {D : Type 0} (view : D → DiskView) (b new : Base D) (sheet before : Contents) → IsBaseOf view b sheet → is_closed b ≡ false → ((ops : List Op) × Makes ops before) → IsSound (real_of view b)
+    → InModel (real_of view b) (Leaves (IsSheetImage before) (real_of view b).history.now) → disk_of view new ≡ real_of view b → ((payloads : List (List ℕ)) → RealKeeps b payloads → KeepsIn new payloads) → MayOweIn new → IsBaseOf view new before
+withdrawn_base view b new sheet before holds opened made sound images disk keeps owing = record {
+  made = made;
+  kept = λ is_open model.
+      let here = subst (λ (v : DiskView). IsTrue v.keeps_model) disk model in
+      let real = real_ops view b sheet holds opened (subst IsTrue (sym (same_model view b)) here) in
+      let there = real_keeps view b (codes_of real.0) real.1 in
+      let is = sheet_there (real_of view b) there.0 real.0 before (sound here) there.1 real.2 (images here) in
+      record { ops = real.0; keeps = keeps (codes_of real.0) real.1; makes = subst (λ (s : Contents). Makes real.0 s) (sym is) real.2 };
+  owing = owing;
+}
 
 -- A flush of a store.
 

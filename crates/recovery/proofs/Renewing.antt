@@ -78,7 +78,7 @@ module _ {D : Type 0} (view : D → DiskView) (base new : Base D) (sheet : Sheet
     opened,
     λ fits. answers.0 (subst (λ (l : List (List ℕ)). FitsAnew (disk_of view base).room l) (sym are) fits),
     subst (λ (b : Base D). SameStore (store_on view (Some base) sheet) (store_on view (Some b) sheet)) (sym answers.1)
-        (record { disk = refl; end = refl; contents = refl; closed = refl; real = refl; owed = refl; gathers = refl }),
+        (record { disk = refl; end = refl; contents = refl; closed = refl; real = refl; owed = refl; gathers = refl; start = refl }),
   )
   answered room (Err faults.OutOfMemory) answers = absurd answers
   answered room (Err faults.Disk) answers = (opened, room, answers.0, answers.1)

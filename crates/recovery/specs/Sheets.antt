@@ -64,7 +64,8 @@ TellsOfSheet i causes.OutOfMemory = Unit {0}
 -- A store as contracts see it: its disk, as it would be if each record that is owed had been appended;
 -- while it is open the offset of the closed gate after that disk's payloads; its worksheet; and whether
 -- it is closed. Then the disk as it stands; the payloads that are owed to it; whether records are owed,
--- and not written at once; and for how many bytes of a record there is memory.
+-- and not written at once; the offset of the closed gate after the payloads of the disk as it stands,
+-- and 0 where the store is closed; and for how many bytes of a record there is memory.
 pub record StoreView : Type 0 where
   pub disk : DiskView
   pub end : ℕ
@@ -73,6 +74,7 @@ pub record StoreView : Type 0 where
   pub real : DiskView
   pub owed : List (List ℕ)
   pub gathers : Bool
+  pub start : ℕ
   pub place : ℕ
 
 -- The store isn't closed, and keeps these ops: its disk stands for their payloads, which are
@@ -84,13 +86,14 @@ pub record KeepsOps (store : StoreView) (ops : List Op) : Type 0 where
 
 -- What is true of each store: allowed ops made its worksheet; while it is open it keeps their
 -- payloads, and a crash leaves an image of its worksheet. Where nothing is owed its disk is as it
--- stands, so it is where records are written at once.
+-- stands, and ends there; so it is where records are written at once.
 pub record IsStore (store : StoreView) : Type 0 where
   pub made : (ops : List Op) × Makes ops store.sheet.contents
   pub kept : InModel store.disk (store.closed ≡ false → (ops : List Op) × KeepsOps store ops)
   pub images : InModel store.disk
       (store.closed ≡ false → Leaves (IsSheetImage store.sheet.contents) store.disk.history.now)
   pub none_owed : store.owed ≡ [] → store.real ≡ store.disk
+  pub started : store.owed ≡ [] → store.start ≡ store.end
   pub written : store.gathers ≡ false → (store.owed ≡ []) × (store.real ≡ store.disk)
 
 -- the store isn't closed, and a payload of so many bytes fits on its disk
@@ -114,6 +117,7 @@ pub record SameStore (old new : StoreView) : Type 0 where
   pub real : new.real ≡ old.real
   pub owed : new.owed ≡ old.owed
   pub gathers : new.gathers ≡ old.gathers
+  pub start : new.start ≡ old.start
 
 -- an image of this sheet, or of that one
 abbrev pub IsSheetOf : Contents → Contents → Image → Type 0
@@ -126,8 +130,9 @@ pub record IsOwedOrWritten (old new : StoreView) : Type 0 where
   pub written : old.gathers ≡ false → new.real ≡ new.disk
 
 -- Whether records are owed or written at once stays as it was; while they are owed, the disk as it
--- stands is left alone, and an open store stays open.
+-- stands is left alone with its end, and an open store stays open.
 pub record GathersOn (old new : StoreView) : Type 0 where
   pub gathers : new.gathers ≡ old.gathers
   pub real : old.gathers ≡ true → new.real ≡ old.real
+  pub start : old.gathers ≡ true → new.start ≡ old.start
   pub closed : old.gathers ≡ true → new.closed ≡ old.closed

@@ -19,7 +19,7 @@ pub(crate) enum Base<D: Disk> {
 }
 
 impl<D: Disk> Base<D> {
-    ghost use Rattle.recovery.specs.inside.Base.{disk_of, end_in, gathers, is_closed, owed_to, place_for, real_of, AnewAnswers, HasPlaceIn, MayOweIn, KeepsIn, KeepsSome, RealKeeps};
+    ghost use Rattle.recovery.specs.inside.Base.{disk_of, end_in, gathers, is_closed, owed_to, place_for, real_of, start_in, AnewAnswers, HasPlaceIn, MayOweIn, KeepsIn, KeepsSome, RealKeeps};
 
     /// Adds a payload for which there is a place, or owes it. A failure of the disk closes it.
     pub(crate) fn with(self, frame: &Frame) -> (Base<D>, Result<(), DiskFault>)
@@ -30,6 +30,7 @@ impl<D: Disk> Base<D> {
         ensures owing { MayOweIn result.0 }
         ensures real { gathers self ≡ true → (real_of D.view result.0 ≡ real_of D.view self)
             × (gathers result.0 ≡ true) }
+        ensures start { gathers self ≡ true → start_in result.0 ≡ start_in self }
         ensures written { gathers self ≡ false → gathers result.0 ≡ false }
         ensures at_once { OnErr result.1 (gathers self ≡ false) }
         ensures still_open { gathers self ≡ true → is_closed result.0 ≡ false }
@@ -159,6 +160,7 @@ impl<D: Disk> Base<D> {
         ensures disk { disk_of D.view result ≡ disk_of D.view self }
         ensures real { real_of D.view result ≡ real_of D.view self }
         ensures end { end_in result ≡ end_in self }
+        ensures start { start_in result ≡ start_in self }
         ensures closed { is_closed result ≡ is_closed self }
         ensures owed { owed_to result ≡ owed_to self }
         ensures gathers { is_closed self ≡ false → gathers result ≡ true }
@@ -178,6 +180,7 @@ impl<D: Disk> Base<D> {
         ensures disk { disk_of D.view self.new ≡ disk_of D.view self.old }
         ensures real { real_of D.view self.new ≡ real_of D.view self.old }
         ensures end { end_in self.new ≡ end_in self.old }
+        ensures start { start_in self.new ≡ start_in self.old }
         ensures closed { is_closed self.new ≡ is_closed self.old }
         ensures owed { owed_to self.new ≡ owed_to self.old }
         ensures gathers { gathers self.new ≡ gathers self.old }
@@ -189,6 +192,24 @@ impl<D: Disk> Base<D> {
         match self {
             Base::Gathering(_, group) => group.make_place(payload_len),
             Base::Open(_) | Base::Closed(_) => Ok(()),
+        }
+    }
+
+    /// Drops what is owed, and leaves the disk as it stands. From then on payloads are written at once.
+    pub(crate) fn withdraw(self) -> Base<D>
+        ensures disk { disk_of D.view result ≡ real_of D.view self }
+        ensures real { real_of D.view result ≡ real_of D.view self }
+        ensures end { end_in result ≡ start_in self }
+        ensures owed { owed_to result ≡ [] }
+        ensures gathers { gathers result ≡ false }
+        ensures closed { is_closed result ≡ is_closed self }
+        ensures owing { MayOweIn result }
+        ensures keeps { (payloads : List (List ℕ)) → RealKeeps self payloads → KeepsIn result payloads }
+    {
+        match self {
+            Base::Gathering(journal, _) => Base::Open(journal),
+            Base::Open(journal) => Base::Open(journal),
+            Base::Closed(disk) => Base::Closed(disk),
         }
     }
 

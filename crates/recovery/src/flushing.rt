@@ -1,13 +1,14 @@
 //! Records that are owed, and made durable together.
 ghost use Rattle.std.specs.Prelude.{◌≡◌, [], List, false, true, OnErr, OnOk, MatchResult};
 ghost use Rattle.disk_model.specs.Disk.{InModel, Leaves, LeavesOnly, Rises, SameDisk};
-ghost use Rattle.recovery.specs.Sheets.{IsSheetImage, IsSheetOf, IsStore, KeepsOps};
+ghost use Rattle.recovery.specs.Sheets.{IsSheetImage, IsSheetOf, IsStore, KeepsOps, Makes};
 ghost use Rattle.worksheet.specs.Contents.{Contents};
 ghost use Rattle.worksheet.specs.declared.op.Op.{Op};
 
 use crate::store::Store;
 use disk_model::{Disk, DiskFault};
 use journal::Group;
+use worksheet::Sheet;
 
 impl<D: Disk> Store<D> {
     /// From now on records are owed, in this group, which has none yet, until a `flush` or a checkpoint.
@@ -20,12 +21,35 @@ impl<D: Disk> Store<D> {
         ensures disk { self.new.disk ≡ self.old.disk }
         ensures real { self.new.real ≡ self.old.real }
         ensures end { self.new.end ≡ self.old.end }
+        ensures start { self.new.start ≡ self.old.start }
         ensures closed { self.new.closed ≡ self.old.closed }
         ensures owed { self.new.owed ≡ self.old.owed }
         ensures gathers { self.old.closed ≡ false → self.new.gathers ≡ true }
     {
         let base = self.base.take().unwrap().gather(group);
         self.base = Some(base);
+    }
+
+    /// Drops what is owed: the disk stays as it stands, and the worksheet is this one again, of which the disk
+    /// holds images. From then on records are written at once. It takes no memory and makes no call.
+    pub fn withdraw(&mut self, before: Sheet)
+        requires open { self.old.closed ≡ false }
+        requires made { (ops : List Op) × Makes ops before.contents }
+        requires images { InModel self.old.real
+            (Leaves (IsSheetImage before.contents) self.old.real.history.now) }
+        ensures sheet { self.new.sheet ≡ before }
+        ensures real { self.new.real ≡ self.old.real }
+        ensures disk { self.new.disk ≡ self.old.real }
+        ensures end { self.new.end ≡ self.old.start }
+        ensures owed { self.new.owed ≡ [] }
+        ensures gathers { self.new.gathers ≡ false }
+        ensures closed { self.new.closed ≡ false }
+    {
+        let old = self.base.take().unwrap();
+        // Called for its contract alone: the disk holds an image that a crash may leave.
+        let _room = old.room();
+        self.base = Some(old.withdraw());
+        self.sheet = before;
     }
 
     /// Whether it is closed, so that nothing can be added or flushed any more.

@@ -4,6 +4,7 @@
 
 mod afters;
 mod base;
+mod copying;
 mod fault;
 mod flushing;
 mod laws;
@@ -22,6 +23,7 @@ mod size;
 mod store;
 mod writing;
 
+pub use copying::copy_sheet;
 pub use fault::{CheckpointFault, CommitFault, PrepareFault};
 pub use laws::{
     allowed_have_code, longest_rescue, one_list_of_ops, one_op, one_refusal, one_rescue, one_sheet,

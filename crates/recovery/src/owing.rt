@@ -4,7 +4,7 @@ ghost use Rattle.disk_model.specs.Disk.{InModel, LeavesOnly, SameDisk, Rises, by
 ghost use Rattle.journal.specs.Area.{records};
 ghost use Rattle.journal.specs.Kept.{BeforeOrAfter, EitherStands, Fits, Keeps, other_of};
 ghost use Rattle.journal.specs.Owed.{owed_disk};
-ghost use Rattle.recovery.specs.inside.Base.{disk_of, end_in, gathers, is_closed, owed_to, real_of, MayOweIn, KeepsIn, MayOwe};
+ghost use Rattle.recovery.specs.inside.Base.{disk_of, end_in, gathers, is_closed, owed_to, real_of, start_in, MayOweIn, KeepsIn, MayOwe};
 
 use crate::base::Base;
 use disk_model::{Disk, DiskFault};
@@ -20,6 +20,7 @@ pub(crate) fn owe<D: Disk>(journal: Journal<D>, group: Group, frame: &Frame) -> 
     ensures owing { MayOweIn result }
     ensures gathers { gathers result ≡ true }
     ensures real { real_of D.view result ≡ journal.disk }
+    ensures start { start_in result ≡ journal.end }
     ensures open { is_closed result ≡ false }
     ensures ends { end_in result
         ≡ journal.end + length (records group.payloads) + 5 + length frame.now }

@@ -33,7 +33,7 @@ pub struct Store<D: Disk> {
     alloc: Global,
     // A base is always there but within a call.
     pub(crate) base: Option<Base<D>>,
-    sheet: Sheet,
+    pub(crate) sheet: Sheet,
 }
 
 impl<D: Disk> Model for Store<D> {
@@ -332,6 +332,13 @@ impl<D: Disk> Store<D> {
             self.now.disk.history.now) }
     {
         &self.sheet
+    }
+
+    /// The worksheet. The disk is dropped.
+    pub fn into_sheet(self) -> Sheet
+        ensures { result ≡ self.sheet }
+    {
+        self.sheet
     }
 
     /// The disk, as it stands. What is owed to it isn't there.

@@ -25,12 +25,13 @@ none_of [] is = tt
 none_of (e ∷ events) is = let parts = neither (is_checkpoint e) (list_any is_checkpoint events) is in (parts.0, none_of events parts.1)
 
 pub gathers_self : (s : StoreView) → GathersOn s s
-gathers_self s = record { gathers = refl; real = λ owed. refl; closed = λ owed. refl }
+gathers_self s = record { gathers = refl; real = λ owed. refl; start = λ owed. refl; closed = λ owed. refl }
 
 pub gathers_on : (a b c : StoreView) → GathersOn a b → GathersOn b c → GathersOn a c
 gathers_on a b c p q = record {
   gathers = q.gathers ∙ p.gathers;
   real = λ owed. q.real (p.gathers ∙ owed) ∙ p.real owed;
+  start = λ owed. q.start (p.gathers ∙ owed) ∙ p.start owed;
   closed = λ owed. q.closed (p.gathers ∙ owed) ∙ p.closed owed;
 }
 

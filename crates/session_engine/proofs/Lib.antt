@@ -15,4 +15,5 @@ pub mod Committing
 pub mod Losing
 pub mod Losses
 pub mod Until
+pub mod Withdrawing
 pub mod JoinLaws

@@ -8,5 +8,6 @@ pub mod Faults
 pub mod Crash
 pub mod Gathers
 pub mod Groups
+pub mod Whole
 pub mod Joining
 pub mod inside

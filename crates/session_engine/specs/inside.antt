@@ -5,4 +5,5 @@ pub mod Tables
 pub mod Engines
 pub mod Commits
 pub mod Until
+pub mod Wholes
 pub mod Joins

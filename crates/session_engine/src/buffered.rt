@@ -198,6 +198,7 @@ impl<D: Disk> BufferedHost<D> {
         ensures goes_on { (w : World) → IsHost self.old w → IsHost self.new w }
         ensures disk { self.new.store.disk ≡ self.old.store.disk }
         ensures real { self.new.store.real ≡ self.old.store.real }
+        ensures start { self.new.store.start ≡ self.old.store.start }
         ensures owed { self.new.store.owed ≡ self.old.store.owed }
         ensures closed { self.new.closed ≡ self.old.closed }
         ensures open { self.new.store.closed ≡ self.old.store.closed }

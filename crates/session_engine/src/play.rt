@@ -298,7 +298,7 @@ pub(crate) fn has_checkpoint(events: &[Event]) -> bool
     events.iter().any(asks_for_checkpoint)
 }
 
-fn is_refusal(outcome: &Outcome) -> bool
+pub(crate) fn is_refusal(outcome: &Outcome) -> bool
     ensures { result ≡ group.is_refusal outcome.now }
 {
     match &outcome.reply {

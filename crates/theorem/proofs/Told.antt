@@ -14,9 +14,9 @@ use Rattle.session_engine.specs.declared.play.GroupFault.{GroupFault}
 use Rattle.session_engine.specs.Host.{HostView}
 use Rattle.host_laws.specs.Turns.{EachTurned, HostTurn, HostsInTurn, LeftByTurn, LeftInTurn}
 use Rattle.host_laws.specs.OneHost.{JustOpened}
-use Rattle.host_laws.specs.Together.{returned}
+use Rattle.host_laws.specs.Together.{returned, whole_returned}
 use Rattle.host_laws.specs.Calls.{CallsLeavePrefixes, TookByCalls, no_call}
-use Rattle.theorem.specs.Story.{CrashedSince, Doing, HostLived, Story, PlaysGroup, nothing, a_step, a_group, after_group, ends, opening, host}
+use Rattle.theorem.specs.Story.{CrashedSince, Doing, HostLived, Story, PlaysGroup, nothing, a_step, a_group, a_whole, after_group, after_whole, ends, opening, host}
 
 -- the state at a moment since then is one of those of which something holds
 found_in : (P : Image → Type 0) (first : DiskState) (past : List DiskState) → Leaves P first → (more later earlier : List DiskState) (s : DiskState)
@@ -63,6 +63,12 @@ module _ (calls : CallsLeavePrefixes) (room : ℕ) (before : Image) (after : Ima
   by_doing t from to (after_group group answer new plays) crashed =
       at_crash (LeftByTurn room before found (record { events = events ++ group; told = told ++ returned answer })) new.store.disk.history new.store.disk.history after
       (group_left group answer new plays).1 crashed
+  by_doing t from to (a_whole edits answer new meets) crashed =
+      at_crash (LeftByTurn room before found (record { events = events ++ edits; told = told })) old.store.disk.history new.store.disk.history after
+      (((calls room before found opened begun events told old took).4 edits answer new meets).0 model) crashed
+  by_doing t from to (after_whole edits answer new meets) crashed =
+      at_crash (LeftByTurn room before found (record { events = events ++ edits; told = told ++ whole_returned answer })) new.store.disk.history new.store.disk.history after
+      (((calls room before found opened begun events told old took).4 edits answer new meets).1 (keeps_still old.store.disk new.store.disk meets.same model)) crashed
 
 pub host_turned : CallsLeavePrefixes → (room : ℕ) (before : Image) (turn : HostTurn) (after : Image) → (h : HostLived room before turn after)
     → LeftByTurn room before h.found turn after

@@ -13,10 +13,12 @@ use Rattle.host_events.specs.declared.event.Event.{Event}
 use Rattle.host_events.specs.declared.outcome.HostFault.{HostFault}
 use Rattle.host_events.specs.declared.outcome.Outcome.{Outcome}
 use Rattle.session_engine.specs.declared.play.GroupFault.{GroupFault}
+use Rattle.session_engine.specs.declared.whole.Whole.{Whole}
+use Rattle.session_engine.specs.declared.whole.WholeFault.{WholeFault}
 use Rattle.session_engine.specs.Host.{HostGivesSheet, HostView}
 use Rattle.host_laws.specs.Turns.{HostTurn, LeftInTurn}
 use Rattle.host_laws.specs.OneHost.{JustOpened, StepMeets}
-use Rattle.host_laws.specs.Together.{GroupMeets, UpToMeets, returned}
+use Rattle.host_laws.specs.Together.{GroupMeets, UpToMeets, WholeMeets, returned, whole_returned}
 use Rattle.host_laws.specs.Calls.{TookByCalls}
 
 -- A crash came at this moment of the history of a disk, at or after an earlier moment of it, and left this image (A5). One that only a
@@ -47,8 +49,13 @@ pub data Doing (old : HostView) (events : List Event) (told : List Outcome) : Ho
   -- after a group, which a refusal or a fault may have stopped, and which returned these outcomes
   after_group : (group : List Event) (answer : Result (Vec Outcome Global) GroupFault) (new : HostView) → PlaysGroup group old answer new
       → Doing old events told (record { events = events ++ group; told = told ++ returned answer }) new.store.disk new.store.disk
+  -- within commands that were to be taken as a whole, and after them
+  a_whole : (edits : List Event) (answer : Result Whole WholeFault) (new : HostView) → WholeMeets edits old answer new
+      → Doing old events told (record { events = events ++ edits; told = told }) old.store.disk new.store.disk
+  after_whole : (edits : List Event) (answer : Result Whole WholeFault) (new : HostView) → WholeMeets edits old answer new
+      → Doing old events told (record { events = events ++ edits; told = told ++ whole_returned answer }) new.store.disk new.store.disk
 
--- A host was opened on this image, was given events by steps and by groups, returned the outcomes of those, and ended: a crash at any
+-- A host was opened on this image, was given events by steps, by groups and as a whole, returned the outcomes of those, and ended: a crash at any
 -- moment of what it did last left that image. Its disk kept the model (A1).
 pub record HostLived (room : ℕ) (before : Image) (turn : HostTurn) (after : Image) : Type 0 where
   pub found : List Op

@@ -62,6 +62,12 @@ end_in (Open journal) = journal.end
 end_in (Gathering journal group) = journal.end + length (records group.payloads)
 end_in (Closed disk) = 0
 
+-- where the payloads of the disk as it stands end
+abbrev pub start_in : {D : Type 0} → Base D → ℕ
+start_in (Open journal) = journal.end
+start_in (Gathering journal group) = journal.end
+start_in (Closed disk) = 0
+
 abbrev pub is_closed : {D : Type 0} → Base D → Bool
 is_closed (Open journal) = false
 is_closed (Gathering journal group) = false
@@ -137,6 +143,10 @@ abbrev pub gathers_in : {D : Type 0} → Option (Base D) → Bool
 gathers_in None = false
 gathers_in (Some base) = gathers base
 
+abbrev pub start_of_base : {D : Type 0} → Option (Base D) → ℕ
+start_of_base None = 0
+start_of_base (Some base) = start_in base
+
 abbrev pub place_in : {D : Type 0} → Option (Base D) → ℕ
 place_in None = 5 + longest_payload
 place_in (Some base) = place_for base
@@ -151,6 +161,7 @@ store_on view base sheet = record {
   real = real_in view base;
   owed = owed_in base;
   gathers = gathers_in base;
+  start = start_of_base base;
   place = place_in base;
 }
 

@@ -32,7 +32,7 @@ coded_disk = code_by (ℕ × (ℕ × (Bool × History)))
     (λ _. refl)
 
 abbrev pub coded_store : Coded StoreView
-coded_store = code_by (DiskView × (ℕ × (SheetView × (Bool × (DiskView × (List (List ℕ) × (Bool × ℕ)))))))
-    (coded× coded_disk (coded× coded_ℕ (coded× coded_held (coded× coded_bool (coded× coded_disk (coded× (coded_list coded_bytes) (coded× coded_bool coded_ℕ)))))))
-    (λ s. (s.disk, (s.end, (s.sheet, (s.closed, (s.real, (s.owed, (s.gathers, s.place))))))))
-    (λ p. record { disk = p.0; end = p.1.0; sheet = p.1.1.0; closed = p.1.1.1.0; real = p.1.1.1.1.0; owed = p.1.1.1.1.1.0; gathers = p.1.1.1.1.1.1.0; place = p.1.1.1.1.1.1.1 }) (λ _. refl)
+coded_store = code_by (DiskView × (ℕ × (SheetView × (Bool × (DiskView × (List (List ℕ) × (Bool × (ℕ × ℕ))))))))
+    (coded× coded_disk (coded× coded_ℕ (coded× coded_held (coded× coded_bool (coded× coded_disk (coded× (coded_list coded_bytes) (coded× coded_bool (coded× coded_ℕ coded_ℕ))))))))
+    (λ s. (s.disk, (s.end, (s.sheet, (s.closed, (s.real, (s.owed, (s.gathers, (s.start, s.place)))))))))
+    (λ p. record { disk = p.0; end = p.1.0; sheet = p.1.1.0; closed = p.1.1.1.0; real = p.1.1.1.1.0; owed = p.1.1.1.1.1.0; gathers = p.1.1.1.1.1.1.0; start = p.1.1.1.1.1.1.1.0; place = p.1.1.1.1.1.1.1.1 }) (λ _. refl)

@@ -1,5 +1,5 @@
 use Rattle.disk_model.specs.Disk.{DiskView}
-use Rattle.std.proofs.Common.{◌≡◌, ◌∙◌, ℕ, arith, length, refl, sym, subst, false, Option, None, Some}
+use Rattle.std.proofs.Common.{◌≡◌, ◌∙◌, ℕ, arith, length, refl, sym, subst, Option, None, Some}
 use Rattle.worksheet.specs.Contents.{Contents}
 use Rattle.worksheet.specs.Checks.{first_refusal}
 use Rattle.journal.specs.Kept.{Fits}
@@ -71,37 +71,37 @@ pub returns-then-is_closed-clause-same : goal.returns-then-is_closed-clause-same
 returns-then-is_closed-clause-same g c =
     subst (λ (s : StoreView). SameStore s (store_on g.D.Disk.view (Some c.in-Some.base) c.self.inside.sheet)) c.self.view_is
     (ready_same g.D.Disk.view c.self.inside.base c.in-Some.base c.in-Some.base c.self.inside.sheet c.self.inside.sheet c.in-Some.is refl
-    refl refl refl refl refl refl)
+    refl refl refl refl refl refl refl)
 
 pub returns-then-not-has_place-clause-same : goal.returns-then-not-has_place-clause-same
 returns-then-not-has_place-clause-same g c =
     subst (λ (s : StoreView). SameStore s (store_on g.D.Disk.view (Some c.in-Some.base) c.self.inside.sheet)) c.self.view_is
     (ready_same g.D.Disk.view c.self.inside.base c.in-Some.base c.in-Some.base c.self.inside.sheet c.self.inside.sheet c.in-Some.is refl
-    refl refl refl refl refl refl)
+    refl refl refl refl refl refl refl)
 
 pub returns-in_err-make_room-clause-same : goal.returns-in_err-make_room-clause-same
 returns-in_err-make_room-clause-same g c =
     subst (λ (s : StoreView). SameStore s (store_on g.D.Disk.view (Some c.in-Some.base) c.make_room.new.self)) c.self.view_is
     (ready_same g.D.Disk.view c.self.inside.base c.in-Some.base c.in-Some.base c.self.inside.sheet c.make_room.new.self c.in-Some.is c.make_room.ensures.same
-    refl refl refl refl refl refl)
+    refl refl refl refl refl refl refl)
 
 pub returns-in_err-make_place-clause-same : goal.returns-in_err-make_place-clause-same
 returns-in_err-make_place-clause-same g c =
     subst (λ (s : StoreView). SameStore s (store_on g.D.Disk.view (Some c.make_place.new.self) c.make_room.new.self)) c.self.view_is
     (ready_same g.D.Disk.view c.self.inside.base c.in-Some.base c.make_place.new.self c.self.inside.sheet c.make_room.new.self c.in-Some.is c.make_room.ensures.same
-    c.make_place.ensures.disk c.make_place.ensures.end c.make_place.ensures.closed c.make_place.ensures.real c.make_place.ensures.owed c.make_place.ensures.gathers)
+    c.make_place.ensures.disk c.make_place.ensures.end c.make_place.ensures.closed c.make_place.ensures.real c.make_place.ensures.owed c.make_place.ensures.gathers c.make_place.ensures.start)
 
 pub returns-in_err-frame_of-clause-same : goal.returns-in_err-frame_of-clause-same
 returns-in_err-frame_of-clause-same g c =
     subst (λ (s : StoreView). SameStore s (store_on g.D.Disk.view (Some c.make_place.new.self) c.make_room.new.self)) c.self.view_is
     (ready_same g.D.Disk.view c.self.inside.base c.in-Some.base c.make_place.new.self c.self.inside.sheet c.make_room.new.self c.in-Some.is c.make_room.ensures.same
-    c.make_place.ensures.disk c.make_place.ensures.end c.make_place.ensures.closed c.make_place.ensures.real c.make_place.ensures.owed c.make_place.ensures.gathers)
+    c.make_place.ensures.disk c.make_place.ensures.end c.make_place.ensures.closed c.make_place.ensures.real c.make_place.ensures.owed c.make_place.ensures.gathers c.make_place.ensures.start)
 
 pub returns-clause-same : goal.returns-clause-same
 returns-clause-same g c =
     subst (λ (s : StoreView). SameStore s (store_on g.D.Disk.view (Some c.make_place.new.self) c.make_room.new.self)) c.self.view_is
     (ready_same g.D.Disk.view c.self.inside.base c.in-Some.base c.make_place.new.self c.self.inside.sheet c.make_room.new.self c.in-Some.is c.make_room.ensures.same
-    c.make_place.ensures.disk c.make_place.ensures.end c.make_place.ensures.closed c.make_place.ensures.real c.make_place.ensures.owed c.make_place.ensures.gathers)
+    c.make_place.ensures.disk c.make_place.ensures.end c.make_place.ensures.closed c.make_place.ensures.real c.make_place.ensures.owed c.make_place.ensures.gathers c.make_place.ensures.start)
 
 pub invariant_of-self-in_err-make_room : goal.invariant_of-self-in_err-make_room
 invariant_of-self-in_err-make_room g c =
