@@ -6,17 +6,30 @@ import random
 import re
 from collections.abc import Iterable, Iterator, Sequence
 
-from model import VERBS, Difference, Followed, Model, refused, words_of
+from model import EDITS, VERBS, Difference, Followed, Model, refused, words_of
 
 # A line that tells what came of an interpreter. That one was stopped is reported by a `stop` alone.
 EVENT = re.compile(r"banner |answered |completed |ended \S+ (?!Stopped )")
 
 
-class Live:
-    """A live worksheet behind some of its lines, and what its interpreters said in between."""
+# The most commands between a `begin` and its `end`.
+MOST_COMMANDS = 1024
 
-    def __init__(self, script, kinds):
-        self.model, self.lines, self.at = Model(kinds), script, 0
+
+class Transaction:
+    """Commands since a `begin`, the line with this number: they are kept until its `end`. A line among them that is no such command breaks
+    the transaction."""
+
+    def __init__(self, first):
+        self.first, self.commands, self.is_broken = first, [], False
+
+
+class Live:
+    """A live worksheet behind some of its lines, and what its interpreters said in between. Where the lines are all, a transaction that is open at
+    their end is over."""
+
+    def __init__(self, script, kinds, are_all=False):
+        self.model, self.lines, self.at, self.transaction, self.are_all = Model(kinds), script, 0, None, are_all
 
     def waits(self):
         """Whether an item waits."""
@@ -49,13 +62,50 @@ class Live:
         """Takes the next line of which something is told, and gives that; nothing where there is none, or a wait holds it back."""
         while self.at < len(self.lines):
             line = self.lines[self.at]
-            if line.split(" ")[0] == "wait" and self.waits():
+            if self.transaction is None and line.split(" ")[0] == "wait" and self.waits():
                 break
             self.at += 1
-            told = [] if line == "" or line[0] == "#" or line.split(" ")[0] == "wait" else self.told_by(self.at, line)
+            told = self.told_in_transaction(self.at, line) if self.transaction else self.told_alone(self.at, line)
             if told:
                 return told
+        if self.are_all and self.transaction:
+            return self.undone()
         return []
+
+    def told_alone(self, number, line):
+        """What is told of a line outside of transactions."""
+        if line == "begin":
+            self.transaction = Transaction(number)
+            return []
+        return [] if line == "" or line[0] == "#" or line.split(" ")[0] == "wait" else self.told_by(number, line)
+
+    def told_in_transaction(self, number, line):
+        """What is told of a line in a transaction: at its end that of all its commands, or the refusal for which none of them was done."""
+        transaction = self.transaction
+        if line == "end":
+            return self.undone() if transaction.is_broken else self.do_transaction()
+        if not transaction.is_broken and (words_of(line)[0] not in EDITS or len(transaction.commands) == MOST_COMMANDS):
+            transaction.is_broken = True
+            return [f"bad line {number}"]
+        transaction.commands.append(line)
+        return []
+
+    def undone(self):
+        """The transaction is over, and nothing of it was done."""
+        first, self.transaction = self.transaction.first, None
+        return [f"undone {first} {self.at}"]
+
+    def do_transaction(self):
+        """Does the commands of a transaction, all of them or none."""
+        model, told = copy.deepcopy(self.model), []
+        for line in self.transaction.commands:
+            verb, words = words_of(line)
+            refusal = model.refusal(verb, words)
+            if refusal:
+                return [refused(refusal), *self.undone()]
+            told += model.do(verb, words)
+        self.model, self.transaction = model, None
+        return told
 
     def take_item(self, name):
         """Takes what the interpreter of a session says next, and gives what is told of it."""
@@ -80,8 +130,8 @@ class Live:
         return next(names, None)
 
     def may_group(self, at):
-        """Whether the line at this place may be in a group: it says a command other than `checkpoint`."""
-        return at < len(self.lines) and words_of(self.lines[at])[0] in VERBS - {"checkpoint"}
+        """Whether the line at this place, outside of a transaction, may be in a group: it says a command other than `checkpoint`."""
+        return self.transaction is None and at < len(self.lines) and words_of(self.lines[at])[0] in VERBS - {"checkpoint"}
 
     def sheets_of_lines(self):
         """The worksheets behind the next line, and behind those after it as long as they may be one group with it: which lines were there
@@ -107,7 +157,7 @@ class Live:
 
 def follow_live(script: Sequence[str], output: Iterable[str], kinds: dict[str, str]) -> Followed:
     """Follows a live worksheet by the lines that it told."""
-    live, told = Live(script, kinds), list(output)
+    live, told = Live(script, kinds, are_all=True), list(output)
     while told:
         name = live.child_of(told[0]) if EVENT.match(told[0]) else None
         wanted = live.take_item(name) if name else live.take_line()
@@ -118,12 +168,24 @@ def follow_live(script: Sequence[str], output: Iterable[str], kinds: dict[str, s
     return Followed(sheets, not live.waits() and not live.take_line(), 0)
 
 
-def live_script(rng: random.Random, script: Iterable[str]) -> Iterator[str]:
-    """A script as it may be told to a live worksheet: some of its waits have a time, and some of its prints a field."""
-    for line in script:
+def live_script(rng: random.Random, script: Sequence[str]) -> Iterator[str]:
+    """A script as it may be told to a live worksheet: some of its waits have a time, and some of its prints a field. Some of its commands stand
+    in transactions, of which some have another line in them; none of its last two lines does."""
+    left = 0
+    for number, line in enumerate(script):
+        is_edit = line.split(" ")[0] in EDITS
+        if left and not is_edit and (rng.random() < 0.7 or number >= len(script) - 2):
+            yield "end"
+            left = 0
+        if not left and is_edit and rng.random() < 0.2:
+            yield "begin"
+            left = rng.choice([1, 2, 3, 5])
         if line == "wait" and rng.random() < 0.3:
             yield "wait 1000000"
         elif line == "print" and rng.random() < 0.5:
             yield f"print {rng.randint(1, 12)}"
         else:
             yield line
+        if left == 1:
+            yield "end"
+        left = max(left - 1, 0)

@@ -3,13 +3,21 @@ TMHOST_KILLS says how many are made (50)."""
 
 import os
 import random
+import re
 import signal
+import sys
 import threading
 import time
 import unittest
 from typing import Any, Dict, List, Tuple
+from unittest import mock
 
-from harness import Case, Page, needs_program
+from harness import NOTEBOOK, PROGRAM, Case, Page, needs_program
+
+sys.path[:0] = [NOTEBOOK, f"{NOTEBOOK}/../python"]
+from tmhost import Change, Refused, Undone  # noqa: E402
+from tmhost_notebook.book import Book  # noqa: E402
+from tmhost_notebook.steps import Given, Made, NotFit, Step  # noqa: E402
 
 KILLS = int(os.environ.get("TMHOST_KILLS", "50"))
 WORD = "word%d"
@@ -64,6 +72,7 @@ class Steps(Case):
             ("NoSession", {"new": [new, {**new, "session": "none"}]}), ("NoField", {"new": [new], "remove": [{"id": 9}]}),
             ("NoField", {"new": [new, {**new, "after": 9}]}),
             ("Elsewhere", {"new": [new], "set": [{"id": 1, "base": "other", "text": "x"}], "remove": [{"id": 2}]}),
+            ("NoField", {"new": [new], "move": [{"id": 1, "after": 9}]}), ("NoField", {"new": [new], "move": [{"id": 9, "after": 1}]}),
             ("TooManyFields", {"new": [new] * 10_000}), ("NotUnderstood", {"new": [new, 1]}), ("NotUnderstood", {"remove": [{"id": "1"}]}),
             ("NotUnderstood", {"new": [{"after": 0}]}), ("BadInput", {"new": [{**new, "text": "\ud800"}, new]}),
         ]
@@ -95,8 +104,42 @@ class Steps(Case):
         print(f" 1,500 cells were cut and came back in {time.monotonic() - start:.1f} s", end="")
         self.assertEqual(self.texts(page), texts)
 
+    def test_moves_to_where_a_cell_stands(self) -> None:
+        """They change nothing, and keep nothing else of the step from being done."""
+        page = self.begin()
+        self.fill(page, "a", "b", "c")
+        a, b, c = page.snapshot()["order"]
+        new = {"after": a, "session": "s", "text": "new"}
+        moved = [{"id": a, "after": 0}, {"id": b, "after": b}, {"id": c, "after": b}]
+        self.assertNotIn("refused", self.step(page, new=[new], move=moved))
+        self.assertEqual(self.texts(page), ["a", "new", "b", "c"])
+        self.assertNotIn("refused", self.step(page, new=[new], move=[{"id": b, "after": a}, {"id": c, "after": a}, {"id": a, "after": c}]))
+        self.assertEqual(self.texts(page), ["c", "a", "b", "new", "new"])
+        for _ in range(2):
+            self.assertNotIn("refused", page.call("undo", isBack=True))
+        self.assertEqual(self.texts(page), ["a", "b", "c"])
+
+    def test_a_part_that_is_refused(self) -> None:
+        """Of a step of several transactions what was made and changed in front of it is undone, and what was removed is in the list."""
+        book = Book(self.sheet, PROGRAM)
+        self.addCleanup(book.close)
+        book.sheet.session("s", "cat")
+        book.steps.do(Step("x", [Made(0, "s", str(number)) for number in range(1_500)]))
+        first, *others = book.places.ids
+        told: List[Any] = [book.sheet.together, self.refuse, book.sheet.together]
+        with mock.patch.object(book.sheet, "together", lambda *changes: told.pop(0)(*changes)), self.assertRaises(NotFit) as refused:
+            book.steps.do(Step("merge", [Made(0, "s", "new")], [Given(first, "0", "other")], removed=others))
+        self.assertEqual((refused.exception.name, len(told)), ("JournalFull", 0))
+        self.assertEqual([field.input for field in book.sheet.fields], ["0", *(str(number) for number in range(1_023, 1_500))])
+        self.assertEqual([one["field"].input for one in book.removed], [str(number) for number in range(823, 1_023)])
+        book.settle(lambda: len(book.places) == len(book.sheet.fields))
+        self.assertEqual((book.places.ids, len(book.steps.past), book.in_doubt), ([field.id for field in book.sheet.fields], 1, set()))
+
+    def refuse(self, *changes: Change) -> None:
+        raise Undone(0, changes[0].line, Refused("JournalFull", 16))
+
     def test_kills(self) -> None:
-        """At each moment each word is in the file that had been there: a cut is done behind its paste, and a merge's removals behind its text."""
+        """At each moment each word is in the file once: a cell that goes elsewhere, or into another one, is there or here."""
         page, seed = self.begin(), random.randrange(10**6)
         chance, done = random.Random(seed), 0
         self.fill(page, *(WORD % number for number in range(40)))
@@ -110,7 +153,7 @@ class Steps(Case):
                 killer.join()
                 shown = self.show()
                 for number in range(40):
-                    self.assertRegex(shown, rf"\b{WORD % number}\b")
+                    self.assertEqual(len(re.findall(rf"\b{WORD % number}\b", shown)), 1, WORD % number)
                 while page.call("reopen").get("refused"):
                     time.sleep(0.05)
         print(f" {KILLS} kills, {done} steps, seed {seed}", end="")

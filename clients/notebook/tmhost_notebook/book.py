@@ -7,6 +7,8 @@ from typing import Any, Callable, Dict, Iterable, Iterator, List, Optional, Set
 
 from tmhost import Answer, Answered, BadLine, Closed, Died, Done, Ended, Event, Field, Finished, Gone, Partial, ProtocolError, Refused, Stopped, TimedOut, Worksheet
 
+from tmhost.commands import New, input_of
+
 from . import prose, rewording, startable, telling
 from .drafts import Draft, Drafts, NotKept
 from .feed import Feed
@@ -155,8 +157,11 @@ class Book:
         self.changes += 1
         self.touch(id)
 
-    def new(self, session: str, text: str, after: int) -> int:
-        id = self.sheet.new(session, text, after=after).id
+    def new(self, session: Optional[str], text: str, after: int) -> int:
+        """A new cell behind another one; without a session it is prose."""
+        sessions = self.sheet.sessions
+        new = New(after, prose.name_in(sessions) if session is None else session, input_of(text))
+        id = self.sheet.together(*(prose.missing_in(sessions) if session is None else []), new)[-1] or 0
         self.settle(lambda: id in self.places)
         return id
 

@@ -4,17 +4,16 @@ import contextlib
 import os
 from typing import Any, Callable, Dict, List, Optional, Sequence
 
-from tmhost import BadLine, Closed, Completions, Died, Field, Gone, Lost, ProtocolError, Refused, TimedOut, readable
+from tmhost import BadLine, Closed, Completions, Died, Field, Gone, Lost, ProtocolError, Refused, TimedOut, Undone, readable
 
-from . import in_prose, past_calls, shown, startable
+from . import in_prose, past_calls, prose, shown, startable
 from .asked import Facts, NotDone, member, members, number, text, text_or_none
 from .book import Book
 from .drafts import Draft, NotKept
 from .helping import NoHelp
 from .past_calls import answer_of_then
-from .prose import session_of_prose
 from .sayings import SAYINGS
-from .steps import Given, Made, NotFit, Step
+from .steps import Given, Made, NotFit, Step, name_of
 from .telling import text_of
 
 COMPLETED_WITHIN = 10.0  # seconds that an interpreter has for completions
@@ -70,8 +69,7 @@ def call_set(book: Book, asked: Facts) -> Facts:
 
 def call_new(book: Book, asked: Facts) -> Facts:
     with book.order:
-        session = session_of_prose(book.sheet) if asked.get("session") is None else text(asked, "session")
-        return {"id": book.new(session, text(asked, "text"), number(asked, "after"))}
+        return {"id": book.new(text_or_none(asked, "session"), text(asked, "text"), number(asked, "after"))}
 
 
 def call_remove(book: Book, asked: Facts) -> Facts:
@@ -82,7 +80,7 @@ def call_remove(book: Book, asked: Facts) -> Facts:
 
 def made(book: Book, asked: Facts) -> Made:
     """A cell that is to be made; where it is said of which one it is a copy, it shows the answer of that in grey."""
-    session = session_of_prose(book.sheet) if asked.get("session") is None else text(asked, "session")
+    session = text_or_none(asked, "session")
     of = book.steps.id_now(number(asked, "of")) if "of" in asked else 0
     note = book.notes.of.get(of)
     old = next((one["old"] for one in book.removed if one["field"].id == of), note.old if note else None)
@@ -91,7 +89,7 @@ def made(book: Book, asked: Facts) -> Made:
 
 
 def call_step(book: Book, asked: Facts) -> Facts:
-    """Changes several cells in one step: new ones, then texts, then places, then removals. Gives the cells that were made or changed, and those that are gone."""
+    """Changes several cells in one step. Gives the cells that were made or changed, and those that are gone."""
     with book.order:
         given = [Given(number(one, "id"), text(one, "base"), text(one, "text"), answer_of_then(book, one)) for one in members(asked, "set")]
         moved = [(number(one, "id"), number(one, "after")) for one in members(asked, "move")]
@@ -134,11 +132,11 @@ def call_restore(book: Book, asked: Facts) -> Facts:
 
 
 def call_change(book: Book, asked: Facts) -> Facts:
-    """Gives a cell another session, or none, which makes it prose. It is a new cell then, and the old one is removed behind that."""
+    """Gives a cell another session, or none, which makes it prose. It is a new cell then, and the old one is removed in the same transaction."""
     with book.order:
         id = number(asked, "id")
-        session = session_of_prose(book.sheet) if asked.get("session") is None else text(asked, "session")
-        if field_of(book, id).session == session:
+        session = text_or_none(asked, "session")
+        if field_of(book, id).session == (prose.name_in(book.sheet.sessions) if session is None else session):
             return {"id": id}
         field = idle_field(book, id)
         return {"id": book.steps.do(Step("another session", [Made(id, session, text_of(field))], removed=[id])).ids[0]}
@@ -340,6 +338,8 @@ def do(book: Book, asked: Any) -> Facts:
         return call(book, asked)
     except Refused as refused:
         raise NotDone(refused.name, SAYINGS.get(refused.name, str(refused))) from None
+    except Undone as undone:
+        raise NotDone(name_of(undone), SAYINGS.get(name_of(undone), str(undone))) from None
     except NoHelp as none:
         raise NotDone("NoHelp", str(none)) from None
     except NotFit as unfit:

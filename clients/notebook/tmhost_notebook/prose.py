@@ -7,9 +7,10 @@ it ends at once and does nothing. A field without an answer is passed over by `t
 
 import itertools
 import re
-from typing import Iterable
+from typing import Iterable, List, Mapping
 
-from tmhost import Session, Worksheet
+from tmhost import Session
+from tmhost.commands import MakeSession
 
 NAME = "prose"
 WORDS = ("true",)
@@ -26,10 +27,12 @@ def free_name(taken: Iterable[str]) -> str:
     return next(name for name in itertools.chain([NAME], further) if name not in names)
 
 
-def session_of_prose(sheet: Worksheet) -> str:
-    """The name of the worksheet's session of prose, which is made where there is none."""
-    sessions = sheet.sessions
-    found = next((name for name, session in sessions.items() if is_prose(session)), None)
-    if found is None:
-        found = sheet.session(free_name(sessions), WORDS).name
-    return found
+def name_in(sessions: Mapping[str, Session]) -> str:
+    """The name of the worksheet's session of prose, or the one that it gets where there is none."""
+    return next((name for name, session in sessions.items() if is_prose(session)), "") or free_name(sessions)
+
+
+def missing_in(sessions: Mapping[str, Session]) -> List[MakeSession]:
+    """What makes the session of prose, where there is none."""
+    name = name_in(sessions)
+    return [] if name in sessions else [MakeSession(name, WORDS, False)]

@@ -1,15 +1,18 @@
 """Steps: changes of several cells at once, each of which can be taken back and done again.
 
-What a step makes is on the disk before it gives other texts, and these are before it removes anything: whatever ends the program in the middle, a text may
-be there twice then, and none is lost. The commands of each of the three parts are sent in one piece.
+The changes of a step are done as a whole: whatever ends the program in the middle, all of it is there then, or none. A step of more than 1,024 changes is
+done in several parts: what it makes is on the disk before it gives other texts, and these are before it removes anything. A text of it may be there twice then,
+and none is lost.
 """
 
 import dataclasses
-from typing import TYPE_CHECKING, Dict, Iterable, List, NamedTuple, Optional, Sequence, Set as SetOf, Tuple, Union
+from typing import TYPE_CHECKING, Dict, Iterable, List, NamedTuple, Optional, Sequence, Set as SetOf, Tuple
 
-from tmhost import Answer, Field, TmhostError
+from tmhost import Answer, Change, Field, Refused, Undone
 from tmhost.commands import Move, New, Remove, Set, input_of, length_of
+from tmhost.together import MOST_CHANGES
 
+from . import prose
 from .telling import text_of
 
 if TYPE_CHECKING:
@@ -34,7 +37,7 @@ class Made:
     those that are removed, and `old` is shown as its earlier answer."""
 
     after: int
-    session: str
+    session: Optional[str]  # None for prose, whose session is made where there is none
     text: str
     place: int = 0
     old: Optional[Answer] = None
@@ -120,15 +123,16 @@ class Steps:
         self._refuse(step)
         book = self.book
         fields = {id: book.sheet.cell(id).field for id in (*(one.id for one in step.given), *step.removed)}
-        back = self._back(step, fields)
-        ids = self._make(step.made)
-        try:
-            self._give(step.given)
-        except NotFit:
-            self._send([Remove(id) for id in ids])
-            raise
-        self._move(step.moved)
-        self._remove(step.removed, [fields[id] for id in step.removed])
+        back, places = self._back(step, fields), {id: book.places.place(id) for id in step.removed}
+        changes = self._changes(step)
+        told, refused = self._send(changes, fields)
+        ids = [one for one in reversed(told) if one is not None]
+        book.settle(lambda: self._is_heard(changes[: len(told)]))
+        self._bin([fields[change.id] for change in changes[: len(told)] if isinstance(change, Remove)], places)
+        if refused:
+            self._take_back(step, ids, changes[: len(told)])
+            raise NotFit(name_of(refused))
+        self._note(step, ids, fields)
         numbers = {one["field"].id: one["number"] for one in book.removed}
         made = [dataclasses.replace(one, number=numbers.get(one.was, 0)) for one in back.made]
         self._tell([*ids, *(one.id for one in step.given)])
@@ -139,11 +143,13 @@ class Steps:
         texts = [*(one.text for one in step.made), *(one.text for one in step.given)]
         if any(length_of(text) > LONGEST or not is_fit(text) for text in texts):
             raise NotFit("BadInput")
-        if any(one.session not in book.sheet.sessions for one in step.made):
+        if any(one.session is not None and one.session not in book.sheet.sessions for one in step.made):
             raise NotFit("NoSession")
         if len(book.places) + len(step.made) > MOST_CELLS:
             raise NotFit("TooManyFields")
         if any(one.after and one.after not in book.places and not one.was for one in step.made):
+            raise NotFit("NoField")
+        if any(id not in book.places or (after and after not in book.places) for id, after in step.moved):
             raise NotFit("NoField")
         for id in (*(one.id for one in step.given), *step.removed):
             field = book.field(id)
@@ -172,77 +178,84 @@ class Steps:
         note = self.book.notes.of.get(field.id)
         return field.answer or (note.old if note else None)
 
-    def _make(self, made: Sequence[Made]) -> List[int]:
-        """Makes cells, the last one first: of those that stand behind the same one each is put in front of the one before."""
+    # ---- its changes
+
+    def _changes(self, step: Step) -> List[Change]:
+        """New cells, the last one first: of those that stand behind the same one each is put in front of the one before. Then texts, places, removals."""
         book = self.book
-        afters = [one.after if one.after in book.places else 0 if one.after == 0 else book.places.at(min(one.place, len(book.places)) - 1) for one in made]
-        told = self._send([New(after, one.session, input_of(one.text)) for after, one in reversed([*zip(afters, made)])])
-        ids = [one for one in reversed(told) if isinstance(one, int)]
-        book.settle(lambda: all(id in book.places for id in ids[:1]))  # it was made last
-        if len(ids) < len(made):
-            self._send([Remove(id) for id in ids])
-            raise refusal(told)
-        with book.lock:
-            for id, one in zip(ids, made):
+        afters = [one.after if one.after in book.places else 0 if one.after == 0 else book.places.at(min(one.place, len(book.places)) - 1) for one in step.made]
+        named = prose.name_in(book.sheet.sessions)
+        made = [New(after, named if one.session is None else one.session, input_of(one.text)) for after, one in reversed([*zip(afters, step.made)])]
+        sessions = prose.missing_in(book.sheet.sessions) if any(one.session is None for one in step.made) else []
+        given = [Set(one.id, input_of(one.text)) for one in step.given]
+        return [*sessions, *made, *given, *self._moves(step.moved, made), *(Remove(id) for id in step.removed)]
+
+    def _moves(self, moved: Sequence[Tuple[int, int]], made: Sequence[New]) -> List[Move]:
+        """Those of cells that don't stand there already, behind these new ones: such a move would be refused."""
+        order, moves = self.book.places.ids if moved else [], []
+        for number, one in enumerate(made if moved else ()):
+            order.insert(order.index(one.after) + 1 if one.after else 0, self.book.sheet.next_id + number)
+        for id, after in moved:
+            at = order.index(id)
+            if after not in (id, order[at - 1] if at else 0):
+                del order[at]
+                order.insert(order.index(after) + 1 if after else 0, id)
+                moves.append(Move(id, after))
+        return moves
+
+    def _send(self, changes: Sequence[Change], doubtful: Iterable[int]) -> Tuple[List[Optional[int]], Optional[Undone]]:
+        """Does changes as a whole; what one transaction doesn't hold goes into the next. Gives the numbers of new cells, None for another change, up to where a
+        transaction was refused. Where the program ends in the middle, the cells stay in doubt until the worksheet is opened again."""
+        self.book.in_doubt = set(doubtful)
+        told: List[Optional[int]] = []
+        refused = None
+        while len(told) < len(changes) and not refused:
+            try:
+                told += self.book.sheet.together(*changes[len(told) : len(told) + MOST_CHANGES])
+            except Undone as undone:
+                refused = undone
+        self.book.in_doubt = set()
+        return told, refused
+
+    def _is_heard(self, changes: Sequence[Change]) -> bool:
+        """What was done last to the order is known, and so is what was done before it."""
+        places = self.book.places
+        last = next((one for one in reversed(changes) if isinstance(one, (New, Move, Remove))), None)
+        if isinstance(last, Move):
+            return places.before(last.id) == last.after
+        return last is None or last.id is None or (last.id in places) == isinstance(last, New)
+
+    def _take_back(self, step: Step, ids: Sequence[int], done: Sequence[Change]) -> None:
+        """Undoes what was done of a step in front of a transaction that was refused: its new cells and texts. What was removed is in the list."""
+        bases = {one.id: input_of(one.base) for one in step.given}
+        self._send([*(Set(one.id, bases[one.id]) for one in done if isinstance(one, Set)), *(Remove(id) for id in ids)], ())
+
+    def _bin(self, gone: Iterable[Field], places: Dict[int, int]) -> None:
+        for field in gone:
+            self.book.bin(field, places[field.id])
+
+    def _note(self, step: Step, ids: Sequence[int], fields: Dict[int, Field]) -> None:
+        """The earlier answers of what a step made and changed."""
+        with self.book.lock:
+            for id, one in zip(ids, step.made):
                 if one.old:
-                    book.notes.of[id].old = one.old
+                    self.book.notes.of[id].old = one.old
                 if one.was:
                     self._now[one.was] = id
-        for one in made:
-            book.unbin(one.number) if one.number else None
-        return ids
-
-    def _give(self, given: Sequence[Given]) -> None:
-        """Gives texts; where one is refused all have the one that they had."""
-        book = self.book
-        before = {one.id: self._old(book.sheet.cell(one.id).field) for one in given}
-        told = self._changing([one.id for one in given], [Set(one.id, input_of(one.text)) for one in given])
-        if any(isinstance(one, TmhostError) for one in told):
-            done = [one for one, came in zip(given, told) if came is None]
-            self._send([Set(one.id, input_of(one.base)) for one in done])
-            raise refusal(told)
-        with book.lock:
-            for one in given:
-                book.notes.of[one.id].old = one.old or before[one.id]
-
-    def _move(self, moved: Sequence[Tuple[int, int]]) -> None:
-        """Puts cells behind others, also where they stand there already."""
-        told = self._send([Move(id, after) for id, after in moved])
-        done = [pair for pair, came in zip(moved, told) if came is None][-1:]
-        self.book.settle(lambda: all(self.book.places.before(id) == after for id, after in done))
-
-    def _remove(self, ids: Sequence[int], fields: Sequence[Field]) -> None:
-        book = self.book
-        places = {id: book.places.place(id) for id in ids}
-        told = self._changing(ids, [Remove(id) for id in ids])
-        gone = [field for field, came in zip(fields, told) if came is None]
-        book.settle(lambda: not any(field.id in book.places for field in gone[-1:]))
-        for field in gone:
-            book.bin(field, places[field.id])
-        if len(gone) < len(ids):
-            raise refusal(told)
-
-    # ---- the program
-
-    def _send(self, changes: "Sequence[Union[New, Set, Move, Remove]]") -> "List[Union[int, None, TmhostError]]":
-        return self.book.sheet.together(*changes) if changes else []
-
-    def _changing(self, ids: Iterable[int], changes: "Sequence[Union[New, Set, Move, Remove]]") -> "List[Union[int, None, TmhostError]]":
-        """As `Book.changing`: where the program ends in the middle, the cells stay in doubt until the worksheet is opened again."""
-        self.book.in_doubt = set(ids)
-        told = self._send(changes)
-        self.book.in_doubt = set()
-        return told
+            for given in step.given:
+                self.book.notes.of[given.id].old = given.old or self._old(fields[given.id])
+        for one in step.made:
+            self.book.unbin(one.number) if one.number else None
 
     def _tell(self, ids: Sequence[int]) -> None:
         self.book.changes += 1
         self.book.touch(*(id for id in ids if id in self.book.places))
 
 
+def name_of(undone: Undone) -> str:
+    """The refusal of the change for which nothing was done."""
+    return undone.why.name if isinstance(undone.why, Refused) else "BadInput"
+
+
 def is_fit(text: str) -> bool:
     return all(character >= " " or character in "\t\n" for character in text)
-
-
-def refusal(told: "Iterable[Union[int, None, TmhostError]]") -> NotFit:
-    found = next(one for one in told if isinstance(one, TmhostError))
-    return NotFit(getattr(found, "name", "BadInput"))

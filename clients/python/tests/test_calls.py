@@ -7,7 +7,6 @@ from typing import Any, Callable, List
 from support import WORDS, Case, needs_program
 
 from tmhost import BadLine, Closed, Gone, Refused, Session, Worksheet
-from tmhost.commands import Move, New, Remove, Set
 
 
 @needs_program
@@ -93,17 +92,6 @@ class Calls(Case):
         for call in (lambda: cell.set("x" * 70_000), lambda: sheet.remove(-1), lambda: sheet.eval(2**32), lambda: sheet.wait(0)):
             self.assertRaises(BadLine, call)
         self.assertEqual(cell.input, "x")
-        self.assert_exact(sheet)
-
-    def test_several_together(self) -> None:
-        """One that is refused keeps no other from being done."""
-        sheet = self.sheet()
-        first = sheet.new("a", "first")
-        told = sheet.together(New(1, "a", "two"), New(1, "a", "one"), Set(1, "other"), Remove(9), Move(1, 2), New(0, "b", "x"))
-        self.assertEqual([getattr(one, "name", one) for one in told], [2, 3, None, "NoField", None, "NoSession"])
-        self.assertEqual([cell.input for cell in sheet.cells], ["one", "two", "other"])
-        self.assertEqual((first.input, sheet.together()), ("other", []))
-        self.assertEqual(sheet.together(*(New(0, "a", str(number)) for number in range(2_000))), [*range(4, 2_004)])
         self.assert_exact(sheet)
 
     def test_sessions(self) -> None:

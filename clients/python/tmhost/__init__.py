@@ -10,12 +10,13 @@ What a call returned is on the disk: a crash of this process, of the program or 
 from .aio import AsyncCell, AsyncCellLike, AsyncEvaluation, AsyncWorksheet
 from .blocking import Cell, CellLike, Evaluation, Worksheet
 from .checks import Checked, Compared, Took, check
-from .errors import BadLine, Closed, Died, Gone, InUse, Lost, NoScript, NoWorksheet, ProtocolError, Refused, TimedOut, TmhostError
+from .errors import BadLine, Closed, Died, Gone, InUse, Lost, NoScript, NoWorksheet, ProtocolError, Refused, TimedOut, TmhostError, Undone
 from .events import Answered, Banner, Completed, Default, Done, Ended, Event, Finished, OfLife, Partial, Stopped, Warned
 from .program import find_program
 from .protocol import Protocol
-from .reading import Asked, Exported, Interrupted, Made, OneField, Refusal, Reply, Sheet, StopReply, Waited
+from .reading import Asked, Exported, Interrupted, Made, NothingDone, OneField, Refusal, Reply, Sheet, StopReply, Waited
 from .runs import run
+from .together import Change
 from .values import Answer, Block, Completions, Field, LostItem, Session, Text, Turn, readable
 
 __all__ = [
@@ -30,6 +31,7 @@ __all__ = [
     "Banner",
     "Block",
     "Cell",
+    "Change",
     "CellLike",
     "Checked",
     "Closed",
@@ -53,6 +55,7 @@ __all__ = [
     "Made",
     "NoScript",
     "NoWorksheet",
+    "NothingDone",
     "OfLife",
     "OneField",
     "Partial",
@@ -70,6 +73,7 @@ __all__ = [
     "TimedOut",
     "TmhostError",
     "Turn",
+    "Undone",
     "Waited",
     "Warned",
     "Worksheet",

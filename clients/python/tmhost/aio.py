@@ -1,7 +1,7 @@
 """A worksheet for asyncio: the calls of `Worksheet`, of one event loop.
 
-What a call returned is on the disk. What raised Refused or BadLine changed nothing. What raised TimedOut, Died or ProtocolError, and what
-was cancelled, may be done or not.
+What a call returned is on the disk. What raised Refused, BadLine or Undone changed nothing. What raised TimedOut, Died or ProtocolError, and
+what was cancelled, may be done or not.
 """
 
 import asyncio
@@ -16,6 +16,7 @@ from .connection import Moment
 from .errors import Closed, NoScript, Refused, TimedOut, TmhostError
 from .program import Program, path_word, words_of_program
 from .tasks import AsyncConnection, AsyncListener, new_future, outcome
+from .together import Change, Together
 from .values import Answer, Completions, Field, LostItem, Session, Text, Turn
 
 AsyncCellLike = Union["AsyncCell", int]
@@ -254,6 +255,12 @@ class AsyncWorksheet:
         future: "asyncio.Future[Optional[Completions]]" = new_future()
         await self._connection.do(commands.Complete(id, cursor, future, text), moment.left(self._timeout))
         return await outcome(future, moment.left(), "complete")
+
+    async def together(self, *changes: Change) -> List[Optional[int]]:
+        """Does several changes as a whole, 1,024 at most: after a crash all of them are there or none, and where one is refused none is done, which
+        raises Undone. Gives for each the number of its new cell, or None. New cells get the numbers from `next_id` on, so that a later change
+        can name them."""
+        return await self._do_in_order(lambda: Together(changes)) if changes else []
 
     # ---- the whole
 

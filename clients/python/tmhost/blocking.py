@@ -1,6 +1,6 @@
 """A worksheet for blocking calls, from any thread.
 
-What a call returned is on the disk. What raised Refused or BadLine changed nothing. What raised TimedOut, Died or ProtocolError may be
+What a call returned is on the disk. What raised Refused, BadLine or Undone changed nothing. What raised TimedOut, Died or ProtocolError may be
 done or not.
 """
 
@@ -18,12 +18,12 @@ from . import commands
 from .cells import CellView, id_of
 from .commands import Command, R, input_of, matching, words_of
 from .connection import Connection, Listener, Moment, outcome
-from .errors import BadLine, Closed, NoScript, Refused, TimedOut, TmhostError
+from .errors import Closed, NoScript, Refused, TimedOut, TmhostError
 from .program import Program, path_word, refuse_uncreated, words_of_live, words_of_program
+from .together import Change, Together
 from .values import Answer, Completions, Field, LostItem, Session, Text, Turn
 
 CellLike = Union["Cell", int]
-Change = Union[commands.New, commands.Set, commands.Remove, commands.Move, commands.Clear]
 
 
 class Evaluation(Future[Answer]):
@@ -53,15 +53,6 @@ class Evaluation(Future[Answer]):
             return super().exception(timeout)
         except FutureTimeout:
             raise TimedOut(f"cell {self.id} has no answer behind {timeout} seconds") from None
-
-
-def told(future: "Future[Any]", timeout: Optional[float], what: str) -> "Union[int, None, TmhostError]":
-    """What a future comes to; a refusal of it is given, and not raised."""
-    try:
-        found: Optional[int] = outcome(future, timeout, what)
-        return found
-    except (Refused, BadLine) as refused:
-        return refused
 
 
 class Cell(CellView):
@@ -273,16 +264,11 @@ class Worksheet:
         self._connection.do(commands.Complete(id, cursor, future, text), moment.left(self._timeout))
         return outcome(future, moment.left(), "complete")
 
-    def together(self, *changes: Change) -> List[Union[int, None, TmhostError]]:
-        """Does several changes, sent in one piece: where the program finds them there together (1,024 at most), a crash leaves all of them or none. One that is
-        refused keeps no other from being done: of each it gives the number of its new cell, None, or why it wasn't done."""
-        moment = Moment(self._timeout)
-        with self._order:
-            if self._ordering:
-                concurrent.futures.wait([self._ordering], moment.left())
-            futures = self._connection.start_all(changes)
-            self._ordering = futures[-1] if futures else self._ordering
-        return [told(future, moment.left(), change.word) for future, change in zip(futures, changes)]
+    def together(self, *changes: Change) -> List[Optional[int]]:
+        """Does several changes as a whole, 1,024 at most: after a crash all of them are there or none, and where one is refused none is done, which
+        raises Undone. Gives for each the number of its new cell, or None. New cells get the numbers from `next_id` on, so that a later change
+        can name them."""
+        return self._do_in_order(lambda: Together(changes)) if changes else []
 
     # ---- the whole
 

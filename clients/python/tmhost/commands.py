@@ -76,12 +76,22 @@ class Command(Generic[R]):
     is_told = True  # to those who listen
 
     @property
+    def length(self) -> int:
+        """How many lines it has."""
+        return 1
+
+    @property
     def about(self) -> About:
         return None, None, None
 
     @property
     def line(self) -> str:
         return self.word
+
+    @property
+    def sent(self) -> bytes:
+        """What is sent of it."""
+        return bytes_of(self.line)
 
     def taken(self, mirror: Mirror, reply: Reply) -> R:
         """Changes the mirror by the reply, and gives what the caller gets."""

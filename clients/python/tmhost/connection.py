@@ -12,7 +12,7 @@ import threading
 import time
 from concurrent.futures import Future
 from concurrent.futures import TimeoutError as FutureTimeout
-from typing import Any, Callable, Dict, List, Optional, Sequence, TypeVar
+from typing import Callable, Dict, List, Optional, TypeVar
 
 from .commands import Command, R
 from .errors import Closed, ProtocolError, TimedOut, TmhostError
@@ -93,7 +93,7 @@ class Connection:
     # ---- calls
 
     def start(self, command: Command[R]) -> "Future[R]":
-        """Sends the line of a command; the future gets what its reply says."""
+        """Sends a command in one piece; the future gets what its reply says."""
         self.refuse_reader()
         future: "Future[R]" = Future()
         with self.lock:
@@ -101,16 +101,6 @@ class Connection:
                 raise Closed
             self._unsent.put(self.protocol.send(command, future))
         return future
-
-    def start_all(self, commands: "Sequence[Command[Any]]") -> "List[Future[Any]]":
-        """Sends the lines of commands in one piece, so that they are there together."""
-        self.refuse_reader()
-        futures: "List[Future[Any]]" = [Future() for _ in commands]
-        with self.lock:
-            if self._is_closed:
-                raise Closed
-            self._unsent.put(b"".join(self.protocol.send(command, future) for command, future in zip(commands, futures)))
-        return futures
 
     def refuse_reader(self) -> None:
         """A callback that waits on the thread that reads would wait for ever."""

@@ -2,7 +2,7 @@
 
 import errno
 import os
-from typing import Optional, Tuple, Type
+from typing import Optional, Tuple, Type, Union
 
 
 DISK = 32  # the fault of a file that can't be opened
@@ -32,6 +32,18 @@ class BadLine(TmhostError):
 
     def __str__(self) -> str:
         return f"a bad line: {self.line[:60]!r}"
+
+
+class Undone(TmhostError):
+    """Of several changes that are done as a whole none was, since one of them wasn't: `place` is which one, counted from 0, `line` what was sent
+    of it, and `why` what it would raise by itself."""
+
+    def __init__(self, place: int, line: str, why: Union[Refused, BadLine]) -> None:
+        super().__init__(place, line, why)
+        self.place, self.line, self.why = place, line, why
+
+    def __str__(self) -> str:
+        return f"nothing was done, since {self.line[:60]!r} is {self.why if isinstance(self.why, Refused) else 'a bad line'}"
 
 
 class NoScript(TmhostError):

@@ -6,12 +6,13 @@ import dataclasses
 import functools
 from typing import Any, Callable, Deque, List, Optional, Tuple
 
-from .commands import AnyCommand, Command, Look, R, bytes_of
+from .commands import AnyCommand, Command, Look, R
 from .errors import BadLine, Closed, Lost, ProtocolError, Refused, TmhostError
 from .events import Answered, Banner, Completed, Done, Ended, Event, Finished, Stopped
 from .mirror import Mirror, Settles, out_of_step
 from .program import death, fault_in
 from .reading import End, Fault, Hello, OneField, Refusal, Reply, StopReply, Told, read
+from .together import Together
 from .values import LostItem
 
 VERSION = 2  # of the protocol
@@ -90,11 +91,11 @@ class Protocol:
         return self._has_end or self._fault is not None
 
     def send(self, command: Command[R], waiter: "Settles[R]") -> bytes:
-        """The line of a command, which has to be sent as the next one."""
+        """The line of a command, or its lines, which have to be sent next."""
         if self.error:
             raise copy.copy(self.error)
         self._awaited.append((command, waiter))
-        return bytes_of(command.line)
+        return command.sent
 
     def feed(self, line: bytes) -> Taken:
         """Takes a line, without what ends it."""
@@ -123,9 +124,14 @@ class Protocol:
     # ---- lines
 
     def _replied(self, reply: Reply, taken: Taken) -> None:
-        if not self._awaited or reply.line != self._told + 1:
+        place = reply.line - self._told - 1
+        if not self._awaited or not 0 <= place < self._awaited[0][0].length:
             out_of_step(f"of line {reply.line} behind line {self._told}")
         command, waiter = self._awaited[0]
+        if isinstance(command, Together):
+            if command.takes(place, reply):
+                self._end_transaction(command, reply, taken)
+            return
         if reply.more:
             if isinstance(reply, OneField):
                 self.mirror.show(reply.field)
@@ -137,8 +143,21 @@ class Protocol:
         else:
             taken.give(waiter, command.taken(self.mirror, reply))
             self._tell_done(command, reply, taken)
-        self._told += 1
-        self._awaited.popleft()
+        self._drop_first()
+
+    def _drop_first(self) -> None:
+        """All is told of what was sent first."""
+        self._told += self._awaited.popleft()[0].length
+
+    def _end_transaction(self, transaction: Together, reply: Reply, taken: Taken) -> None:
+        waiter = self._awaited[0][1]
+        if transaction.undone:
+            taken.fail(waiter, transaction.undone)
+        else:
+            taken.give(waiter, transaction.taken(self.mirror, reply))
+            for change in transaction.changes:
+                self._tell_done(change, reply, taken)
+        self._drop_first()
 
     def _tell_done(self, command: AnyCommand, reply: Reply, taken: Taken) -> None:
         if isinstance(reply, StopReply):

@@ -65,6 +65,13 @@ class Refusal(Reply):
 
 
 @dataclasses.dataclass(frozen=True)
+class NothingDone(Reply):
+    """Of a transaction, whose line `begin` has the number `first`: it is told of its line `end`."""
+
+    first: int
+
+
+@dataclasses.dataclass(frozen=True)
 class Waited(Reply):
     over: str
 
@@ -241,6 +248,7 @@ REPLIES: Dict[str, Callable[[Tuple[int, str, bool], Members], Reply]] = {
     "made": lambda front, told: Made(*front, told.number("id")),
     "asked": lambda front, told: Asked(*front, told.number("life")),
     "refused": lambda front, told: Refusal(*front, told.string("name"), told.number("number")),
+    "undone": lambda front, told: NothingDone(*front, told.number("from")),
     "waited": lambda front, told: Waited(*front, told.one_of("over", "idle", "time")),
     "field": lambda front, told: OneField(*front, field(told.get("field"))),
     "sheet": lambda front, told: Sheet(

@@ -89,7 +89,7 @@ class AsyncConnection:
     # ---- calls
 
     def start(self, command: Command[R]) -> "asyncio.Future[R]":
-        """Sends the line of a command; the future gets what its reply says."""
+        """Sends a command in one piece; the future gets what its reply says."""
         if self._is_closed:
             raise Closed
         future: "asyncio.Future[R]" = new_future()

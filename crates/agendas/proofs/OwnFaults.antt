@@ -42,10 +42,10 @@ module _ (d : DiskView) where
   of_reading a r b (k, remaining, same, keeps, inr is) = at_input r is
 
   of_input : (a : LinesAt) (w : World) (now : ℕ) (r : Result Turn RunFault) (b : LinesAt) → TakesInput a w now r b → IsTrueAnswer r
-  of_input a w now r b (together given k t lax grouped one few ready next is asks same) = at_turn r t is
+  of_input a w now r b (together given k t lax none grouped one few ready next is asks same) = at_turn r t is
   of_input a w now r b (alone l k ready next takes) = of_line (given_to a k) w now (said_by l) r b takes
   of_input a w now r b (reads_on k ready left reads) = of_reading (given_to a k) r b reads
-  of_input a w now r b (ended k ready none is same) = at_turn r _ is
+  of_input a w now r b (ended k t ready none is ends) = at_turn r t is
 
   of_limit : (a : LinesAt) (w : World) (now : ℕ) (r : Result Turn RunFault) (b : LinesAt) → SaysLimit a w now r b → IsTrueAnswer r
   of_limit a w now r b (first_of seat rest waiting is same) = at_turn r _ is

@@ -22,6 +22,7 @@ use Rattle.driver.specs.declared.turn.Turn.TheVariants as turn
 use Rattle.agendas.specs.declared.doing.Chosen.{Chosen}
 use Rattle.agendas.specs.declared.doing.Doing.TheVariants as doing
 use Rattle.agendas.specs.Waits.{begun}
+use Rattle.agendas.specs.Transactions.{new_transaction}
 
 -- it asks that these events are taken as one group, those of lines from this one on
 abbrev pub AsksLines : ℕ → List Event → Turn → Type 0
@@ -33,23 +34,23 @@ AsksCommand number c t =
     ((is_checkpoint (event.Command c) ≡ true) × (t ≡ turn.Checkpoint number))
     ⊎ ((is_checkpoint (event.Command c) ≡ false) × AsksLines number (event.Command c ∷ []) t)
 
--- No wait is begun. This is asked for, and this is done then.
+-- No wait is begun, and no transaction. This is asked for, and this is done then.
 abbrev pub AsksTurn : Turn → Chosen → Type 0
-AsksTurn t c = (c.turn ≡ t) × (c.held ≡ hold.Free)
+AsksTurn t c = (c.turn ≡ t) × (c.held ≡ hold.Free) × (c.transaction ≡ None)
 
 -- A wait begins. Where no item waits it is over at once, and that is printed.
 abbrev pub BeginsWait : ℕ → World → Hold → Chosen → Type 0
 BeginsWait number w begun c =
-    ((waits w ≡ []) × (c.turn ≡ turn.Show (show.Note (note.Waited number false))) × (c.held ≡ hold.Free) × (c.doing ≡ doing.Line false))
-    ⊎ ((waits w ≢ []) × (c.turn ≡ turn.Nothing) × (c.held ≡ begun) × (c.doing ≡ doing.Line false))
+    ((waits w ≡ []) × (c.turn ≡ turn.Show (show.Note (note.Waited number false))) × (c.held ≡ hold.Free) × (c.doing ≡ doing.Line false) × (c.transaction ≡ None))
+    ⊎ ((waits w ≢ []) × (c.turn ≡ turn.Nothing) × (c.held ≡ begun) × (c.doing ≡ doing.Line false) × (c.transaction ≡ None))
 
--- What the line with this number asks for, in this manner, where the clock reads this. A line that isn't known goes wrong, and so does one
--- that asks for what isn't there.
+-- What the line with this number asks for outside of a transaction, in this manner, where the clock reads this. A line that isn't known goes wrong, and so does
+-- one that asks for what isn't there. The end of no transaction isn't known.
 abbrev pub AsksAlone : Manner → ℕ → World → ℕ → Option LiveLine → Chosen → Type 0
 AsksAlone m number w now None c = AsksTurn (turn.Show (show.Note (note.Bad number))) c × (c.doing ≡ doing.Line true)
 AsksAlone m number w now (Some (live.Script line.Skip)) c = AsksTurn (turn.Show (show.Note (note.Nothing number))) c × (c.doing ≡ doing.Line false)
 AsksAlone m number w now (Some (live.Script (line.Command command))) c =
-    AsksCommand number command c.turn × (c.held ≡ hold.Free) × (c.doing ≡ doing.Commands)
+    AsksCommand number command c.turn × (c.held ≡ hold.Free) × (c.doing ≡ doing.Commands) × (c.transaction ≡ None)
 AsksAlone m number w now (Some (live.Script line.Wait)) c = BeginsWait number w (begun m.limit now (Some (live.Script line.Wait))) c
 AsksAlone m number w now (Some (live.Script line.Print)) c = AsksTurn (turn.Show (show.Sheet number)) c × (c.doing ≡ doing.Line false)
 AsksAlone m number w now (Some (live.PrintField id)) c =
@@ -58,3 +59,6 @@ AsksAlone m number w now (Some (live.WaitFor seconds)) c = BeginsWait number w (
 AsksAlone m number w now (Some (live.Interrupt name)) c =
     AsksTurn (turn.Interrupt name) c × (c.doing ≡ doing.Interrupt name (asks_in_vain w (live.Interrupt name)))
 AsksAlone m number w now (Some (live.Export format)) c = AsksTurn (turn.Show (show.Export number format)) c × (c.doing ≡ doing.Line false)
+AsksAlone m number w now (Some live.Begin) c =
+    (c.turn ≡ turn.Show (show.Note (note.Nothing number))) × (c.held ≡ hold.Free) × (c.doing ≡ doing.Line false) × (c.transaction ≡ Some (new_transaction number))
+AsksAlone m number w now (Some live.End) c = AsksTurn (turn.Show (show.Note (note.Bad number))) c × (c.doing ≡ doing.Line true)

@@ -2,6 +2,7 @@
 use Rattle.std.specs.Prelude.{◌≡◌, ◌≢◌, ◌⊎◌, ℕ, ◌&&◌, ◌||◌, not, Bool, true, false, List, [], ◌∷◌, Option, Some, None}
 use Rattle.std.specs.List.{list_any}
 use Rattle.session_engine.specs.World.{World}
+use Rattle.session_engine.specs.Groups.{is_refusal}
 use Rattle.child_calls.specs.declared.seat.Seat.{Seat}
 use Rattle.child_edge.specs.Seats.{waits}
 use Rattle.child_edge.specs.declared.interrupting.Interrupted.{Interrupted}
@@ -16,10 +17,15 @@ use Rattle.agendas.specs.declared.doing.Doing.{Doing}
 use Rattle.agendas.specs.declared.doing.Doing.TheVariants as doing
 use Rattle.agendas.specs.Waits.{begun_again, warned}
 use Rattle.agendas.specs.LinesAt.{LinesAt}
+use Rattle.agendas.specs.Transactions.{transaction_note}
 
 -- something was refused, or items were lost
 abbrev pub went_wrong : TurnCame → Bool
 went_wrong c = list_any (λ o. is_wrong o.reply) c.outcomes || list_any is_wrong c.replies
+
+-- a command was refused
+abbrev pub refused_one : TurnCame → Bool
+refused_one c = list_any is_refusal c.outcomes
 
 -- something closed: a banner, an answer, or completions
 abbrev pub closed_one : TurnCame → Bool
@@ -56,6 +62,8 @@ HeedsDone a w now c (doing.Line wrong) n held = (n ≡ None) × (held ≡ stop_i
 HeedsDone a w now c (doing.Interrupt name wrong) n held =
     (n ≡ interrupt_note (note.Interrupted a.number name) c.interrupted) × (held ≡ stop_if (a.manner.strict && wrong) a.held)
 HeedsDone a w now c doing.Commands n held = (n ≡ None) × (held ≡ stop_if (a.manner.strict && went_wrong c) a.held)
+HeedsDone a w now c (doing.Transaction first) n held =
+    (n ≡ Some (transaction_note first a.number (refused_one c))) × (held ≡ stop_if (a.manner.strict && refused_one c) a.held)
 HeedsDone a w now c doing.Life n held =
     (on : Hold) × LifeGoesOn a.manner.limit w now (closed_one c) a.held on × (n ≡ over_note a.number a.held on)
     × (held ≡ stop_if (a.manner.strict && went_wrong c) on)

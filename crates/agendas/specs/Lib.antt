@@ -1,5 +1,6 @@
 pub mod Waits
 pub mod Matters
+pub mod Transactions
 pub mod Alone
 pub mod LinesAt
 pub mod Taking
@@ -7,3 +8,4 @@ pub mod Says
 pub mod Heeds
 pub mod LinesRules
 pub mod InputOrder
+pub mod TransactionLines

@@ -1,5 +1,5 @@
 -- Where an agenda of lines lines_stand.
-use Rattle.std.specs.Prelude.{ℕ, ◌+◌, List, [], Option, Some, None}
+use Rattle.std.specs.Prelude.{ℕ, ◌+◌, true, List, [], Option, Some, None}
 use Rattle.child_calls.specs.declared.seat.Seat.{Seat}
 use Rattle.arrivals.specs.Lines.{InputLine}
 use Rattle.arrivals.specs.Held.{Held, nothing_held, to_come}
@@ -8,6 +8,7 @@ use Rattle.live.specs.declared.holding.Hold.{Hold}
 use Rattle.live.specs.declared.holding.Hold.TheVariants as hold
 use Rattle.live.specs.declared.manner.Manner.{Manner}
 use Rattle.agendas.specs.declared.by_lines.ByLines.{ByLines}
+use Rattle.agendas.specs.declared.doing.Transaction.{Transaction}
 use Rattle.agendas.specs.declared.doing.Chosen.{Chosen}
 use Rattle.agendas.specs.declared.doing.Doing.{Doing}
 use Rattle.agendas.specs.declared.doing.Doing.TheVariants as doing
@@ -27,6 +28,8 @@ pub record LinesAt : Type 0 where
   pub doing : Doing
   -- whose turn it is, by a watch
   pub due : Option Woken
+  -- the transaction that is open
+  pub transaction : Option Transaction
   -- the lives that are still to be interrupted
   pub late : List Seat
 
@@ -40,6 +43,7 @@ lines_stand remaining a = record {
   held = a.held;
   doing = a.doing;
   due = a.due;
+  transaction = a.transaction;
   late = a.late.items;
 }
 
@@ -53,6 +57,7 @@ first_lines manner stream = record {
   held = hold.Free;
   doing = doing.Nothing;
   due = None;
+  transaction = None;
   late = [];
 }
 
@@ -100,13 +105,21 @@ given_to a k = record a { buffer = k }
 abbrev pub read_to : LinesAt → Held → Option (List ℕ) → LinesAt
 read_to a k remaining = record a { buffer = k; remaining = remaining }
 
--- one line more was taken
+-- one line more was taken, for which there was no memory: a transaction that was open is forgotten
 abbrev pub counted : LinesAt → LinesAt
-counted a = record a { number = a.number + 1 }
+counted a = record a { number = a.number + 1; transaction = None }
 
 -- a line was taken, and this was chosen for it
 abbrev pub after_line : LinesAt → Chosen → LinesAt
-after_line a c = record a { number = a.number + 1; held = c.held; doing = c.doing }
+after_line a c = record a { number = a.number + 1; held = c.held; doing = c.doing; transaction = c.transaction }
+
+-- this transaction is open
+abbrev pub with_transaction : LinesAt → Option Transaction → LinesAt
+with_transaction a b = record a { transaction = b }
+
+-- the input ended in a transaction, which goes wrong
+abbrev pub behind_end : LinesAt → LinesAt
+behind_end a = record a { doing = doing.Line true; transaction = None }
 
 -- so many lines were taken as one group
 abbrev pub behind_group : LinesAt → ℕ → LinesAt

@@ -24,6 +24,8 @@ begun limit now (Some (live.PrintField id)) = hold.Free
 begun limit now (Some (live.WaitFor seconds)) = hold.Until (seconds_behind now seconds)
 begun limit now (Some (live.Interrupt name)) = hold.Free
 begun limit now (Some (live.Export format)) = hold.Free
+begun limit now (Some live.Begin) = hold.Free
+begun limit now (Some live.End) = hold.Free
 
 -- a wait stays as it is, or begins again
 abbrev pub begun_again : Option ℕ → ℕ → Bool → Hold → Hold

@@ -9,7 +9,7 @@ ghost use Rattle.live.specs.Saying.{IsCommand};
 ghost use Rattle.agendas.specs.Alone.{AsksTurn, AsksAlone, AsksCommand, BeginsWait};
 ghost use Rattle.agendas.specs.declared.doing.Doing.TheVariants as does;
 
-use crate::doing::{Chosen, Doing};
+use crate::doing::{Chosen, Doing, Transaction};
 use crate::gathering::add_command;
 use crate::waits::{lacks_field, lacks_session, untimed};
 use child_edge::is_idle;
@@ -17,7 +17,7 @@ use disk_model::Disk;
 use driver::{Show, Turn};
 use host_events::{Command, Event};
 use live::{Hold, LiveLine, Manner, go_on, read_live_line, wait_for};
-use session_engine::Host;
+use session_engine::{Edits, Host};
 use sheet_text::{LineFault, ScriptLine};
 use std::alloc::{AllocError, Global};
 use tellings::Note;
@@ -40,6 +40,7 @@ fn by_itself(turn: Turn, wrong: bool) -> Chosen
         turn,
         doing: Doing::Line(wrong),
         held: Hold::Free,
+        transaction: None,
     }
 }
 
@@ -61,6 +62,7 @@ fn begin<D: Disk>(host: &Host<D>, number: u64, begun: Hold) -> Chosen
             turn: Turn::Nothing,
             doing: Doing::Line(false),
             held: begun,
+            transaction: None,
         }
     }
 }
@@ -100,6 +102,7 @@ fn choose_command(alloc: Global, at: Reading, command: Command) -> Result<Chosen
             turn,
             doing: Doing::Commands,
             held: Hold::Free,
+            transaction: None,
         }),
         Err(fault) => Err(fault),
     }
@@ -132,6 +135,23 @@ fn choose_interrupt<D: Disk>(host: &Host<D>, at: Reading, name: Name) -> Chosen
         turn: Turn::Interrupt(name),
         doing: Doing::Interrupt(name, lacks_session(host, name)),
         held: Hold::Free,
+        transaction: None,
+    }
+}
+
+/// A transaction begins.
+fn begin_transaction(alloc: Global, at: Reading) -> Chosen
+    ensures { (w : World) → AsksAlone at.manner at.number w at.now (Some LiveLine.Begin) result }
+{
+    Chosen {
+        turn: Turn::Show(Show::Note(Note::Nothing(at.number))),
+        doing: Doing::Line(false),
+        held: Hold::Free,
+        transaction: Some(Transaction {
+            first: at.number,
+            edits: Edits::new(alloc),
+            broken: false,
+        }),
     }
 }
 
@@ -157,10 +177,12 @@ fn choose<D: Disk>(
             Turn::Show(Show::Export(at.number, format)),
             false,
         )),
+        LiveLine::Begin => Ok(begin_transaction(alloc, at)),
+        LiveLine::End => Ok(bad(at)),
     }
 }
 
-/// Reads a line, and says what it asks for. One that isn't known went wrong.
+/// Reads a line, and says what it asks for where no transaction is open. One that isn't known went wrong.
 ///
 /// `AllocError` where there is no memory for a command.
 pub(crate) fn choose_line<D: Disk>(

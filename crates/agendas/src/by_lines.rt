@@ -7,7 +7,7 @@ ghost use Rattle.live.specs.Saying as saying;
 ghost use Rattle.agendas.specs.Waits as waits;
 ghost use Rattle.agendas.specs.Matters.{IsMatter};
 
-use crate::doing::Doing;
+use crate::doing::{Doing, Transaction};
 use crate::matter::{Matter, matter_of, most_others};
 use crate::waits::{input, is_stopped, patience, stop_if, warned};
 use arrivals::{InputLines, Woken};
@@ -40,6 +40,8 @@ pub struct ByLines<R> {
     pub(crate) doing: Doing,
     /// Whose turn a watch returned.
     pub(crate) due: Option<Woken>,
+    /// The transaction that is open.
+    pub(crate) transaction: Option<Transaction>,
     /// Lives that are still to be interrupted.
     pub(crate) late: Vec<Seat>,
 }
@@ -60,6 +62,7 @@ impl<R: Read> ByLines<R> {
         ensures held { result.held ≡ Hold.Free }
         ensures doing { result.doing ≡ does.Nothing }
         ensures due { result.due ≡ None }
+        ensures transaction { result.transaction ≡ None }
         ensures late { result.late.items ≡ [] }
     {
         ByLines {
@@ -69,6 +72,7 @@ impl<R: Read> ByLines<R> {
             held: Hold::Free,
             doing: Doing::Nothing,
             due: None,
+            transaction: None,
             late: Vec::new(alloc),
         }
     }

@@ -3,6 +3,7 @@
 use child_calls::Seat;
 use driver::Turn;
 use live::Hold;
+use session_engine::Edits;
 use worksheet::Name;
 
 /// What is being done.
@@ -16,6 +17,8 @@ pub enum Doing {
     Interrupt(Name, bool),
     /// Commands of lines.
     Commands,
+    /// The commands of the transaction that the line with this number began.
+    Transaction(u64),
     /// What lives have.
     Life,
     /// The interrupt of a life in a wait whose time is over.
@@ -24,10 +27,22 @@ pub enum Doing {
     Stall,
 }
 
-/// What a line asks for, what is done then, and the wait that holds back the lines after it.
+/// A transaction of lines that is open.
+#[derive(Drop)]
+pub struct Transaction {
+    /// The number of the line that began it.
+    pub first: u64,
+    /// The commands that it has so far.
+    pub edits: Edits,
+    /// Whether it has a line that can't stand in a transaction: then nothing of it is done.
+    pub broken: bool,
+}
+
+/// What a line asks for, what is done then, the wait that holds back the lines after it, and the transaction that is open then.
 #[derive(Drop)]
 pub struct Chosen {
     pub turn: Turn,
     pub doing: Doing,
     pub held: Hold,
+    pub transaction: Option<Transaction>,
 }

@@ -1,5 +1,5 @@
 //! What is made of what came.
-ghost use Rattle.std.specs.Prelude.{◌≡◌, ◌++◌, ◌&&◌, ◌||◌, true, false};
+ghost use Rattle.std.specs.Prelude.{◌≡◌, ◌++◌, ◌&&◌, ◌||◌, Some, true, false};
 ghost use Rattle.std.specs.List.{list_any};
 ghost use Rattle.session_engine.specs.World.{World};
 ghost use Rattle.session_engine.specs.Host.{IsHost};
@@ -12,6 +12,7 @@ ghost use Rattle.agendas.specs.Heeds.{LifeGoesOn, interrupt_note, over_note};
 
 use crate::by_lines::ByLines;
 use crate::doing::Doing;
+use crate::transactions::{refused_one, transaction_note};
 use crate::waits::{begun_again, is_held, stop_if, warned};
 use child_calls::Seat;
 use child_edge::{GaveJoined, GaveTogether, Interrupted, is_idle};
@@ -110,7 +111,7 @@ fn closed_one(came: &Came) -> bool
     match came {
         Came::Gave(gave) => group_closed(gave),
         Came::Joined(gave) => joined_closed(gave),
-        Came::Rewrote(outcome) => has_closed(&outcome.reply),
+        Came::Alone(outcome) => has_closed(&outcome.reply),
         Came::Interrupted(_) | Came::Shown => false,
     }
 }
@@ -122,7 +123,7 @@ fn went_wrong(came: &Came) -> bool
     match came {
         Came::Gave(gave) => group_wrong(gave),
         Came::Joined(gave) => joined_wrong(gave),
-        Came::Rewrote(outcome) => is_wrong(&outcome.reply),
+        Came::Alone(outcome) => is_wrong(&outcome.reply),
         Came::Interrupted(_) | Came::Shown => false,
     }
 }
@@ -133,7 +134,7 @@ pub fn interrupt_of(came: &Came) -> Option<Interrupted>
 {
     match came {
         Came::Interrupted(told) => Some(*told),
-        Came::Gave(_) | Came::Joined(_) | Came::Rewrote(_) | Came::Shown => None,
+        Came::Gave(_) | Came::Joined(_) | Came::Alone(_) | Came::Shown => None,
     }
 }
 
@@ -197,7 +198,8 @@ fn behind_warning(strict: bool, now: u64, late: &[Seat], held: Hold) -> Hold
 
 impl<R: Read> ByLines<R> {
     ghost use Rattle.agendas.specs.LinesAt.{holding, lines_stand};
-    ghost use Rattle.agendas.specs.Heeds.{HeedsDone};
+    ghost use Rattle.agendas.specs.Heeds.{HeedsDone, refused_one};
+    ghost use Rattle.agendas.specs.Transactions.{transaction_note};
 
     /// What is noted of what lives gave, and which wait goes on.
     fn heed_life<D: Disk>(&mut self, host: &Host<D>, now: u64, came: &Came) -> Option<Note>
@@ -209,6 +211,17 @@ impl<R: Read> ByLines<R> {
         let on = behind_life(host, self.manner.limit, now, closed_one(came), before);
         self.held = stop_if(self.manner.strict, went_wrong(came), on);
         note_over(self.number, before, on)
+    }
+
+    /// What is noted of the commands of the transaction that this line began: a refusal goes wrong.
+    fn heed_transaction(&mut self, first: u64, came: &Came) -> Option<Note>
+        ensures note { result ≡ Some (transaction_note first self.old.number (refused_one (came_of came.now))) }
+        ensures stands { lines_stand R.remaining self.new ≡ holding (lines_stand R.remaining self.old)
+            (saying.stop_if (self.old.manner.strict && refused_one (came_of came.now)) self.old.held) }
+    {
+        let refused = refused_one(came);
+        self.held = stop_if(self.manner.strict, refused, self.held);
+        Some(transaction_note(first, self.number, refused))
     }
 
     /// What is noted of what came, and which wait goes on, where this was done.
@@ -238,6 +251,7 @@ impl<R: Read> ByLines<R> {
                 self.held = stop_if(strict, went_wrong(came), self.held);
                 None
             }
+            Doing::Transaction(first) => self.heed_transaction(first, came),
             Doing::Life => self.heed_life(host, now, came),
             Doing::Warning(seat) => {
                 self.held = behind_warning(strict, now, self.late.as_slice(), self.held);

@@ -9,8 +9,9 @@ pub mod heeding;
 pub mod laws;
 pub mod matter;
 mod taking;
+mod transactions;
 pub mod waits;
 
 pub use by_lines::ByLines;
-pub use doing::{Chosen, Doing};
+pub use doing::{Chosen, Doing, Transaction};
 pub use matter::Matter;

@@ -1,5 +1,5 @@
 //! What an agenda of lines takes of its input.
-ghost use Rattle.std.specs.Prelude.{◌≡◌, ◌+◌, ◌<◌, ◌^◌, None};
+ghost use Rattle.std.specs.Prelude.{◌≡◌, ◌+◌, ◌<◌, ◌^◌, None, Some, false};
 ghost use Rattle.session_engine.specs.World.{World};
 ghost use Rattle.session_engine.specs.Host.{IsHost};
 ghost use Rattle.driver.specs.Steps.{most_together};
@@ -7,21 +7,25 @@ ghost use Rattle.live.specs.LiveLines.{live_line_of};
 
 use crate::alone::{Reading, bad, choose_line};
 use crate::by_lines::ByLines;
-use crate::doing::{Chosen, Doing};
+use crate::doing::{Chosen, Doing, Transaction};
 use crate::gathering::gather;
+use crate::transactions::{break_at, choose_in_transaction};
 use arrivals::NextLine;
 use disk_model::Disk;
-use driver::Turn;
+use driver::{Show, Turn};
 use host_events::Event;
 use offline_programs::RunFault;
 use session_engine::Host;
 use std::alloc::Global;
 use std::io::Read;
+use std::mem;
+use tellings::Note;
 
 impl<R: Read> ByLines<R> {
     ghost use Rattle.agendas.specs.Alone.{AsksLines};
-    ghost use Rattle.agendas.specs.LinesAt.{behind_group, after_line, lines_stand};
-    ghost use Rattle.agendas.specs.Taking.{ReadsOn, TakesAlone, TakesInput, TakesGivenLine};
+    ghost use Rattle.agendas.specs.LinesAt.{behind_group, after_line, counted, lines_stand, with_transaction};
+    ghost use Rattle.agendas.specs.Taking.{EndsInput, ReadsOn, TakesAlone, TakesInput, TakesGivenLine};
+    ghost use Rattle.offline_programs.specs.declared.fault.RunFault.TheVariants as fault;
 
     /// These commands of lines that were there together are taken as one group.
     fn group(&mut self, events: Vec<Event>, count: u64) -> Turn
@@ -41,10 +45,16 @@ impl<R: Read> ByLines<R> {
         ensures turn { result ≡ chosen.turn }
         ensures stands { lines_stand R.remaining self.new ≡ after_line (lines_stand R.remaining self.old) chosen }
     {
-        let Chosen { turn, doing, held } = chosen;
+        let Chosen {
+            turn,
+            doing,
+            held,
+            transaction,
+        } = chosen;
         self.number += 1;
         self.doing = doing;
         self.held = held;
+        self.transaction = transaction;
         turn
     }
 
@@ -62,6 +72,52 @@ impl<R: Read> ByLines<R> {
         }
     }
 
+    /// There was no memory for the next line.
+    fn lack_memory(&mut self) -> RunFault
+        requires { self.old.number + 1 < 2 ^ 64 }
+        ensures fault { result ≡ fault.OutOfMemory }
+        ensures stands { lines_stand R.remaining self.new ≡ counted (lines_stand R.remaining self.old) }
+    {
+        self.number += 1;
+        self.transaction = None;
+        RunFault::OutOfMemory
+    }
+
+    /// Takes the line that was just given, where no transaction is open.
+    fn take_by_itself<D: Disk>(
+        &mut self,
+        alloc: Global,
+        host: &Host<D>,
+        now: u64,
+    ) -> Result<Turn, RunFault>
+        requires { self.old.number + 1 < 2 ^ 64 }
+        ensures { (w : World) → IsHost host.now w
+            → TakesGivenLine (with_transaction (lines_stand R.remaining self.old) None) w now (live_line_of self.old.lines.held.line) result (lines_stand R.remaining self.new) }
+    {
+        let at = self.reading(now);
+        match choose_line(alloc, host, at, self.lines.line()) {
+            Ok(chosen) => Ok(self.follow(chosen)),
+            Err(_) => Err(self.lack_memory()),
+        }
+    }
+
+    /// Takes the line that was just given, in this transaction.
+    fn take_in_transaction(
+        &mut self,
+        alloc: Global,
+        now: u64,
+        transaction: Transaction,
+    ) -> Result<Turn, RunFault>
+        requires { self.old.number + 1 < 2 ^ 64 }
+        ensures { (w : World) → TakesGivenLine (with_transaction (lines_stand R.remaining self.old) (Some transaction)) w now (live_line_of self.old.lines.held.line) result (lines_stand R.remaining self.new) }
+    {
+        let number = self.number + 1;
+        match choose_in_transaction(alloc, transaction, number, self.lines.line()) {
+            Ok(chosen) => Ok(self.follow(chosen)),
+            Err(_) => Err(self.lack_memory()),
+        }
+    }
+
     /// Takes the line that was just given.
     fn take_line<D: Disk>(
         &mut self,
@@ -73,13 +129,9 @@ impl<R: Read> ByLines<R> {
         ensures { (w : World) → IsHost host.now w
             → TakesGivenLine (lines_stand R.remaining self.old) w now (live_line_of self.old.lines.held.line) result (lines_stand R.remaining self.new) }
     {
-        let at = self.reading(now);
-        match choose_line(alloc, host, at, self.lines.line()) {
-            Ok(chosen) => Ok(self.follow(chosen)),
-            Err(_) => {
-                self.number += 1;
-                Err(RunFault::OutOfMemory)
-            }
+        match mem::replace(&mut self.transaction, None) {
+            None => self.take_by_itself(alloc, host, now),
+            Some(transaction) => self.take_in_transaction(alloc, now, transaction),
         }
     }
 
@@ -89,7 +141,23 @@ impl<R: Read> ByLines<R> {
         ensures { (w : World) → TakesAlone (lines_stand R.remaining self.old) w now None result (lines_stand R.remaining self.new) }
     {
         let at = self.reading(now);
-        self.follow(bad(at))
+        match mem::replace(&mut self.transaction, None) {
+            None => self.follow(bad(at)),
+            Some(transaction) => self.follow(break_at(transaction, at.number)),
+        }
+    }
+
+    /// The input is at its end: of a transaction that is open nothing is done.
+    fn end_input(&mut self) -> Turn
+        ensures { EndsInput self.old.transaction (lines_stand R.remaining self.old) result (lines_stand R.remaining self.new) }
+    {
+        match mem::replace(&mut self.transaction, None) {
+            None => Turn::End,
+            Some(transaction) => {
+                self.doing = Doing::Line(true);
+                Turn::Show(Show::Note(Note::Undone(transaction.first, self.number)))
+            }
+        }
     }
 
     /// Reads more of the input.
@@ -116,7 +184,17 @@ impl<R: Read> ByLines<R> {
             NextLine::Line => self.take_line(alloc, host, now),
             NextLine::TooLong => Ok(self.take_too_long(now)),
             NextLine::More => self.read_on(),
-            NextLine::End => Ok(Turn::End),
+            NextLine::End => Ok(self.end_input()),
+        }
+    }
+
+    /// Whether each line is taken by itself: in a strict input, and in a transaction.
+    fn is_alone(&self) -> bool
+        ensures { result ≡ false → (self.now.manner.strict ≡ false) × (self.now.transaction ≡ None) }
+    {
+        match &self.transaction {
+            Some(_) => true,
+            None => self.manner.strict,
         }
     }
 
@@ -130,7 +208,7 @@ impl<R: Read> ByLines<R> {
         requires { self.old.number + most_together + 1 < 2 ^ 64 }
         ensures { (w : World) → IsHost host.now w → TakesInput (lines_stand R.remaining self.old) w now result (lines_stand R.remaining self.new) }
     {
-        if self.manner.strict {
+        if self.is_alone() {
             return self.take_next(alloc, host, now);
         }
         let events = gather(alloc, &mut self.lines);

@@ -1,17 +1,15 @@
 -- Commands that are taken as a whole or not at all.
-use Rattle.std.proofs.Common.{◌≡◌, ◌≤◌, ◌*◌, ℕ, List, refl, sym, ◌∙◌, ap, subst, false, length}
-use Rattle.std.specs.List.{list_any}
+use Rattle.std.proofs.Common.{◌≡◌, ◌≤◌, ◌*◌, ℕ, List, refl, ◌∙◌, length}
 use Rattle.disk_model.specs.Disk.{SameDisk}
 use Rattle.host_events.specs.declared.event.Event.{Event}
 use Rattle.host_events.specs.declared.outcome.Outcome.{Outcome}
 use Rattle.session_engine.specs.World.{World}
 use Rattle.session_engine.specs.Host.{HostView, IsHost}
-use Rattle.session_engine.specs.Whole.{HaltsWhole, HasAtMost, MadeWhole, RefusedWhole}
+use Rattle.session_engine.specs.Whole.{MadeWhole, RefusedWhole}
 use Rattle.session_engine.specs.declared.whole.Whole.{Whole}
 use Rattle.session_engine.specs.declared.whole.Whole.TheVariants as whole
-use Rattle.session_engine.specs.declared.whole.WholeFault.{WholeFault}
 use Rattle.session_engine.specs.declared.whole.WholeFault.TheVariants as halt
-use Rattle.child_edge.specs.Faithful.{At, at}
+use Rattle.child_edge.specs.Faithful.{at}
 use Rattle.child_edge.specs.Wholly.{RanRefused}
 use Rattle.child_edge.specs.inside.Taking.{TookWholly}
 use Rattle.child_edge.proofs.Gates.{took_at_once}

@@ -82,10 +82,10 @@ With --json each line is one object, which programs read (docs/use/JSON.md). Wit
 --timeout SECONDS (1 to 1,000,000) the interpreters that are at something are sent\n\
 SIGINT where a line takes longer in a `wait`, reported as of `interrupt NAME`, and\n\
 are stopped where they haven't answered two seconds later. With either, and where\n\
-the script has `print ID`, `wait SECONDS`, `interrupt NAME` or `export FORMAT`,\n\
-lines are those of `live`, each taken in its turn, but while no `wait` holds lines\n\
-back nothing is taken of an interpreter. With --strict a time that is over is\n\
-wrong.\n\n\
+the script has `print ID`, `wait SECONDS`, `interrupt NAME`, `export FORMAT`,\n\
+`begin` or `end`, lines are those of `live`, each taken in its turn, but while no\n\
+`wait` holds lines back nothing is taken of an interpreter. With --strict a time\n\
+that is over is wrong.\n\n\
 Status: 0 where the script ran to its end, without --strict also where it has bad\n\
 lines and refused commands; 1 at a fault; 2 where the words are refused; 3 where\n\
 --strict stopped it.\n\n\
@@ -100,7 +100,9 @@ and what it reports as done is on the disk. Lines are those of `run`, of 65,536\
 bytes at most, and `print ID`, `wait SECONDS`, `export FORMAT`, which writes what\n\
 `export` does, and `interrupt NAME`, which sends SIGINT to an interpreter that is\n\
 at something. A `wait` holds back the lines after it until no answer is awaited,\n\
-or its time is over. At the end of the input each interpreter is stopped.\n\n\
+or its time is over. Commands between `begin` and `end`, which only change the\n\
+worksheet, are all done or none, where one is refused and after a crash. At the\n\
+end of the input each interpreter is stopped.\n\n\
 With --json each line is one object, which programs read (docs/use/JSON.md). With\n\
 --partial it is too, and what an interpreter writes that ends no block is written\n\
 at once: nothing of it is kept, and it is no answer.\n\n\

@@ -12,3 +12,4 @@ mod sizes;
 mod stories;
 mod told;
 mod turns;
+mod wholes;

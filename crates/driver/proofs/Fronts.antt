@@ -1,5 +1,5 @@
 -- Where a run leads, and what it leaves of the disk at every moment.
-use Rattle.std.proofs.Common.{◌≡◌, inl, inr, List, [], ◌∷◌, ◌++◌, refl, sym, ap, subst, append-nil, append_assoc, ◌∙◌}
+use Rattle.std.proofs.Common.{◌≡◌, inl, inr, List, [], ◌∷◌, ◌++◌, Some, refl, sym, ap, subst, append-nil, append_assoc, ◌∙◌}
 use Rattle.std.specs.Prelude.{◌⊎◌}
 use Rattle.disk_model.specs.Disk.{DiskView}
 use Rattle.host_events.specs.declared.event.Event.{Event}
@@ -17,9 +17,9 @@ use Rattle.child_edge.specs.Together.{LostTogether}
 use Rattle.host_events.specs.declared.outcome.HostFault.{HostFault}
 use Rattle.host_events.specs.declared.outcome.HostFault.TheVariants as faults
 use Rattle.offline_programs.specs.declared.fault.RunFault.{RunFault}
-use Rattle.driver.specs.Items.{Item, RunStep, after_fault, beats_of, print_fault, halt}
+use Rattle.driver.specs.Items.{Item, RunStep, after_fault, beats_of, print_fault, halt, take}
 use Rattle.driver.specs.Place.{RunPlace, Rules, run_at}
-use Rattle.driver.specs.Steps.{Fails, Goes, Run, asks, breaks, broken, broken_joined, prints_fault, hears, heeds, interrupts, joins, lost, lost_joined, rewrites, stalls_all, takes, prints, too_many, too_many_heard, uncounted, uncounted_line, unheard, unjoined, unnumbered, unsaid, unstalled, untaken, unprinted, unwatched, unwritten, watches}
+use Rattle.driver.specs.Steps.{Fails, Goes, Run, asks, breaks, broken, broken_joined, prints_fault, hears, heeds, interrupts, joins, lost, lost_joined, rewrites, stalls_all, takes, prints, too_many, too_many_heard, uncounted, uncounted_line, unheard, unjoined, unnumbered, unsaid, unstalled, untaken, unprinted, unwatched, unwritten, watches, takes_whole, refuses_whole, untaken_whole}
 use Rattle.driver.specs.Laws.{LeavesFrontsOf, all_printed, broke_at, lost_at, trace}
 use Rattle.driver.proofs.Courses.{Course, course_up_to, either_moments, events_append, moments_on, outcomes_append, runs_on}
 use Rattle.driver.proofs.Gates.{together_course, up_to_course}
@@ -40,6 +40,7 @@ fails_lead R p q i beats why (too_many_heard events many) = refl
 fails_lead R p q i beats why (unjoined events) = refl
 fails_lead R p q i beats why (lost_joined events all a h all_are l) = refl
 fails_lead R p q i beats why (broken_joined events all a bs e f w c d h all_are t stopped) = (up_to_course R.sources.after (run_at p) all beats e (at w c d) t).runs
+fails_lead R p q i beats why (untaken_whole first events bs w x fails) = fails_lead R p q (take (Some first) events) beats why fails
 fails_lead R p q i beats why (unwritten line f h stopped) = refl
 fails_lead R p q i beats why (unnumbered line many) = refl
 fails_lead R p q i beats why unstalled = refl
@@ -53,6 +54,8 @@ step_leads R p mid todo next s (hears seat most events c rest h) = refl
 step_leads R p mid todo next s (takes from events outcomes followed w c d rest t) = (together_course R.sources.after (run_at p) events outcomes followed (at w c d) t).runs
 step_leads R p mid todo next s (joins events outcomes first more later followed a w c d rest j t) =
     (together_course R.sources.after (run_at p) (events ++ more) (outcomes ++ later) followed (at w c d) t).runs
+step_leads R p mid todo next s (takes_whole first events outcomes followed w c d rest t accepted) = (together_course R.sources.after (run_at p) events outcomes followed (at w c d) t).runs
+step_leads R p mid todo next s (refuses_whole first events before last rest r) = refl
 step_leads R p mid todo next s (rewrites line o w d rest g k) = (w, g, refl)
 step_leads R p mid todo next s (stalls_all rest) = refl
 step_leads R p mid todo next s (interrupts name told c rest i) = refl
@@ -125,6 +128,7 @@ fails_leave R p q i beats why held (unjoined events) = nothing_done p q held ref
 fails_leave R p q i beats why held (lost_joined events all a h all_are l) = lost_at all p.disk h l refl (either_moments p.world l.taken l.untold l.leads p.disk h.store.disk l.runs l.moments)
 fails_leave R p q i beats why held (broken_joined events all a bs e f w c d h all_are t stopped) =
     broke_at d h e f stopped refl (course_up_to p.world p.disk beats w d e f h held (up_to_course R.sources.after (run_at p) all beats e (at w c d) t) stopped)
+fails_leave R p q i beats why held (untaken_whole first events bs w x fails) = fails_leave R p q (take (Some first) events) beats why held fails
 fails_leave R p q i beats why held (unwritten line f h stopped) =
     broke_at p.disk h (event.Command command.Checkpoint) f stopped refl (course_up_to p.world p.disk [] p.world p.disk (event.Command command.Checkpoint) f h held (no_step p.world p.disk) stopped)
 fails_leave R p q i beats why held (unnumbered line many) = nothing_done p q held refl

@@ -9,3 +9,4 @@ pub mod Overs
 pub mod Seen
 pub mod TrueFaults
 pub mod Joined
+pub mod Wholes

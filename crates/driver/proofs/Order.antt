@@ -10,7 +10,7 @@ use Rattle.offline_programs.specs.declared.fault.RunFault.TheVariants as fault
 use Rattle.driver.specs.Reports.{Report, printed_text}
 use Rattle.driver.specs.Items.{Item, RunStep, after_fault, beats_of, broke, print_fault, halt, printed}
 use Rattle.driver.specs.Place.{RunPlace, Rules, Tries, run_at}
-use Rattle.driver.specs.Steps.{Fails, Goes, Run, asks, breaks, prints_fault, hears, heeds, interrupts, joins, rewrites, stalls_all, takes, prints, watches}
+use Rattle.driver.specs.Steps.{Fails, Goes, Run, asks, breaks, prints_fault, hears, heeds, interrupts, joins, rewrites, stalls_all, takes, prints, watches, takes_whole, refuses_whole}
 use Rattle.driver.specs.Laws.{CutAt, PrintedAfter, trace}
 use Rattle.driver.proofs.Courses.{Course, course_on, goes_course}
 use Rattle.driver.proofs.Gates.{together_course}
@@ -44,6 +44,8 @@ step_course R p mid todo next s (hears seat most events c rest h) = inl (no_step
 step_course R p mid todo next s (takes from events outcomes followed w c d rest t) = inl (together_course R.sources.after (run_at p) events outcomes followed (at w c d) t)
 step_course R p mid todo next s (joins events outcomes first more later followed a w c d rest j t) =
     inl (together_course R.sources.after (run_at p) (events ++ more) (outcomes ++ later) followed (at w c d) t)
+step_course R p mid todo next s (takes_whole first events outcomes followed w c d rest t accepted) = inl (together_course R.sources.after (run_at p) events outcomes followed (at w c d) t)
+step_course R p mid todo next s (refuses_whole first events before last rest r) = inl (no_step p.world p.disk)
 step_course R p mid todo next s (rewrites line o w d rest g k) =
     inl (goes_course p.world p.disk (beats_of s) w d (w, d, g, k, (refl, refl)))
 step_course R p mid todo next s (stalls_all rest) = inl (no_step p.world p.disk)

@@ -16,7 +16,6 @@ use Rattle.host_events.specs.declared.reply.Reply.{Reply}
 use Rattle.child_edge.specs.Faithful.{Beat, at}
 use Rattle.child_edge.specs.Together.{beats_behind}
 use Rattle.child_edge.specs.Told.{told}
-use Rattle.child_edge.proofs.Faulting.{same-at}
 use Rattle.tellings.specs.declared.note.Note.{Note}
 use Rattle.tellings.specs.Voice.{Voice, IsUntold}
 use Rattle.offline_programs.specs.declared.fault.RunFault.{RunFault}
@@ -75,6 +74,7 @@ IsDoing item.ask = Unit {0}
 IsDoing (item.watch q) = Unit {0}
 IsDoing (item.hear seat most) = Unit {0}
 IsDoing (item.take from events) = Unit {0}
+IsDoing (item.take_whole first events) = Unit {0}
 IsDoing (item.join events) = Unit {0}
 IsDoing (item.rewrite line) = Unit {0}
 IsDoing item.stall = Unit {0}
@@ -98,6 +98,7 @@ turn_doing turn.Nothing = (tt, tt)
 turn_doing (turn.Watch input patience) = (tt, (tt, tt))
 turn_doing (turn.Hear seat most) = (tt, (tt, tt))
 turn_doing (turn.Lines first events) = (tt, (tt, tt))
+turn_doing (turn.Whole first events) = (tt, (tt, tt))
 turn_doing (turn.Checkpoint line) = (tt, (tt, tt))
 turn_doing turn.Stall = (tt, (tt, tt))
 turn_doing (turn.Interrupt name) = (tt, (tt, tt))
@@ -126,6 +127,7 @@ left_doing (item.ask ∷ rest) a b all = tt
 left_doing (item.watch q ∷ rest) a b all = tt
 left_doing (item.hear seat most ∷ rest) a b all = tt
 left_doing (item.take from events ∷ rest) a b all = tt
+left_doing (item.take_whole first events ∷ rest) a b all = tt
 left_doing (item.join events ∷ rest) a b all = tt
 left_doing (item.rewrite line ∷ rest) a b all = tt
 left_doing (item.stall ∷ rest) a b all = tt
@@ -141,6 +143,7 @@ left_since (item.ask ∷ rest) a b c same t = tt
 left_since (item.watch q ∷ rest) a b c same t = tt
 left_since (item.hear seat most ∷ rest) a b c same t = tt
 left_since (item.take from events ∷ rest) a b c same t = tt
+left_since (item.take_whole first events ∷ rest) a b c same t = tt
 left_since (item.join events ∷ rest) a b c same t = tt
 left_since (item.rewrite line ∷ rest) a b c same t = tt
 left_since (item.stall ∷ rest) a b c same t = tt
@@ -166,6 +169,7 @@ module _ {A C K : Type 0} (R : Rules A C K) (own : (a : A) (w : World) (n : ℕ)
   fails_true p q i beats why (step.lost_joined events all a h all_are l) = l.failed
   fails_true p q i beats why (step.broken_joined events all a bs e f w c d h all_are t stopped) =
       host_since f p.disk d h.store.disk (up_to_course R.sources.after (run_at p) all beats e (at w c d) t).same (cause_true f w e d h.store.disk stopped.cause)
+  fails_true p q i beats why (step.untaken_whole first events bs w x fails) = fails_true p q (item.take (Some first) events) beats why fails
   fails_true p q i beats why (step.unwritten line f h stopped) = cause_true f p.world _ p.disk h.store.disk stopped.cause
   fails_true p q i beats why (step.unnumbered line many) = tt
   fails_true p q i beats why step.unstalled = tt
@@ -179,6 +183,8 @@ module _ {A C K : Type 0} (R : Rules A C K) (own : (a : A) (w : World) (n : ℕ)
   step_doing p mid todo next s (step.takes from events outcomes followed w c d rest t) all = inl (tt, (tt, (tt, all.1)))
   step_doing p mid todo next s (step.joins events outcomes first more later followed a w c d rest j t) all =
       inl (joined_doing first outcomes later (told (beats_behind followed)) rest all.1)
+  step_doing p mid todo next s (step.takes_whole first events outcomes followed w c d rest t accepted) all = inl (tt, (tt, (tt, all.1)))
+  step_doing p mid todo next s (step.refuses_whole first events before last rest r) all = inl (tt, (tt, (tt, all.1)))
   step_doing p mid todo next s (step.rewrites line o w d rest gives kept) all = inl (tt, (tt, (tt, all.1)))
   step_doing p mid todo next s (step.stalls_all rest) all = inl (tt, all.1)
   step_doing p mid todo next s (step.interrupts name told c rest i) all = inl (tt, all.1)

@@ -30,6 +30,8 @@ pub data Item : Type 0 where
   hear : Seat → ℕ → Item
   -- these events are taken as one group: those of lives, or of the lines from this one on
   take : Option ℕ → List Event → Item
+  -- these commands of the lines from this one on are taken as one group, all of them or none
+  take_whole : ℕ → List Event → Item
   -- these events of lives are taken as one group, with those that the agenda says join them
   join : List Event → Item
   -- the journal is rewritten, for which this line asks
@@ -53,6 +55,8 @@ pub data RunStep : Type 0 where
   watched : Asked → Woken → RunStep
   heard : List Event → RunStep
   took : List Event → List Outcome → List Followed → RunStep
+  -- one of these commands was refused, so none was taken
+  refused_whole : List Event → Outcome → RunStep
   rewrote : Beat → RunStep
   stalled : List Seat → RunStep
   interrupted : List ℕ → Interrupted → RunStep
@@ -70,6 +74,7 @@ items_by turn.Nothing = ask ∷ []
 items_by (turn.Watch input patience) = watch (asked input patience) ∷ ask ∷ []
 items_by (turn.Hear seat most) = hear seat most ∷ ask ∷ []
 items_by (turn.Lines first events) = take (Some first) events.items ∷ ask ∷ []
+items_by (turn.Whole first edits) = take_whole first edits ∷ ask ∷ []
 items_by (turn.Checkpoint line) = rewrite line ∷ ask ∷ []
 items_by turn.Stall = stall ∷ ask ∷ []
 items_by (turn.Interrupt name) = interrupt name ∷ ask ∷ []
@@ -113,6 +118,7 @@ beats_of (chose t) = []
 beats_of (watched q w) = []
 beats_of (heard events) = []
 beats_of (took events outcomes followed) = trace_of events outcomes followed
+beats_of (refused_whole events o) = []
 beats_of (rewrote b) = b ∷ []
 beats_of (stalled seats) = []
 beats_of (interrupted name result) = []

@@ -8,3 +8,4 @@ pub mod Over
 pub mod Noted
 pub mod TrueFaults
 pub mod Laws
+pub mod inside

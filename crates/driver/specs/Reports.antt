@@ -54,6 +54,6 @@ interrupt_came result = record { outcomes = []; replies = []; interrupted = Some
 abbrev pub came_of : GivenCame → TurnCame
 came_of (given.Gave gave) = came gave.outcomes.items gave.replies.items
 came_of (given.Joined gave) = came (gave.outcomes.items ++ gave.later.items) gave.replies.items
-came_of (given.Rewrote o) = came (o ∷ []) []
+came_of (given.Alone o) = came (o ∷ []) []
 came_of (given.Interrupted result) = interrupt_came result
 came_of given.Shown = came [] []

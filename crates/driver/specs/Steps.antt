@@ -1,4 +1,5 @@
 -- One step of a run, from what is to be done to what is to be done then.
+use Rattle.std.specs.List.{list_any}
 use Rattle.std.specs.Prelude.{◌≡◌, ◌⊎◌, ℕ, ◌+◌, ◌^◌, ◌≤◌, ◌<◌, Bool, true, false, List, [], ◌∷◌, ◌++◌, Option, Some, None, IsSomeAnd, Ok, Err, length, map}
 use Rattle.disk_model.specs.Disk.{DiskView}
 use Rattle.host_events.specs.declared.command.Command.TheVariants as command
@@ -9,8 +10,10 @@ use Rattle.host_events.specs.declared.outcome.HostFault.{HostFault}
 use Rattle.host_events.specs.declared.outcome.HostFault.TheVariants as hosts
 use Rattle.session_engine.specs.World.{World}
 use Rattle.session_engine.specs.Does.{Gives}
+use Rattle.session_engine.specs.Groups.{is_refusal}
 use Rattle.session_engine.specs.Host.{HostView}
 use Rattle.session_engine.specs.Joining.{JoinsAfter, ToBeTaken, asking}
+use Rattle.session_engine.specs.Whole.{RefusedAt}
 use Rattle.child_calls.specs.declared.seat.Seat.{Seat}
 use Rattle.child_edge.specs.Edge.{Stopped}
 use Rattle.child_edge.specs.Faithful.{Beat, at}
@@ -31,7 +34,7 @@ use Rattle.offline_programs.specs.declared.fault.RunFault.TheVariants as fault
 use Rattle.driver.specs.declared.turn.Turn.{Turn}
 use Rattle.driver.specs.Reports.{TurnCame, Report, interrupt_came, lines, printed_text}
 use Rattle.driver.specs.Place.{RunPlace, Rules, Tries, run_at}
-use Rattle.driver.specs.Items.{Item, RunStep, after_fault, ask, broke, chose, print_fault, printed_fault, halt, hear, heard, heed, heeded, interrupt, interrupted, items_by, join, notes, rewrite, rewrote, stall, stalled, stalls, take, print, printing, printing_joined, printed, took, watch, watched}
+use Rattle.driver.specs.Items.{Item, RunStep, after_fault, ask, broke, chose, print_fault, printed_fault, halt, hear, heard, heed, heeded, interrupt, interrupted, items_by, join, notes, refused_whole, rewrite, rewrote, stall, stalled, stalls, take, print, printing, printing_joined, printed, took, watch, watched, take_whole}
 use Rattle.driver.specs.Hearing.{HeardReady}
 
 -- the most events that are taken as one group
@@ -75,6 +78,9 @@ pub data Fails {A C K : Type 0} (R : Rules A C K) (p : RunPlace A C K) : Item �
   broken_joined : (events all : List Event) (a : A) (beats : List Beat) (e : Event) (f : HostFault) (w : World) (c : C) (d : DiskView) (h : HostView)
       → ToBeTaken (asking R.agenda.joins p.agenda a) p.world events all → TogetherUpTo R.sources.after (run_at p) all beats e (at w c d) → Stopped d h w e f
       → Fails R p (join events) beats (fault.Host f) (record p { agenda = a; world = w; sources = c; disk = h.store.disk })
+  -- commands that are taken all or not at all fail as a group of lines does
+  untaken_whole : (first : ℕ) (events : List Event) (beats : List Beat) (why : RunFault) (q : RunPlace A C K) → Fails R p (take (Some first) events) beats why q
+      → Fails R p (take_whole first events) beats why q
   -- the host had this fault at the checkpoint
   unwritten : (line : ℕ) (f : HostFault) (h : HostView) → Stopped p.disk h p.world (event.Command command.Checkpoint) f
       → Fails R p (rewrite line) [] (fault.Host f) (record p { disk = h.store.disk })
@@ -105,6 +111,14 @@ pub data Goes {A C K : Type 0} (R : Rules A C K) (p : RunPlace A C K) : List Ite
       → JoinsAfter (asking R.agenda.joins p.agenda a) p.world events outcomes first more → Together R.sources.after (run_at p) (events ++ more) (outcomes ++ later) followed (at w c d)
       → Goes R p (join events ∷ rest) (took (events ++ more) (outcomes ++ later) followed) (printing_joined first outcomes later (told (beats_behind followed)) rest)
       (record p { agenda = a; world = w; sources = c; disk = d })
+  -- All commands of a whole group were accepted: they are taken as any group.
+  takes_whole : (first : ℕ) (events : List Event) (outcomes : List Outcome) (followed : List Followed) (w : World) (c : C) (d : DiskView) (rest : List Item)
+      → Together R.sources.after (run_at p) events outcomes followed (at w c d) → list_any is_refusal outcomes ≡ false
+      → Goes R p (take_whole first events ∷ rest) (took events outcomes followed) (printing (Some first) outcomes (told (beats_behind followed)) ++ rest) (record p { world = w; sources = c; disk = d })
+  -- One of them would be refused, after those before it: none is taken, and that refusal is printed, by the number of its line.
+  refuses_whole : (first : ℕ) (events : List Event) (before : List Outcome) (last : Outcome) (rest : List Item)
+      → RefusedAt p.world events before last
+      → Goes R p (take_whole first events ∷ rest) (refused_whole events last) (printing (Some (first + length before)) (last ∷ []) [] ++ rest) p
   rewrites : (line : ℕ) (o : Outcome) (w : World) (d : DiskView) (rest : List Item) (g : Gives p.world (event.Command command.Checkpoint) o w) → Kept p.world g.0 w p.disk d
       → Goes R p (rewrite line ∷ rest) (rewrote (record { event = event.Command command.Checkpoint; outcome = o; answer = None })) (printing (Some line) (o ∷ []) [] ++ rest) (record p { world = w; disk = d })
   stalls_all : (rest : List Item) → Goes R p (stall ∷ rest) (stalled (waits p.world)) (take None (map stalls (waits p.world)) ∷ rest) p

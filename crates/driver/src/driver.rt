@@ -43,7 +43,7 @@ pub struct Driver<D: Disk, S, K, A> {
 }
 
 /// Whether the lines of a group can't be counted from this one on.
-fn is_uncounted(from: Option<u64>) -> bool
+pub(crate) fn is_uncounted(from: Option<u64>) -> bool
     ensures yes { result ≡ true → IsSomeAnd from (λ n. 2 ^ 64 ≤ n + most_together + 1) }
     ensures no { result ≡ false → IfSome from (λ n. n + most_together + 1 < 2 ^ 64) }
 {
@@ -156,7 +156,11 @@ impl<D: Disk, S: Sources, K: Sink, A: Agenda> Driver<D, S, K, A> {
     }
 
     /// Prints what events gave and what followed, and has the agenda heed it.
-    fn print_group(&mut self, from: Option<u64>, gave: GaveTogether) -> Result<(), RunFault>
+    pub(crate) fn print_group(
+        &mut self,
+        from: Option<u64>,
+        gave: GaveTogether,
+    ) -> Result<(), RunFault>
         requires few { length gave.outcomes.items ≤ most_together }
         requires counted { IfSome from (λ number. number + most_together + 1 < 2 ^ 64) }
         ensures same { SameDisk self.old.host.store.disk self.new.host.store.disk }
@@ -205,8 +209,8 @@ impl<D: Disk, S: Sources, K: Sink, A: Agenda> Driver<D, S, K, A> {
         }
     }
 
-    /// Prints what a checkpoint gave, for which this line asked, and has the agenda heed it.
-    fn print_rewritten(&mut self, line: u64, outcome: Outcome) -> Result<(), RunFault>
+    /// Prints what this line alone gave, and has the agenda heed it.
+    pub(crate) fn print_alone(&mut self, line: u64, outcome: Outcome) -> Result<(), RunFault>
         requires { line + most_together + 1 < 2 ^ 64 }
         ensures same { SameDisk self.old.host.store.disk self.new.host.store.disk }
         ensures did { (n : ℕ) (rest : List Item) (w : World) → IsHost self.old.host w
@@ -221,7 +225,7 @@ impl<D: Disk, S: Sources, K: Sink, A: Agenda> Driver<D, S, K, A> {
         if let Err(why) = self.print_followed(&[]) {
             return Err(why);
         }
-        self.heed(&Came::Rewrote(outcome))
+        self.heed(&Came::Alone(outcome))
     }
 
     /// Rewrites the journal, for which this line asks.
@@ -237,7 +241,7 @@ impl<D: Disk, S: Sources, K: Sink, A: Agenda> Driver<D, S, K, A> {
             return Err(RunFault::InputTooLong);
         }
         match self.host.checkpoint() {
-            Ok(outcome) => self.print_rewritten(line, outcome),
+            Ok(outcome) => self.print_alone(line, outcome),
             Err(fault) => Err(RunFault::Host(fault)),
         }
     }
@@ -321,6 +325,7 @@ impl<D: Disk, S: Sources, K: Sink, A: Agenda> Driver<D, S, K, A> {
             Turn::Watch(input, patience) => and_again(self.watch(input, patience)),
             Turn::Hear(seat, most) => and_again(self.hear(seat, most)),
             Turn::Lines(first, events) => and_again(self.take_and_print(Some(first), events)),
+            Turn::Whole(first, edits) => and_again(self.take_whole(first, edits)),
             Turn::Checkpoint(line) => and_again(self.rewrite(line)),
             Turn::Stall => and_again(self.stall()),
             Turn::Interrupt(name) => and_again(self.interrupt(name)),

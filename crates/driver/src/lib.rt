@@ -15,6 +15,7 @@ pub mod sink;
 mod stalls;
 pub mod turn;
 pub mod voiced;
+mod whole;
 
 pub use agenda::Agenda;
 pub use driver::Driver;

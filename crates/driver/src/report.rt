@@ -25,8 +25,8 @@ pub enum Came {
     Gave(GaveTogether),
     /// What events of lives gave and those that joined them, and what followed.
     Joined(GaveJoined),
-    /// What a checkpoint gave.
-    Rewrote(Outcome),
+    /// What one line gave: a checkpoint, or the command for which none of a whole group was taken.
+    Alone(Outcome),
     /// What came of an interrupt.
     Interrupted(Interrupted),
     /// It was shown.

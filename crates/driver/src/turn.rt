@@ -4,6 +4,7 @@ use crate::report::Show;
 use arrivals::Input;
 use child_calls::Seat;
 use host_events::Event;
+use session_engine::Edits;
 use worksheet::Name;
 
 /// What is done next.
@@ -20,6 +21,8 @@ pub enum Turn {
     Hear(Seat, u64),
     /// These commands are taken as one group, one of each line from the one with this number on. None is a checkpoint.
     Lines(u64, Vec<Event>),
+    /// These commands are taken as one group, all of them or none: one of each line from the one with this number on.
+    Whole(u64, Edits),
     /// The journal is rewritten, for which the line with this number asks.
     Checkpoint(u64),
     /// Each life in which an item waits has stalled: that is taken as one group.

@@ -1,5 +1,5 @@
 -- A run of fields that has nothing left to be done came to its end.
-use Rattle.std.proofs.Common.{◌≡◌, ◌∙◌, inl, inr, ℕ, ◌+◌, List, [], ◌∷◌, ◌++◌, refl, sym, subst, Ok, Err}
+use Rattle.std.proofs.Common.{◌≡◌, ◌∙◌, inl, inr, ℕ, ◌+◌, List, [], ◌∷◌, ◌++◌, length, refl, sym, subst, Ok, Err}
 use Rattle.std.specs.Prelude.{◌⊎◌, Option, None, Some, Result, map}
 use Rattle.host_events.specs.declared.outcome.Outcome.{Outcome}
 use Rattle.host_events.specs.declared.reply.Reply.{Reply}
@@ -39,6 +39,7 @@ IsLastItem item.ask = Unit {0}
 IsLastItem (item.watch q) = ⊥
 IsLastItem (item.hear seat most) = ⊥
 IsLastItem (item.take from events) = ⊥
+IsLastItem (item.take_whole first events) = ⊥
 IsLastItem (item.join events) = ⊥
 IsLastItem (item.rewrite line) = ⊥
 IsLastItem item.stall = ⊥
@@ -145,6 +146,7 @@ module _ {P : Type 0} where
   open_by finds a w now (turn.Watch input patience) b said = inl tt
   open_by finds a w now (turn.Hear seat most) b said = inl tt
   open_by finds a w now (turn.Lines first events) b said = inl tt
+  open_by finds a w now (turn.Whole first events) b said = inl tt
   open_by finds a w now (turn.Checkpoint line) b said = inl tt
   open_by finds a w now turn.Stall b said = inl tt
   open_by finds a w now (turn.Interrupt name) b said = inl tt
@@ -159,6 +161,10 @@ module _ {P C K : Type 0} (finds : P → Finds) (sources : SourceRules C) (sink 
       inl (thrice (group_of from outcomes) (followed_of (told (beats_behind followed))) (came outcomes (told (beats_behind followed))) rest (behind (item.take from events) rest (λ no. no) last))
   stays_open p q todo next s last (step.joins events outcomes first more later followed a w c d rest j t) =
       inl (joined first outcomes later (told (beats_behind followed)) rest (behind (item.join events) rest (λ no. no) last))
+  stays_open p q todo next s last (step.takes_whole first events outcomes followed w c d rest t accepted) =
+      inl (thrice (group_of (Some first) outcomes) (followed_of (told (beats_behind followed))) (came outcomes (told (beats_behind followed))) rest (behind (item.take_whole first events) rest (λ no. no) last))
+  stays_open p q todo next s last (step.refuses_whole first events outcomes one rest r) =
+      inl (thrice (group_of (Some (first + length outcomes)) (one ∷ [])) (followed_of []) (came (one ∷ []) []) rest (behind (item.take_whole first events) rest (λ no. no) last))
   stays_open p q todo next s last (step.rewrites line o w d rest gives kept) =
       inl (thrice (group_of (Some line) (o ∷ [])) (followed_of []) (came (o ∷ []) []) rest (behind (item.rewrite line) rest (λ no. no) last))
   stays_open p q todo next s last (step.stalls_all rest) = inl (before (item.take None (map stalls_now (waits p.world))) rest (behind item.stall rest (λ no. no) last))

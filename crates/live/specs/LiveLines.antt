@@ -1,4 +1,4 @@
--- What a line says that comes while interpreters work: a line of a script, or one of four forms more. (docs/use/SCRIPT.md, "Live".)
+-- What a line says that comes while interpreters work: a line of a script, or one of six forms more. (docs/use/SCRIPT.md, "Live".)
 use Rattle.std.specs.Prelude.{ℕ, ◌&&◌, List, Option, Some, None, nat_le, codes, if◌then◌else◌}
 use Rattle.std.specs.Option.{option_map}
 use Rattle.std.specs.Str.{bytes_eq}
@@ -31,8 +31,15 @@ form_named name rest =
     else if bytes_eq name (codes "export") then option_map (λ format. live.Export format) (format_named rest)
     else None
 
+-- `begin` and `end`
+abbrev pub word_of : List ℕ → Option LiveLine
+word_of word =
+    if bytes_eq word (codes "begin") then Some live.Begin
+    else if bytes_eq word (codes "end") then Some live.End
+    else None
+
 abbrev pub form_of : List ℕ → Option (List ℕ) → Option LiveLine
-form_of name None = None
+form_of name None = word_of name
 form_of name (Some rest) = form_named name rest
 
 abbrev pub script_or_form : Option ScriptLine → List ℕ → Option LiveLine

@@ -38,12 +38,14 @@ SaidDone o number (Some (live.Export format)) s it t = (it.beats ≡ []) × (it.
 SaidDone o number (Some (live.Interrupt name)) s it t =
     (it.beats ≡ []) × ((came : Interrupted) × Interrupts o.after s.world name s.children came t.children × (it.text ≡ o.voice.note (note.Interrupted number name came)))
     × (t ≡ at s.world t.children s.disk)
+SaidDone o number (Some live.Begin) s it t = (it.beats ≡ []) × (it.text ≡ o.voice.note (note.Nothing number)) × (t ≡ s)
+SaidDone o number (Some live.End) s it t = (it.beats ≡ []) × (it.text ≡ o.voice.note (note.Bad number)) × (t ≡ s)
 
 -- The line says a command, and it came up to this event, at which the host had a fault: these entries of it came before.
 abbrev pub SaidUpTo : {C : Type 0} → Relation C → Option LiveLine → At C → List Beat → Event → At C → Type 0
 SaidUpTo R l s beats e t = (c : Command) × (l ≡ Some (live.Script (line.Command c))) × ServedUpTo R s (event.Command c) beats e t
 
--- What the line asks for isn't there: a field that the worksheet doesn't have, or the interpreter of no session.
+-- What the line asks for isn't there: a field that the worksheet doesn't have, the interpreter of no session, or the end of no transaction.
 abbrev pub asks_in_vain : World → LiveLine → Bool
 asks_in_vain w (live.Script line.Skip) = false
 asks_in_vain w (live.Script (line.Command c)) = false
@@ -53,6 +55,8 @@ asks_in_vain w (live.PrintField id) = not (has_field (sheet_in w) id)
 asks_in_vain w (live.WaitFor seconds) = false
 asks_in_vain w (live.Interrupt name) = not (has_session (sheet_in w) name)
 asks_in_vain w (live.Export format) = false
+asks_in_vain w live.Begin = false
+asks_in_vain w live.End = true
 
 -- a line that says a command of the host
 abbrev pub IsCommand : Option LiveLine → Type 0
@@ -104,6 +108,8 @@ Begins o c (Some (live.PrintField id)) held = held ≡ hold.Free
 Begins o c (Some (live.WaitFor seconds)) held = (now : ℕ) × o.watches.clock c now × (held ≡ hold.Until (seconds_behind now seconds))
 Begins o c (Some (live.Interrupt name)) held = held ≡ hold.Free
 Begins o c (Some (live.Export format)) held = held ≡ hold.Free
+Begins o c (Some live.Begin) held = held ≡ hold.Free
+Begins o c (Some live.End) held = held ≡ hold.Free
 
 -- a wait goes on as long as an item waits for an answer
 abbrev pub WaitGoesOn : Hold → World → Hold → Type 0

@@ -1,5 +1,6 @@
 //! Lines that come while interpreters work.
 ghost use Rattle.std.specs.Prelude.{◌≡◌, IfOk, IsErrOf, None, Some, true, option_map};
+ghost use Rattle.std.specs.Option.{option_copied};
 ghost use Rattle.sheet_text.specs.Script as said;
 ghost use Rattle.sheet_text.specs.declared.script.LineFault.TheVariants as fault;
 ghost use Rattle.sheet_export.specs.Formats.{format_named};
@@ -26,6 +27,10 @@ pub enum LiveLine {
     Interrupt(Name),
     /// The worksheet is printed in this format.
     Export(Format),
+    /// A transaction begins: its commands are all taken or none.
+    Begin,
+    /// It ends.
+    End,
 }
 
 /// `wait SECONDS`
@@ -91,6 +96,29 @@ fn read_form(name: &[u8], rest: &[u8]) -> Option<LiveLine>
     }
 }
 
+/// A form of one word.
+fn read_word(word: &[u8]) -> Option<LiveLine>
+    ensures { result ≡ live.word_of word.now }
+{
+    if word == b"begin".as_slice() {
+        Some(LiveLine::Begin)
+    } else if word == b"end".as_slice() {
+        Some(LiveLine::End)
+    } else {
+        None
+    }
+}
+
+/// The form of this name, with what comes after the space that ends the name, where one does.
+fn read_parts(name: &[u8], rest: Option<&[u8]>) -> Option<LiveLine>
+    ensures { result ≡ live.form_of name.now (option_copied rest.entry) }
+{
+    match rest {
+        None => read_word(name),
+        Some(rest) => read_form(name, rest),
+    }
+}
+
 /// One of the forms that a script doesn't have.
 fn read_other(line: &[u8]) -> Result<LiveLine, LineFault>
     ensures ok { IfOk result (λ read. live.form_of (said.before_space line.now) (said.behind_space line.now) ≡ Some read) }
@@ -98,17 +126,15 @@ fn read_other(line: &[u8]) -> Result<LiveLine, LineFault>
     ensures held { IsErrOf result fault.OutOfMemory → ⊥ }
 {
     let (name, rest) = split_space(line);
-    let Some(rest) = rest else {
-        return Err(LineFault::BadLine);
-    };
-    match read_form(name, rest) {
+    match read_parts(name, rest) {
         Some(read) => Ok(read),
         None => Err(LineFault::BadLine),
     }
 }
 
 /// What a line says that comes while interpreters work: a line of a script as `read_line` has it,
-/// `print ID`, `wait SECONDS`, `interrupt NAME` or `export FORMAT` (docs/use/SCRIPT.md, "Live"). The line comes without its end.
+/// `print ID`, `wait SECONDS`, `interrupt NAME`, `export FORMAT`, `begin` or `end` (docs/use/SCRIPT.md, "Live"). The line comes
+/// without its end.
 ///
 /// `BadLine` exactly where no form fits. `OutOfMemory` only where the line is a command with bytes of
 /// its own.

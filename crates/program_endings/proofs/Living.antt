@@ -18,6 +18,7 @@ use Rattle.driver.specs.Over.{Over, ProgramParts, program_parts}
 use Rattle.driver.proofs.Seen.{over_seen}
 use Rattle.driver.proofs.TrueFaults.{over_true}
 use Rattle.agendas.specs.declared.by_lines.ByLines.{ByLines}
+use Rattle.agendas.specs.declared.doing.Transaction.{Transaction}
 use Rattle.agendas.specs.declared.doing.Doing.{Doing}
 use Rattle.agendas.specs.declared.doing.Doing.TheVariants as doing
 use Rattle.agendas.specs.Heeds.{LinesHeed}
@@ -34,21 +35,22 @@ use Rattle.program_endings.specs.StrictProgram.{StrictAnswer}
 
 -- An agenda of lines before the first of them.
 
-abbrev made : Held → Option (List ℕ) → Manner → ℕ → Hold → Doing → Option Woken → List Seat → LinesAt
-made buffer remaining manner number held what due late =
-    record { buffer = buffer; remaining = remaining; manner = manner; number = number; held = held; doing = what; due = due; late = late }
+abbrev made : Held → Option (List ℕ) → Manner → ℕ → Hold → Doing → Option Woken → Option Transaction → List Seat → LinesAt
+made buffer remaining manner number held what due transaction late =
+    record { buffer = buffer; remaining = remaining; manner = manner; number = number; held = held; doing = what; due = due; transaction = transaction; late = late }
 
 pub before_lines : {I : Type 0} (remaining : I → Option (List ℕ)) (a : ByLines I) (m : Manner) (lines : InputLines I) → a.lines ≡ lines → a.manner ≡ m → a.number ≡ 0 → a.held ≡ hold.Free
-    → a.doing ≡ doing.Nothing → a.due ≡ None → a.late.items ≡ [] → lines.held ≡ nothing_held → lines_stand remaining a ≡ first_lines m (remaining lines.reader)
-before_lines {I = I} remaining a m lines input manner number held what due late none =
-    ap (λ (x : InputLines I). made x.held (remaining x.reader) a.manner a.number a.held a.doing a.due a.late.items) input
-    ∙ ap (λ (x : Held). made x (remaining lines.reader) a.manner a.number a.held a.doing a.due a.late.items) none
-    ∙ ap (λ (x : Manner). made nothing_held (remaining lines.reader) x a.number a.held a.doing a.due a.late.items) manner
-    ∙ ap (λ (x : ℕ). made nothing_held (remaining lines.reader) m x a.held a.doing a.due a.late.items) number
-    ∙ ap (λ (x : Hold). made nothing_held (remaining lines.reader) m 0 x a.doing a.due a.late.items) held
-    ∙ ap (λ (x : Doing). made nothing_held (remaining lines.reader) m 0 hold.Free x a.due a.late.items) what
-    ∙ ap (λ (x : Option Woken). made nothing_held (remaining lines.reader) m 0 hold.Free doing.Nothing x a.late.items) due
-    ∙ ap (λ (x : List Seat). made nothing_held (remaining lines.reader) m 0 hold.Free doing.Nothing None x) late
+    → a.doing ≡ doing.Nothing → a.due ≡ None → a.transaction ≡ None → a.late.items ≡ [] → lines.held ≡ nothing_held → lines_stand remaining a ≡ first_lines m (remaining lines.reader)
+before_lines {I = I} remaining a m lines input manner number held what due closed late none =
+    ap (λ (x : InputLines I). made x.held (remaining x.reader) a.manner a.number a.held a.doing a.due a.transaction a.late.items) input
+    ∙ ap (λ (x : Held). made x (remaining lines.reader) a.manner a.number a.held a.doing a.due a.transaction a.late.items) none
+    ∙ ap (λ (x : Manner). made nothing_held (remaining lines.reader) x a.number a.held a.doing a.due a.transaction a.late.items) manner
+    ∙ ap (λ (x : ℕ). made nothing_held (remaining lines.reader) m x a.held a.doing a.due a.transaction a.late.items) number
+    ∙ ap (λ (x : Hold). made nothing_held (remaining lines.reader) m 0 x a.doing a.due a.transaction a.late.items) held
+    ∙ ap (λ (x : Doing). made nothing_held (remaining lines.reader) m 0 hold.Free x a.due a.transaction a.late.items) what
+    ∙ ap (λ (x : Option Woken). made nothing_held (remaining lines.reader) m 0 hold.Free doing.Nothing x a.transaction a.late.items) due
+    ∙ ap (λ (x : Option Transaction). made nothing_held (remaining lines.reader) m 0 hold.Free doing.Nothing None x a.late.items) closed
+    ∙ ap (λ (x : List Seat). made nothing_held (remaining lines.reader) m 0 hold.Free doing.Nothing None None x) late
 
 -- A driver of lines that prints with a voice on a stream.
 

@@ -21,7 +21,8 @@ use Rattle.program_endings.specs.Records.{Calling, DoesNothing, GivenDisk, Strea
 use Rattle.program_endings.specs.StrictProgram.{StrictAnswer, TellsStop, strict_status}
 use Rattle.program_endings.specs.declared.ending.Ending.{Ending}
 
--- a line of a form that `live` has and a script doesn't: `print ID`, `wait SECONDS`, `interrupt NAME` or `export FORMAT`
+-- a line of a form that `live` has and a script doesn't: `print ID`, `wait SECONDS`, `interrupt NAME`, `export FORMAT`, `begin` or
+-- `end`
 abbrev pub is_form : Option LiveLine → Bool
 is_form None = false
 is_form (Some (live.Script said)) = false
@@ -29,6 +30,8 @@ is_form (Some (live.PrintField id)) = true
 is_form (Some (live.WaitFor seconds)) = true
 is_form (Some (live.Interrupt name)) = true
 is_form (Some (live.Export format)) = true
+is_form (Some live.Begin) = true
+is_form (Some live.End) = true
 
 -- the line has such a form
 abbrev pub says_form : List ℕ → Bool

@@ -35,7 +35,9 @@ fn says_form(alloc: Global, line: &[u8]) -> bool
             LiveLine::PrintField(_)
             | LiveLine::WaitFor(_)
             | LiveLine::Interrupt(_)
-            | LiveLine::Export(_),
+            | LiveLine::Export(_)
+            | LiveLine::Begin
+            | LiveLine::End,
         ) => true,
         Ok(LiveLine::Script(_)) => false,
         // A command, for whose bytes there is no memory, is one of a script.
@@ -56,7 +58,7 @@ fn has_form(alloc: Global, script: &[u8]) -> bool
 /// which a strict run stopped.
 ///
 /// A script of which a line has a form that only `live` has (`print ID`, `wait SECONDS`, `interrupt NAME`, `export
-/// FORMAT`) is taken line by line, as by `run_live` where lines come first.
+/// FORMAT`, `begin`, `end`) is taken line by line, as by `run_live` where lines come first.
 pub fn run_script<R: Read, W: Write, E: Says, D: Close, S: Sources>(
     alloc: Global,
     strict: bool,

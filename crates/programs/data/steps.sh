@@ -385,7 +385,7 @@ chain() {
 
 case $tmhost in /*) ;; *) tmhost=$PWD/$tmhost ;; esac
 chain areas blocks rescues past exports command_lines pairs
-chain children completions replies limits strict live json
+chain children completions replies limits strict live json together
 chain eval
 chain check accepts progress
 chain files

@@ -2,8 +2,7 @@
 use Rattle.std.specs.Prelude.{◌≤◌, ◌+◌, if◌then◌else◌, is_some, length}
 use Rattle.std.proofs.Common.{arith, length-append, ◌≡◌, ◌⊎◌, inl, inr, Bool, true, false, ◌||◌, List, [], ◌∷◌, ◌++◌, ℕ, Option, Some, None, refl, sym, ap, ◌∙◌, subst}
 use Rattle.std.proofs.lemmas.Bool.{false≢true}
-use Rattle.std.proofs.lemmas.List.Folds.{list_any-append}
-use Rattle.std.specs.List.{AllByRecursion, list_any}
+use Rattle.std.specs.List.{list_any}
 use Rattle.disk_model.specs.Disk.{DiskView, InModel, Leaves}
 use Rattle.worksheet.specs.declared.op.Op.{Op}
 use Rattle.worksheet.specs.declared.refusal.Refusal.{Refusal}

@@ -10,7 +10,7 @@ use Rattle.tellings.specs.declared.note.Note.{Note}
 use Rattle.tellings.specs.declared.note.Note.TheVariants as note
 use Rattle.offline_programs.specs.declared.fault.RunFault.{RunFault}
 use Rattle.offline_programs.specs.declared.fault.RunFault.TheVariants as fault
-use Rattle.driver.specs.Items.{RunStep, ask, broke, chose, halt, heard, heeded, interrupted, printed, printed_fault, rewrote, stalled, took, watched}
+use Rattle.driver.specs.Items.{RunStep, ask, broke, chose, halt, heard, heeded, interrupted, printed, printed_fault, refused_whole, rewrote, stalled, took, watched}
 use Rattle.driver.specs.Place.{RunPlace, Rules, SinkRules, rules, sink_rules, source_rules}
 use Rattle.driver.specs.Reports.{Report}
 use Rattle.driver.specs.Reports as report
@@ -42,6 +42,7 @@ over_number (note.Interrupted line name told) = []
 over_number (note.Over id told) = id ∷ []
 over_number (note.Warned seat told) = []
 over_number (note.Counted counts) = []
+over_number (note.Undone first last) = []
 
 -- A voice that says these numbers alone, to a sink that keeps them in memory.
 abbrev pub late_voice : Voice
@@ -81,6 +82,7 @@ late_step (chose t) = []
 late_step (watched q w) = []
 late_step (heard events) = []
 late_step (took events outcomes followed) = []
+late_step (refused_whole events one) = []
 late_step (rewrote b) = []
 late_step (stalled seats) = []
 late_step (interrupted name told) = []

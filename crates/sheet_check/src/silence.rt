@@ -55,7 +55,8 @@ impl LateFields {
             | Note::Waited(_, _)
             | Note::Interrupted(_, _, _)
             | Note::Warned(_, _)
-            | Note::Counted(_) => Ok(()),
+            | Note::Counted(_)
+            | Note::Undone(_, _) => Ok(()),
         }
     }
 

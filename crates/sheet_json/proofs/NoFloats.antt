@@ -18,7 +18,7 @@ use Rattle.worksheet.specs.Contents.{Contents}
 use Rattle.block_tree.specs.declared.reason.Reason.{Reason}
 use Rattle.worksheet.specs.declared.field.Answer.{Answer}
 use Rattle.worksheet.specs.declared.field.Field.{Field}
-use Rattle.sheet_json.specs.Tellings.{CheckTold, EventTold, FieldShown, Reply, SessionShown, State, Telling}
+use Rattle.sheet_json.specs.Tellings.{CheckTold, EventTold, Reply, SessionShown, State, Telling}
 use Rattle.sheet_json.specs.Tellings as told
 use Rattle.sheet_json.specs.declared.checks.Took.{Took}
 
@@ -79,6 +79,7 @@ reply_none line told.nothing = refl
 reply_none line (told.waited true) = refl
 reply_none line (told.waited false) = refl
 reply_none line (told.interrupted outcome) = refl
+reply_none line (told.undone first) = refl
 
 prompt_none : (next : Option (List ℕ)) → has_float (prompt_data next) ≡ false
 prompt_none None = refl

@@ -14,14 +14,14 @@ use Rattle.worksheet.specs.declared.refusal.Refusal.TheVariants as refusal
 use Rattle.scheme_text.specs.declared.answer.Completions.{Completions}
 use Rattle.plugin_core.specs.declared.item.Item.{Item}
 use Rattle.plugin_core.specs.declared.item.Item.TheVariants as item
-use Rattle.serde_json.specs.Data.{Data, Items, Members, null, boolean, number, unsigned, string, array, object, no_items, no_members, member}
+use Rattle.serde_json.specs.Data.{Data, Items, Members, null, boolean, string, array, object, no_items, no_members, member}
 use Rattle.serde_json.specs.Data as json
 use Rattle.serde_json.specs.View.{items_of}
 use Rattle.sheet_json.specs.Bytes.{base64_data, bytes_data}
 use Rattle.sheet_json.specs.Blocks.{block_object, items_data, tree_data}
 use Rattle.sheet_json.specs.Objects.{answer_data, checked_data, completions_data, count, event_data, export_data, field_with, ids_data, life_data, lost_data, losts_data, prompt_data, reply_data, session_data, sessions_data, telling_data, texts_data, took_data, typed, why_data}
 use Rattle.sheet_json.specs.Plain.{ArePlain, HasPlain, Is64, IsPlain, IsSoundAnswer, IsSoundCheck, IsSoundTelling, IsSoundEvent, IsSoundItem, IsSoundLife, IsSoundReply, IsSoundSession, IsSoundState, IsSoundTook}
-use Rattle.sheet_json.specs.Tellings.{CheckTold, Telling, Reply, EventTold, FieldShown, SessionShown, State}
+use Rattle.sheet_json.specs.Tellings.{CheckTold, Telling, Reply, EventTold, SessionShown, State}
 use Rattle.sheet_json.specs.Tellings as told
 use Rattle.sheet_json.specs.declared.checks.Took.{Took}
 
@@ -141,6 +141,7 @@ reply_plain line told.nothing l s = an_object (a_member (a_count l) a_type)
 reply_plain line (told.waited true) l s = an_object (a_member (a_count l) (a_member a_text a_type))
 reply_plain line (told.waited false) l s = an_object (a_member (a_count l) (a_member a_text a_type))
 reply_plain line (told.interrupted outcome) l s = an_object (a_member (a_count l) (a_member a_text a_type))
+reply_plain line (told.undone first) l s = an_object (a_member (a_count s) (a_member (a_count l) a_type))
 
 lost_plain : (i : Item) → IsSoundItem i → IsPlain 2 (lost_data i)
 lost_plain (item.Line id line) s = an_object (a_member (a_count s) (a_member (some_bytes line) no_more))

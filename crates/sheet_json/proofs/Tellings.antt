@@ -20,7 +20,7 @@ use Rattle.sheet_json.specs.Bytes.{base64_data, bytes_data}
 use Rattle.sheet_json.specs.Blocks.{tree_data}
 use Rattle.sheet_json.specs.Objects.{completions_data, count, export_data, lost_data, losts_data, prompt_data, texts_data}
 use Rattle.sheet_json.specs.Reading.{bytes_in, tree_in, HasBytes}
-use Rattle.sheet_json.specs.Tellings.{Telling, Reply, EventTold, FieldShown, SessionShown, State}
+use Rattle.sheet_json.specs.Tellings.{EventTold}
 use Rattle.sheet_json.specs.Tellings as told
 use Rattle.sheet_json.specs.Told.{completions_in, each_in, list_in, lost_in, of, option_in, prompt_in, reason_named, refusal_in, CompletionsHaveBytes, ItemHasBytes, PromptHasBytes}
 use Rattle.sheet_json.specs.Laws.{CountsReadBack, EventsReadBack, ExportsReadBack, RepliesReadBack}
@@ -66,6 +66,7 @@ replies_read_back line told.nothing = refl
 replies_read_back line (told.waited true) = refl
 replies_read_back line (told.waited false) = refl
 replies_read_back line (told.interrupted outcome) = refl
+replies_read_back line (told.undone first) = refl
 
 pub counts_read_back : CountsReadBack
 counts_read_back = ((λ a u. refl), (λ a u over passed. refl), (λ id outcome. refl))

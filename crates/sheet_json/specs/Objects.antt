@@ -47,6 +47,7 @@ reply_data line told.nothing = object (member (codes "line") (count line) (typed
 reply_data line (told.waited true) = object (member (codes "line") (count line) (member (codes "over") (string (codes "time")) (typed (codes "waited"))))
 reply_data line (told.waited false) = object (member (codes "line") (count line) (member (codes "over") (string (codes "idle")) (typed (codes "waited"))))
 reply_data line (told.interrupted outcome) = object (member (codes "line") (count line) (member (codes "outcome") (string outcome) (typed (codes "interrupted"))))
+reply_data line (told.undone first) = object (member (codes "from") (count first) (member (codes "line") (count line) (typed (codes "undone"))))
 
 abbrev pub stopped_data : ℕ → List ℕ → ℕ → List Item → Data
 stopped_data line session life lost =

@@ -45,6 +45,7 @@ IsSoundReply told.bad = Unit {0}
 IsSoundReply told.nothing = Unit {0}
 IsSoundReply (told.waited over) = Unit {0}
 IsSoundReply (told.interrupted outcome) = Unit {0}
+IsSoundReply (told.undone first) = Is64 first
 
 abbrev pub IsSoundEvent : EventTold → Type 0
 IsSoundEvent (told.banner output next) = is_block output ≡ true

@@ -42,6 +42,8 @@ pub data Reply : Type 0 where
   waited : Bool → Reply
   -- what came of an interrupt, as a word
   interrupted : List ℕ → Reply
+  -- it ends a transaction, from this one on, of which nothing was done
+  undone : ℕ → Reply
 
 -- What comes of an interpreter. Of a banner and an answer the last is the prompt of the line that would be asked next, where it is known.
 pub data EventTold : Type 0 where

@@ -103,7 +103,8 @@ reply_named name d =
     (cond (bytes_eq name (codes "asked")) (option_map (λ life. told.asked life) (member_in count_in (codes "life") d)) (cond (bytes_eq name (codes "refused")) (option_map (λ why. told.refused why) (member_in refusal_in (codes "number") d))
     (cond (bytes_eq name (codes "bad")) (Some told.bad) (cond (bytes_eq name (codes "nothing")) (Some told.nothing)
     (cond (bytes_eq name (codes "waited")) (option_map (λ over. told.waited over) (option_and_then over_named (member_in as_str (codes "over") d)))
-    (cond (bytes_eq name (codes "interrupted")) (option_map (λ outcome. told.interrupted outcome) (member_in as_str (codes "outcome") d)) None)))))))
+    (cond (bytes_eq name (codes "interrupted")) (option_map (λ outcome. told.interrupted outcome) (member_in as_str (codes "outcome") d))
+    (cond (bytes_eq name (codes "undone")) (option_map (λ first. told.undone first) (member_in count_in (codes "from") d)) None))))))))
 
 -- a prompt, or that it isn't known
 abbrev pub prompt_in : Data → Option (Option (List ℕ))

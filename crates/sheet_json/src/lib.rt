@@ -30,7 +30,7 @@ pub use fields::{asked_field_value, part_value, shown_field_value};
 pub use lines::{line_bytes, told_bytes};
 pub use replies::{
     asked_value, bad_value, done_value, exported_value, interrupted_value, made_value,
-    nothing_value, refused_value, waited_value,
+    nothing_value, refused_value, undone_value, waited_value,
 };
 pub use sheets::{session_value, sheet_value, whole_value};
 pub use told::closed_value;

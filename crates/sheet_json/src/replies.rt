@@ -73,6 +73,16 @@ pub fn interrupted_value(alloc: Global, line: u64, outcome: &str) -> Result<Valu
         .typed("interrupted")
 }
 
+/// A transaction ends, from this first one on, of which nothing was done.
+pub fn undone_value(alloc: Global, first: u64, line: u64) -> Result<Value, AllocError>
+    ensures { IfOk result (λ value. view value ≡ telling_data (told.reply line (told.undone first))) }
+{
+    Members::new(alloc)
+        .count("from", first)?
+        .count("line", line)?
+        .typed("undone")
+}
+
 /// A wait is over, since no item waits, or since its time is over.
 pub fn waited_value(alloc: Global, line: u64, timed_out: bool) -> Result<Value, AllocError>
     ensures { IfOk result (λ value. view value ≡ telling_data (told.reply line (told.waited timed_out))) }

@@ -68,6 +68,7 @@ note_json (note.Interrupted line name told_of) = interrupt_json line told_of
 note_json (note.Over id told_of) = telling_line (told.over id (outcome_name told_of))
 note_json (note.Warned seat told_of) = warned_json seat told_of
 note_json (note.Counted counts) = counted_json counts.answered counts.unanswered counts.overs
+note_json (note.Undone first last) = telling_line (told.reply last (told.undone first))
 
 -- what is printed of a life, if anything
 abbrev pub event_line : List ℕ → ℕ → Option EventTold → List ℕ

@@ -46,6 +46,10 @@ evaluation_text counts = answers_text counts ++ overs_text counts.overs
 abbrev pub over_line : ℕ → List ℕ
 over_line id = codes "over " ++ decimal id ++ 10 ∷ []
 
+-- of the transaction between the lines with these numbers nothing was done
+abbrev pub undone_line : ℕ → ℕ → List ℕ
+undone_line first last = codes "undone " ++ decimal first ++ codes " " ++ decimal last ++ 10 ∷ []
+
 -- of a remark and of the end of a wait nothing is printed
 abbrev pub note_words : Note → List ℕ
 note_words (note.Bad line) = bad_line line
@@ -55,6 +59,7 @@ note_words (note.Interrupted line name told) = interrupt_text name told
 note_words (note.Over id told) = over_line id
 note_words (note.Warned seat told) = interrupt_text seat.name told
 note_words (note.Counted counts) = evaluation_text counts
+note_words (note.Undone first last) = undone_line first last
 
 -- a format whose text is made whole in memory, which words don't take
 abbrev pub needs_json : Format → List ℕ

@@ -6,7 +6,7 @@ ghost use Rattle.worksheet.specs.Checks.{field_in};
 ghost use Rattle.offline_programs.specs.Memory.{replies_text};
 ghost use Rattle.sheet_text.specs.Texts as texts;
 ghost use Rattle.tellings.specs.Voice.{numbered_text};
-ghost use Rattle.tellings.specs.Words.{answers_text, evaluation_text, field_shown, in_words, interrupt_text, over_line, overs_text};
+ghost use Rattle.tellings.specs.Words.{answers_text, evaluation_text, field_shown, in_words, interrupt_text, over_line, overs_text, undone_line};
 ghost use Rattle.worksheet.specs.Contents.{Contents};
 
 use crate::exports::tell_words;
@@ -144,6 +144,16 @@ fn tell_over<W: Write>(id: u32, writer: &mut W) -> Result<(), RunFault>
     Ok(())
 }
 
+/// Tells that nothing was done of a transaction, and brings it out.
+fn tell_undone<W: Write>(first: u64, last: u64, writer: &mut W) -> Result<(), RunFault>
+    ensures ok { OnOk result (Appends (W.contents writer.old) (W.contents writer.new) (undone_line first last)) }
+    ensures err { IfErr result (λ fault. fault ≡ RunFault.Output) }
+{
+    writeln!(writer, "undone {first} {last}").map_err(|_| RunFault::Output)?;
+    writer.flush().map_err(|_| RunFault::Output)?;
+    Ok(())
+}
+
 /// Writes how many fields show an answer.
 fn write_answers<W: Write>(counts: Counts, writer: &mut W) -> Result<(), RunFault>
     ensures ok { OnOk result (Appends (W.contents writer.old) (W.contents writer.new)
@@ -201,6 +211,7 @@ impl Tells for InWords {
             Note::Over(id, _) => tell_over(id, writer),
             Note::Warned(seat, told) => tell_interrupt(seat.name, told, writer),
             Note::Counted(counts) => tell_counts(counts, writer),
+            Note::Undone(first, last) => tell_undone(first, last, writer),
         }
     }
 

@@ -54,4 +54,6 @@ pub enum Note {
     Warned(Seat, Interrupted),
     /// An evaluation came to its end.
     Counted(Counts),
+    /// Of the transaction from the line with the first number to that with the last nothing was done.
+    Undone(u64, u64),
 }

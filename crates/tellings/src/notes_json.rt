@@ -11,7 +11,7 @@ use child_edge::Interrupted;
 use offline_programs::RunFault;
 use sheet_json::{
     bad_value, counted_in_time_value, counted_value, interrupted_value, nothing_value, over_value,
-    refused_value, waited_value, warned_value,
+    refused_value, undone_value, waited_value, warned_value,
 };
 use std::alloc::Global;
 use std::io::Write;
@@ -102,5 +102,6 @@ pub(crate) fn write_note<W: Write>(
         Note::Over(id, told) => write_made(alloc, over_value(alloc, id, outcome(told)), writer),
         Note::Warned(seat, told) => write_warned(alloc, seat, told, writer),
         Note::Counted(counts) => write_counts(alloc, counts, writer),
+        Note::Undone(first, last) => write_made(alloc, undone_value(alloc, first, last), writer),
     }
 }

@@ -34,3 +34,11 @@ pub returns-in-Export-clause-ok : goal.returns-in-Export-clause-ok
 returns-in-Export-clause-ok g c = λ w h.
     subst (λ l. AsksAlone c.args.at.manner c.args.at.number w c.args.at.now (Some l) c.by_itself-in-Export.result)
     (sym c.in-Export.is) (c.by_itself-in-Export.ensures.asks, c.by_itself-in-Export.ensures.doing)
+
+pub returns-in-Begin-clause-ok : goal.returns-in-Begin-clause-ok
+returns-in-Begin-clause-ok g c = λ w h.
+    subst (λ l. AsksAlone c.args.at.manner c.args.at.number w c.args.at.now (Some l) c.begin_transaction.result) (sym c.in-Begin.is) (c.begin_transaction.ensures w)
+
+pub returns-in-End-clause-ok : goal.returns-in-End-clause-ok
+returns-in-End-clause-ok g c = λ w h.
+    subst (λ l. AsksAlone c.args.at.manner c.args.at.number w c.args.at.now (Some l) c.bad.result) (sym c.in-End.is) (c.bad.ensures w)

@@ -20,3 +20,6 @@ returns-in-Over-clause-ok g c =
     subst (λ x. OnOk c.write_made-in-Over.result (Appends (g.W.Write.contents c.args.writer.now) (g.W.Write.contents c.write_made-in-Over.new.writer) (note_json x))) (sym c.in-Over.is)
     (subst (λ word. OnOk c.write_made-in-Over.result (Appends (g.W.Write.contents c.args.writer.now) (g.W.Write.contents c.write_made-in-Over.new.writer) (telling_line (told.over c.in-Over.id word)))) c.outcome.ensures
     (c.write_made-in-Over.ensures.ok (told.over c.in-Over.id c.outcome.result.now) c.over_value.ensures))
+
+pub returns-in-Undone-clause-ok : goal.returns-in-Undone-clause-ok
+returns-in-Undone-clause-ok g c = subst (λ x. OnOk c.write_made-in-Undone.result (Appends (g.W.Write.contents c.args.writer.now) (g.W.Write.contents c.write_made-in-Undone.new.writer) (note_json x))) (sym c.in-Undone.is) (c.write_made-in-Undone.ensures.ok (told.reply c.in-Undone.last (told.undone c.in-Undone.first)) c.undone_value.ensures)

@@ -5,7 +5,7 @@ use Rattle.live.specs.declared.holding.Hold.TheVariants as hold
 use Rattle.live.specs.Saying.{stop_if}
 use Rattle.agendas.specs.LinesAt.{lines_stand}
 use Rattle.driver.specs.Reports.{came_of}
-use Rattle.agendas.specs.Heeds.{HeedsDone, behind_warning, interrupt_note}
+use Rattle.agendas.specs.Heeds.{HeedsDone, behind_warning, interrupt_note, refused_one}
 use Rattle.agendas.proofs.by_lines.ByLines.heed_done.Goals as goal
 
 pub returns-in-Nothing : goal.returns-in-Nothing
@@ -31,6 +31,12 @@ returns-in-Commands g c = λ w h.
           (refl, c.stop_if-self-in-Commands.ensures ∙ ap (λ wrong. stop_if (before.manner.strict && wrong) before.held) c.went_wrong.ensures),
       refl,
     )
+
+pub returns-in-Transaction : goal.returns-in-Transaction
+returns-in-Transaction g c = λ w h.
+    let before = lines_stand g.R.Read.remaining c.args.self.now in
+    let held = stop_if (before.manner.strict && refused_one (came_of c.args.came.now)) before.held in
+    (held, subst (λ d. HeedsDone before w c.args.now (came_of c.args.came.now) d c.heed_transaction.result held) (sym c.in-Transaction.is) (c.heed_transaction.ensures.note, refl), c.heed_transaction.ensures.stands)
 
 pub returns-in-Life : goal.returns-in-Life
 returns-in-Life g c = λ w h.

@@ -20,9 +20,10 @@ returns g c = λ w h.
     let before = lines_stand g.R.Read.remaining c.args.self.now in
     let k = c.gather-events.new.lines in
     let gathered = c.gather-events.ensures.gathered in
+    let alone = c.is_alone.ensures c.if-is_alone.false in
     let many = as_many before.buffer k.held c.gather-events.result.items gathered in
     let there = some_gathered before.buffer k.held c.gather-events.result.items gathered (omega (arith, c.if-count-eq0.false, c.len-count.ensures, c.gather-events.result.ok)) in
     let count : c.len-count.result ≡ length gathered.given = omega (arith, many, c.len-count.ensures, c.gather-events.result.ok) in
-    together gathered.given k.held c.group.result c.if-self.false gathered.each there.0 (omega (arith, many, c.gather-events.ensures.few)) there.1 gathered.gives refl
+    together gathered.given k.held c.group.result alone.0 alone.1 gathered.each there.0 (omega (arith, many, c.gather-events.ensures.few)) there.1 gathered.gives refl
     (subst (λ es. AsksLines (before.number + 1) es c.group.result) gathered.are c.group.ensures.turn)
     (c.group.ensures.stands ∙ ap (λ r. behind_group (read_to before k.held (g.R.Read.remaining r)) c.len-count.result) c.gather-events.ensures.reader ∙ ap (λ n. behind_group (read_to before k.held before.remaining) n) count)

@@ -1,17 +1,17 @@
-use Rattle.std.proofs.Common.{ap, refl, subst}
+use Rattle.std.proofs.Common.{◌∙◌, subst, sym}
 use Rattle.live.specs.LiveLines.{live_line_of}
-use Rattle.live.specs.Saying.{IsCommand}
-use Rattle.agendas.proofs.Taken.{asks_same}
+use Rattle.agendas.specs.LinesAt.{lines_stand, with_transaction}
+use Rattle.agendas.specs.Taking.{TakesGivenLine}
 use Rattle.agendas.proofs.by_lines.ByLines.take_line.Goals as goal
 
-pub returns-in-Ok : goal.returns-in-Ok
-returns-in-Ok g c = λ w h. (
-  c.in-Ok.chosen,
-  asks_same c.reading-at.result.manner c.args.self.now.manner c.reading-at.result.number _ w c.reading-at.result.now c.args.now (live_line_of c.line.result.now) (live_line_of c.args.self.now.lines.held.line) c.in-Ok.chosen
-      c.reading-at.ensures.manner c.reading-at.ensures.number c.reading-at.ensures.now (ap live_line_of c.line.ensures) (c.in-Ok.ensures.ok w h),
-  c.follow.ensures.turn,
-  c.follow.ensures.stands,
-)
+pub returns-in-None : goal.returns-in-None
+returns-in-None g c = λ w h.
+    let before = lines_stand g.R.Read.remaining c.args.self.now in
+    subst (λ b. TakesGivenLine (with_transaction before b) w c.args.now (live_line_of before.buffer.line) c.take_by_itself.result (lines_stand g.R.Read.remaining c.take_by_itself.new.self))
+    (sym c.in-None.is ∙ c.replace.ensures.value) (c.take_by_itself.ensures w h)
 
-pub returns-in-Err : goal.returns-in-Err
-returns-in-Err g c = λ w h. (refl, subst (λ bytes. IsCommand (live_line_of bytes)) c.line.ensures c.in-Err.ensures.err, refl)
+pub returns-in-Some : goal.returns-in-Some
+returns-in-Some g c = λ w h.
+    let before = lines_stand g.R.Read.remaining c.args.self.now in
+    subst (λ b. TakesGivenLine (with_transaction before b) w c.args.now (live_line_of before.buffer.line) c.take_in_transaction.result (lines_stand g.R.Read.remaining c.take_in_transaction.new.self))
+    (sym c.in-Some.is ∙ c.replace.ensures.value) (c.take_in_transaction.ensures w)

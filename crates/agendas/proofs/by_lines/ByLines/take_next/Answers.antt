@@ -1,9 +1,9 @@
-use Rattle.std.proofs.Common.{ap, refl, subst}
+use Rattle.std.proofs.Common.{refl, subst}
 use Rattle.std.specs.Prelude.{None, Ok}
 use Rattle.arrivals.specs.Lines.{whole, too_long}
 use Rattle.live.specs.LiveLines.{live_line_of}
 use Rattle.agendas.specs.LinesAt.{read_to, lines_stand}
-use Rattle.agendas.specs.Taking.{ReadsOn, TakesGivenLine, alone, ended, reads_on}
+use Rattle.agendas.specs.Taking.{EndsInput, ReadsOn, TakesGivenLine, alone, ended, reads_on}
 use Rattle.agendas.proofs.by_lines.ByLines.take_next.Goals as goal
 
 pub returns-in-Line : goal.returns-in-Line
@@ -33,4 +33,5 @@ pub returns-in-End : goal.returns-in-End
 returns-in-End g c = λ w h.
     let before = lines_stand g.R.Read.remaining c.args.self.now in
     let k = c.next.new.self.held in
-    ended k c.in-End.ensures.ready c.in-End.ensures.gives.1 refl (ap (λ r. read_to before k (g.R.Read.remaining r)) c.in-End.ensures.reader)
+    ended k c.end_input.result c.in-End.ensures.ready c.in-End.ensures.gives.1 refl
+    (subst (λ r. EndsInput before.transaction (read_to before k (g.R.Read.remaining r)) c.end_input.result (lines_stand g.R.Read.remaining c.end_input.new.self)) c.in-End.ensures.reader c.end_input.ensures)

@@ -25,6 +25,9 @@ returns-in-Hear-clause-did g c = λ n w h. subst (λ (t : Turn). DidSteps (rules
 pub returns-in-Lines-clause-did : goal.returns-in-Lines-clause-did
 returns-in-Lines-clause-did g c = λ n w h. subst (λ (t : Turn). DidSteps (rules (agenda_rules g.A.Agenda.rules g.A.Joins.joins) (source_rules g.S.Children.after g.S.Sources.wakes g.S.Sources.clock) g.K.Sink.rules) (seen n w (parts c.args.self.now.host c.args.self.now.sources c.args.self.now.sink c.args.self.now.agenda)) (items_by t) (left_by_answer again) c.and_again-in-Lines.result (n, (parts c.take_and_print.new.self.host c.take_and_print.new.self.sources c.take_and_print.new.self.sink c.take_and_print.new.self.agenda))) (sym c.in-Lines.is) (subst (λ (r : Result Bool RunFault). DidSteps (rules (agenda_rules g.A.Agenda.rules g.A.Joins.joins) (source_rules g.S.Children.after g.S.Sources.wakes g.S.Sources.clock) g.K.Sink.rules) (seen n w (parts c.args.self.now.host c.args.self.now.sources c.args.self.now.sink c.args.self.now.agenda)) (items_by (turn.Lines c.in-Lines.first c.in-Lines.events)) (left_by_answer again) r (n, (parts c.take_and_print.new.self.host c.take_and_print.new.self.sources c.take_and_print.new.self.sink c.take_and_print.new.self.agenda))) (sym c.and_again-in-Lines.ensures) (did_again (rules (agenda_rules g.A.Agenda.rules g.A.Joins.joins) (source_rules g.S.Children.after g.S.Sources.wakes g.S.Sources.clock) g.K.Sink.rules) (seen n w (parts c.args.self.now.host c.args.self.now.sources c.args.self.now.sink c.args.self.now.agenda)) (items_by (turn.Lines c.in-Lines.first c.in-Lines.events)) c.take_and_print.result (n, (parts c.take_and_print.new.self.host c.take_and_print.new.self.sources c.take_and_print.new.self.sink c.take_and_print.new.self.agenda)) (c.take_and_print.ensures.did n (ask ∷ []) w h)))
 
+pub returns-in-Whole-clause-did : goal.returns-in-Whole-clause-did
+returns-in-Whole-clause-did g c = λ n w h. subst (λ (t : Turn). DidSteps (rules (agenda_rules g.A.Agenda.rules g.A.Joins.joins) (source_rules g.S.Children.after g.S.Sources.wakes g.S.Sources.clock) g.K.Sink.rules) (seen n w (parts c.args.self.now.host c.args.self.now.sources c.args.self.now.sink c.args.self.now.agenda)) (items_by t) (left_by_answer again) c.and_again-in-Whole.result (n, (parts c.take_whole.new.self.host c.take_whole.new.self.sources c.take_whole.new.self.sink c.take_whole.new.self.agenda))) (sym c.in-Whole.is) (subst (λ (r : Result Bool RunFault). DidSteps (rules (agenda_rules g.A.Agenda.rules g.A.Joins.joins) (source_rules g.S.Children.after g.S.Sources.wakes g.S.Sources.clock) g.K.Sink.rules) (seen n w (parts c.args.self.now.host c.args.self.now.sources c.args.self.now.sink c.args.self.now.agenda)) (items_by (turn.Whole c.in-Whole.first c.in-Whole.edits)) (left_by_answer again) r (n, (parts c.take_whole.new.self.host c.take_whole.new.self.sources c.take_whole.new.self.sink c.take_whole.new.self.agenda))) (sym c.and_again-in-Whole.ensures) (did_again (rules (agenda_rules g.A.Agenda.rules g.A.Joins.joins) (source_rules g.S.Children.after g.S.Sources.wakes g.S.Sources.clock) g.K.Sink.rules) (seen n w (parts c.args.self.now.host c.args.self.now.sources c.args.self.now.sink c.args.self.now.agenda)) (items_by (turn.Whole c.in-Whole.first c.in-Whole.edits)) c.take_whole.result (n, (parts c.take_whole.new.self.host c.take_whole.new.self.sources c.take_whole.new.self.sink c.take_whole.new.self.agenda)) (c.take_whole.ensures.did n (ask ∷ []) w h)))
+
 pub returns-in-Checkpoint-clause-did : goal.returns-in-Checkpoint-clause-did
 returns-in-Checkpoint-clause-did g c = λ n w h. subst (λ (t : Turn). DidSteps (rules (agenda_rules g.A.Agenda.rules g.A.Joins.joins) (source_rules g.S.Children.after g.S.Sources.wakes g.S.Sources.clock) g.K.Sink.rules) (seen n w (parts c.args.self.now.host c.args.self.now.sources c.args.self.now.sink c.args.self.now.agenda)) (items_by t) (left_by_answer again) c.and_again-in-Checkpoint.result (n, (parts c.rewrite.new.self.host c.rewrite.new.self.sources c.rewrite.new.self.sink c.rewrite.new.self.agenda))) (sym c.in-Checkpoint.is) (subst (λ (r : Result Bool RunFault). DidSteps (rules (agenda_rules g.A.Agenda.rules g.A.Joins.joins) (source_rules g.S.Children.after g.S.Sources.wakes g.S.Sources.clock) g.K.Sink.rules) (seen n w (parts c.args.self.now.host c.args.self.now.sources c.args.self.now.sink c.args.self.now.agenda)) (items_by (turn.Checkpoint c.in-Checkpoint.line)) (left_by_answer again) r (n, (parts c.rewrite.new.self.host c.rewrite.new.self.sources c.rewrite.new.self.sink c.rewrite.new.self.agenda))) (sym c.and_again-in-Checkpoint.ensures) (did_again (rules (agenda_rules g.A.Agenda.rules g.A.Joins.joins) (source_rules g.S.Children.after g.S.Sources.wakes g.S.Sources.clock) g.K.Sink.rules) (seen n w (parts c.args.self.now.host c.args.self.now.sources c.args.self.now.sink c.args.self.now.agenda)) (items_by (turn.Checkpoint c.in-Checkpoint.line)) c.rewrite.result (n, (parts c.rewrite.new.self.host c.rewrite.new.self.sources c.rewrite.new.self.sink c.rewrite.new.self.agenda)) (c.rewrite.ensures.did n (ask ∷ []) w h)))
 

@@ -5,7 +5,7 @@ use Rattle.driver.specs.Reports.{came, followed, lines}
 use Rattle.driver.specs.Items.{heed, print}
 use Rattle.driver.specs.Runs.{DidSteps, left_by_answer, parts, seen}
 use Rattle.driver.proofs.Running.{did_fail, did_then}
-use Rattle.driver.proofs.driver.Driver.print_rewritten.Goals as goal
+use Rattle.driver.proofs.driver.Driver.print_alone.Goals as goal
 
 pub returns-in-Err-clause-did : goal.returns-in-Err-clause-did
 returns-in-Err-clause-did g c = λ n rest w h.

@@ -1,0 +1,2 @@
+-- What only proofs and private clauses use.
+pub mod Wholes
