@@ -1,17 +1,14 @@
 -- The fields that are to be evaluated.
-use Rattle.std.proofs.Common.{◌≡◌, ◌⊎◌, inl, inr, ◌+◌, ◌≤◌, ◌<◌, ◌==◌, ◌&&◌, ℕ, subst, Bool, true, false, List, [], ◌∷◌, ◌++◌, refl, ap, sym, ◌∙◌, append_assoc, append-nil, length, arith, map}
-use Rattle.std.specs.Prelude.{cond, is_some}
+use Rattle.std.proofs.Common.{◌≡◌, ◌⊎◌, inl, inr, ◌+◌, ◌≤◌, ◌<◌, ◌==◌, ◌&&◌, ℕ, subst, Bool, true, false, List, [], ◌∷◌, ◌++◌, refl, ap, sym, ◌∙◌, append_assoc, append-nil, arith, map}
+use Rattle.std.specs.Prelude.{cond}
 use Rattle.std.specs.List.{filter}
 use Rattle.std.proofs.lemmas.Bool.{cases_lt}
-use Rattle.std.proofs.lemmas.Option.{slice_get_within}
 use Rattle.worksheet.specs.declared.field.Field.{Field}
 use Rattle.evaluation.specs.declared.lasts.Last.{Last}
 use Rattle.evaluation.specs.declared.plan.Plan.{Plan}
-use Rattle.evaluation.specs.declared.plan.Stand.{Stand}
 use Rattle.evaluation.specs.declared.plan.Which.{Which}
 use Rattle.evaluation.specs.declared.plan.Which.TheVariants as which
-use Rattle.evaluation.specs.inside.Beside.{AsksNone}
-use Rattle.evaluation.specs.Meant.{IsNext, stop_line, asked_for, fields_from, is_meant, is_one_of, is_passed, meant_in}
+use Rattle.evaluation.specs.Meant.{IsNext, asked_for, fields_from, is_meant, is_one_of, is_passed, meant_in}
 use Rattle.evaluation.specs.inside.Choosing.{id_if, is_asked_for}
 
 -- Those that are asked for of the fields that are to come, where the one before them is asked for or isn't.
@@ -97,20 +94,3 @@ pub next_here : (plan : Plan) (fields : List Field) (lasts : List Last) (meant :
 next_here plan fields lasts meant from = (omega arith, λ k low high. absurd (omega (arith, low, high)))
 
 pub ruleset next_steps = (next_one, next_here)
-
--- where it stops no field is the next
-pub stopped_asks_none : (plan : Plan) (fields : List Field) (meant : List ℕ) (stand : Stand) → is_some (stop_line plan fields stand) ≡ true → AsksNone plan fields meant stand
-stopped_asks_none plan fields meant stand stops = record {
-  each = λ k id asked. let wrong : false ≡ true = ap is_some (sym asked.goes_on) ∙ stops in absurd cc;
-}
-
--- nor where all to come are passed over
-pub passed_asks_none : (plan : Plan) (fields : List Field) (meant : List ℕ) (stand : Stand) (at : ℕ) → IsNext plan fields stand.lasts meant stand.taken at → length meant ≤ at → AsksNone plan fields meant stand
-passed_asks_none plan fields meant stand at next end = record {
-  each = λ k id asked.
-      let within : k < length meant = slice_get_within meant k id asked.there in
-      let wrong : false ≡ true = sym asked.asked ∙ next.1 k asked.next.0 (omega (arith, within, end)) in
-      absurd cc;
-}
-
-pub ruleset none_asked_steps = (stopped_asks_none, passed_asks_none)

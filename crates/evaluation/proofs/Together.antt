@@ -11,11 +11,10 @@ use Rattle.session_engine.specs.declared.host.LifeView.{LifeView}
 use Rattle.session_engine.specs.World.{World, life_of, sheet_in}
 use Rattle.child_calls.specs.declared.seat.Seat.{Seat}
 use Rattle.child_edge.specs.Seats.{life_view, seat, seat_of, seats_of, waits}
-use Rattle.live.specs.declared.holding.Hold.TheVariants as hold
 use Rattle.evaluation.specs.declared.plan.Plan.{Plan}
 use Rattle.evaluation.specs.declared.plan.Stand.{Stand}
 use Rattle.evaluation.specs.Meant.{IsAsked, is_passed, stop_line}
-use Rattle.evaluation.specs.Beside.{IsFirstWaiting, IsWatchDue, NoneJoins, NoneWaits, has_room_beside, is_busy, is_waiting_one, joins}
+use Rattle.evaluation.specs.Beside.{IsFirstWaiting, NoneJoins, NoneWaits, has_room_beside, is_busy, is_waiting_one, joins}
 use Rattle.evaluation.specs.inside.Beside.{NoneBetween, SeatsLeft, is_due, one_if}
 use Rattle.evaluation.proofs.Meaning.{next_here}
 
@@ -154,6 +153,3 @@ none_left_joins plan w meant stand end = record {
       let within : k < length meant = slice_get_within meant k id asked.there in
       absurd (omega (arith, low, within, end));
 }
-
-pub watch_due : (plan : Plan) (w : World) (meant : List ℕ) (stand : Stand) → (stand.held ≡ hold.Free → ⊥) → NoneJoins plan w meant stand → (stand.warned ≡ true → NoneWaits w meant stand) → IsWatchDue plan w meant stand
-watch_due plan w meant stand held none late = record { waits_on = held; none_joins = none; none_late = late }

@@ -1,12 +1,11 @@
 -- Sessions side by side: which field is asked while others wait, and which of those that wait is interrupted next. (docs/use/SCRIPT.md,
 -- "Evaluating a worksheet".)
-use Rattle.std.specs.Prelude.{◌≡◌, ◌≢◌, ◌⊎◌, ◌==◌, ◌<◌, ◌≤◌, ◌+◌, ◌-◌, ◌&&◌, ℕ, Bool, true, false, not, List, Option, Some, None, length, nat_lt, option_map, slice_get}
+use Rattle.std.specs.Prelude.{◌≡◌, ◌⊎◌, ◌==◌, ◌<◌, ◌≤◌, ◌+◌, ◌-◌, ◌&&◌, ℕ, Bool, true, false, not, List, Option, Some, None, length, nat_lt, option_map, slice_get}
 use Rattle.worksheet.specs.Checks.{field_in}
 use Rattle.worksheet.specs.declared.field.Field.{Field}
 use Rattle.session_engine.specs.declared.host.LifeView.{LifeView}
 use Rattle.session_engine.specs.World.{World, in_flight, life_of, sheet_in}
 use Rattle.child_edge.specs.Seats.{life_view, waits}
-use Rattle.live.specs.declared.holding.Hold.TheVariants as hold
 use Rattle.evaluation.specs.declared.plan.Plan.{Plan}
 use Rattle.evaluation.specs.declared.plan.Stand.{Stand}
 use Rattle.evaluation.specs.Meant.{IsAsked}
@@ -56,9 +55,7 @@ pub record NoneWaits (w : World) (meant : List ℕ) (stand : Stand) : Type 0 whe
 abbrev pub IsLate : World → List ℕ → Stand → ℕ → ℕ → Type 0
 IsLate w meant stand n id = IsFirstWaiting w meant stand n id ⊎ (NoneWaits w meant stand × (n ≡ stand.taken) × (id ≡ stand.field))
 
--- Sources are watched while an item waits, where no field is asked beside it, and, if the time was over, each interpreter of those that
--- wait was interrupted.
-pub record IsWatchDue (plan : Plan) (w : World) (meant : List ℕ) (stand : Stand) : Type 0 where
-  pub waits_on : stand.held ≢ hold.Free
-  pub none_joins : NoneJoins plan w meant stand
-  pub none_late : stand.warned ≡ true → NoneWaits w meant stand
+-- the first place of those that wait together, by whether the field at this place is asked while others wait
+abbrev pub first_by : Bool → ℕ → ℕ → ℕ
+first_by true first k = first
+first_by false first k = k

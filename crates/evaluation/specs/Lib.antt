@@ -4,9 +4,6 @@ pub mod Rounds
 pub mod Programs
 pub mod Laws
 pub mod Beside
-pub mod Steps
-pub mod Broken
 pub mod Evaluation
 pub mod Faults
-pub mod Within
 pub mod inside

@@ -1,5 +1,5 @@
 //! Which field is asked next.
-ghost use Rattle.std.specs.Prelude.{◌≡◌, ◌<◌, ◌≤◌, ◌^◌, ℕ, Option, None, Some, IfSome, false, length, slice_get};
+ghost use Rattle.std.specs.Prelude.{◌≡◌, ◌<◌, ◌≤◌, ◌^◌, Option, None, Some, false, length, slice_get};
 ghost use Rattle.std.specs.Option.{option_copied};
 ghost use Rattle.evaluation.specs.Meant as meant;
 ghost use Rattle.evaluation.specs.inside.Beside as inside;
@@ -130,23 +130,4 @@ pub(crate) fn id_at(ids: &[u32], place: usize) -> u32
     ensures { slice_get ids.now place ≡ Some result }
 {
     ids[place]
-}
-
-/// The place of the field that is asked next, where it doesn't come to its end here.
-#[tactic(auto, using(crate::proofs::Meaning::none_asked_steps))]
-pub(crate) fn next_place(plan: &Plan, sheet: &Sheet, ids: &[u32], stand: &Stand) -> Option<usize>
-    requires few { length ids.now < 2 ^ 32 }
-    requires taken { stand.now.taken ≤ length ids.now }
-    ensures within { IfSome result (λ at. at < length ids.now) }
-    ensures next { (id : ℕ) → IfSome result (λ at. slice_get ids.now at ≡ Some id
-        → meant.IsAsked plan.now sheet.now.contents.fields ids.now stand.now at id) }
-    ensures ends { result ≡ None → (stopped : Option ℕ)
-        × meant.EndsHere plan.now sheet.now.contents.fields ids.now stand.now stopped }
-    ensures none { result ≡ None → inside.AsksNone plan.now sheet.now.contents.fields ids.now stand.now }
-{
-    if stop_line(plan, sheet, stand).is_some() {
-        return None;
-    }
-    let at = next_of(plan, sheet, stand.lasts.as_slice(), ids, stand.taken);
-    if at == ids.len() { None } else { Some(at) }
 }

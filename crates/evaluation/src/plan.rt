@@ -1,7 +1,6 @@
 //! What an evaluation is asked for, where it stands, and what it comes to.
-ghost use Rattle.std.specs.Prelude.{◌≡◌, ◌+◌, ◌<◌, ◌^◌, length};
+ghost use Rattle.std.specs.Prelude.{◌≡◌, ◌<◌, ◌^◌, length};
 ghost use Rattle.evaluation.specs.Meant as meant;
-ghost use Rattle.evaluation.specs.Steps as steps;
 
 use crate::choosing::is_answered;
 use crate::lasts::Last;
@@ -64,39 +63,14 @@ pub struct Stand {
     pub lasts: Sequence<Last>,
 }
 
-/// The same place after a watch, with this wait.
-pub(crate) fn held_at(stand: Stand, held: Hold) -> Stand
-    ensures { result ≡ steps.held_at stand held }
-{
-    Stand {
-        taken: stand.taken,
-        first: stand.first,
-        field: stand.field,
-        held,
-        warned: stand.warned,
-        at_once: stand.at_once,
-        asked: stand.asked,
-        overs: stand.overs,
-        lasts: stand.lasts,
-    }
-}
-
-/// The same place after the interrupt of the interpreter of the field at this place, with this wait.
-pub(crate) fn warned_at(stand: Stand, place: usize, held: Hold) -> Stand
-    requires { stand.overs + 1 < 2 ^ 64 }
-    ensures { result ≡ steps.warned_at stand place held }
-{
-    Stand {
-        taken: stand.taken,
-        first: place,
-        field: stand.field,
-        held,
-        warned: true,
-        at_once: stand.at_once,
-        asked: stand.asked,
-        overs: stand.overs + 1,
-        lasts: stand.lasts,
-    }
+/// Where an evaluation came to its end.
+#[derive(Clone, Copy, Debug, PartialEq, Eq)]
+pub struct EvalEnd {
+    /// The number of the line after which it stopped, where it did: 2N - 1 and 2N are those of the field
+    /// that is the Nth of those to be evaluated.
+    pub stopped_at: Option<u64>,
+    /// What it came to.
+    pub counts: Counts,
 }
 
 /// What a limit of time came to, where there is one.

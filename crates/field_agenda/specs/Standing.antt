@@ -8,9 +8,9 @@ use Rattle.arrivals.specs.declared.sources.Woken.TheVariants as woken
 use Rattle.live.specs.declared.holding.Hold.{Hold}
 use Rattle.live.specs.Saying.{is_held, seconds_behind}
 use Rattle.live.specs.declared.holding.Hold.TheVariants as hold
+use Rattle.evaluation.specs.Beside.{first_by}
 use Rattle.evaluation.specs.Evaluation.{not_begun}
 use Rattle.evaluation.specs.Lasts.{after_asking}
-use Rattle.evaluation.specs.Steps.{first_by}
 use Rattle.evaluation.specs.declared.lasts.Last.{Last}
 use Rattle.evaluation.specs.declared.plan.Plan.{Plan}
 use Rattle.evaluation.specs.declared.plan.Stand.{Stand}

@@ -5,7 +5,7 @@ ghost use Rattle.session_engine.specs.World.{World, sheet_in};
 ghost use Rattle.session_engine.specs.Host.{IsHost};
 ghost use Rattle.driver.specs.Steps.{most_together};
 ghost use Rattle.evaluation.specs.Meant.{EndsHere, IsAsked};
-ghost use Rattle.evaluation.specs.Steps.{first_by};
+ghost use Rattle.evaluation.specs.Beside.{first_by};
 ghost use Rattle.live.specs.Saying as saying;
 ghost use Rattle.field_agenda.specs.Says as says;
 ghost use Rattle.field_agenda.specs.Standing as standing;

@@ -1,16 +1,13 @@
 -- Whose turn it may be: what a watch is asked while a wait holds lines back, and what it returns. (docs/dev/EDGE.md, "Live".)
-use Rattle.std.specs.Prelude.{◌≡◌, ◌⊎◌, ℕ, ◌-◌, ◌≤◌, Bool, false, true, Option, Some, None, IsSomeAnd}
+use Rattle.std.specs.Prelude.{ℕ, ◌-◌, ◌≤◌, Bool, false, true, Option, Some, None, IsSomeAnd}
 use Rattle.arrivals.specs.Lines.{InputLine, whole, too_long}
 use Rattle.arrivals.specs.Watching.{asked}
 use Rattle.arrivals.specs.declared.sources.Input.{Input}
 use Rattle.arrivals.specs.declared.sources.Input.TheVariants as input
-use Rattle.arrivals.specs.declared.sources.Woken.{Woken}
-use Rattle.arrivals.specs.declared.sources.Woken.TheVariants as woken
 use Rattle.live.specs.LiveLines.{live_line_of}
 use Rattle.live.specs.declared.live_line.LiveLine.{LiveLine}
 use Rattle.live.specs.declared.holding.Hold.{Hold}
 use Rattle.live.specs.declared.holding.Hold.TheVariants as hold
-use Rattle.live.specs.Records.{Watches}
 use Rattle.live.specs.Saying.{time_of}
 
 -- what a line says; one that is too long says nothing that is known
@@ -40,17 +37,6 @@ patience_at hold.Stopped now = None
 -- a wait has a time, and it is over where the clock reads this
 abbrev pub IsOver : Hold → ℕ → Type 0
 IsOver held now = IsSomeAnd (time_of held) (λ end. end ≤ now)
-
--- A watch returned this (none: a fault) while this wait held the lines back. The clock was read before it, and no time was over there;
--- what the watch was asked follows from the wait, from that reading, and from whether a line was there already.
-abbrev pub WatchTells : {C : Type 0} → Watches C → Hold → C → Bool → Option Woken → C → Type 0
-WatchTells m held c is_there told d =
-    (now : ℕ) × m.clock c now × (IsOver held now → ⊥) × m.wakes c (asked (input_at held is_there) (patience_at held now)) told d
-
--- The time of this wait is over, and these are the sources then: a watch returned that, or the clock, which is read before each watch, reads it.
-abbrev pub TimeComes : {C : Type 0} → Watches C → Hold → C → C → Type 0
-TimeComes m held c d =
-    ((is_there : Bool) × WatchTells m held c is_there (Some woken.TimeOver) d) ⊎ ((now : ℕ) × m.clock c now × IsOver held now × (d ≡ c))
 
 -- how many seconds interpreters have that were interrupted
 abbrev pub respite : ℕ

@@ -2,5 +2,4 @@ pub mod LiveLines
 pub mod Records
 pub mod Saying
 pub mod Arrivals
-pub mod Taking
 pub mod Gathering

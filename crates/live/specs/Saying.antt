@@ -1,49 +1,20 @@
 -- What comes of one line of a live input. (docs/use/SCRIPT.md, "Live".)
 use Rattle.std.specs.Prelude.{◌≡◌, ◌≢◌, ◌⊎◌, ℕ, ◌+◌, ◌-◌, ◌*◌, ◌^◌, not, min, Bool, true, false, List, [], Option, Some, None, IsSome, is_some}
 use Rattle.host_events.specs.declared.command.Command.{Command}
-use Rattle.host_events.specs.declared.event.Event.{Event}
 use Rattle.host_events.specs.declared.event.Event.TheVariants as event
 use Rattle.host_events.specs.declared.reply.Reply.{Reply}
 use Rattle.host_events.specs.declared.reply.Reply.TheVariants as reply
 use Rattle.session_engine.specs.Gathers.{is_checkpoint}
 use Rattle.session_engine.specs.World.{World, sheet_in}
-use Rattle.child_edge.specs.Faithful.{Relation, At, at, Beat, Served, ServedUpTo}
-use Rattle.child_edge.specs.Interrupts.{Interrupts}
-use Rattle.child_edge.specs.declared.interrupting.Interrupted.{Interrupted}
+use Rattle.child_edge.specs.Faithful.{at}
 use Rattle.child_edge.specs.Seats.{waits}
-use Rattle.child_edge.specs.Told.{told}
 use Rattle.worksheet.specs.Checks.{has_field, has_session}
 use Rattle.sheet_text.specs.Script.{line_of}
 use Rattle.sheet_text.specs.declared.script.ScriptLine.TheVariants as line
 use Rattle.live.specs.declared.live_line.LiveLine.{LiveLine}
 use Rattle.live.specs.declared.live_line.LiveLine.TheVariants as live
-use Rattle.tellings.specs.Voice.{replied_text}
-use Rattle.tellings.specs.declared.note.Note.TheVariants as note
 use Rattle.live.specs.declared.holding.Hold.{Hold}
 use Rattle.live.specs.declared.holding.Hold.TheVariants as hold
-use Rattle.live.specs.Records.{Brought, Clock, Edge}
-
--- The line with this number was done: what it brought, and where the run stands after it. Of a wait nothing comes at once: it holds back
--- the lines after it. No event comes of an interrupt, and all but the children stays.
-abbrev pub SaidDone : {C : Type 0} → Edge C → ℕ → Option LiveLine → At C → Brought → At C → Type 0
-SaidDone o number None s it t = (it.beats ≡ []) × (it.text ≡ o.voice.note (note.Bad number)) × (t ≡ s)
-SaidDone o number (Some (live.Script line.Skip)) s it t = (it.beats ≡ []) × (it.text ≡ o.voice.note (note.Nothing number)) × (t ≡ s)
-SaidDone o number (Some (live.Script (line.Command c))) s it t =
-    Served o.after s (event.Command c) it.beats t × (it.text ≡ replied_text o.voice number (sheet_in t.world) (told it.beats))
-SaidDone o number (Some (live.Script line.Wait)) s it t = (it.beats ≡ []) × (it.text ≡ []) × (t ≡ s)
-SaidDone o number (Some (live.Script line.Print)) s it t = (it.beats ≡ []) × (it.text ≡ o.voice.sheet number s.world) × (t ≡ s)
-SaidDone o number (Some (live.PrintField id)) s it t = (it.beats ≡ []) × (it.text ≡ o.voice.field number id s.world) × (t ≡ s)
-SaidDone o number (Some (live.WaitFor seconds)) s it t = (it.beats ≡ []) × (it.text ≡ []) × (t ≡ s)
-SaidDone o number (Some (live.Export format)) s it t = (it.beats ≡ []) × (it.text ≡ o.voice.exported number format (sheet_in s.world)) × (t ≡ s)
-SaidDone o number (Some (live.Interrupt name)) s it t =
-    (it.beats ≡ []) × ((came : Interrupted) × Interrupts o.after s.world name s.children came t.children × (it.text ≡ o.voice.note (note.Interrupted number name came)))
-    × (t ≡ at s.world t.children s.disk)
-SaidDone o number (Some live.Begin) s it t = (it.beats ≡ []) × (it.text ≡ o.voice.note (note.Nothing number)) × (t ≡ s)
-SaidDone o number (Some live.End) s it t = (it.beats ≡ []) × (it.text ≡ o.voice.note (note.Bad number)) × (t ≡ s)
-
--- The line says a command, and it came up to this event, at which the host had a fault: these entries of it came before.
-abbrev pub SaidUpTo : {C : Type 0} → Relation C → Option LiveLine → At C → List Beat → Event → At C → Type 0
-SaidUpTo R l s beats e t = (c : Command) × (l ≡ Some (live.Script (line.Command c))) × ServedUpTo R s (event.Command c) beats e t
 
 -- What the line asks for isn't there: a field that the worksheet doesn't have, the interpreter of no session, or the end of no transaction.
 abbrev pub asks_in_vain : World → LiveLine → Bool
@@ -90,26 +61,6 @@ IsLimited held = (end : ℕ) × (held ≡ hold.Limited end)
 -- the moment so many seconds after this one, or the last one that a clock can read
 abbrev pub seconds_behind : ℕ → ℕ → ℕ
 seconds_behind now seconds = min (now + seconds * 1000) (2 ^ 64 - 1)
-
--- A wait that names no seconds lasts as long as it takes. Where a line may take so many, its time is over so many after what the clock reads
--- where it begins.
-abbrev pub UntimedBegins : {C : Type 0} → Clock C → C → Option ℕ → Hold → Type 0
-UntimedBegins K c None held = held ≡ hold.Wait
-UntimedBegins K c (Some seconds) held = (now : ℕ) × K c now × (held ≡ hold.Limited (seconds_behind now seconds))
-
--- Which wait a line begins where the sources stand so: one with a time lasts until so many seconds after what the clock reads there.
-abbrev pub Begins : {C : Type 0} → Edge C → C → Option LiveLine → Hold → Type 0
-Begins o c None held = held ≡ hold.Free
-Begins o c (Some (live.Script line.Skip)) held = held ≡ hold.Free
-Begins o c (Some (live.Script (line.Command command))) held = held ≡ hold.Free
-Begins o c (Some (live.Script line.Wait)) held = UntimedBegins o.watches.clock c o.limit held
-Begins o c (Some (live.Script line.Print)) held = held ≡ hold.Free
-Begins o c (Some (live.PrintField id)) held = held ≡ hold.Free
-Begins o c (Some (live.WaitFor seconds)) held = (now : ℕ) × o.watches.clock c now × (held ≡ hold.Until (seconds_behind now seconds))
-Begins o c (Some (live.Interrupt name)) held = held ≡ hold.Free
-Begins o c (Some (live.Export format)) held = held ≡ hold.Free
-Begins o c (Some live.Begin) held = held ≡ hold.Free
-Begins o c (Some live.End) held = held ≡ hold.Free
 
 -- a wait goes on as long as an item waits for an answer
 abbrev pub WaitGoesOn : Hold → World → Hold → Type 0

@@ -1,12 +1,9 @@
 //! Waits that hold back the lines after them.
-ghost use Rattle.std.specs.Prelude.{◌≡◌, false, true};
+ghost use Rattle.std.specs.Prelude.{◌≡◌};
 ghost use Rattle.session_engine.specs.World.{World};
 ghost use Rattle.session_engine.specs.Host.{IsHost};
-ghost use Rattle.arrivals.specs.Watching.{InputMayCome, TimeMayCome};
-ghost use Rattle.live.specs.Saying.{IsTimed, WaitGoesOn, seconds_behind};
-ghost use Rattle.live.specs.Arrivals.{IsOver, input_at, patience_at};
+ghost use Rattle.live.specs.Saying.{WaitGoesOn, seconds_behind};
 
-use arrivals::Input;
 use child_edge::is_idle;
 use disk_model::Disk;
 use session_engine::BufferedHost;
@@ -51,39 +48,4 @@ pub fn go_on<D: Disk>(held: Hold, host: &BufferedHost<D>) -> Hold
     ensures { (w : World) → IsHost host.now w → WaitGoesOn held w result }
 {
     if is_idle(host) { Hold::Free } else { held }
-}
-
-/// How the input stands, where a line is there or not.
-pub(crate) fn input(held: Hold, is_ready: bool) -> Input
-    ensures value { result ≡ input_at held is_ready }
-    ensures free { InputMayCome result → held ≡ Hold.Free }
-{
-    match held {
-        Hold::Free => { if is_ready { Input::Ready } else { Input::Empty } }
-        Hold::Wait | Hold::Until(_) | Hold::Limited(_) | Hold::Warned(_) | Hold::Stopped =>
-            Input::HeldBack,
-    }
-}
-
-/// The milliseconds that are left at this moment, where there is a limit.
-pub(crate) fn patience(held: Hold, now: u64) -> Option<u64>
-    ensures value { result ≡ patience_at held now }
-    ensures timed { TimeMayCome result → IsTimed held }
-{
-    match held {
-        Hold::Free | Hold::Wait | Hold::Stopped => None,
-        Hold::Until(end) | Hold::Limited(end) | Hold::Warned(end) => Some(end.saturating_sub(now)),
-    }
-}
-
-/// Whether the time of a wait is over at this moment.
-pub(crate) fn is_over(held: Hold, now: u64) -> bool
-    ensures over { result ≡ true → IsOver held now }
-    ensures not_over { result ≡ false → IsOver held now → ⊥ }
-    ensures timed { result ≡ true → IsTimed held }
-{
-    match held {
-        Hold::Free | Hold::Wait | Hold::Stopped => false,
-        Hold::Until(end) | Hold::Limited(end) | Hold::Warned(end) => now >= end,
-    }
 }

@@ -17,7 +17,7 @@ use Rattle.driver.specs.Place.{Rules, SourceRules, rules, source_rules}
 use Rattle.driver.specs.TrueFaults.{IsTrueOf}
 use Rattle.evaluation.specs.Faults.{eval_fault_text}
 use Rattle.evaluation.specs.Programs.{Finds}
-use Rattle.evaluation.specs.declared.evaluating.EvalEnd.{EvalEnd}
+use Rattle.evaluation.specs.declared.plan.EvalEnd.{EvalEnd}
 use Rattle.evaluation.specs.declared.fault.EvalFault.{EvalFault}
 use Rattle.evaluation.specs.declared.fault.EvalFault.TheVariants as evals
 use Rattle.evaluation.specs.declared.plan.Plan.{Plan}

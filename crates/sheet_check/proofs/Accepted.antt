@@ -1,5 +1,5 @@
 -- Fields that are checked one after another, where what differs is accepted.
-use Rattle.std.proofs.Common.{◌≡◌, ◌+◌, inl, inr, ℕ, List, [], ◌∷◌, ◌++◌, Bool, true, false, Option, Some, None, map, refl, ap, sym, ◌∙◌, subst, append_assoc, append-nil, arith}
+use Rattle.std.proofs.Common.{◌≡◌, ◌+◌, ℕ, List, [], ◌∷◌, ◌++◌, Bool, true, false, Option, Some, None, map, refl, ap, sym, ◌∙◌, subst, append_assoc, append-nil, arith}
 use Rattle.std.specs.Prelude.{◌==◌, is_some, cond}
 use Rattle.std.specs.List.{AllByRecursion}
 use Rattle.std.specs.Option.{option_map_or}
@@ -35,14 +35,17 @@ use Rattle.check_report.specs.Chosen.{is_chosen}
 use Rattle.check_report.specs.Reports.{Case, case, case_text, cases_text, report_front, judgements_of}
 use Rattle.check_report.specs.Verdicts.{counts_of, total}
 use Rattle.live.specs.Records as records
-use Rattle.sheet_check.specs.Evaluated.{Evaluated, FieldsChecked, Way, came_if, checked, passed, reason_shown_in, shown_in}
+use Rattle.sheet_check.specs.Evaluated.{Way, came_if, reason_shown_in, shown_in}
+use Rattle.sheet_check.specs.Fields.{Evaluated, FieldsChecked, checked, passed}
 use Rattle.sheet_check.specs.declared.accepting.Finding.{Finding}
 use Rattle.sheet_check.specs.Accept.{accepted, accepted_answer, accepted_of, answer_ops, to_accept}
 use Rattle.sheet_check.specs.inside.Accepting.{FieldBroke, FieldLast, FieldsBroke, FieldsTook, FieldsUpTo, Finds, GoesOn, NotPut, NotTaken, PutAll, ShownTook, broken, early, fault_of_acceptance, full, storing, unwritten}
 use Rattle.sheet_check.specs.inside.Accepting as inside
-use Rattle.sheet_check.specs.inside.Checking.{AskFailed, EvaluationBroke, FieldFailed, FieldWrote, FirstFailed, WaitBroke, counted_on, question}
+use Rattle.sheet_check.specs.inside.Checking.{EvaluationBroke, FieldFailed, FieldWrote, FirstFailed, counted_on, question}
+use Rattle.sheet_check.specs.inside.Checking as checking
 use Rattle.sheet_check.proofs.Counting.{as_judged, cases-more, front-more}
 use Rattle.sheet_check.proofs.Fields.{FieldsSoFar, fields-more, leaves-on}
+use Rattle.sheet_check.proofs.Own.{never_output}
 
 -- What is accepted takes no field away.
 
@@ -123,14 +126,8 @@ not_taken ops more disk ones new a refused.OutOfMemory p = inside.unremembered r
 not_taken ops more disk ones new a refused.Disk p = inside.broken p.0 refl p.1 p.2 refl
 
 evaluation-told : {C : Type 0} (o : Way C) (id : ℕ) (s : At C) (h : HostView) (c : C) (why : RunFault) → EvaluationBroke o id s h c why → why ≡ fault.Output → ⊥
-evaluation-told o id s h c why (inl p) e = asked (subst (AskFailed o.after id s h c) e p)
-  where
-    asked : AskFailed o.after id s h c fault.Output → ⊥
-    asked t = elim t [ ]
-evaluation-told o id s h c why (inr p) e = waited (subst (WaitBroke o id p.1 h c) e p.3)
-  where
-    waited : WaitBroke o id p.1 h c fault.Output → ⊥
-    waited t = elim t [ ]
+evaluation-told o id s h c why (checking.halted cause is of broke) e = never_output why of e
+evaluation-told o id s h c why (checking.unremembered marks is came) e = let no : fault.OutOfMemory ≡ fault.Output = sym is ∙ e in cc
 
 module _ {C : Type 0} (o : Way C) (chosen : Chosen) (field : Field) (s : At C) (h : HostView) (c : C) (a : Option (List ℕ)) (ops more : List Op) (disk : DiskView) (store : StoreView) where
   -- the evaluation broke off

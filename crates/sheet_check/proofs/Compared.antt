@@ -1,14 +1,13 @@
 -- Fields that were evaluated together, compared one after another, and where such a check ends.
-use Rattle.std.proofs.Common.{◌≡◌, ◌+◌, inl, inr, ℕ, true, false, List, [], ◌∷◌, ◌++◌, Option, Some, None, refl, ap, sym, ◌∙◌, subst, append_assoc, append-nil}
-use Rattle.std.specs.Prelude.{Err, option_map}
+use Rattle.std.proofs.Common.{◌≡◌, ◌+◌, inl, inr, ℕ, true, false, List, [], ◌∷◌, ◌++◌, Option, None, refl, ap, sym, ◌∙◌, subst, append_assoc, append-nil}
+use Rattle.std.specs.Prelude.{Err}
 use Rattle.std.proofs.KnownBytes.{Appends-trans, Appends-nil}
 use Rattle.std.specs.Io.KnownBytes.{Appends}
-use Rattle.worksheet.specs.declared.field.Answer.{Answer}
 use Rattle.worksheet.specs.declared.field.Field.{Field}
 use Rattle.worksheet.specs.Contents.{Contents}
-use Rattle.session_engine.specs.World.{World, life_of, sheet_in}
-use Rattle.session_engine.specs.Host.{HostView, IsHost, number_in}
-use Rattle.child_edge.specs.Faithful.{At, Relation, at}
+use Rattle.session_engine.specs.World.{World, sheet_in}
+use Rattle.session_engine.specs.Host.{HostView, IsHost}
+use Rattle.child_edge.specs.Faithful.{At, at}
 use Rattle.child_edge.specs.Seats.{running}
 use Rattle.child_edge.specs.Stops.{Stops}
 use Rattle.offline_programs.specs.declared.fault.RunFault.{RunFault}
@@ -26,13 +25,15 @@ use Rattle.evaluation.specs.declared.plan.Plan.{Plan}
 use Rattle.live.specs.Records as records
 use Rattle.driver.proofs.Overs.{stops_by}
 use Rattle.sheet_check.specs.Check.{IsCopy, Passage, passage}
-use Rattle.sheet_check.specs.Driven.{DriveBroke, DrivenToEnd, DrivenUpTo, broke_off, copy_rules, unplanned}
+use Rattle.sheet_check.specs.Driven.{DriveBroke, DrivenToEnd, DrivenUpTo, broke_off, checking_plan, copy_rules, unplanned}
 use Rattle.sheet_check.specs.Evaluated.{fault_on_copy, reason_shown_in}
 use Rattle.sheet_check.specs.Together as together
-use Rattle.sheet_check.specs.Together.{EvaluatedTogether, FieldCompared, FieldsCompared, SideBySide, TellsTogether, TogetherChecked, came_by, checked_ids, checking, checking_plan, cleared}
+use Rattle.sheet_check.specs.Together.{EvaluatedTogether, FieldCompared, FieldsCompared, SideBySide, TellsTogether, TogetherChecked, came_by, checked_ids, checking, cleared}
 use Rattle.sheet_check.specs.inside.Checking.{Untold, counted_on, unremembered, unwritten}
 use Rattle.sheet_check.specs.inside.Comparing.{BrokeTogether, CameTogether, Comparing, EndedTogether, FailedTogether, FieldReported, FieldsReported, LeavesReport, ReportBroke, ReportedTogether}
+use Rattle.sheet_check.specs.declared.silence.Mark.{Mark}
 use Rattle.sheet_check.proofs.Counting.{as_judged, cases-more, front-more}
+use Rattle.sheet_check.proofs.Ends.{StopsNumbered}
 
 -- A field.
 
@@ -40,28 +41,28 @@ pub one_passed : (m : Comparing) (field : Field) (a : Option (List ℕ)) (counts
 one_passed m field a counts none = ([], together.passed none, refl, Appends-nil a)
 
 pub one_compared : (m : Comparing) (number : ℕ) (field : Field) (a b : Option (List ℕ)) (counts after : Counts) (j : Judgement) → is_chosen m.chosen field ≡ true
-    → Judged m.chosen field (came_by m.world m.late field.id) j.verdict → j.error ≡ brings_error (came_by m.world m.late field.id)
-    → Appends a b (case_text m.format number (case field (came_by m.world m.late field.id) (reason_shown_in m.world field.id) j.verdict None)) → number ≡ total counts + 1 → after ≡ counted_on (j ∷ []) counts
+    → Judged m.chosen field (came_by m.world m.marks field.id) j.verdict → j.error ≡ brings_error (came_by m.world m.marks field.id)
+    → Appends a b (case_text m.format number (case field (came_by m.world m.marks field.id) (reason_shown_in m.world field.id) j.verdict None)) → number ≡ total counts + 1 → after ≡ counted_on (j ∷ []) counts
     → FieldReported m field a b counts after
 one_compared m number field a b counts after j some judged error wrote place is =
-    let one = case field (came_by m.world m.late field.id) (reason_shown_in m.world field.id) j.verdict None in
+    let one = case field (came_by m.world m.marks field.id) (reason_shown_in m.world field.id) j.verdict None in
     let whole : Appends a b (case_text m.format number one ++ []) = subst (Appends a b) (sym (append-nil (case_text m.format number one))) wrote in
-    (one ∷ [], together.compared j.verdict some judged, is ∙ as_judged j (came_by m.world m.late field.id) counts error, subst (λ n. Appends a b (cases_text m.format n (one ∷ []))) place whole)
+    (one ∷ [], together.compared j.verdict some judged, is ∙ as_judged j (came_by m.world m.marks field.id) counts error, subst (λ n. Appends a b (cases_text m.format n (one ∷ []))) place whole)
 
 -- Fields.
 
-compared-more : (chosen : Chosen) (w : World) (late : List ℕ) (gone : List Field) (field : Field) (cases more : List Case) → FieldsCompared chosen w late gone cases → FieldCompared chosen w late field more
-    → FieldsCompared chosen w late (gone ++ field ∷ []) (cases ++ more)
-compared-more chosen w late [] field cases more h p = (more, [], p, refl, ap (λ x. x ++ more) h ∙ sym (append-nil more))
-compared-more chosen w late (x ∷ xs) field cases more h p =
-    (h.0, h.1 ++ more, h.2, compared-more chosen w late xs field h.1 more h.3 p, ap (λ y. y ++ more) h.4 ∙ append_assoc h.0 h.1 more)
+compared-more : (chosen : Chosen) (w : World) (marks : List Mark) (gone : List Field) (field : Field) (cases more : List Case) → FieldsCompared chosen w marks gone cases → FieldCompared chosen w marks field more
+    → FieldsCompared chosen w marks (gone ++ field ∷ []) (cases ++ more)
+compared-more chosen w marks [] field cases more h p = (more, [], p, refl, ap (λ x. x ++ more) h ∙ sym (append-nil more))
+compared-more chosen w marks (x ∷ xs) field cases more h p =
+    (h.0, h.1 ++ more, h.2, compared-more chosen w marks xs field h.1 more h.3 p, ap (λ y. y ++ more) h.4 ∙ append_assoc h.0 h.1 more)
 
 -- The first fields were compared, and these are left.
 pub record ComparedSoFar (m : Comparing) (all left : List Field) (a b : Option (List ℕ)) (counts : Counts) : Type 0 where
   pub gone : List Field
   pub cases : List Case
   pub split : all ≡ gone ++ left
-  pub ran : FieldsCompared m.chosen m.world m.late gone cases
+  pub ran : FieldsCompared m.chosen m.world m.marks gone cases
   pub counted : counts ≡ counts_of (judgements_of cases)
   pub wrote : Appends a b (report_front m.format cases)
 
@@ -75,7 +76,7 @@ module _ (m : Comparing) (all left : List Field) (field : Field) (others : List 
     gone = so.gone ++ field ∷ [];
     cases = so.cases ++ p.0;
     split = so.split ∙ ap (λ x. so.gone ++ x) is ∙ sym (append_assoc so.gone (field ∷ []) others);
-    ran = compared-more m.chosen m.world m.late so.gone field so.cases p.0 so.ran p.1;
+    ran = compared-more m.chosen m.world m.marks so.gone field so.cases p.0 so.ran p.1;
     counted = p.2 ∙ ap (λ x. counted_on (judgements_of p.0) x) so.counted ∙ sym (cases-more so.cases p.0);
     wrote = subst (Appends a e) (sym (front-more m.format so.cases p.0 counts so.counted)) (Appends-trans a b e (report_front m.format so.cases) (cases_text m.format (total counts + 1) p.0) so.wrote p.3);
   }
@@ -90,7 +91,7 @@ module _ (m : Comparing) (all left : List Field) (field : Field) (others : List 
 pub all_compared : (m : Comparing) (all left : List Field) (a b : Option (List ℕ)) (counts : Counts) → left ≡ [] → ComparedSoFar m all left a b counts → FieldsReported m all a b counts
 all_compared m all left a b counts e so =
     let same : so.gone ≡ all = sym (so.split ∙ ap (λ x. so.gone ++ x) e ∙ append-nil so.gone) in
-    (so.cases, subst (λ fs. FieldsCompared m.chosen m.world m.late fs so.cases) same so.ran, so.counted, so.wrote)
+    (so.cases, subst (λ fs. FieldsCompared m.chosen m.world m.marks fs so.cases) same so.ran, so.counted, so.wrote)
 
 -- what stands first couldn't be written
 pub unopened_report : (m : Comparing) (all : List Field) (a b : Option (List ℕ)) (why : RunFault) → why ≡ fault.Output → ReportBroke m all a b why
@@ -99,22 +100,18 @@ unopened_report m all a b why is = record { gone = []; left = all; split = refl;
 -- The plan of the evaluation.
 
 module _ {C : Type 0} (o : SideBySide C) (fields : List Field) (s : At C) (h : HostView) (c : C) (plan : Plan) (is : plan ≡ checking_plan (checked_ids o.chosen fields) o.way.limit o.jobs) where
-  pub came_together : (late : List ℕ) → (t : World) × DrivenToEnd o.way plan s late (at t c h.store.disk) × IsHost h t → CameTogether o fields s h c late
-  came_together late q = subst (λ (p : Plan). (t : World) × DrivenToEnd o.way p s late (at t c h.store.disk) × IsHost h t) is q
+  pub came_together : (marks : List Mark) → (t : World) × DrivenToEnd o.way plan s marks (at t c h.store.disk) × IsHost h t → CameTogether o fields s h c marks
+  came_together marks q = subst (λ (p : Plan). (t : World) × DrivenToEnd o.way p s marks (at t c h.store.disk) × IsHost h t) is q
 
   pub broke_together : (f why : RunFault) → why ≡ fault_on_copy f → DrivenUpTo o.way plan s h c f → BrokeTogether o fields s h c why
   broke_together f why same q = (f, same, broke_off (subst (λ (p : Plan). DrivenUpTo o.way p s h c f) is q))
 
 -- Where it ends.
 
--- the lives of a world are stopped of which a host has the worksheet and each life's number
-abbrev pub StopsNumbered : {C : Type 0} → Relation C → HostView → C → C → Type 0
-StopsNumbered R h c d = (v : World) → h.store.sheet.contents ≡ sheet_in v → ((name : List ℕ) → number_in h.lives name ≡ option_map (λ l. l.number) (life_of v name)) → Stops R (running v) c d
-
 module _ {C : Type 0} (o : SideBySide C) (sheet : Contents) (w : World) (h g : HostView) (copied : IsCopy (cleared o.chosen sheet.fields sheet) w h.store.disk) (c m d : C) (a b : Option (List ℕ)) (stops : StopsIn o.way.after g m d)
     (numbered : StopsNumbered o.way.after g m d) where
-  evaluated : (late : List ℕ) (came : CameTogether o sheet.fields (at w c h.store.disk) g m late) → EvaluatedTogether o sheet c d came.0 late
-  evaluated late came = record {
+  evaluated : (marks : List Mark) (came : CameTogether o sheet.fields (at w c h.store.disk) g m marks) → EvaluatedTogether o sheet c d came.0 marks
+  evaluated marks came = record {
     start = w;
     copy = h.store.disk;
     copied = copied;
@@ -131,12 +128,12 @@ module _ {C : Type 0} (o : SideBySide C) (sheet : Contents) (w : World) (h g : H
   stopped why (unplanned is same stands) = (w, stands.stands.contents, stops.0 w stands)
   stopped why (broke_off b) = stops_by (copy_rules o.way) g b.world m d stops.0 stops.1 numbered (Err why) b.stands
 
-  reported-broke : (late : List ℕ) (came : CameTogether o sheet.fields (at w c h.store.disk) g m late) (why : RunFault) (F : Format) (cases : List Case) (gone left : List Field) → sheet.fields ≡ gone ++ left
-      → FieldsCompared o.chosen came.0 late gone cases → LeavesReport o.format cases a b why → TellsTogether o sheet (passage c d a b) ⊥ why
-  reported-broke late came why F cases gone left split compared (inl p) =
-      together.no_memory cases p.0 (record { leads = came.0; late = late; evaluated = evaluated late came; gone = gone; left = left; split = split; compared = compared }) p.1
-  reported-broke late came why F cases gone left split compared (inr p) =
-      together.unwritten cases p (record { leads = came.0; late = late; evaluated = evaluated late came; gone = gone; left = left; split = split; compared = compared })
+  reported-broke : (marks : List Mark) (came : CameTogether o sheet.fields (at w c h.store.disk) g m marks) (why : RunFault) (F : Format) (cases : List Case) (gone left : List Field) → sheet.fields ≡ gone ++ left
+      → FieldsCompared o.chosen came.0 marks gone cases → LeavesReport o.format cases a b why → TellsTogether o sheet (passage c d a b) ⊥ why
+  reported-broke marks came why F cases gone left split compared (inl p) =
+      together.no_memory cases p.0 (record { leads = came.0; marks = marks; evaluated = evaluated marks came; gone = gone; left = left; split = split; compared = compared }) p.1
+  reported-broke marks came why F cases gone left split compared (inr p) =
+      together.unwritten cases p (record { leads = came.0; marks = marks; evaluated = evaluated marks came; gone = gone; left = left; split = split; compared = compared })
 
   pub together_failed : (why : RunFault) → FailedTogether o sheet.fields (at w c h.store.disk) (records.left g m a b) why → TellsTogether o sheet (passage c d a b) ⊥ why
   together_failed why (inl q) =
@@ -153,7 +150,7 @@ module _ {C : Type 0} (o : SideBySide C) (sheet : Contents) (c d : C) (a b : Opt
   pub told_together : (e : Option (List ℕ)) (counts : Counts) → EndedTogether o sheet (passage c d a b) counts → Appends b e (closing_text o.format counts) → TogetherChecked o sheet (passage c d a e) counts
   told_together e counts q told = let p = q.3 in record {
     leads = q.0;
-    late = q.1;
+    marks = q.1;
     evaluated = q.2;
     cases = p.0;
     compared = p.1;
@@ -163,7 +160,7 @@ module _ {C : Type 0} (o : SideBySide C) (sheet : Contents) (c d : C) (a b : Opt
 
   pub counts_unwritten : (e : Option (List ℕ)) (counts : Counts) (nothing : Type 0) (why : RunFault) → EndedTogether o sheet (passage c d a b) counts → why ≡ fault.Output → TellsTogether o sheet (passage c d a e) nothing why
   counts_unwritten e counts nothing why q is =
-      let p = q.3 in together.unwritten p.0 is (record { leads = q.0; late = q.1; evaluated = q.2; gone = sheet.fields; left = []; split = sym (append-nil sheet.fields); compared = p.1 })
+      let p = q.3 in together.unwritten p.0 is (record { leads = q.0; marks = q.1; evaluated = q.2; gone = sheet.fields; left = []; split = sym (append-nil sheet.fields); compared = p.1 })
 
 pub tells_on : {C : Type 0} (o : SideBySide C) (sheet : Contents) (q : Passage C) (nothing : Type 0) (why : RunFault) → TellsTogether o sheet q ⊥ why → TellsTogether o sheet q nothing why
 tells_on o sheet q nothing why (together.not_begun is none) = absurd none

@@ -1,39 +1,32 @@
 -- What a driver did that evaluated fields of a copy.
-use Rattle.std.proofs.Common.{◌≡◌, ◌∙◌, inl, inr, ℕ, ◌+◌, true, List, [], ◌∷◌, ◌++◌, None, Some, ap, refl, sym, subst, append_assoc, append-nil, Ok, Err}
+use Rattle.std.proofs.Common.{◌≡◌, ◌∙◌, inl, inr, ℕ, ◌+◌, true, List, [], ◌∷◌, ◌++◌, None, Some, ap, refl, sym, subst, append_assoc, append-nil, arith, Ok, Err}
 use Rattle.std.proofs.lemmas.Bool.{true≢false}
-use Rattle.std.specs.Prelude.{◌⊎◌, IfErr, IfOk, Option, Result}
+use Rattle.std.specs.Prelude.{◌⊎◌, IfErr, IfOk, OnOk, Result, is_ok}
 use Rattle.std.specs.List.{flat_map}
-use Rattle.std.specs.Io.KnownBytes.{Appends}
 use Rattle.disk_model.specs.Disk.{DiskView}
 use Rattle.worksheet.specs.Contents.{Contents}
 use Rattle.worksheet.specs.declared.field.Field.{Field}
 use Rattle.worksheet.specs.declared.field.Session.{Session}
-use Rattle.journal.specs.declared.opening.OpenCause.{OpenCause}
 use Rattle.host_events.specs.declared.outcome.Outcome.{Outcome}
 use Rattle.host_events.specs.declared.reply.Reply.{Reply}
 use Rattle.session_engine.specs.World.{World, sheet_in}
 use Rattle.session_engine.specs.Host.{HostView, IsHost}
-use Rattle.child_edge.specs.Faithful.{At, at}
+use Rattle.child_edge.specs.Faithful.{at}
 use Rattle.child_edge.specs.Told.{spoken}
 use Rattle.offline_programs.specs.declared.fault.RunFault.{RunFault}
-use Rattle.offline_programs.specs.declared.fault.RunFault.TheVariants as fault
-use Rattle.tellings.specs.Voice.{lives_text, numbered_text}
-use Rattle.driver.specs.declared.report.Show.{Show}
+use Rattle.tellings.specs.Voice.{numbered_text}
 use Rattle.driver.specs.declared.report.Show.TheVariants as show
 use Rattle.driver.specs.Items.{Item, RunStep, after_fault, ask, halt, print_fault}
 use Rattle.driver.specs.Place.{RunPlace, Tries}
 use Rattle.driver.specs.Reports.{Report, lives_report, printed_text}
 use Rattle.driver.specs.Reports as report
-use Rattle.driver.specs.Runs.{DidSteps, Parts, Stands, left_at_end, parts, seen}
-use Rattle.driver.specs.Steps.{Fails, Goes, Run}
+use Rattle.driver.specs.Runs.{DidSteps, left_at_end, parts, seen}
+use Rattle.driver.specs.Steps.{Goes, Run}
 use Rattle.driver.specs.Steps as step
 use Rattle.driver.proofs.Order.{after_halt, after_is}
-use Rattle.driver.proofs.TrueFaults.{left_true}
-use Rattle.driver.specs.TrueFaults.{IsTrueFault}
 use Rattle.evaluation.specs.Meant.{missing_in}
 use Rattle.evaluation.specs.Programs.{IsFirstLacking, behind, here}
 use Rattle.evaluation.specs.declared.plan.Plan.{Plan}
-use Rattle.field_agenda.specs.FieldsRules.{fields_rules}
 use Rattle.field_agenda.specs.LooksFirst.{IsUnderWay, LookedFirst, all_found, in_vain, not_looked}
 use Rattle.field_agenda.specs.Looks.{LookFinds, all_there, no_field, no_program}
 use Rattle.field_agenda.specs.Stages.{IsEnded}
@@ -42,15 +35,26 @@ use Rattle.field_agenda.specs.declared.by_fields.ByFields.{ByFields}
 use Rattle.field_agenda.specs.declared.stage.Stage.{Stage}
 use Rattle.field_agenda.specs.declared.stage.Stage.TheVariants as stage
 use Rattle.field_agenda.proofs.Endings.{comes_to_an_end}
-use Rattle.field_agenda.proofs.Faults.{own_faults}
 use Rattle.field_agenda.proofs.Looked.{looked_first}
 use Rattle.driver.specs.Place.{source_rules}
-use Rattle.sheet_check.specs.Driven.{DriveBroke, DrivenToEnd, DrivenUpTo, broke_off, copy_begins, copy_place, copy_rules, counts_as_there, late_report, late_rules, late_shown, late_step, late_steps, late_voice, unplanned}
+use Rattle.sheet_check.specs.Driven.{DrivenToEnd, DrivenUpTo, copy_begins, copy_place, copy_rules, counts_as_there}
 use Rattle.sheet_check.specs.Evaluated.{Way}
+use Rattle.sheet_check.specs.Marks.{line_marks, mark_rules, mark_voice, marks_of, number_of, numbers_of, reply_marks, report_marks, step_marks}
 use Rattle.sheet_check.specs.declared.silence.AllThere.{AllThere}
-use Rattle.sheet_check.specs.declared.silence.LateFields.{LateFields}
+use Rattle.sheet_check.specs.declared.silence.Mark.{Mark}
+use Rattle.sheet_check.specs.declared.silence.Mark.TheVariants as mark
+use Rattle.sheet_check.specs.declared.silence.Marks.{Marks}
 
 -- What the sink's voice says.
+
+numbers-more : (xs ys : List Mark) → numbers_of (xs ++ ys) ≡ numbers_of xs ++ numbers_of ys
+numbers-more [] ys = refl
+numbers-more (x ∷ xs) ys = ap (λ (l : List ℕ). number_of x ∷ l) (numbers-more xs ys)
+
+line_numbers : (line : ℕ) (sheet : Contents) (outcomes : List Outcome) → numbered_text mark_voice line sheet outcomes ≡ numbers_of (line_marks outcomes)
+line_numbers line sheet [] = refl
+line_numbers line sheet (o ∷ outcomes) =
+    ap (λ (l : List ℕ). numbers_of (reply_marks o.reply) ++ l) (line_numbers (line + 1) sheet outcomes) ∙ sym (numbers-more (reply_marks o.reply) (line_marks outcomes))
 
 abbrev unsaid : Reply → List ℕ
 unsaid r = []
@@ -59,17 +63,13 @@ no_event : (replies : List Reply) → flat_map unsaid replies ≡ []
 no_event [] = refl
 no_event (r ∷ replies) = no_event replies
 
-no_line : (line : ℕ) (sheet : Contents) (outcomes : List Outcome) → numbered_text late_voice line sheet outcomes ≡ []
-no_line line sheet [] = refl
-no_line line sheet (o ∷ outcomes) = no_line (line + 1) sheet outcomes
-
-no_life : (w : World) (outcomes : List Outcome) → lives_report late_voice w outcomes ≡ []
+no_life : (w : World) (outcomes : List Outcome) → lives_report mark_voice w outcomes ≡ []
 no_life w [] = refl
-no_life w (o ∷ outcomes) = ap (λ (l : List ℕ). l ++ lives_report late_voice w outcomes) (no_event (spoken o.reply)) ∙ no_life w outcomes
+no_life w (o ∷ outcomes) = ap (λ (l : List ℕ). l ++ lives_report mark_voice w outcomes) (no_event (spoken o.reply)) ∙ no_life w outcomes
 
--- it is the number of a field whose time was over, or nothing
-pub said_is : (w : World) (s : Report) → printed_text late_voice w s ≡ late_report s
-said_is w (report.lines first outcomes) = no_line first (sheet_in w) outcomes
+-- it is the numbers of marks
+pub said_is : (w : World) (s : Report) → printed_text mark_voice w s ≡ numbers_of (report_marks s)
+said_is w (report.lines first outcomes) = line_numbers first (sheet_in w) outcomes
 said_is w (report.lives outcomes) = no_life w outcomes
 said_is w (report.followed replies) = no_event replies
 said_is w (report.shown (show.Note n)) = refl
@@ -77,14 +77,47 @@ said_is w (report.shown (show.Sheet line)) = refl
 said_is w (report.shown (show.Field line id)) = refl
 said_is w (report.shown (show.Export line format)) = refl
 
-pub says_none : (k : LateFields) (disk : DiskView) (text : List ℕ) → text ≡ [] → Tries late_rules k disk text true k
-says_none k disk text is = record { tried = tt; appends = λ whole. sym (append-nil k.ids) ∙ ap (λ (l : List ℕ). k.ids ++ l) (sym is) }
+says : (k l : Marks) (disk : DiskView) (text : List ℕ) (marks : List Mark) → text ≡ numbers_of marks → l.kept ≡ k.kept ++ marks → Tries mark_rules k disk text true l
+says k l disk text marks is kept =
+    record { tried = tt; appends = λ whole. ap numbers_of kept ∙ numbers-more k.kept marks ∙ ap (λ (t : List ℕ). numbers_of k.kept ++ t) (sym is) }
+
+pub says_none : (k : Marks) (disk : DiskView) (text : List ℕ) → text ≡ [] → Tries mark_rules k disk text true k
+says_none k disk text is = says k k disk text [] is (sym (append-nil k.kept))
+
+-- where marks were kept, or there was no memory for them
+pub says_marks : (k l : Marks) (disk : DiskView) (text : List ℕ) (marks : List Mark) (r : Result (Unit {0}) RunFault) → text ≡ numbers_of marks → OnOk r (l.kept ≡ k.kept ++ marks) → Tries mark_rules k disk text (is_ok r) l
+says_marks k l disk text marks (Ok done) is kept = says k l disk text marks is kept
+says_marks k l disk text marks (Err why) is kept = record { tried = tt; appends = λ whole. absurd (true≢false (sym whole)) }
+
+-- marks by their numbers
+
+same_mark : (a b : Mark) → number_of a ≡ number_of b → a ≡ b
+same_mark mark.Asked mark.Asked e = refl
+same_mark mark.Asked mark.NoMemory e = absurd (omega (arith, e))
+same_mark mark.Asked (mark.Over j) e = absurd (omega (arith, e))
+same_mark mark.NoMemory mark.Asked e = absurd (omega (arith, e))
+same_mark mark.NoMemory mark.NoMemory e = refl
+same_mark mark.NoMemory (mark.Over j) e = absurd (omega (arith, e))
+same_mark (mark.Over i) mark.Asked e = absurd (omega (arith, e))
+same_mark (mark.Over i) mark.NoMemory e = absurd (omega (arith, e))
+same_mark (mark.Over i) (mark.Over j) e = let same : i ≡ j = omega (arith, e) in ap (λ (n : ℕ). mark.Over n) same
+
+same_marks : (xs ys : List Mark) → numbers_of xs ≡ numbers_of ys → xs ≡ ys
+same_marks [] [] e = refl
+same_marks [] (y ∷ ys) e = let no : [] ≡ number_of y ∷ numbers_of ys = e in absurd cc
+same_marks (x ∷ xs) [] e = let no : number_of x ∷ numbers_of xs ≡ [] = e in absurd cc
+same_marks (x ∷ xs) (y ∷ ys) e =
+    let both : number_of x ∷ numbers_of xs ≡ number_of y ∷ numbers_of ys = e in
+    let first : number_of x ≡ number_of y = cc in
+    let rest : numbers_of xs ≡ numbers_of ys = cc in
+    let one : x ≡ y = same_mark x y first in
+    let more : xs ≡ ys = same_marks xs ys rest in cc
 
 -- What was kept.
 
 module _ {C : Type 0} (o : Way C) where
   abbrev Spot : Type 0
-  Spot = RunPlace (ByFields AllThere) C LateFields
+  Spot = RunPlace (ByFields AllThere) C Marks
 
   none_halted : (p q : Spot) (why : RunFault) (steps : List RunStep) → Run (copy_rules o) p (halt why ∷ []) steps [] q → ⊥
   none_halted p q why [] (is, same) = absurd cc
@@ -103,26 +136,28 @@ module _ {C : Type 0} (o : Way C) where
       by (inr e) = none_printed p q why steps (subst (λ (l : List Item). Run (copy_rules o) p l steps [] q) e r)
 
   step_kept : (p mid q : Spot) (todo next : List Item) (s : RunStep) (steps : List RunStep) → Goes (copy_rules o) p todo s next mid → Run (copy_rules o) mid next steps [] q
-      → mid.sink.ids ≡ p.sink.ids ++ late_step s
-  step_kept p mid q todo next s steps (step.asks now t a clock said) more = sym (append-nil p.sink.ids)
-  step_kept p mid q todo next s steps (step.watches x w c a rest wakes told) more = sym (append-nil p.sink.ids)
-  step_kept p mid q todo next s steps (step.hears seat most events c rest h) more = sym (append-nil p.sink.ids)
-  step_kept p mid q todo next s steps (step.takes from events outcomes followed w c d rest t) more = sym (append-nil p.sink.ids)
-  step_kept p mid q todo next s steps (step.joins events outcomes first others later followed a w c d rest asked t) more = sym (append-nil p.sink.ids)
-  step_kept p mid q todo next s steps (step.takes_whole first events outcomes followed w c d rest t accepted) more = sym (append-nil p.sink.ids)
-  step_kept p mid q todo next s steps (step.refuses_whole first events outcomes one rest r) more = sym (append-nil p.sink.ids)
-  step_kept p mid q todo next s steps (step.rewrites line one w d rest gives kept) more = sym (append-nil p.sink.ids)
-  step_kept p mid q todo next s steps (step.stalls_all rest) more = sym (append-nil p.sink.ids)
-  step_kept p mid q todo next s steps (step.interrupts name told c rest i) more = sym (append-nil p.sink.ids)
-  step_kept p mid q todo next s steps (step.prints t k rest tries) more = tries.appends refl ∙ ap (λ (l : List ℕ). p.sink.ids ++ l) (said_is p.world t)
-  step_kept p mid q todo next s steps (step.heeds c now n a rest clock h) more = sym (append-nil p.sink.ids)
+      → numbers_of mid.sink.kept ≡ numbers_of p.sink.kept ++ numbers_of (step_marks s)
+  step_kept p mid q todo next s steps (step.asks now t a clock said) more = sym (append-nil (numbers_of p.sink.kept))
+  step_kept p mid q todo next s steps (step.watches x w c a rest wakes told) more = sym (append-nil (numbers_of p.sink.kept))
+  step_kept p mid q todo next s steps (step.hears seat most events c rest h) more = sym (append-nil (numbers_of p.sink.kept))
+  step_kept p mid q todo next s steps (step.takes from events outcomes followed w c d rest t) more = sym (append-nil (numbers_of p.sink.kept))
+  step_kept p mid q todo next s steps (step.joins events outcomes first others later followed a w c d rest asked t) more = sym (append-nil (numbers_of p.sink.kept))
+  step_kept p mid q todo next s steps (step.takes_whole first events outcomes followed w c d rest t accepted) more = sym (append-nil (numbers_of p.sink.kept))
+  step_kept p mid q todo next s steps (step.refuses_whole first events outcomes one rest r) more = sym (append-nil (numbers_of p.sink.kept))
+  step_kept p mid q todo next s steps (step.rewrites line one w d rest gives kept) more = sym (append-nil (numbers_of p.sink.kept))
+  step_kept p mid q todo next s steps (step.stalls_all rest) more = sym (append-nil (numbers_of p.sink.kept))
+  step_kept p mid q todo next s steps (step.interrupts name told c rest i) more = sym (append-nil (numbers_of p.sink.kept))
+  step_kept p mid q todo next s steps (step.prints t k rest tries) more = tries.appends refl ∙ ap (λ (l : List ℕ). numbers_of p.sink.kept ++ l) (said_is p.world t)
+  step_kept p mid q todo next s steps (step.heeds c now n a rest clock h) more = sym (append-nil (numbers_of p.sink.kept))
   step_kept p mid q todo next s steps (step.breaks i beats why there rest fails) more = absurd (none_broke mid q why steps more)
   step_kept p mid q todo next s steps (step.prints_fault why whole k tries) more = absurd (none_halted mid q why steps more)
 
-  all_kept : (p q : Spot) (todo : List Item) (steps : List RunStep) → Run (copy_rules o) p todo steps [] q → q.sink.ids ≡ p.sink.ids ++ late_steps steps
-  all_kept p q todo [] (is, same) = ap (λ (x : Spot). x.sink.ids) same ∙ sym (append-nil p.sink.ids)
+  all_kept : (p q : Spot) (todo : List Item) (steps : List RunStep) → Run (copy_rules o) p todo steps [] q → numbers_of q.sink.kept ≡ numbers_of p.sink.kept ++ numbers_of (marks_of steps)
+  all_kept p q todo [] (is, same) = ap (λ (x : Spot). numbers_of x.sink.kept) same ∙ sym (append-nil (numbers_of p.sink.kept))
   all_kept p q todo (s ∷ steps) (next, mid, goes, more) =
-      all_kept mid q next steps more ∙ ap (λ (l : List ℕ). l ++ late_steps steps) (step_kept p mid q todo next s steps goes more) ∙ append_assoc p.sink.ids (late_step s) (late_steps steps)
+      all_kept mid q next steps more ∙ ap (λ (l : List ℕ). l ++ numbers_of (marks_of steps)) (step_kept p mid q todo next s steps goes more)
+      ∙ append_assoc (numbers_of p.sink.kept) (numbers_of (step_marks s)) (numbers_of (marks_of steps))
+      ∙ ap (λ (l : List ℕ). numbers_of p.sink.kept ++ l) (sym (numbers-more (step_marks s) (marks_of steps)))
 
 -- How far it came.
 
@@ -142,52 +177,45 @@ module _ {C : Type 0} (o : Way C) where
   got_under_way p q steps left ended all (in_vain ids how not_so finds is nothing) = absurd (found_all p.agenda.programs p.agenda.plan (sheet_in p.world) ids how all not_so finds)
   got_under_way p q steps left ended all (not_looked is nothing) = absurd (subst IsEnded is ended)
 
-  pub driven : (programs : AllThere) (plan : Plan) (w : World) (h g : HostView) (c d : C) (n : ℕ) (a : ByFields AllThere) (late : LateFields) (done : Unit {0})
-      → (did : DidSteps (copy_rules o) (seen 0 w (parts h c (record { ids = [] }) (first_fields plan programs))) (ask ∷ []) left_at_end (Ok done) (n, parts g d late a))
-      → DrivenToEnd o plan (at w c h.store.disk) late.ids (at did.world d g.store.disk)
-  driven programs plan w h g c d n a late done did =
+  pub driven : (programs : AllThere) (plan : Plan) (w : World) (h g : HostView) (c d : C) (n : ℕ) (a : ByFields AllThere) (kept : Marks) (done : Unit {0})
+      → (did : DidSteps (copy_rules o) (seen 0 w (parts h c (record { kept = [] }) (first_fields plan programs))) (ask ∷ []) left_at_end (Ok done) (n, parts g d kept a))
+      → DrivenToEnd o plan (at w c h.store.disk) kept.kept (at did.world d g.store.disk)
+  driven programs plan w h g c d n a kept done did =
       let p = copy_begins plan programs (at w c h.store.disk) in
-      let q = copy_place n a late (at did.world d g.store.disk) in
+      let q = copy_place n a kept (at did.world d g.store.disk) in
       let sources = source_rules o.after o.wakes o.clock in
-      let end = comes_to_an_end counts_as_there sources late_rules p q did.steps did.ran in
+      let end = comes_to_an_end counts_as_there sources mark_rules p q did.steps did.ran in
       record {
         programs = programs;
         steps = did.steps;
         asked = n;
         agenda = a;
         ran = did.ran;
-        late_is = all_kept o p q (ask ∷ []) did.steps did.ran;
+        marks_are = same_marks kept.kept (marks_of did.steps) (all_kept o p q (ask ∷ []) did.steps did.ran);
         ended = end;
-        counted = λ all. got_under_way p q did.steps [] end all (looked_first counts_as_there sources late_rules p q [] did.steps refl did.ran);
+        counted = λ all. got_under_way p q did.steps [] end all (looked_first counts_as_there sources mark_rules p q [] did.steps refl did.ran);
       }
 
-  pub driven_up_to : (programs : AllThere) (plan : Plan) (w : World) (h g : HostView) (c d : C) (n : ℕ) (a : ByFields AllThere) (late : LateFields) (why : RunFault)
-      → DidSteps {T = Unit {0}} (copy_rules o) (seen 0 w (parts h c (record { ids = [] }) (first_fields plan programs))) (ask ∷ []) left_at_end (Err why) (n, parts g d late a)
+  pub driven_up_to : (programs : AllThere) (plan : Plan) (w : World) (h g : HostView) (c d : C) (n : ℕ) (a : ByFields AllThere) (kept : Marks) (why : RunFault)
+      → DidSteps {T = Unit {0}} (copy_rules o) (seen 0 w (parts h c (record { kept = [] }) (first_fields plan programs))) (ask ∷ []) left_at_end (Err why) (n, parts g d kept a)
       → DrivenUpTo o plan (at w c h.store.disk) g d why
-  driven_up_to programs plan w h g c d n a late why did =
-      record { programs = programs; steps = did.steps; asked = n; agenda = a; late = late; world = did.world; ran = did.ran; stands = did.stands }
-
-  -- It is never a fault that a disk wasn't opened.
-  pub drive_opened : (plan : Plan) (s : At C) (h : HostView) (c : C) (x : OpenCause) (why : RunFault) → why ≡ fault.Open x → DriveBroke o plan s h c why → ⊥
-  drive_opened plan s h c x why is (unplanned e same stands) = let no : fault.OutOfMemory ≡ fault.Open x = sym e ∙ is in cc
-  drive_opened plan s h c x why is (broke_off b) =
-      subst (λ (y : RunFault). IsTrueFault y s.disk h.store.disk) is
-      (left_true (copy_rules o) (own_faults counts_as_there) (copy_begins plan b.programs s) (copy_place b.asked b.agenda b.late (at b.world c h.store.disk)) (ask ∷ []) (halt why ∷ []) b.steps (tt, tt) b.ran)
+  driven_up_to programs plan w h g c d n a kept why did =
+      record { programs = programs; steps = did.steps; asked = n; agenda = a; kept = kept; world = did.world; ran = did.ran; stands = did.stands }
 
 -- From where a plan was given.
-module _ {C : Type 0} (o : Way C) (programs : AllThere) (plan : Plan) (w : World) (h g : HostView) (c d : C) (n : ℕ) (k late : LateFields) (b a : ByFields AllThere)
-    (none : k ≡ record { ids = [] }) (first : b ≡ first_fields plan programs) where
-  given : (r : Result (Unit {0}) RunFault) → DidSteps (copy_rules o) (seen 0 w (parts h c k b)) (ask ∷ []) left_at_end r (n, parts g d late a)
-      → DidSteps (copy_rules o) (seen 0 w (parts h c (record { ids = [] }) (first_fields plan programs))) (ask ∷ []) left_at_end r (n, parts g d late a)
-  given r did = subst (λ (x : LateFields). DidSteps (copy_rules o) (seen 0 w (parts h c x (first_fields plan programs))) (ask ∷ []) left_at_end r (n, parts g d late a)) none
-      (subst (λ (x : ByFields AllThere). DidSteps (copy_rules o) (seen 0 w (parts h c k x)) (ask ∷ []) left_at_end r (n, parts g d late a)) first did)
+module _ {C : Type 0} (o : Way C) (programs : AllThere) (plan : Plan) (w : World) (h g : HostView) (c d : C) (n : ℕ) (k kept : Marks) (b a : ByFields AllThere)
+    (none : k ≡ record { kept = [] }) (first : b ≡ first_fields plan programs) where
+  given : (r : Result (Unit {0}) RunFault) → DidSteps (copy_rules o) (seen 0 w (parts h c k b)) (ask ∷ []) left_at_end r (n, parts g d kept a)
+      → DidSteps (copy_rules o) (seen 0 w (parts h c (record { kept = [] }) (first_fields plan programs))) (ask ∷ []) left_at_end r (n, parts g d kept a)
+  given r did = subst (λ (x : Marks). DidSteps (copy_rules o) (seen 0 w (parts h c x (first_fields plan programs))) (ask ∷ []) left_at_end r (n, parts g d kept a)) none
+      (subst (λ (x : ByFields AllThere). DidSteps (copy_rules o) (seen 0 w (parts h c k x)) (ask ∷ []) left_at_end r (n, parts g d kept a)) first did)
 
-  pub plan_driven : (r : Result (Unit {0}) RunFault) → DidSteps (copy_rules o) (seen 0 w (parts h c k b)) (ask ∷ []) left_at_end r (n, parts g d late a)
-      → IfOk r (λ done. (t : World) × DrivenToEnd o plan (at w c h.store.disk) late.ids (at t d g.store.disk) × IsHost g t)
-  plan_driven (Ok done) did = let so = given (Ok done) did in (so.world, driven o programs plan w h g c d n a late done so, so.stands)
+  pub plan_driven : (r : Result (Unit {0}) RunFault) → DidSteps (copy_rules o) (seen 0 w (parts h c k b)) (ask ∷ []) left_at_end r (n, parts g d kept a)
+      → IfOk r (λ done. (t : World) × DrivenToEnd o plan (at w c h.store.disk) kept.kept (at t d g.store.disk) × IsHost g t)
+  plan_driven (Ok done) did = let so = given (Ok done) did in (so.world, driven o programs plan w h g c d n a kept done so, so.stands)
   plan_driven (Err why) did = tt
 
-  pub plan_broke : (r : Result (Unit {0}) RunFault) → DidSteps (copy_rules o) (seen 0 w (parts h c k b)) (ask ∷ []) left_at_end r (n, parts g d late a)
+  pub plan_broke : (r : Result (Unit {0}) RunFault) → DidSteps (copy_rules o) (seen 0 w (parts h c k b)) (ask ∷ []) left_at_end r (n, parts g d kept a)
       → IfErr r (DrivenUpTo o plan (at w c h.store.disk) g d)
   plan_broke (Ok done) did = tt
-  plan_broke (Err why) did = driven_up_to o programs plan w h g c d n a late why (given (Err why) did)
+  plan_broke (Err why) did = driven_up_to o programs plan w h g c d n a kept why (given (Err why) did)

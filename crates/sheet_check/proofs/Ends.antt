@@ -1,27 +1,32 @@
 -- Where a check ends.
-use Rattle.std.proofs.Common.{◌≡◌, inl, inr, ℕ, List, [], Option, refl, sym, subst, append-nil}
+use Rattle.std.proofs.Common.{◌≡◌, ◌∙◌, inl, inr, ℕ, List, [], Option, refl, sym, subst, append-nil}
+use Rattle.std.specs.Prelude.{option_map}
 use Rattle.std.proofs.KnownBytes.{Appends-trans}
 use Rattle.std.specs.Io.KnownBytes.{Appends}
 use Rattle.disk_model.specs.Disk.{DiskView}
 use Rattle.worksheet.specs.declared.field.Field.{Field}
 use Rattle.worksheet.specs.Contents.{Contents}
-use Rattle.session_engine.specs.World.{World}
-use Rattle.session_engine.specs.Host.{HostView}
-use Rattle.child_edge.specs.Faithful.{At, at}
+use Rattle.session_engine.specs.World.{World, life_of, sheet_in}
+use Rattle.session_engine.specs.Host.{HostView, number_in}
+use Rattle.child_edge.specs.Faithful.{At, Relation, at}
 use Rattle.child_edge.specs.Seats.{running}
 use Rattle.child_edge.specs.Stops.{Stops}
 use Rattle.offline_programs.specs.declared.fault.RunFault.{RunFault}
 use Rattle.offline_programs.specs.declared.fault.RunFault.TheVariants as fault
-use Rattle.sheet_programs.proofs.Runs.{StopsIn, stops_behind}
+use Rattle.sheet_programs.proofs.Runs.{StopsIn}
 use Rattle.check_report.specs.declared.verdict.Counts.{Counts}
 use Rattle.check_report.specs.Reports.{closing_text, report_front, judgements_of}
 use Rattle.check_report.specs.Verdicts.{counts_of}
 use Rattle.live.specs.Records as records
+use Rattle.driver.specs.Runs.{Stands, lost_there, stopped, works}
+use Rattle.evaluation.specs.declared.plan.Plan.{Plan}
 use Rattle.sheet_check.specs.Evaluated.{OneByOne}
-use Rattle.sheet_check.specs.Check.{FirstLed, FirstTooLong, FirstUnwatched, IsCopy, SheetChecked, SheetLed, TellsCheck, passage, still}
+use Rattle.sheet_check.specs.Driven.{DriveBroke, broke_off, one_plan, unplanned}
+use Rattle.sheet_check.specs.Check.{FirstLed, IsCopy, SheetChecked, SheetLed, StopsAll, TellsCheck, at_gate, in_world, passage, still, world_at_break}
 use Rattle.sheet_check.specs.Check as ends
 use Rattle.sheet_check.specs.inside.Checking.{FieldsEnded, FieldsFailed, FieldsStopped, FieldsWrote, FirstFailed, FirstStopped, LeavesText}
 use Rattle.sheet_check.specs.inside.Checking as inside
+use Rattle.sheet_check.proofs.Own.{never_output}
 
 -- The stops.
 
@@ -29,29 +34,41 @@ pub fields_ended : {C : Type 0} (o : OneByOne C) (fields : List Field) (s : At C
     → FieldsEnded o fields s.world s.disk (passage s.children d a b) counts
 fields_ended o fields s h c d a b counts stops p = (p.0, at p.1 c h.store.disk, p.2, stops.0 p.1 p.3, p.4, p.5)
 
-module _ {C : Type 0} (o : OneByOne C) (fields : List Field) (s : At C) (h : HostView) (c d : C) (stops : StopsIn o.way.after h c d) where
+-- the lives of a world are stopped of which a host has the worksheet and each life's number
+abbrev pub StopsNumbered : {C : Type 0} → Relation C → HostView → C → C → Type 0
+StopsNumbered R h c d = (v : World) → h.store.sheet.contents ≡ sheet_in v → ((name : List ℕ) → number_in h.lives name ≡ option_map (λ l. l.number) (life_of v name)) → Stops R (running v) c d
+
+module _ {C : Type 0} (o : OneByOne C) (fields : List Field) (s : At C) (h : HostView) (c d : C) (stops : StopsIn o.way.after h c d) (numbered : StopsNumbered o.way.after h c d) where
+  stops_where : (w : World) → Stands h w → StopsAll o.way.after h w c d
+  stops_where w (works is) = in_world (stops.0 w is)
+  stops_where w (stopped before e f is) = in_world (stops.1 w e before f is)
+  stops_where w (lost_there events before is) = at_gate events before is (numbered is.leads is.contents is.numbers)
+
+  all-stopped : (plan : Plan) (why : RunFault) (b : DriveBroke o.way plan s h c why) → StopsAll o.way.after h (world_at_break b) c d
+  all-stopped plan why (unplanned is same stands) = in_world (stops.0 s.world stands)
+  all-stopped plan why (broke_off b) = stops_where b.world b.stands
+
   pub first-stopped : (why : RunFault) → FirstFailed o fields s h c why → FirstStopped o fields s d why
-  first-stopped why (inside.stopped f e t k up broke other) = inside.stopped f e (at t c k) h up broke other (stops.1 t e k f broke)
-  first-stopped why (inside.unremembered t k led stands) = inside.unremembered (at t c k) led (stops_behind o.way.after h c d t k stops stands)
-  first-stopped why (inside.unwritten t k led stands) = inside.unwritten (at t c k) led (stops_behind o.way.after h c d t k stops stands)
-  first-stopped why (inside.unwatched t left stands) = inside.unwatched (at t c h.store.disk) left (stops.0 t stands)
-  first-stopped why (inside.too_long t left stands) = inside.too_long (at t c h.store.disk) left (stops.0 t stands)
+  first-stopped why (inside.halted b) = inside.halted h c b (all-stopped (one_plan o.way b.field.id) b.cause b.broke)
+  first-stopped why (inside.unremembered t is led stands) = inside.unremembered (at t c h.store.disk) is led (stops.0 t stands)
+  first-stopped why (inside.unwritten t is led stands) = inside.unwritten (at t c h.store.disk) is led (stops.0 t stands)
 
 -- the text, where the writer didn't fail
 pub text_left : (a b : Option (List ℕ)) (text : List ℕ) (why : RunFault) → LeavesText a b text why → (why ≡ fault.Output → ⊥) → Appends a b text
 text_left a b text why (inl is) not-output = absurd (not-output is)
 text_left a b text why (inr wrote) not-output = wrote
 
-pub fields_stopped : {C : Type 0} (o : OneByOne C) (fields : List Field) (s : At C) (h : HostView) (c d : C) (a b : Option (List ℕ)) (why : RunFault) → StopsIn o.way.after h c d → FieldsFailed o fields s (records.left h c a b) why
+pub fields_stopped : {C : Type 0} (o : OneByOne C) (fields : List Field) (s : At C) (h : HostView) (c d : C) (a b : Option (List ℕ)) (why : RunFault) → StopsIn o.way.after h c d → StopsNumbered o.way.after h c d
+    → FieldsFailed o fields s (records.left h c a b) why
     → FieldsStopped o fields s.world s.disk (passage s.children d a b) why
-fields_stopped o fields s h c d a b why stops p = record {
+fields_stopped o fields s h c d a b why stops numbered p = record {
   gone = p.gone;
   left = p.left;
   split = p.split;
   cases = p.cases;
   mid = p.mid;
   checked = p.checked;
-  ended = first-stopped o p.left p.mid h c d stops why p.failed;
+  ended = first-stopped o p.left p.mid h c d stops numbered why p.failed;
   wrote = p.wrote;
 }
 
@@ -91,36 +108,18 @@ module _ {C : Type 0} (o : OneByOne C) (sheet : Contents) (w : World) (copy : Di
       })
 
   pub stopped_tells : (none : Type 0) (why : RunFault) → FieldsStopped o sheet.fields w copy (passage c d a b) why → TellsCheck o sheet (passage c d a b) none why
-  stopped_tells none why p = tells why p.ended p.wrote
+  stopped_tells none why p = tells p.ended
     where
-      led : (Led : List Field → At C → At C → Type 0) (t : At C) → Led p.left p.mid t → Stops o.way.after (running t.world) t.children d → SheetLed o sheet c d p.cases Led
-      led Led t so stops =
+      text : (why ≡ fault.Output → ⊥) → Appends a b (report_front o.format p.cases)
+      text untold = text_left a b (report_front o.format p.cases) why p.wrote untold
+
+      led : (t : At C) → FirstLed o p.left p.mid t → Stops o.way.after (running t.world) t.children d → SheetLed o sheet c d p.cases
+      led t so stops =
           record { start = w; copy = copy; copied = copied; gone = p.gone; left = p.left; split = p.split; mid = p.mid; checked = p.checked; leads = t; led = so; stops = stops }
 
-      tells : (x : RunFault) → FirstStopped o p.left p.mid d x → LeavesText a b (report_front o.format p.cases) x → TellsCheck o sheet (passage c d a b) none x
-      tells x (inside.stopped f e t h up broke other stops) wrote = ends.stopped p.cases f refl
-          (record {
-            start = w;
-            copy = copy;
-            copied = copied;
-            gone = p.gone;
-            left = p.left;
-            split = p.split;
-            mid = p.mid;
-            checked = p.checked;
-            failed = e;
-            leads = t;
-            led = up;
-            host = h;
-            stopped = broke;
-            not_of_disk = other;
-            stops = stops;
-          })
-          (text_left a b (report_front o.format p.cases) (fault.Host f) wrote (λ e. let no : fault.Host f ≡ fault.Output = e in cc))
-      tells x (inside.unremembered t so stops) wrote = ends.unremembered p.cases refl (led (FirstLed o.way o.chosen) t so stops)
-          (text_left a b (report_front o.format p.cases) fault.OutOfMemory wrote (λ e. let no : fault.OutOfMemory ≡ fault.Output = e in cc))
-      tells x (inside.unwritten t so stops) wrote = ends.unwritten p.cases refl (led (FirstLed o.way o.chosen) t so stops)
-      tells x (inside.unwatched t so stops) wrote = ends.unwatched p.cases refl (led (FirstUnwatched o.way o.chosen) t so stops)
-          (text_left a b (report_front o.format p.cases) fault.Input wrote (λ e. let no : fault.Input ≡ fault.Output = e in cc))
-      tells x (inside.too_long t so stops) wrote = ends.too_long p.cases refl (led (FirstTooLong o.way o.chosen) t so stops)
-          (text_left a b (report_front o.format p.cases) fault.InputTooLong wrote (λ e. let no : fault.InputTooLong ≡ fault.Output = e in cc))
+      tells : FirstStopped o p.left p.mid d why → TellsCheck o sheet (passage c d a b) none why
+      tells (inside.halted h m broke stops) = ends.halted p.cases
+          (record { start = w; copy = copy; copied = copied; gone = p.gone; left = p.left; split = p.split; mid = p.mid; checked = p.checked; host = h; sources = m; broke = broke; stops = stops })
+          (text (never_output why broke.of))
+      tells (inside.unremembered t is so stops) = ends.unremembered p.cases is (led t so stops) (text (λ e. let no : fault.OutOfMemory ≡ fault.Output = sym is ∙ e in cc))
+      tells (inside.unwritten t is so stops) = ends.unwritten p.cases is (led t so stops)

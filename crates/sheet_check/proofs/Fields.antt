@@ -1,13 +1,12 @@
 -- Fields that are checked, one after another.
-use Rattle.std.proofs.Common.{◌≡◌, ◌+◌, inl, inr, ℕ, Bool, true, false, List, [], ◌∷◌, ◌++◌, Option, Some, None, refl, ap, sym, ◌∙◌, subst, append_assoc, append-nil}
+use Rattle.std.proofs.Common.{◌≡◌, ◌+◌, inl, inr, ℕ, true, false, List, [], ◌∷◌, ◌++◌, Option, Some, refl, ap, sym, ◌∙◌, subst, append_assoc, append-nil}
 use Rattle.std.proofs.KnownBytes.{Appends-trans, Appends-nil}
 use Rattle.std.specs.Io.KnownBytes.{Appends}
 use Rattle.worksheet.specs.declared.field.Answer.{Answer}
 use Rattle.worksheet.specs.declared.field.Field.{Field}
 use Rattle.session_engine.specs.World.{World}
 use Rattle.session_engine.specs.Host.{HostView, IsHost}
-use Rattle.child_edge.specs.Faithful.{At, at, Beat, Served}
-use Rattle.sheet_programs.specs.Lines.{beats_text, whole}
+use Rattle.child_edge.specs.Faithful.{At, at}
 use Rattle.offline_programs.specs.declared.fault.RunFault.{RunFault}
 use Rattle.offline_programs.specs.declared.fault.RunFault.TheVariants as fault
 use Rattle.check_report.specs.declared.verdict.Counts.{Counts}
@@ -17,11 +16,16 @@ use Rattle.check_report.specs.Chosen.{is_chosen}
 use Rattle.check_report.specs.Reports.{Case, case, case_text, cases_text, opening_text, report_front, judgements_of}
 use Rattle.check_report.specs.Verdicts.{counts_of, total}
 use Rattle.live.specs.Records as records
-use Rattle.sheet_check.specs.Evaluated.{Evaluated, FieldChecked, FieldsChecked, OneByOne, WaitedBy, checked, eval_of, passed, reason_shown_in}
-use Rattle.sheet_check.specs.Check.{FirstLed, FirstChosen, WaitLedBy, asking, in_eval, in_wait, still, waiting}
-use Rattle.sheet_check.specs.inside.Checking.{AskFailed, EvaluationBroke, FieldFailed, FieldWrote, FieldsFailed, FieldsWrote, FirstFailed, LeavesText, ShownWrote, Untold, WaitBroke, counted_on, question}
+use Rattle.sheet_check.specs.Check.{FirstChosen, FirstLed, evaluated, still}
+use Rattle.evaluation.specs.declared.plan.Plan.{Plan}
+use Rattle.sheet_check.specs.Driven.{DrivenToEnd, DrivenUpTo, broke_off, one_plan}
+use Rattle.sheet_check.specs.Evaluated.{OneByOne, Way, fault_on_copy, reason_shown_in}
+use Rattle.sheet_check.specs.Fields.{Evaluated, FieldChecked, FieldsChecked, checked, passed}
+use Rattle.sheet_check.specs.declared.silence.Mark.{Mark}
+use Rattle.sheet_check.specs.inside.Checking.{CameAlone, EvaluationBroke, FieldFailed, FieldWrote, FieldsFailed, FieldsWrote, FirstFailed, LeavesText, ShownWrote, Untold, counted_on, question}
 use Rattle.sheet_check.specs.inside.Checking as inside
 use Rattle.sheet_check.proofs.Counting.{as_judged, cases-more, front-more}
+use Rattle.sheet_check.proofs.Own.{of_evaluation}
 
 -- A field.
 
@@ -91,18 +95,16 @@ none_checked o all left w h c a b counts e is stands opened = record {
 -- what stands first couldn't be written
 pub unopened_failed : {C : Type 0} (o : OneByOne C) (all : List Field) (w : World) (h : HostView) (c : C) (a b : Option (List ℕ)) (why : RunFault) → IsHost h w → why ≡ fault.Output
     → FieldsFailed o all (at w c h.store.disk) (records.left h c a b) why
-unopened_failed o all w h c a b why stands is =
-    subst (FieldsFailed o all (at w c h.store.disk) (records.left h c a b)) (sym is)
-    (record {
-      gone = [];
-      left = all;
-      split = refl;
-      cases = [];
-      mid = at w c h.store.disk;
-      checked = (refl, refl);
-      failed = inside.unwritten w h.store.disk (still refl) (inl (stands, refl));
-      wrote = inl refl;
-    })
+unopened_failed o all w h c a b why stands is = record {
+  gone = [];
+  left = all;
+  split = refl;
+  cases = [];
+  mid = at w c h.store.disk;
+  checked = (refl, refl);
+  failed = inside.unwritten w is (still refl) stands;
+  wrote = inl is;
+}
 
 module _ {C : Type 0} (o : OneByOne C) (all left : List Field) (field : Field) (others : List Field) (s : At C) (h : HostView) (c : C) (a b : Option (List ℕ)) (counts : Counts) (g : HostView) (d : C)
     (e : Option (List ℕ)) (is : left ≡ field ∷ others) (so : FieldsSoFar o all left s h c a b counts) where
@@ -140,40 +142,37 @@ all_checked o all left s h c a b counts e so =
     let same : so.gone ≡ all = sym (so.split ∙ ap (λ x. so.gone ++ x) e ∙ append-nil so.gone) in
     (so.cases, so.leads, subst (λ fs. FieldsChecked o.way o.chosen fs s so.cases (at so.leads c h.store.disk)) same so.ran, so.stands, so.counted, so.wrote)
 
+-- A field that was given to a driver alone.
+
+module _ {C : Type 0} (o : Way C) (id : ℕ) (s : At C) (h : HostView) (c : C) (plan : Plan) (is : plan ≡ one_plan o id) where
+  pub came_alone : (marks : List Mark) → (t : World) × DrivenToEnd o plan s marks (at t c h.store.disk) × IsHost h t → CameAlone o id s h c marks
+  came_alone marks q = subst (λ (p : Plan). (t : World) × DrivenToEnd o p s marks (at t c h.store.disk) × IsHost h t) is q
+
+  pub broke_alone : (cause why : RunFault) → why ≡ fault_on_copy cause → DrivenUpTo o plan s h c cause → EvaluationBroke o id s h c why
+  broke_alone cause why same q =
+      let broke = broke_off (subst (λ (p : Plan). DrivenUpTo o p s h c cause) is q) in
+      inside.halted cause same (of_evaluation o (one_plan o id) s h c cause why same broke) broke
+
 -- Where a field's evaluation broke off, or couldn't be reported.
 
 module _ {C : Type 0} (o : OneByOne C) (field : Field) (is_one : is_chosen o.chosen field ≡ true) (s : At C) (h : HostView) (c : C) where
   first : (others : List Field) → FirstChosen o.chosen (field ∷ others) field
   first others = record { others = others; is = refl; chosen_is = is_one }
 
-  ask-first : (others : List Field) (why : RunFault) → AskFailed o.way.after field.id s h c why → FirstFailed o (field ∷ others) s h c why
-  ask-first others why (inside.stopped f beats e t d up broke other) = inside.stopped f e t d (in_eval field beats (first others) up) broke other
-  ask-first others why (inside.unremembered t d led stands) = inside.unremembered t d (asking field (first others) led) stands
-
-  wait-first : (beats : List Beat) (mid : At C) → Served o.way.after s (eval_of field.id) beats mid → (others : List Field) (why : RunFault) → WaitBroke o.way field.id mid h c why → FirstFailed o (field ∷ others) s h c why
-  wait-first beats mid served others why (inside.stopped f e t d up broke other) = inside.stopped f e t d (in_wait field beats mid (first others) served up) broke other
-  wait-first beats mid served others why (inside.unremembered t d led stands) = inside.unremembered t d (waiting field beats mid (first others) served led) stands
-  wait-first beats mid served others why (inside.unwatched t left stands) = inside.unwatched t (field, beats, mid, first others, served, left) stands
-  wait-first beats mid served others why (inside.too_long t left stands) = inside.too_long t (field, beats, mid, first others, served, left) stands
-
   broke-first : (others : List Field) (why : RunFault) → EvaluationBroke o.way field.id s h c why → FirstFailed o (field ∷ others) s h c why
-  broke-first others why (inl p) = ask-first others why p
-  broke-first others why (inr p) = wait-first p.0 p.1 p.2 others why p.3
+  broke-first others why (inside.halted cause is of broke) = inside.halted (record { field = field; first = first others; cause = cause; is = is; of = of; broke = broke })
+  broke-first others why (inside.unremembered marks is came) = inside.unremembered came.0 is (evaluated field marks (first others) came.1) came.2
 
   pub evaluation_failed : (a : Option (List ℕ)) (why : RunFault) → EvaluationBroke o.way field.id s h c why → FieldFailed o field s (records.left h c a a) why
   evaluation_failed a why p = ((λ others. broke-first others why p), inr (Appends-nil a))
-
-  waited-led : (limit : Option ℕ) (mid : At C) (in_time : Bool) (t : At C) → WaitedBy limit o.way field.id mid in_time t → WaitLedBy limit o.way field.id mid t
-  waited-led None mid in_time t p = whole 0 (records.brought p.0 (beats_text p.0)) (p.1, refl)
-  waited-led (Some seconds) mid in_time t p = inl (in_time, p)
 
   -- the field was evaluated, and what came of it couldn't be reported
   pub tell_failed : (came : Option Answer) (took : Took) (t : World) → Evaluated o.way field s came took (at t c h.store.disk) → IsHost h t → (a b : Option (List ℕ)) (why : RunFault) → Untold a b why → FieldFailed o field s (records.left h c a b) why
   tell_failed came took t e stands a b why p = go p
     where
-      led : (others : List Field) → FirstLed o.way o.chosen (field ∷ others) s (at t c h.store.disk)
-      led others = waiting field e.first e.asked (first others) e.served (waited-led o.way.limit e.asked e.in_time (at t c h.store.disk) e.waited)
+      led : (others : List Field) → FirstLed o (field ∷ others) s (at t c h.store.disk)
+      led others = evaluated field e.marks (first others) e.driven
 
       go : Untold a b why → FieldFailed o field s (records.left h c a b) why
-      go (inside.unremembered is wrote) = subst (FieldFailed o field s (records.left h c a b)) (sym is) ((λ others. inside.unremembered t h.store.disk (led others) (inl (stands, refl))), inr wrote)
-      go (inside.unwritten is) = subst (FieldFailed o field s (records.left h c a b)) (sym is) ((λ others. inside.unwritten t h.store.disk (led others) (inl (stands, refl))), inl refl)
+      go (inside.unremembered is wrote) = ((λ others. inside.unremembered t is (led others) stands), inr wrote)
+      go (inside.unwritten is) = ((λ others. inside.unwritten t is (led others) stands), inl is)

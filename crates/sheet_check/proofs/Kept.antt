@@ -17,7 +17,6 @@ use Rattle.session_engine.specs.Host.{HostView, IsHost}
 use Rattle.child_edge.specs.Faithful.{At, at}
 use Rattle.child_edge.specs.Seats.{running}
 use Rattle.child_edge.specs.Stops.{Stops}
-use Rattle.worksheet.specs.declared.field.Field.{Field}
 use Rattle.journal.specs.declared.opening.OpenCause.{OpenCause}
 use Rattle.host_events.specs.declared.outcome.HostFault.TheVariants as hosts
 use Rattle.offline_programs.specs.declared.fault.RunFault.{RunFault}
@@ -31,19 +30,21 @@ use Rattle.check_report.specs.Verdicts.{counts_of}
 use Rattle.live.specs.Records as records
 use Rattle.sheet_check.specs.Accept.{AcceptLeft, FoundOn, SheetAccepts, accepted, filing, to_accept}
 use Rattle.sheet_check.specs.Accept as ends
-use Rattle.sheet_check.specs.Check.{FirstLed, FirstTooLong, FirstUnwatched, IsCopy, SheetLed, passage, still}
+use Rattle.sheet_check.specs.Check.{FirstLed, IsCopy, SheetLed, passage, still}
 use Rattle.sheet_check.specs.Evaluated.{Way}
 use Rattle.sheet_check.specs.inside.Accepting.{FieldsBroke, FieldsTook, FieldsUpTo, PutAll, broken, early, full, storing, unwritten}
 use Rattle.sheet_check.specs.inside.Checking.{FieldsEnded, FieldsFailed, FirstStopped}
 use Rattle.sheet_check.specs.inside.Checking as inside
-use Rattle.sheet_check.proofs.Ends.{first-stopped, text_left}
+use Rattle.sheet_check.proofs.Ends.{StopsNumbered, first-stopped, text_left}
+use Rattle.sheet_check.proofs.Own.{never_open}
 
-module _ {C : Type 0} (o : Way C) (chosen : Chosen) (sheet : Contents) (w : World) (copy : DiskView) (h : HostView) (c mid d : C) (a b : Option (List ℕ)) (ops : List Op) (disk : DiskView) (store : StoreView) (stops : StopsIn o.after h mid d) where
+module _ {C : Type 0} (o : Way C) (chosen : Chosen) (sheet : Contents) (w : World) (copy : DiskView) (h : HostView) (c mid d : C) (a b : Option (List ℕ)) (ops : List Op) (disk : DiskView) (store : StoreView) (stops : StopsIn o.after h mid d)
+    (numbered : StopsNumbered o.after h mid d) where
   pub took_ended : (counts : Counts) → FieldsTook (to_accept o chosen) sheet.fields (at w c copy) (records.left h mid a b) (storing ops [] disk store) counts
       → (ended : FieldsEnded (to_accept o chosen) sheet.fields w copy (passage c d a b) counts) × PutAll (storing ops [] disk store) (accepted ended.0)
   took_ended counts p = ((p.0.0, at p.0.1 mid h.store.disk, p.0.2, stops.0 p.0.1 p.0.3, p.0.4, p.0.5), p.1)
 
-  led-so : IsCopy sheet w copy → (cases : List Case) → FieldsUpTo (to_accept o chosen) sheet.fields (at w c copy) h mid cases → SheetLed (to_accept o chosen) sheet c d cases (FirstLed o chosen)
+  led-so : IsCopy sheet w copy → (cases : List Case) → FieldsUpTo (to_accept o chosen) sheet.fields (at w c copy) h mid cases → SheetLed (to_accept o chosen) sheet c d cases
   led-so copied cases p = record {
     start = w;
     copy = copy;
@@ -60,36 +61,18 @@ module _ {C : Type 0} (o : Way C) (chosen : Chosen) (sheet : Contents) (w : Worl
 
   early-left : IsCopy sheet w copy → (why : RunFault) → (p : FieldsFailed (to_accept o chosen) sheet.fields (at w c copy) (records.left h mid a b) why) → (why ≡ fault.Output → ⊥) → Stores ops (accepted p.cases) disk store
       → AcceptLeft (to_accept o chosen) sheet (passage c d a b) (filing ops disk store.disk) why
-  early-left copied why p untold stores = left-by why (first-stopped (to_accept o chosen) p.left p.mid h mid d stops why p.failed) (text_left a b (report_front format.Accepting p.cases) why p.wrote untold) untold
+  early-left copied why p untold stores = left-by (first-stopped (to_accept o chosen) p.left p.mid h mid d stops numbered why p.failed) (text_left a b (report_front format.Accepting p.cases) why p.wrote untold)
     where
-      led-to : (Led : List Field → At C → At C → Type 0) (t : At C) → Led p.left p.mid t → Stops o.after (running t.world) t.children d → SheetLed (to_accept o chosen) sheet c d p.cases Led
-      led-to Led t so stopped =
+      led-to : (t : At C) → FirstLed (to_accept o chosen) p.left p.mid t → Stops o.after (running t.world) t.children d → SheetLed (to_accept o chosen) sheet c d p.cases
+      led-to t so stopped =
           record { start = w; copy = copy; copied = copied; gone = p.gone; left = p.left; split = p.split; mid = p.mid; checked = p.checked; leads = t; led = so; stops = stopped }
 
-      left-by : (x : RunFault) → FirstStopped (to_accept o chosen) p.left p.mid d x → Appends a b (report_front format.Accepting p.cases) → (x ≡ fault.Output → ⊥) → AcceptLeft (to_accept o chosen) sheet (passage c d a b) (filing ops disk store.disk) x
-      left-by x (inside.stopped f e t k up broke other stopped) wrote told = ends.stopped p.cases f refl
-          (record {
-            start = w;
-            copy = copy;
-            copied = copied;
-            gone = p.gone;
-            left = p.left;
-            split = p.split;
-            mid = p.mid;
-            checked = p.checked;
-            failed = e;
-            leads = t;
-            led = up;
-            host = k;
-            stopped = broke;
-            not_of_disk = other;
-            stops = stopped;
-          })
+      left-by : FirstStopped (to_accept o chosen) p.left p.mid d why → Appends a b (report_front format.Accepting p.cases) → AcceptLeft (to_accept o chosen) sheet (passage c d a b) (filing ops disk store.disk) why
+      left-by (inside.halted k m broke stopped) wrote = ends.halted p.cases
+          (record { start = w; copy = copy; copied = copied; gone = p.gone; left = p.left; split = p.split; mid = p.mid; checked = p.checked; host = k; sources = m; broke = broke; stops = stopped })
           wrote stores.disk
-      left-by x (inside.unremembered t so stopped) wrote told = ends.unremembered p.cases refl (led-to (FirstLed o chosen) t so stopped) wrote stores.disk
-      left-by x (inside.unwritten t so stopped) wrote told = absurd (told refl)
-      left-by x (inside.unwatched t so stopped) wrote told = ends.unwatched p.cases refl (led-to (FirstUnwatched o chosen) t so stopped) wrote stores.disk
-      left-by x (inside.too_long t so stopped) wrote told = ends.too_long p.cases refl (led-to (FirstTooLong o chosen) t so stopped) wrote stores.disk
+      left-by (inside.unremembered t is so stopped) wrote = ends.unremembered p.cases is (led-to t so stopped) wrote stores.disk
+      left-by (inside.unwritten t is so stopped) wrote = absurd (untold is)
 
   pub broke_left : IsCopy sheet w copy → (why : RunFault) → FieldsBroke (to_accept o chosen) sheet.fields (at w c copy) (records.left h mid a b) (storing ops [] disk store) why → AcceptLeft (to_accept o chosen) sheet (passage c d a b) (filing ops disk store.disk) why
   broke_left copied why (early failed untold stores) = early-left copied why failed untold stores
@@ -165,10 +148,8 @@ module _ (disk : DiskView) (store : StoreView) (ops : List Op) (makes : Makes op
 -- A worksheet that was opened isn't reported as one that wasn't.
 module _ {C : Type 0} (o : Way C) (chosen : Chosen) (sheet : Contents) (c d : C) (a b : Option (List ℕ)) (ops : List Op) (now back : DiskView) (x : OpenCause) where
   left_opened : (why : RunFault) → why ≡ fault.Open x → AcceptLeft (to_accept o chosen) sheet (passage c d a b) (filing ops now back) why → ⊥
-  left_opened why e (ends.stopped cases f is led wrote holds) = let no : fault.Host f ≡ fault.Open x = sym is ∙ e in cc
+  left_opened why e (ends.halted cases led wrote holds) = never_open why x led.broke.of e
   left_opened why e (ends.unremembered cases is led wrote holds) = let no : fault.OutOfMemory ≡ fault.Open x = sym is ∙ e in cc
-  left_opened why e (ends.unwatched cases is led wrote holds) = let no : fault.Input ≡ fault.Open x = sym is ∙ e in cc
-  left_opened why e (ends.too_long cases is led wrote holds) = let no : fault.InputTooLong ≡ fault.Open x = sym is ∙ e in cc
   left_opened why e (ends.full cases last one is led taken wrote holds place) = let no : fault.Host hosts.JournalFull ≡ fault.Open x = sym is ∙ e in cc
   left_opened why e (ends.broken cases last one is led taken wrote holds) = let no : fault.Host hosts.Disk ≡ fault.Open x = sym is ∙ e in cc
   left_opened why e (ends.unwritten cases is led holds) = let no : fault.Output ≡ fault.Open x = sym is ∙ e in cc

@@ -6,8 +6,6 @@ use Rattle.disk_model.specs.Disk.{DiskView}
 use Rattle.worksheet.specs.Contents.{Contents}
 use Rattle.worksheet.specs.declared.op.Op.{Op}
 use Rattle.journal.specs.declared.opening.OpenCause.{OpenCause}
-use Rattle.host_events.specs.declared.outcome.HostFault.{HostFault}
-use Rattle.host_events.specs.declared.outcome.HostFault.TheVariants as hosts
 use Rattle.child_edge.specs.Faithful.{at}
 use Rattle.offline_programs.specs.declared.fault.RunFault.{RunFault}
 use Rattle.offline_programs.specs.declared.fault.RunFault.TheVariants as fault
@@ -16,14 +14,14 @@ use Rattle.check_report.specs.declared.verdict.Counts.{Counts}
 use Rattle.sheet_check.specs.Accept.{SheetAccepts, filing, to_accept}
 use Rattle.sheet_check.specs.Check.{Passage, SheetAnswer, TellsCheck, passage}
 use Rattle.sheet_check.specs.Check as ends
-use Rattle.sheet_check.specs.Evaluated.{OneByOne, Way, fault_on_copy, one_by_one}
+use Rattle.sheet_check.specs.Evaluated.{OneByOne, Way, one_by_one}
 use Rattle.sheet_check.specs.Named.{ByNames, all_named, answer_as, no_field}
 use Rattle.sheet_check.specs.Together.{SideBySide, TellsBySessions, TellsTogether, TogetherTells, checking, have_several}
 use Rattle.sheet_check.specs.Together as together
 use Rattle.sheet_check.specs.declared.named.CheckFault.{CheckFault}
 use Rattle.sheet_check.specs.declared.named.CheckFault.TheVariants as checks
-use Rattle.sheet_check.proofs.Driven.{drive_opened}
 use Rattle.sheet_check.proofs.Kept.{was_opened}
+use Rattle.sheet_check.proofs.Own.{never_open, of_evaluation}
 
 -- A field that isn't there is no fault of a run.
 
@@ -63,10 +61,8 @@ done_so missing nothing done Came Else answer none came (all_named counted is e 
 
 told_unopened : {C : Type 0} (o : OneByOne C) (sheet : Contents) (q : Passage C) (nothing : Type 0) (x : OpenCause) (why : RunFault) → why ≡ fault.Open x → TellsCheck o sheet q nothing why → ⊥
 told_unopened o sheet q nothing x why e (ends.not_begun is done) = let no : fault.OutOfMemory ≡ fault.Open x = sym is ∙ e in cc
-told_unopened o sheet q nothing x why e (ends.stopped cases f is led wrote) = let no : fault.Host f ≡ fault.Open x = sym is ∙ e in cc
+told_unopened o sheet q nothing x why e (ends.halted cases led wrote) = never_open why x led.broke.of e
 told_unopened o sheet q nothing x why e (ends.unremembered cases is led wrote) = let no : fault.OutOfMemory ≡ fault.Open x = sym is ∙ e in cc
-told_unopened o sheet q nothing x why e (ends.unwatched cases is led wrote) = let no : fault.Input ≡ fault.Open x = sym is ∙ e in cc
-told_unopened o sheet q nothing x why e (ends.too_long cases is led wrote) = let no : fault.InputTooLong ≡ fault.Open x = sym is ∙ e in cc
 told_unopened o sheet q nothing x why e (ends.unwritten cases is led) = let no : fault.Output ≡ fault.Open x = sym is ∙ e in cc
 
 sheet_unopened : {C : Type 0} (o : OneByOne C) (sheet : Contents) (q : Passage C) (nothing : Type 0) (x : OpenCause) → SheetAnswer o sheet q nothing (Err (fault.Open x)) → ⊥
@@ -79,26 +75,10 @@ check_unopened o sheet q missing nothing answer x told e =
 
 -- Side by side.
 
-host_unopened : (x : OpenCause) (f : HostFault) → fault_on_copy (fault.Host f) ≡ fault.Open x → ⊥
-host_unopened x hosts.Disk e = let no : fault.OutOfMemory ≡ fault.Open x = e in cc
-host_unopened x hosts.OutOfMemory e = let no : fault.Host hosts.OutOfMemory ≡ fault.Open x = e in cc
-host_unopened x hosts.JournalFull e = let no : fault.Host hosts.JournalFull ≡ fault.Open x = e in cc
-host_unopened x hosts.Closed e = let no : fault.Host hosts.Closed ≡ fault.Open x = e in cc
-
-cause_unopened : (x : OpenCause) (cause : RunFault) → fault_on_copy cause ≡ fault.Open x → cause ≡ fault.Open x
-cause_unopened x (fault.Host f) e = absurd (host_unopened x f e)
-cause_unopened x fault.OutOfMemory e = let no : fault.OutOfMemory ≡ fault.Open x = e in absurd cc
-cause_unopened x fault.Input e = let no : fault.Input ≡ fault.Open x = e in absurd cc
-cause_unopened x fault.InputTooLong e = let no : fault.InputTooLong ≡ fault.Open x = e in absurd cc
-cause_unopened x fault.Output e = let no : fault.OutOfMemory ≡ fault.Open x = e in absurd cc
-cause_unopened x (fault.Open why) e = e
-cause_unopened x fault.InUse e = let no : fault.InUse ≡ fault.Open x = e in absurd cc
-cause_unopened x fault.SecondFile e = let no : fault.SecondFile ≡ fault.Open x = e in absurd cc
-
 together_unopened : {C : Type 0} (o : SideBySide C) (sheet : Contents) (q : Passage C) (nothing : Type 0) (x : OpenCause) (why : RunFault) → why ≡ fault.Open x → TellsTogether o sheet q nothing why → ⊥
 together_unopened o sheet q nothing x why e (together.not_begun is done) = let no : fault.OutOfMemory ≡ fault.Open x = sym is ∙ e in cc
 together_unopened o sheet q nothing x why e (together.broke p wrote) =
-    drive_opened o.way (checking o sheet.fields) (at p.start q.sources p.copy) p.host p.sources x p.cause (cause_unopened x p.cause (sym p.is ∙ e)) p.broke
+    never_open why x (of_evaluation o.way (checking o sheet.fields) (at p.start q.sources p.copy) p.host p.sources p.cause why p.is p.broke) e
 together_unopened o sheet q nothing x why e (together.no_memory cases is led wrote) = let no : fault.OutOfMemory ≡ fault.Open x = sym is ∙ e in cc
 together_unopened o sheet q nothing x why e (together.unwritten cases is led) = let no : fault.Output ≡ fault.Open x = sym is ∙ e in cc
 

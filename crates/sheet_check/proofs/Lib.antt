@@ -2,10 +2,10 @@ pub mod Behind
 pub mod Counting
 pub mod Fields
 pub mod Ends
-pub mod Broken
 pub mod Showing
 pub mod Accepted
 pub mod Kept
 pub mod Lacking
 pub mod Compared
 pub mod Driven
+pub mod Own

@@ -10,7 +10,6 @@ use Rattle.worksheet.specs.Ops.{sheet_of}
 use Rattle.journal.specs.declared.opening.OpenCause.{OpenCause}
 use Rattle.recovery.specs.Sheets.{IsSheetImage, TellsOfSheet}
 use Rattle.sheet_check.specs.Kept.{HoldsAll, HoldsBut, NoPlace, answer_op}
-use Rattle.host_events.specs.declared.outcome.HostFault.{HostFault}
 use Rattle.host_events.specs.declared.outcome.HostFault.TheVariants as hosts
 use Rattle.offline_programs.specs.declared.fault.RunFault.{RunFault}
 use Rattle.offline_programs.specs.declared.fault.RunFault.TheVariants as fault
@@ -20,7 +19,7 @@ use Rattle.check_report.specs.declared.verdict.Counts.{Counts}
 use Rattle.check_report.specs.declared.verdict.Verdict.{Verdict}
 use Rattle.check_report.specs.declared.verdict.Verdict.TheVariants as verdict
 use Rattle.check_report.specs.Reports.{Case, report_front}
-use Rattle.sheet_check.specs.Check.{FirstLed, FirstTooLong, FirstUnwatched, OnlyRead, Passage, SheetChecked, SheetLed, SheetStopped}
+use Rattle.sheet_check.specs.Check.{OnlyRead, Passage, SheetBroke, SheetChecked, SheetLed}
 use Rattle.sheet_check.specs.Evaluated.{OneByOne, Way, one_by_one}
 use Rattle.sheet_check.specs.Named.{ByNames, missing_named}
 use Rattle.sheet_check.specs.declared.named.CheckFault.{CheckFault}
@@ -75,25 +74,19 @@ FiledAll x cases = HoldsAll x.ops (accepted cases) x.before x.after
 
 -- Why it ended early, and what that leaves from one disk to the other. What was reported is on the disk, and but for the last two no more.
 pub data AcceptLeft {C : Type 0} (o : OneByOne C) (sheet : Contents) (q : Passage C) (x : Filing) (why : RunFault) : Type 0 where
-  -- the host of the copy had a fault
-  stopped : (cases : List Case) (f : HostFault) → why ≡ fault.Host f → SheetStopped o sheet q.sources q.left cases f
-      → Appends q.text q.written (report_front o.format cases) → FiledAll x cases → AcceptLeft o sheet q x why
-  -- memory was refused
-  unremembered : (cases : List Case) → why ≡ fault.OutOfMemory → SheetLed o sheet q.sources q.left cases (FirstLed o.way o.chosen)
-      → Appends q.text q.written (report_front o.format cases) → FiledAll x cases → AcceptLeft o sheet q x why
-  -- the sources couldn't be watched any more, or as many steps came of one field as are counted
-  unwatched : (cases : List Case) → why ≡ fault.Input → SheetLed o sheet q.sources q.left cases (FirstUnwatched o.way o.chosen)
-      → Appends q.text q.written (report_front o.format cases) → FiledAll x cases → AcceptLeft o sheet q x why
-  too_long : (cases : List Case) → why ≡ fault.InputTooLong → SheetLed o sheet q.sources q.left cases (FirstTooLong o.way o.chosen)
-      → Appends q.text q.written (report_front o.format cases) → FiledAll x cases → AcceptLeft o sheet q x why
+  -- the evaluation of the next field broke off
+  halted : (cases : List Case) → SheetBroke o sheet q.sources q.left cases why → Appends q.text q.written (report_front o.format cases) → FiledAll x cases → AcceptLeft o sheet q x why
+  -- there was no memory for its line, or for what is reported of it
+  unremembered : (cases : List Case) → why ≡ fault.OutOfMemory → SheetLed o sheet q.sources q.left cases → Appends q.text q.written (report_front o.format cases) → FiledAll x cases
+      → AcceptLeft o sheet q x why
   -- the answer to the last field doesn't fit
-  full : (cases : List Case) (last : Case) (one : Op) → why ≡ fault.Host hosts.JournalFull → SheetLed o sheet q.sources q.left (cases ++ last ∷ []) (FirstLed o.way o.chosen)
+  full : (cases : List Case) (last : Case) (one : Op) → why ≡ fault.Host hosts.JournalFull → SheetLed o sheet q.sources q.left (cases ++ last ∷ [])
       → accepted_of last ≡ one ∷ [] → Appends q.text q.written (report_front o.format cases) → FiledAll x cases → NoPlace one x.after → AcceptLeft o sheet q x why
   -- the disk failed at the answer to the last field
-  broken : (cases : List Case) (last : Case) (one : Op) → why ≡ fault.Host hosts.Disk → SheetLed o sheet q.sources q.left (cases ++ last ∷ []) (FirstLed o.way o.chosen)
+  broken : (cases : List Case) (last : Case) (one : Op) → why ≡ fault.Host hosts.Disk → SheetLed o sheet q.sources q.left (cases ++ last ∷ [])
       → accepted_of last ≡ one ∷ [] → Appends q.text q.written (report_front o.format cases) → HoldsBut x.ops (accepted cases) one x.before x.after → AcceptLeft o sheet q x why
   -- the writer failed at the text of the last field, or at the counts
-  unwritten : (cases : List Case) → why ≡ fault.Output → SheetLed o sheet q.sources q.left cases (FirstLed o.way o.chosen) → FiledAll x cases → AcceptLeft o sheet q x why
+  unwritten : (cases : List Case) → why ≡ fault.Output → SheetLed o sheet q.sources q.left cases → FiledAll x cases → AcceptLeft o sheet q x why
 
 -- What becomes of the check of a worksheet whose answers that differ or are new are accepted: the report of them is written, and exactly those
 -- answers are put after its ops. A lack of memory may be reported before the copy is there.

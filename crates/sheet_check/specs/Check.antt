@@ -1,26 +1,19 @@
--- What `check` leaves: on the copy a faithful run of the evaluations, of the disk that was given reads alone.
-use Rattle.std.specs.Prelude.{◌≡◌, ◌⊎◌, IsTrue, ℕ, Bool, true, List, ◌∷◌, ◌++◌, Option, Some, None, Result, Ok, Err}
+-- What `check` leaves: on the copy the evaluations of its fields, of the disk that was given reads alone.
+use Rattle.std.specs.Prelude.{◌≡◌, IsTrue, ℕ, true, List, ◌∷◌, ◌++◌, Option, Result, Ok, Err}
 use Rattle.std.specs.Io.KnownBytes.{Appends}
 use Rattle.disk_model.specs.Disk.{DiskView, InModel, Looks, SameDisk, bytes_on, greatest_room}
 use Rattle.worksheet.specs.declared.field.Field.{Field}
 use Rattle.worksheet.specs.Contents.{Contents}
 use Rattle.journal.specs.declared.opening.OpenCause.{OpenCause}
 use Rattle.recovery.specs.Sheets.{IsSheetImage, TellsOfSheet}
-use Rattle.host_events.specs.declared.command.Command.TheVariants as command
 use Rattle.host_events.specs.declared.event.Event.{Event}
-use Rattle.host_events.specs.declared.outcome.HostFault.{HostFault}
-use Rattle.host_events.specs.declared.outcome.HostFault.TheVariants as hosts
 use Rattle.session_engine.specs.Host.{HostView}
 use Rattle.session_engine.specs.World.{World}
-use Rattle.child_edge.specs.Broken.{WaitStopped}
-use Rattle.child_edge.specs.Edge.{Stopped}
-use Rattle.child_edge.specs.Faithful.{At, at, Beat, Served, ServedUpTo}
+use Rattle.child_edge.specs.Faithful.{At, Relation, at}
 use Rattle.child_edge.specs.Kept.{HoldsSheet}
-use Rattle.child_edge.specs.Limits.{most_turns}
 use Rattle.child_edge.specs.Seats.{running}
 use Rattle.child_edge.specs.Stops.{Stops}
-use Rattle.sheet_text.specs.declared.script.ScriptLine.TheVariants as line
-use Rattle.sheet_programs.specs.Lines.{LineLed}
+use Rattle.child_edge.specs.Together.{LostTogether}
 use Rattle.sheet_programs.specs.Run.{OpenedOn}
 use Rattle.offline_programs.specs.declared.fault.RunFault.{RunFault}
 use Rattle.offline_programs.specs.declared.fault.RunFault.TheVariants as fault
@@ -29,11 +22,14 @@ use Rattle.check_report.specs.declared.verdict.Counts.{Counts}
 use Rattle.check_report.specs.Chosen.{is_chosen}
 use Rattle.check_report.specs.Reports.{Case, report_front, report_text, judgements_of}
 use Rattle.check_report.specs.Verdicts.{counts_of}
-use Rattle.evaluation.specs.Within.{WaitInPart, WaitTooLong, WaitUnwatched, WaitUpTo, WaitedWithin}
-use Rattle.sheet_check.specs.Evaluated.{FieldsChecked, OneByOne, Way, eval_of, limited}
+use Rattle.evaluation.specs.declared.plan.Plan.{Plan}
+use Rattle.sheet_check.specs.Driven.{DriveBroke, DrivenToEnd, IsOfEvaluation, broke_off, one_plan, unplanned}
+use Rattle.sheet_check.specs.Evaluated.{OneByOne, Way, fault_on_copy}
+use Rattle.sheet_check.specs.Fields.{FieldsChecked}
 use Rattle.sheet_check.specs.Named.{ByNames, missing_named}
 use Rattle.sheet_check.specs.declared.named.CheckFault.{CheckFault}
 use Rattle.sheet_check.specs.declared.named.CheckFault.TheVariants as checks
+use Rattle.sheet_check.specs.declared.silence.Mark.{Mark}
 
 -- From the first of these sources to the last a check ran, and from the first text to the last it wrote.
 pub record Passage (C : Type 0) : Type 0 where
@@ -74,45 +70,33 @@ pub record FirstChosen (chosen : Chosen) (fields : List Field) (field : Field) :
   pub is : fields ≡ field ∷ others
   pub chosen_is : is_chosen chosen field ≡ true
 
--- A wait for the answer to this field, in whole or in part.
-abbrev pub WaitLedBy : {C : Type 0} → Option ℕ → Way C → ℕ → At C → At C → Type 0
-WaitLedBy None o id s t = LineLed o.after (Some line.Wait) s t
-WaitLedBy (Some seconds) o id s t = ((in_time : Bool) × WaitedWithin (limited o seconds) id s in_time t) ⊎ WaitInPart (limited o seconds) id s t
+-- The first of these fields, which is checked, was evaluated up to its end, or nothing was done.
+pub data FirstLed {C : Type 0} (o : OneByOne C) (fields : List Field) (s t : At C) : Type 0 where
+  still : t ≡ s → FirstLed o fields s t
+  evaluated : (field : Field) (marks : List Mark) → FirstChosen o.chosen fields field → DrivenToEnd o.way (one_plan o.way field.id) s marks t → FirstLed o fields s t
 
--- the same up to this event, at which the host had a fault
-abbrev pub WaitUpToBy : {C : Type 0} → Option ℕ → Way C → ℕ → At C → Event → At C → Type 0
-WaitUpToBy None o id s e t = (beats : List Beat) × WaitStopped o.after most_turns s beats e t
-WaitUpToBy (Some seconds) o id s e t = WaitUpTo (limited o seconds) id s e t
+-- Its evaluation broke off, and this is the fault of the check.
+pub record FirstBroke {C : Type 0} (o : OneByOne C) (fields : List Field) (s : At C) (h : HostView) (c : C) (why : RunFault) : Type 0 where
+  pub field : Field
+  pub first : FirstChosen o.chosen fields field
+  pub cause : RunFault
+  pub is : why ≡ fault_on_copy cause
+  pub of : IsOfEvaluation why
+  pub broke : DriveBroke o.way (one_plan o.way field.id) s h c cause
 
--- the same up to where the sources couldn't be watched any more, which a limit of time wants
-abbrev pub UnwatchedBy : {C : Type 0} → Option ℕ → Way C → ℕ → At C → At C → Type 0
-UnwatchedBy limit o id s t = (seconds : ℕ) × (limit ≡ Some seconds) × WaitUnwatched (limited o seconds) id s t
+-- where events had led then
+abbrev pub world_at_break : {C : Type 0} {o : Way C} {plan : Plan} {s : At C} {h : HostView} {c : C} {why : RunFault} → DriveBroke o plan s h c why → World
+world_at_break {s = s} (unplanned is same stands) = s.world
+world_at_break (broke_off b) = b.world
 
--- the same with a limit, for as many steps as are counted
-abbrev pub TooLongBy : {C : Type 0} → Option ℕ → Way C → ℕ → At C → At C → Type 0
-TooLongBy limit o id s t = (seconds : ℕ) × (limit ≡ Some seconds) × WaitTooLong (limited o seconds) id s t
-
--- The first of these fields, which is checked, was evaluated up to here: nothing was done, or its `eval`, or the wait for its answer,
--- in whole or in part.
-pub data FirstLed {C : Type 0} (o : Way C) (chosen : Chosen) (fields : List Field) (s t : At C) : Type 0 where
-  still : t ≡ s → FirstLed o chosen fields s t
-  asking : (field : Field) → FirstChosen chosen fields field → LineLed o.after (Some (line.Command (command.Eval field.id))) s t → FirstLed o chosen fields s t
-  waiting : (field : Field) (beats : List Beat) (mid : At C) → FirstChosen chosen fields field → Served o.after s (eval_of field.id) beats mid
-      → WaitLedBy o.limit o field.id mid t → FirstLed o chosen fields s t
-
--- The line of the first of these fields was sent, and this came of the wait for its answer.
-abbrev pub FirstWaits : {C : Type 0} → Way C → Chosen → List Field → At C → (ℕ → At C → Type 0) → Type 0
-FirstWaits {C = C} o chosen fields s Came =
-    (field : Field) × (beats : List Beat) × (mid : At C) × FirstChosen chosen fields field × Served o.after s (eval_of field.id) beats mid × Came field.id mid
-
-abbrev pub FirstUnwatched : {C : Type 0} → Way C → Chosen → List Field → At C → At C → Type 0
-FirstUnwatched o chosen fields s t = FirstWaits o chosen fields s (λ id mid. UnwatchedBy o.limit o id mid t)
-
-abbrev pub FirstTooLong : {C : Type 0} → Way C → Chosen → List Field → At C → At C → Type 0
-FirstTooLong o chosen fields s t = FirstWaits o chosen fields s (λ id mid. TooLongBy o.limit o id mid t)
+-- Each life that goes on in this world was stopped. Where the disk failed at a gate of events, so that it isn't known which of them are durable, these are
+-- the lives after all of them, as the host has them in memory.
+pub data StopsAll {C : Type 0} (R : Relation C) (h : HostView) (w : World) (c d : C) : Type 0 where
+  in_world : Stops R (running w) c d → StopsAll R h w c d
+  at_gate : (events : List Event) (before : DiskView) (lost : LostTogether w events before h) → Stops R (running lost.leads) c d → StopsAll R h w c d
 
 -- The first fields were checked, which are these cases, and then the next one led on so far. Then each life that goes on was stopped.
-pub record SheetLed {C : Type 0} (o : OneByOne C) (sheet : Contents) (c d : C) (cases : List Case) (Led : List Field → At C → At C → Type 0) : Type 0 where
+pub record SheetLed {C : Type 0} (o : OneByOne C) (sheet : Contents) (c d : C) (cases : List Case) : Type 0 where
   pub start : World
   pub copy : DiskView
   pub copied : IsCopy sheet start copy
@@ -122,22 +106,11 @@ pub record SheetLed {C : Type 0} (o : OneByOne C) (sheet : Contents) (c d : C) (
   pub mid : At C
   pub checked : FieldsChecked o.way o.chosen gone (at start c copy) cases mid
   pub leads : At C
-  pub led : Led left mid leads
+  pub led : FirstLed o left mid leads
   pub stops : Stops o.way.after (running leads.world) leads.children d
 
--- The first of these fields, which is checked, was evaluated up to this event, which its `eval` or the wait for its answer came to.
-pub data FirstUpTo {C : Type 0} (o : Way C) (chosen : Chosen) (fields : List Field) (s : At C) (e : Event) (t : At C) : Type 0 where
-  in_eval : (field : Field) (beats : List Beat) → FirstChosen chosen fields field → ServedUpTo o.after s (eval_of field.id) beats e t → FirstUpTo o chosen fields s e t
-  in_wait : (field : Field) (beats : List Beat) (mid : At C) → FirstChosen chosen fields field → Served o.after s (eval_of field.id) beats mid
-      → WaitUpToBy o.limit o field.id mid e t → FirstUpTo o chosen fields s e t
-
--- a fault that isn't one of the disk: the copy lies in memory, and that its disk failed is reported as lack of memory
-abbrev pub NotOfDisk : HostFault → Type 0
-NotOfDisk f = f ≡ hosts.Disk → ⊥
-
--- The first fields were checked, which are these cases, and the next one up to this event, at which the host had this fault. Then each
--- life that goes on was stopped.
-pub record SheetStopped {C : Type 0} (o : OneByOne C) (sheet : Contents) (c d : C) (cases : List Case) (f : HostFault) : Type 0 where
+-- The first fields were checked, which are these cases, and the evaluation of the next one broke off. Then each life that goes on was stopped.
+pub record SheetBroke {C : Type 0} (o : OneByOne C) (sheet : Contents) (c d : C) (cases : List Case) (why : RunFault) : Type 0 where
   pub start : World
   pub copy : DiskView
   pub copied : IsCopy sheet start copy
@@ -146,30 +119,21 @@ pub record SheetStopped {C : Type 0} (o : OneByOne C) (sheet : Contents) (c d : 
   pub split : sheet.fields ≡ gone ++ left
   pub mid : At C
   pub checked : FieldsChecked o.way o.chosen gone (at start c copy) cases mid
-  pub failed : Event
-  pub leads : At C
-  pub led : FirstUpTo o.way o.chosen left mid failed leads
   pub host : HostView
-  pub stopped : Stopped leads.disk host leads.world failed f
-  pub not_of_disk : NotOfDisk f
-  pub stops : Stops o.way.after (running leads.world) leads.children d
+  pub sources : C
+  pub broke : FirstBroke o left mid host sources why
+  pub stops : StopsAll o.way.after host (world_at_break broke.broke) sources d
 
 -- What a fault of a check of this worksheet leaves: what was reported is written, but where the writer failed. A lack of memory may be
 -- reported before the copy is there.
 pub data TellsCheck {C : Type 0} (o : OneByOne C) (sheet : Contents) (q : Passage C) (nothing : Type 0) (why : RunFault) : Type 0 where
   not_begun : why ≡ fault.OutOfMemory → nothing → TellsCheck o sheet q nothing why
-  -- the host of the copy had a fault
-  stopped : (cases : List Case) (f : HostFault) → why ≡ fault.Host f → SheetStopped o sheet q.sources q.left cases f → Appends q.text q.written (report_front o.format cases) → TellsCheck o sheet q nothing why
-  -- memory was refused
-  unremembered : (cases : List Case) → why ≡ fault.OutOfMemory → SheetLed o sheet q.sources q.left cases (FirstLed o.way o.chosen)
-      → Appends q.text q.written (report_front o.format cases) → TellsCheck o sheet q nothing why
-  -- the sources couldn't be watched any more, or as many steps came of one field as are counted
-  unwatched : (cases : List Case) → why ≡ fault.Input → SheetLed o sheet q.sources q.left cases (FirstUnwatched o.way o.chosen)
-      → Appends q.text q.written (report_front o.format cases) → TellsCheck o sheet q nothing why
-  too_long : (cases : List Case) → why ≡ fault.InputTooLong → SheetLed o sheet q.sources q.left cases (FirstTooLong o.way o.chosen)
-      → Appends q.text q.written (report_front o.format cases) → TellsCheck o sheet q nothing why
+  -- the evaluation of the next field broke off
+  halted : (cases : List Case) → SheetBroke o sheet q.sources q.left cases why → Appends q.text q.written (report_front o.format cases) → TellsCheck o sheet q nothing why
+  -- there was no memory for its line, or for what is reported of it
+  unremembered : (cases : List Case) → why ≡ fault.OutOfMemory → SheetLed o sheet q.sources q.left cases → Appends q.text q.written (report_front o.format cases) → TellsCheck o sheet q nothing why
   -- the writer failed at the text of the last field, or at the counts
-  unwritten : (cases : List Case) → why ≡ fault.Output → SheetLed o sheet q.sources q.left cases (FirstLed o.way o.chosen) → TellsCheck o sheet q nothing why
+  unwritten : (cases : List Case) → why ≡ fault.Output → SheetLed o sheet q.sources q.left cases → TellsCheck o sheet q nothing why
 
 -- what becomes of a check of this worksheet
 abbrev pub SheetAnswer : {C : Type 0} → OneByOne C → Contents → Passage C → Type 0 → Result Counts RunFault → Type 0

@@ -1,6 +1,8 @@
 pub mod Named
 pub mod Evaluated
+pub mod Marks
 pub mod Driven
+pub mod Fields
 pub mod Check
 pub mod Together
 pub mod Kept

@@ -1,6 +1,6 @@
 -- What a check leaves whose fields are evaluated side by side: those fields are evaluated on a copy, and nothing is printed; and then comes their report in
 -- the worksheet's order. One whose fields are all of one session goes one after another. (docs/use/CHECK.md, "Side by side".)
-use Rattle.std.specs.Prelude.{◌≡◌, ◌==◌, ◌&&◌, ℕ, Bool, false, true, not, List, [], ◌∷◌, ◌++◌, Option, Some, None, find, Result, Ok, Err}
+use Rattle.std.specs.Prelude.{◌≡◌, ◌&&◌, ℕ, Bool, false, true, not, List, [], ◌∷◌, ◌++◌, Option, Some, None, find, Result, Ok, Err}
 use Rattle.std.specs.Bool.{MatchBool}
 use Rattle.std.specs.List.{list_any}
 use Rattle.std.specs.Str.{bytes_eq}
@@ -30,13 +30,14 @@ use Rattle.check_report.specs.Chosen.{Judged, is_chosen}
 use Rattle.check_report.specs.Reports.{Case, case, report_front, report_text, judgements_of}
 use Rattle.check_report.specs.Verdicts.{counts_of}
 use Rattle.evaluation.specs.declared.plan.Plan.{Plan}
-use Rattle.evaluation.specs.declared.plan.Which.TheVariants as which
 use Rattle.sheet_check.specs.Check.{IsCopy, Passage, SheetAnswer}
-use Rattle.sheet_check.specs.Driven.{DriveBroke, DrivenToEnd}
+use Rattle.sheet_check.specs.Driven.{DriveBroke, DrivenToEnd, checking_plan}
 use Rattle.sheet_check.specs.Evaluated.{Way, came_if, fault_on_copy, one_by_one, reason_shown_in, shown_in}
+use Rattle.sheet_check.specs.Marks.{is_late}
 use Rattle.sheet_check.specs.Named.{ByNames, missing_named}
 use Rattle.sheet_check.specs.declared.named.CheckFault.{CheckFault}
 use Rattle.sheet_check.specs.declared.named.CheckFault.TheVariants as checks
+use Rattle.sheet_check.specs.declared.silence.Mark.{Mark}
 
 -- How fields are checked side by side: how they are evaluated, in how many sessions they wait at a time, which they are, and how they are
 -- reported.
@@ -77,53 +78,45 @@ abbrev pub cleared : Chosen → List Field → Contents → Contents
 cleared chosen [] sheet = sheet
 cleared chosen (field ∷ fields) sheet = cleared chosen fields (cleared_at (is_chosen chosen field) sheet field.id)
 
--- all of these fields, up to the end: a field after one that shows no answer is asked, too
-abbrev pub checking_plan : List ℕ → Option ℕ → ℕ → Plan
-checking_plan ids limit jobs = record { which = which.Named ids; unanswered = false; strict = false; at_errors = false; limit = limit; keep_going = true; jobs = jobs }
-
 -- the plan of those of these fields that are checked
 abbrev pub checking : {C : Type 0} → SideBySide C → List Field → Plan
 checking o fields = checking_plan (checked_ids o.chosen fields) o.way.limit o.jobs
 
--- whether the time of the field with this number was over
-abbrev pub is_late : List ℕ → ℕ → Bool
-is_late late id = list_any (λ one. one == id) late
-
 -- The answer that came to a field: the one that it shows on the copy at the end, and none where its time was over.
-abbrev pub came_by : World → List ℕ → ℕ → Option Answer
-came_by w late id = came_if (not (is_late late id)) (shown_in w id)
+abbrev pub came_by : World → List Mark → ℕ → Option Answer
+came_by w marks id = came_if (not (is_late marks id)) (shown_in w id)
 
 -- A field was compared: where it is one of those that are checked, what came was judged by the answer that it shows. The case that this is,
 -- where it is one; what its evaluation took isn't known.
-pub data FieldCompared (chosen : Chosen) (w : World) (late : List ℕ) (field : Field) : List Case → Type 0 where
-  passed : is_chosen chosen field ≡ false → FieldCompared chosen w late field []
-  compared : (verdict : Verdict) → is_chosen chosen field ≡ true → Judged chosen field (came_by w late field.id) verdict
-      → FieldCompared chosen w late field (case field (came_by w late field.id) (reason_shown_in w field.id) verdict None ∷ [])
+pub data FieldCompared (chosen : Chosen) (w : World) (marks : List Mark) (field : Field) : List Case → Type 0 where
+  passed : is_chosen chosen field ≡ false → FieldCompared chosen w marks field []
+  compared : (verdict : Verdict) → is_chosen chosen field ≡ true → Judged chosen field (came_by w marks field.id) verdict
+      → FieldCompared chosen w marks field (case field (came_by w marks field.id) (reason_shown_in w field.id) verdict None ∷ [])
 
 -- fields were compared, one after another
-abbrev pub FieldsCompared : Chosen → World → List ℕ → List Field → List Case → Type 0
-FieldsCompared chosen w late [] cases = cases ≡ []
-FieldsCompared chosen w late (field ∷ fields) cases =
-    (one : List Case) × (others : List Case) × FieldCompared chosen w late field one × FieldsCompared chosen w late fields others × (cases ≡ one ++ others)
+abbrev pub FieldsCompared : Chosen → World → List Mark → List Field → List Case → Type 0
+FieldsCompared chosen w marks [] cases = cases ≡ []
+FieldsCompared chosen w marks (field ∷ fields) cases =
+    (one : List Case) × (others : List Case) × FieldCompared chosen w marks field one × FieldsCompared chosen w marks fields others × (cases ≡ one ++ others)
 
 -- On a copy of this worksheet, on which the fields that are checked show nothing, these were evaluated up to the end, and then each life that
 -- goes on was stopped.
-pub record EvaluatedTogether {C : Type 0} (o : SideBySide C) (sheet : Contents) (c d : C) (leads : World) (late : List ℕ) : Type 0 where
+pub record EvaluatedTogether {C : Type 0} (o : SideBySide C) (sheet : Contents) (c d : C) (leads : World) (marks : List Mark) : Type 0 where
   pub start : World
   pub copy : DiskView
   pub copied : IsCopy (cleared o.chosen sheet.fields sheet) start copy
   pub came : At C
   pub world_is : came.world ≡ leads
-  pub evaluated : DrivenToEnd o.way (checking o sheet.fields) (at start c copy) late came
+  pub evaluated : DrivenToEnd o.way (checking o sheet.fields) (at start c copy) marks came
   pub stops : Stops o.way.after (running leads) came.children d
 
 -- So they were evaluated, and their report was written, in the worksheet's order. These are the counts.
 pub record TogetherChecked {C : Type 0} (o : SideBySide C) (sheet : Contents) (q : Passage C) (counts : Counts) : Type 0 where
   pub leads : World
-  pub late : List ℕ
-  pub evaluated : EvaluatedTogether o sheet q.sources q.left leads late
+  pub marks : List Mark
+  pub evaluated : EvaluatedTogether o sheet q.sources q.left leads marks
   pub cases : List Case
-  pub compared : FieldsCompared o.chosen leads late sheet.fields cases
+  pub compared : FieldsCompared o.chosen leads marks sheet.fields cases
   pub counted : counts ≡ counts_of (judgements_of cases)
   pub wrote : Appends q.text q.written (report_text o.format cases)
 
@@ -145,12 +138,12 @@ pub record TogetherBroke {C : Type 0} (o : SideBySide C) (sheet : Contents) (c d
 -- The fields were evaluated, and the first of them were reported, which are these cases.
 pub record TogetherReported {C : Type 0} (o : SideBySide C) (sheet : Contents) (c d : C) (cases : List Case) : Type 0 where
   pub leads : World
-  pub late : List ℕ
-  pub evaluated : EvaluatedTogether o sheet c d leads late
+  pub marks : List Mark
+  pub evaluated : EvaluatedTogether o sheet c d leads marks
   pub gone : List Field
   pub left : List Field
   pub split : sheet.fields ≡ gone ++ left
-  pub compared : FieldsCompared o.chosen leads late gone cases
+  pub compared : FieldsCompared o.chosen leads marks gone cases
 
 -- What a fault leaves. Nothing is written before the last answer came; where there is no memory for a line what was reported before is; and
 -- where the writer fails a part may have gone out.

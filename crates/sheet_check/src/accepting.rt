@@ -1,5 +1,5 @@
 //! What a field came to is accepted: its answer is put into the worksheet on the disk, and then reported.
-ghost use Rattle.std.specs.Prelude.{◌≡◌, ◌++◌, ◌∷◌, [], List, IfErr, IfOk, IfSome, OnOk, false, true};
+ghost use Rattle.std.specs.Prelude.{◌≡◌, ◌++◌, List, IfErr, IfOk, IfSome, OnOk, false, true};
 ghost use Rattle.std.specs.Io.KnownBytes.{Appends};
 ghost use Rattle.disk_model.specs.Disk.{DiskView};
 ghost use Rattle.worksheet.specs.declared.op.Op.{Op};
@@ -7,19 +7,26 @@ ghost use Rattle.worksheet.specs.Checks.{has_field};
 ghost use Rattle.worksheet.specs.Laws.{HasShortPrompt};
 ghost use Rattle.session_engine.specs.World.{World};
 ghost use Rattle.session_engine.specs.Host.{IsHost};
+ghost use Rattle.child_edge.specs.Faithful.{at};
+ghost use Rattle.live.specs.Records.{left};
 ghost use Rattle.sheet_check.specs.Kept.{Stores};
+ghost use Rattle.check_report.specs.Chosen.{is_chosen};
 ghost use Rattle.check_report.specs.declared.report.Format.TheVariants as formats;
-ghost use Rattle.sheet_check.specs.Accept.{accepted_answer, answer_ops};
-ghost use Rattle.sheet_check.specs.Evaluated.{came_if, shown_in};
+ghost use Rattle.sheet_check.specs.Accept.{accepted_answer, answer_ops, to_accept};
+ghost use Rattle.sheet_check.specs.Evaluated.{came_if, shown_in, way};
 ghost use Rattle.sheet_check.specs.Progress.{LeavesLine, MakesRoom};
-ghost use Rattle.sheet_check.specs.inside.Accepting.{Finds, NotPut, NotTaken, fault_of_acceptance, storing};
+ghost use Rattle.sheet_check.specs.inside.Accepting.{FieldBroke, Finds, NotPut, NotTaken, ShownTook, fault_of_acceptance, storing};
+ghost use Rattle.sheet_check.specs.inside.Checking.{question};
 
+use crate::driving::CopyDriver;
+use crate::evaluating::evaluate;
 use crate::progress::Progress;
 use crate::putting::{AcceptFault, accept};
 use crate::telling::make_room;
+use arrivals::Sources;
 use block_tree::OutOfMemory;
 use check_report::{
-    Chosen, Format, Judgement, Verdict, acceptance_in_memory, bring_out, brings_error,
+    Chosen, Format, Judgement, Request, Verdict, acceptance_in_memory, bring_out, brings_error,
 };
 use disk_model::Disk;
 use host_events::HostFault;
@@ -94,7 +101,7 @@ fn find(alloc: Global, chosen: &Chosen, field: &Field, came: &Option<Answer>) ->
 }
 
 /// The same with the answer that the field shows on the copy now, which came where its line was asked.
-pub(crate) fn find_on_copy<D: Disk>(
+fn find_on_copy<D: Disk>(
     alloc: Global,
     chosen: &Chosen,
     host: &Host<D>,
@@ -157,7 +164,7 @@ fn tell<W: Write, P: Progress>(
 }
 
 /// Accepts what a field came to, and then tells it.
-pub(crate) fn take<D: Disk, W: Write, P: Progress>(
+fn take<D: Disk, W: Write, P: Progress>(
     store: &mut Store<D>,
     id: u32,
     found: Finding,
@@ -191,5 +198,45 @@ pub(crate) fn take<D: Disk, W: Write, P: Progress>(
     match tell(judgement.verdict, text.as_slice(), progress, writer) {
         Ok(()) => Ok(judgement),
         Err(fault) => Err(fault),
+    }
+}
+
+/// Evaluates a field that is checked, and accepts and tells what that came to.
+pub(crate) fn accept_shown<D: Disk, S: Disk, C: Sources, W: Write, P: Progress>(
+    alloc: Global,
+    request: &Request,
+    driver: &mut CopyDriver<D, C>,
+    store: &mut Store<S>,
+    field: &Field,
+    progress: &mut P,
+    writer: &mut W,
+) -> Result<Judgement, RunFault>
+    requires chosen { is_chosen request.now.chosen field.now ≡ true }
+    requires stands { (w : World) × IsHost driver.old.host w }
+    requires open { store.old.closed ≡ false }
+    requires there { has_field store.old.sheet.contents field.now.id ≡ true }
+    ensures written { store.old.gathers ≡ false → store.new.gathers ≡ false }
+    ensures ok { (w : World) → IsHost driver.old.host w → (ops more : List Op) → (disk : DiskView)
+        → Stores ops more disk store.old → IfOk result (ShownTook
+        (to_accept (way C.after C.clock C.wakes request.now.limit) request.now.chosen)
+        (question 0 field.now) (at w driver.old.sources driver.old.host.store.disk)
+        (left driver.new.host driver.new.sources (W.contents writer.old) (W.contents writer.new)) (storing ops more disk store.new)) }
+    ensures err { (w : World) → IsHost driver.old.host w → (ops more : List Op) → (disk : DiskView)
+        → Stores ops more disk store.old → IfErr result (FieldBroke
+        (to_accept (way C.after C.clock C.wakes request.now.limit) request.now.chosen)
+        field.now (at w driver.old.sources driver.old.host.store.disk)
+        (left driver.new.host driver.new.sources (W.contents writer.old) (W.contents writer.new)) (storing ops more disk store.new)) }
+    ensures room { IfOk result (λ j.
+        MakesRoom formats.Accepting P.shows j.verdict progress.old progress.new) }
+    ensures left { IfErr result (λ _. LeavesLine P.shows progress.old progress.new) }
+{
+    worksheet::laws::ops_make_worksheets();
+    let came = match evaluate(driver, request.limit, field) {
+        Ok(came) => came,
+        Err(fault) => return Err(fault),
+    };
+    match find_on_copy(alloc, &request.chosen, &driver.host, field, came.is_there) {
+        None => Err(RunFault::OutOfMemory),
+        Some(found) => take(store, field.id, found, progress, writer),
     }
 }

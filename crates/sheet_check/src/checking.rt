@@ -21,18 +21,20 @@ ghost use Rattle.sheet_check.specs.inside.Checking.{FieldFailed, FieldShown, Fie
 ghost use Rattle.live.specs.Records.{left};
 
 use crate::copying::open_copy;
+use crate::driving::{CopyDriver, Gave, drive_copy};
 use crate::evaluating::evaluate;
 use crate::named::{CheckFault, check_named};
 use crate::progress::{Progress, Sight};
+use crate::sessions::count_checked;
 use crate::telling::tell_what_came;
 use arrivals::Sources;
-use check_report::{Chosen, Counts, Format, Judgement, Request, close_report, open_report};
+use check_report::{Counts, Format, Judgement, Request, close_report, open_report};
 use child_edge::stop_all;
 use disk_model::Disk;
+use driver::Driver;
 use journal::OpenFault;
 use offline_programs::RunFault;
 use recovery::Store;
-use session_engine::Host;
 use std::alloc::Global;
 use std::io::Write;
 use worksheet::{Field, Sheet};
@@ -41,34 +43,33 @@ use worksheet::{Field, Sheet};
 fn check_shown<D: Disk, C: Sources, W: Write, P: Progress>(
     alloc: Global,
     request: &Request,
-    host: &mut Host<D>,
-    sources: &mut C,
+    driver: &mut CopyDriver<D, C>,
     number: u64,
     field: &Field,
     progress: &mut P,
     writer: &mut W,
 ) -> Result<Judgement, RunFault>
     requires { is_chosen request.now.chosen field.now ≡ true }
-    ensures ok { (w : World) → IsHost host.old w → IfOk result (ShownWrote
+    ensures ok { (w : World) → IsHost driver.old.host w → IfOk result (ShownWrote
         (one_by_one (way C.after C.clock C.wakes request.now.limit) request.now.chosen request.now.format)
-        (question number field.now) (at w sources.old host.old.store.disk)
-        (left host.new sources.new (W.contents writer.old) (W.contents writer.new))) }
-    ensures err { (w : World) → IsHost host.old w → IfErr result (FieldFailed
+        (question number field.now) (at w driver.old.sources driver.old.host.store.disk)
+        (left driver.new.host driver.new.sources (W.contents writer.old) (W.contents writer.new))) }
+    ensures err { (w : World) → IsHost driver.old.host w → IfErr result (FieldFailed
         (one_by_one (way C.after C.clock C.wakes request.now.limit) request.now.chosen request.now.format)
-        field.now (at w sources.old host.old.store.disk)
-        (left host.new sources.new (W.contents writer.old) (W.contents writer.new))) }
+        field.now (at w driver.old.sources driver.old.host.store.disk)
+        (left driver.new.host driver.new.sources (W.contents writer.old) (W.contents writer.new))) }
     ensures room { IfOk result (λ j.
         MakesRoom request.now.format P.shows j.verdict progress.old progress.new) }
     ensures left { IfErr result (λ _. LeavesLine P.shows progress.old progress.new) }
 {
-    let came = match evaluate(alloc, request.limit, host, sources, field) {
+    let came = match evaluate(driver, request.limit, field) {
         Ok(came) => came,
         Err(fault) => return Err(fault),
     };
     tell_what_came(
         alloc,
         request,
-        host,
+        &driver.host,
         number,
         field,
         came.is_there,
@@ -91,8 +92,7 @@ pub(crate) fn show_counts<P: Progress>(counts: Counts, all: u32, progress: &mut 
 fn check_field<D: Disk, C: Sources, W: Write, P: Progress>(
     alloc: Global,
     request: &Request,
-    host: &mut Host<D>,
-    sources: &mut C,
+    driver: &mut CopyDriver<D, C>,
     field: &Field,
     counts: Counts,
     all: u32,
@@ -101,16 +101,16 @@ fn check_field<D: Disk, C: Sources, W: Write, P: Progress>(
 ) -> Result<Counts, RunFault>
     requires few { total counts < 2 ^ 31 }
     requires errors { counts.errors ≤ total counts }
-    ensures ok { (w : World) → IsHost host.old w → IfOk result (FieldWrote
+    ensures ok { (w : World) → IsHost driver.old.host w → IfOk result (FieldWrote
         (one_by_one (way C.after C.clock C.wakes request.now.limit) request.now.chosen request.now.format)
-        field.now (at w sources.old host.old.store.disk)
-        (left host.new sources.new (W.contents writer.old) (W.contents writer.new)) counts) }
+        field.now (at w driver.old.sources driver.old.host.store.disk)
+        (left driver.new.host driver.new.sources (W.contents writer.old) (W.contents writer.new)) counts) }
     ensures bound { IfOk result (λ after. total after ≤ total counts + 1) }
     ensures errors { IfOk result (λ after. after.errors ≤ total after) }
-    ensures err { (w : World) → IsHost host.old w → IfErr result (FieldFailed
+    ensures err { (w : World) → IsHost driver.old.host w → IfErr result (FieldFailed
         (one_by_one (way C.after C.clock C.wakes request.now.limit) request.now.chosen request.now.format)
-        field.now (at w sources.old host.old.store.disk)
-        (left host.new sources.new (W.contents writer.old) (W.contents writer.new))) }
+        field.now (at w driver.old.sources driver.old.host.store.disk)
+        (left driver.new.host driver.new.sources (W.contents writer.old) (W.contents writer.new))) }
     ensures shown { IfOk result (λ after.
         FieldShown (display request.now.format P.shows) all counts after progress.old progress.new) }
     ensures left { IfErr result (λ _. LeavesLine P.shows progress.old progress.new) }
@@ -119,9 +119,7 @@ fn check_field<D: Disk, C: Sources, W: Write, P: Progress>(
     if !request.chosen.has(field) {
         return Ok(counts);
     }
-    match check_shown(
-        alloc, request, host, sources, number, field, progress, writer,
-    ) {
+    match check_shown(alloc, request, driver, number, field, progress, writer) {
         Ok(judgement) => Ok(show_counts(counts.with(judgement), all, progress)),
         Err(fault) => Err(fault),
     }
@@ -154,21 +152,20 @@ fn check_fields<D: Disk, C: Sources, W: Write, P: Progress>(
     alloc: Global,
     request: &Request,
     sheet: &Sheet,
-    host: &mut Host<D>,
-    sources: &mut C,
+    driver: &mut CopyDriver<D, C>,
     all: u32,
     progress: &mut P,
     writer: &mut W,
 ) -> Result<Counts, RunFault>
     requires { length sheet.now.contents.fields < 2 ^ 31 }
-    ensures ok { (w : World) → IsHost host.old w → IfOk result (FieldsWrote
+    ensures ok { (w : World) → IsHost driver.old.host w → IfOk result (FieldsWrote
         (one_by_one (way C.after C.clock C.wakes request.now.limit) request.now.chosen request.now.format)
-        sheet.now.contents.fields (at w sources.old host.old.store.disk)
-        (left host.new sources.new (W.contents writer.old) (W.contents writer.new))) }
-    ensures err { (w : World) → IsHost host.old w → IfErr result (FieldsFailed
+        sheet.now.contents.fields (at w driver.old.sources driver.old.host.store.disk)
+        (left driver.new.host driver.new.sources (W.contents writer.old) (W.contents writer.new))) }
+    ensures err { (w : World) → IsHost driver.old.host w → IfErr result (FieldsFailed
         (one_by_one (way C.after C.clock C.wakes request.now.limit) request.now.chosen request.now.format)
-        sheet.now.contents.fields (at w sources.old host.old.store.disk)
-        (left host.new sources.new (W.contents writer.old) (W.contents writer.new))) }
+        sheet.now.contents.fields (at w driver.old.sources driver.old.host.store.disk)
+        (left driver.new.host driver.new.sources (W.contents writer.old) (W.contents writer.new))) }
     ensures shown { IfOk result (λ counts.
         FieldsShow (display request.now.format P.shows) all progress.old counts progress.new) }
     ensures left { IfErr result (λ _.
@@ -180,9 +177,7 @@ fn check_fields<D: Disk, C: Sources, W: Write, P: Progress>(
     let mut counts = Counts::none();
     let mut fields = sheet.fields();
     while let Some(field) = fields.next() {
-        match check_field(
-            alloc, request, host, sources, field, counts, all, progress, writer,
-        ) {
+        match check_field(alloc, request, driver, field, counts, all, progress, writer) {
             Ok(after) => counts = after,
             Err(fault) => return Err(fault),
         }
@@ -190,48 +185,32 @@ fn check_fields<D: Disk, C: Sources, W: Write, P: Progress>(
     Ok(counts)
 }
 
-/// How many fields of a worksheet are checked.
-pub(crate) fn count_checked(chosen: &Chosen, sheet: &Sheet) -> u32
-    requires { length sheet.now.contents.fields < 2 ^ 31 }
-    ensures { result ≡ checked_count chosen.now sheet.now.contents.fields }
-{
-    let mut count: u32 = 0;
-    let mut fields = sheet.fields();
-    while let Some(field) = fields.next() {
-        if chosen.has(field) {
-            count += 1;
-        }
-    }
-    count
-}
-
 /// The same, and then the line of progress is taken away, and each life that goes on is stopped.
 fn check_and_stop<D: Disk, C: Sources, W: Write, P: Progress>(
     alloc: Global,
     request: &Request,
     sheet: &Sheet,
-    host: &mut Host<D>,
-    sources: &mut C,
+    driver: &mut CopyDriver<D, C>,
     progress: &mut P,
     writer: &mut W,
 ) -> Result<Counts, RunFault>
     requires { length sheet.now.contents.fields < 2 ^ 31 }
-    ensures ok { (w : World) → IsHost host.old w → IfOk result (FieldsEnded
+    ensures ok { (w : World) → IsHost driver.old.host w → IfOk result (FieldsEnded
         (one_by_one (way C.after C.clock C.wakes request.now.limit) request.now.chosen request.now.format)
-        sheet.now.contents.fields w host.old.store.disk
-        (passage sources.old sources.new (W.contents writer.old) (W.contents writer.new))) }
-    ensures err { (w : World) → IsHost host.old w → IfErr result (FieldsStopped
+        sheet.now.contents.fields w driver.old.host.store.disk
+        (passage driver.old.sources driver.new.sources (W.contents writer.old) (W.contents writer.new))) }
+    ensures err { (w : World) → IsHost driver.old.host w → IfErr result (FieldsStopped
         (one_by_one (way C.after C.clock C.wakes request.now.limit) request.now.chosen request.now.format)
-        sheet.now.contents.fields w host.old.store.disk
-        (passage sources.old sources.new (W.contents writer.old) (W.contents writer.new))) }
+        sheet.now.contents.fields w driver.old.host.store.disk
+        (passage driver.old.sources driver.new.sources (W.contents writer.old) (W.contents writer.new))) }
     ensures shown { SheetShows (display request.now.format P.shows)
         (checked_count request.now.chosen sheet.now.contents.fields)
         progress.old progress.new result }
 {
     let all = count_checked(&request.chosen, sheet);
-    let counted = check_fields(alloc, request, sheet, host, sources, all, progress, writer);
+    let counted = check_fields(alloc, request, sheet, driver, all, progress, writer);
     progress.show(Sight::Nothing);
-    stop_all(host, sources);
+    stop_all(&driver.host, &mut driver.sources);
     counted
 }
 
@@ -240,27 +219,40 @@ fn checked_on_copy<C: Sources, W: Write, P: Progress>(
     alloc: Global,
     request: &Request,
     sheet: &Sheet,
-    sources: &mut C,
+    sources: C,
     progress: &mut P,
     writer: &mut W,
-) -> Option<Result<Counts, RunFault>>
+) -> Gave<Option<Result<Counts, RunFault>>, C>
     requires made { (ops : List Op) × Makes ops sheet.now.contents }
     requires few { length sheet.now.contents.fields < 2 ^ 31 }
-    ensures none { IfNone result ((sources.new ≡ sources.old) × (writer.new ≡ writer.old)
+    ensures none { IfNone result.answer ((result.sources ≡ sources) × (writer.new ≡ writer.old)
         × (progress.new ≡ progress.old)) }
-    ensures some { IfSome result (λ counted. OnCopy
+    ensures some { IfSome result.answer (λ counted. OnCopy
         (one_by_one (way C.after C.clock C.wakes request.now.limit) request.now.chosen request.now.format)
         sheet.now.contents
-        (passage sources.old sources.new (W.contents writer.old) (W.contents writer.new)) counted) }
-    ensures shown { IfSome result (λ counted. SheetShows (display request.now.format P.shows)
+        (passage sources result.sources (W.contents writer.old) (W.contents writer.new)) counted) }
+    ensures shown { IfSome result.answer (λ counted. SheetShows (display request.now.format P.shows)
         (checked_count request.now.chosen sheet.now.contents.fields)
         progress.old progress.new counted) }
 {
-    match open_copy(alloc, sheet) {
-        Some(mut host) => Some(check_and_stop(
-            alloc, request, sheet, &mut host, sources, progress, writer,
-        )),
-        None => None,
+    let Some(host) = open_copy(alloc, sheet) else {
+        return Gave {
+            answer: None,
+            sources,
+        };
+    };
+    let mut driver = drive_copy(alloc, host, sources);
+    let counted = check_and_stop(alloc, request, sheet, &mut driver, progress, writer);
+    let Driver {
+        alloc: _,
+        host: _,
+        sources,
+        sink: _,
+        agenda: _,
+    } = driver;
+    Gave {
+        answer: Some(counted),
+        sources,
     }
 }
 
@@ -269,30 +261,47 @@ pub(crate) fn check_sheet<C: Sources, W: Write, P: Progress>(
     alloc: Global,
     request: &Request,
     sheet: &Sheet,
-    sources: &mut C,
+    sources: C,
     progress: &mut P,
     writer: &mut W,
-) -> Result<Counts, RunFault>
+) -> Gave<Result<Counts, RunFault>, C>
     requires { (ops : List Op) × Makes ops sheet.now.contents }
     ensures checked { SheetAnswer
         (one_by_one (way C.after C.clock C.wakes request.now.limit) request.now.chosen request.now.format)
-        sheet.now.contents (passage sources.old sources.new (W.contents writer.old) (W.contents writer.new))
-        ((writer.new ≡ writer.old) × (sources.new ≡ sources.old)) result }
+        sheet.now.contents (passage sources result.sources (W.contents writer.old) (W.contents writer.new))
+        ((writer.new ≡ writer.old) × (result.sources ≡ sources)) result.answer }
     ensures shown { SheetShows (display request.now.format P.shows)
         (checked_count request.now.chosen sheet.now.contents.fields)
-        progress.old progress.new result }
+        progress.old progress.new result.answer }
 {
     worksheet::laws::ops_make_worksheets();
-    let Some(counted) = checked_on_copy(alloc, request, sheet, sources, progress, writer) else {
-        progress.show(Sight::Nothing);
-        return Err(RunFault::OutOfMemory);
-    };
-    match counted {
-        Ok(counts) => match tell_closing(request.format, counts, writer) {
-            Ok(()) => Ok(counts),
-            Err(fault) => Err(fault),
+    let Gave { answer, sources } = checked_on_copy(
+        alloc, request, sheet, sources, progress, writer,
+    );
+    match answer {
+        Some(counted) => match counted {
+            Ok(counts) => match tell_closing(request.format, counts, writer) {
+                Ok(()) => Gave {
+                    answer: Ok(counts),
+                    sources,
+                },
+                Err(fault) => Gave {
+                    answer: Err(fault),
+                    sources,
+                },
+            },
+            Err(fault) => Gave {
+                answer: Err(fault),
+                sources,
+            },
         },
-        Err(fault) => Err(fault),
+        None => {
+            progress.show(Sight::Nothing);
+            Gave {
+                answer: Err(RunFault::OutOfMemory),
+                sources,
+            }
+        }
     }
 }
 
@@ -307,8 +316,8 @@ pub struct Checked<D: Disk, C> {
 }
 
 /// Checks the worksheet on a disk: evaluates each field that is checked, in their order, on a
-/// copy of the worksheet in memory and with interpreters of its own, each `eval` with a `wait` after
-/// it, and compares the output that came with the one that the field shows. The prompt is no part of
+/// copy of the worksheet in memory and with interpreters of its own, each up to its end before the
+/// next, and compares the output that came with the one that the field shows. The prompt is no part of
 /// it. Each difference is written and flushed when it is known, and the counts at the end
 /// (docs/use/CHECK.md). A field whose evaluation gave no answer is counted as unanswered, and the next one
 /// is checked with a new interpreter.
@@ -324,14 +333,14 @@ pub struct Checked<D: Disk, C> {
 ///
 /// `Open` where the disk isn't opened, `NoField` where the worksheet lacks a field whose number is left out or
 /// compared: nothing was done. `OutOfMemory`, also where the copy has no room in memory, `Host` where the host of
-/// the copy has another fault, and with a limit `Input` where the sources can't be watched, and `InputTooLong` after
-/// 2^64 - 1 steps of one field: what was reported before is written. `Output` where the writer fails: a part of the
-/// text may have gone out.
+/// the copy has another fault, `Input` where the sources can't be watched, and `InputTooLong` after 2^64 - 1 turns
+/// of one field: what was reported before is written. `Output` where the writer fails: a part of the text may have
+/// gone out.
 pub fn check<D: Disk, C: Sources, W: Write, P: Progress>(
     alloc: Global,
     request: &Request,
     disk: D,
-    mut sources: C,
+    sources: C,
     progress: &mut P,
     writer: &mut W,
 ) -> Checked<D, C>
@@ -354,11 +363,11 @@ pub fn check<D: Disk, C: Sources, W: Write, P: Progress>(
 {
     match Store::open(alloc, disk) {
         Ok(store) => {
-            let answer = check_named(
+            let Gave { answer, sources } = check_named(
                 alloc,
                 request,
                 store.sheet(),
-                &mut sources,
+                sources,
                 progress,
                 writer,
             );

@@ -1,15 +1,16 @@
 //! What fields came to that were evaluated together, compared and reported in the worksheet's order.
-ghost use Rattle.std.specs.Prelude.{◌≡◌, ◌+◌, ◌≤◌, ◌<◌, ◌^◌, IfErr, IfOk, Some, length, not};
+ghost use Rattle.std.specs.Prelude.{◌+◌, ◌≤◌, ◌<◌, ◌^◌, IfErr, IfOk, length};
 ghost use Rattle.session_engine.specs.World.{World};
 ghost use Rattle.session_engine.specs.Host.{IsHost};
 ghost use Rattle.check_report.specs.Verdicts.{total};
 ghost use Rattle.sheet_check.specs.Progress.{FieldsLeft, FieldsShow, LeavesLine, display};
-ghost use Rattle.sheet_check.specs.Together.{is_late as says_late};
 ghost use Rattle.sheet_check.specs.inside.Checking.{FieldShown, Untold};
 ghost use Rattle.sheet_check.specs.inside.Comparing.{FieldReported, FieldsReported, ReportBroke, comparing};
 
 use crate::checking::{show_counts, tell_opening};
+use crate::marks::is_in_time;
 use crate::progress::Progress;
+use crate::silence::Mark;
 use crate::telling::tell_what_came;
 use check_report::{Counts, Request};
 use disk_model::Disk;
@@ -19,27 +20,13 @@ use std::alloc::Global;
 use std::io::Write;
 use worksheet::{Field, Sheet};
 
-/// Whether the time of the field with this number was over.
-fn is_late(late: &[u32], id: u32) -> bool
-    ensures { result ≡ says_late late.now id }
-{
-    late.iter().any(|one| *one == id)
-}
-
-/// Whether it wasn't.
-fn is_in_time(late: &[u32], id: u32) -> bool
-    ensures { result ≡ not (says_late late.now id) }
-{
-    !is_late(late, id)
-}
-
 /// Compares a field, where it is one of those that are checked, with what it shows on the copy, and tells what
 /// that came to. The counts with that, which are shown.
 fn compare_field<D: Disk, W: Write, P: Progress>(
     alloc: Global,
     request: &Request,
     host: &Host<D>,
-    late: &[u32],
+    marks: &[Mark],
     field: &Field,
     counts: Counts,
     all: u32,
@@ -49,7 +36,7 @@ fn compare_field<D: Disk, W: Write, P: Progress>(
     requires few { total counts < 2 ^ 31 }
     requires errors { counts.errors ≤ total counts }
     ensures ok { (w : World) → IsHost host.now w → IfOk result (FieldReported
-        (comparing request.now.chosen request.now.format w late.now) field.now
+        (comparing request.now.chosen request.now.format w marks.now) field.now
         (W.contents writer.old) (W.contents writer.new) counts) }
     ensures bound { IfOk result (λ after. total after ≤ total counts + 1) }
     ensures errors { IfOk result (λ after. after.errors ≤ total after) }
@@ -59,7 +46,7 @@ fn compare_field<D: Disk, W: Write, P: Progress>(
     ensures left { IfErr result (λ _. LeavesLine P.shows progress.old progress.new) }
 {
     let number = counts.total() + 1;
-    let in_time = is_in_time(late, field.id);
+    let in_time = is_in_time(marks, field.id);
     if !request.chosen.has(field) {
         return Ok(counts);
     }
@@ -77,17 +64,17 @@ pub(crate) fn compare_fields<D: Disk, W: Write, P: Progress>(
     request: &Request,
     sheet: &Sheet,
     host: &Host<D>,
-    late: &[u32],
+    marks: &[Mark],
     all: u32,
     progress: &mut P,
     writer: &mut W,
 ) -> Result<Counts, RunFault>
     requires { length sheet.now.contents.fields < 2 ^ 31 }
     ensures ok { (w : World) → IsHost host.now w → IfOk result (FieldsReported
-        (comparing request.now.chosen request.now.format w late.now) sheet.now.contents.fields
+        (comparing request.now.chosen request.now.format w marks.now) sheet.now.contents.fields
         (W.contents writer.old) (W.contents writer.new)) }
     ensures err { (w : World) → IsHost host.now w → IfErr result (ReportBroke
-        (comparing request.now.chosen request.now.format w late.now) sheet.now.contents.fields
+        (comparing request.now.chosen request.now.format w marks.now) sheet.now.contents.fields
         (W.contents writer.old) (W.contents writer.new)) }
     ensures shown { IfOk result (λ counts.
         FieldsShow (display request.now.format P.shows) all progress.old counts progress.new) }
@@ -101,7 +88,7 @@ pub(crate) fn compare_fields<D: Disk, W: Write, P: Progress>(
     let mut fields = sheet.fields();
     while let Some(field) = fields.next() {
         match compare_field(
-            alloc, request, host, late, field, counts, all, progress, writer,
+            alloc, request, host, marks, field, counts, all, progress, writer,
         ) {
             Ok(after) => counts = after,
             Err(fault) => return Err(fault),

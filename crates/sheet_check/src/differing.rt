@@ -1,5 +1,5 @@
 //! The check of a worksheet whose answers that differ, or are new, are accepted.
-ghost use Rattle.std.specs.Prelude.{◌≡◌, ◌+◌, ◌++◌, ◌≤◌, ◌<◌, ◌^◌, [], List, Err, IfErr, IfNone, IfOk, IfSome, Some, false, length, true};
+ghost use Rattle.std.specs.Prelude.{◌≡◌, ◌+◌, ◌≤◌, ◌<◌, ◌^◌, [], List, Err, IfErr, IfNone, IfOk, IfSome, Some, false, length, true};
 ghost use Rattle.disk_model.specs.Disk.{DiskView, Rises};
 ghost use Rattle.worksheet.specs.declared.field.Field.{Field};
 ghost use Rattle.worksheet.specs.declared.op.Op.{Op};
@@ -11,84 +11,41 @@ ghost use Rattle.child_edge.specs.Faithful.{at};
 ghost use Rattle.sheet_check.specs.Kept.{Stores};
 ghost use Rattle.offline_programs.specs.declared.fault.RunFault.TheVariants as told;
 ghost use Rattle.journal.specs.declared.opening.OpenCause.TheVariants as opens;
-ghost use Rattle.check_report.specs.Chosen.{is_chosen};
 ghost use Rattle.check_report.specs.Verdicts.{total};
 ghost use Rattle.check_report.specs.declared.report.Format.TheVariants as formats;
 ghost use Rattle.sheet_check.specs.Accept.{AcceptAnswer, AcceptLeft, SheetAccepts, accepted, filing, to_accept};
 ghost use Rattle.sheet_check.specs.Evaluated.{way};
 ghost use Rattle.sheet_check.specs.Check.{IsCopy, passage};
 ghost use Rattle.sheet_check.specs.declared.named.CheckFault.TheVariants as named;
-ghost use Rattle.sheet_check.specs.Progress.{CheckShows, FieldsLeft, FieldsShow, LeavesLine, MakesRoom, SheetShows, checked_count, display};
-ghost use Rattle.sheet_check.specs.declared.progress.Sight.TheVariants as sight;
-ghost use Rattle.sheet_check.specs.inside.Accepting.{FieldBroke, FieldsBroke, FieldsTook, GoesOn, OnCopy, PutAll, ShownTook, storing};
-ghost use Rattle.sheet_check.specs.inside.Checking.{FieldShown, FieldWrote, FieldsEnded, question};
+ghost use Rattle.sheet_check.specs.Progress.{CheckShows, FieldsLeft, FieldsShow, LeavesLine, SheetShows, checked_count, display};
+ghost use Rattle.sheet_check.specs.inside.Accepting.{FieldBroke, FieldsBroke, FieldsTook, GoesOn, OnCopy, PutAll, storing};
+ghost use Rattle.sheet_check.specs.inside.Checking.{FieldShown, FieldWrote, FieldsEnded};
 ghost use Rattle.live.specs.Records.{left};
 
-use crate::accepting::{find_on_copy, take};
-use crate::checking::{Checked, count_checked, show_counts, tell_closing};
+use crate::accepting::accept_shown;
+use crate::checking::{Checked, show_counts, tell_closing};
 use crate::copying::open_copy;
-use crate::evaluating::evaluate;
+use crate::driving::{CopyDriver, Gave, drive_copy};
 use crate::named::{CheckFault, accept_named};
 use crate::progress::{Progress, Sight};
+use crate::sessions::count_checked;
 use arrivals::Sources;
-use check_report::{Counts, Format, Judgement, Request};
+use check_report::{Counts, Format, Request};
 use child_edge::stop_all;
 use disk_model::Disk;
+use driver::Driver;
 use journal::OpenFault;
 use offline_programs::RunFault;
 use recovery::{Store, one_sheet};
-use session_engine::Host;
 use std::alloc::Global;
 use std::io::Write;
 use worksheet::{Field, Sheet};
-
-/// Evaluates a field that is checked, and accepts and tells what that came to.
-fn accept_shown<D: Disk, S: Disk, C: Sources, W: Write, P: Progress>(
-    alloc: Global,
-    request: &Request,
-    host: &mut Host<D>,
-    sources: &mut C,
-    store: &mut Store<S>,
-    field: &Field,
-    progress: &mut P,
-    writer: &mut W,
-) -> Result<Judgement, RunFault>
-    requires chosen { is_chosen request.now.chosen field.now ≡ true }
-    requires stands { (w : World) × IsHost host.old w }
-    requires open { store.old.closed ≡ false }
-    requires there { has_field store.old.sheet.contents field.now.id ≡ true }
-    ensures written { store.old.gathers ≡ false → store.new.gathers ≡ false }
-    ensures ok { (w : World) → IsHost host.old w → (ops more : List Op) → (disk : DiskView)
-        → Stores ops more disk store.old → IfOk result (ShownTook
-        (to_accept (way C.after C.clock C.wakes request.now.limit) request.now.chosen)
-        (question 0 field.now) (at w sources.old host.old.store.disk)
-        (left host.new sources.new (W.contents writer.old) (W.contents writer.new)) (storing ops more disk store.new)) }
-    ensures err { (w : World) → IsHost host.old w → (ops more : List Op) → (disk : DiskView)
-        → Stores ops more disk store.old → IfErr result (FieldBroke
-        (to_accept (way C.after C.clock C.wakes request.now.limit) request.now.chosen)
-        field.now (at w sources.old host.old.store.disk)
-        (left host.new sources.new (W.contents writer.old) (W.contents writer.new)) (storing ops more disk store.new)) }
-    ensures room { IfOk result (λ j.
-        MakesRoom formats.Accepting P.shows j.verdict progress.old progress.new) }
-    ensures left { IfErr result (λ _. LeavesLine P.shows progress.old progress.new) }
-{
-    worksheet::laws::ops_make_worksheets();
-    let came = match evaluate(alloc, request.limit, host, sources, field) {
-        Ok(came) => came,
-        Err(fault) => return Err(fault),
-    };
-    match find_on_copy(alloc, &request.chosen, host, field, came.is_there) {
-        None => Err(RunFault::OutOfMemory),
-        Some(found) => take(store, field.id, found, progress, writer),
-    }
-}
 
 /// Checks a field, where it is one of those that are, and accepts what came where it differs or is new. The counts with what that came to, which are shown.
 fn accept_field<D: Disk, S: Disk, C: Sources, W: Write, P: Progress>(
     alloc: Global,
     request: &Request,
-    host: &mut Host<D>,
-    sources: &mut C,
+    driver: &mut CopyDriver<D, C>,
     store: &mut Store<S>,
     field: &Field,
     counts: Counts,
@@ -98,23 +55,23 @@ fn accept_field<D: Disk, S: Disk, C: Sources, W: Write, P: Progress>(
 ) -> Result<Counts, RunFault>
     requires few { total counts < 2 ^ 31 }
     requires errors { counts.errors ≤ total counts }
-    requires stands { (w : World) × IsHost host.old w }
+    requires stands { (w : World) × IsHost driver.old.host w }
     requires open { store.old.closed ≡ false }
     requires there { has_field store.old.sheet.contents field.now.id ≡ true }
     ensures written { store.old.gathers ≡ false → store.new.gathers ≡ false }
-    ensures ok { (w : World) → IsHost host.old w → (ops more : List Op) → (disk : DiskView)
+    ensures ok { (w : World) → IsHost driver.old.host w → (ops more : List Op) → (disk : DiskView)
         → Stores ops more disk store.old → IfOk result (λ after. (wrote : FieldWrote
         (to_accept (way C.after C.clock C.wakes request.now.limit) request.now.chosen)
-        field.now (at w sources.old host.old.store.disk)
-        (left host.new sources.new (W.contents writer.old) (W.contents writer.new)) counts after)
+        field.now (at w driver.old.sources driver.old.host.store.disk)
+        (left driver.new.host driver.new.sources (W.contents writer.old) (W.contents writer.new)) counts after)
         × PutAll (storing ops more disk store.new) (accepted wrote.0)) }
     ensures bound { IfOk result (λ after. total after ≤ total counts + 1) }
     ensures errors { IfOk result (λ after. after.errors ≤ total after) }
-    ensures err { (w : World) → IsHost host.old w → (ops more : List Op) → (disk : DiskView)
+    ensures err { (w : World) → IsHost driver.old.host w → (ops more : List Op) → (disk : DiskView)
         → Stores ops more disk store.old → IfErr result (FieldBroke
         (to_accept (way C.after C.clock C.wakes request.now.limit) request.now.chosen)
-        field.now (at w sources.old host.old.store.disk)
-        (left host.new sources.new (W.contents writer.old) (W.contents writer.new)) (storing ops more disk store.new)) }
+        field.now (at w driver.old.sources driver.old.host.store.disk)
+        (left driver.new.host driver.new.sources (W.contents writer.old) (W.contents writer.new)) (storing ops more disk store.new)) }
     ensures shown { IfOk result (λ after.
         FieldShown (display formats.Accepting P.shows) all counts after progress.old progress.new) }
     ensures left { IfErr result (λ _. LeavesLine P.shows progress.old progress.new) }
@@ -122,9 +79,7 @@ fn accept_field<D: Disk, S: Disk, C: Sources, W: Write, P: Progress>(
     if !request.chosen.has(field) {
         return Ok(counts);
     }
-    match accept_shown(
-        alloc, request, host, sources, store, field, progress, writer,
-    ) {
+    match accept_shown(alloc, request, driver, store, field, progress, writer) {
         Ok(judgement) => Ok(show_counts(counts.with(judgement), all, progress)),
         Err(fault) => Err(fault),
     }
@@ -135,27 +90,26 @@ fn accept_fields<D: Disk, S: Disk, C: Sources, W: Write, P: Progress>(
     alloc: Global,
     request: &Request,
     sheet: &Sheet,
-    host: &mut Host<D>,
-    sources: &mut C,
+    driver: &mut CopyDriver<D, C>,
     store: &mut Store<S>,
     all: u32,
     progress: &mut P,
     writer: &mut W,
 ) -> Result<Counts, RunFault>
     requires few { length sheet.now.contents.fields < 2 ^ 31 }
-    requires stands { (w : World) × IsHost host.old w }
+    requires stands { (w : World) × IsHost driver.old.host w }
     requires goes_on { GoesOn sheet.now.contents store.old }
     ensures written { store.old.gathers ≡ false → store.new.gathers ≡ false }
-    ensures ok { (w : World) → IsHost host.old w → (ops : List Op) → (disk : DiskView)
+    ensures ok { (w : World) → IsHost driver.old.host w → (ops : List Op) → (disk : DiskView)
         → Stores ops [] disk store.old → IfOk result (FieldsTook
         (to_accept (way C.after C.clock C.wakes request.now.limit) request.now.chosen)
-        sheet.now.contents.fields (at w sources.old host.old.store.disk)
-        (left host.new sources.new (W.contents writer.old) (W.contents writer.new)) (storing ops [] disk store.new)) }
-    ensures err { (w : World) → IsHost host.old w → (ops : List Op) → (disk : DiskView)
+        sheet.now.contents.fields (at w driver.old.sources driver.old.host.store.disk)
+        (left driver.new.host driver.new.sources (W.contents writer.old) (W.contents writer.new)) (storing ops [] disk store.new)) }
+    ensures err { (w : World) → IsHost driver.old.host w → (ops : List Op) → (disk : DiskView)
         → Stores ops [] disk store.old → IfErr result (FieldsBroke
         (to_accept (way C.after C.clock C.wakes request.now.limit) request.now.chosen)
-        sheet.now.contents.fields (at w sources.old host.old.store.disk)
-        (left host.new sources.new (W.contents writer.old) (W.contents writer.new)) (storing ops [] disk store.new)) }
+        sheet.now.contents.fields (at w driver.old.sources driver.old.host.store.disk)
+        (left driver.new.host driver.new.sources (W.contents writer.old) (W.contents writer.new)) (storing ops [] disk store.new)) }
     ensures shown { IfOk result (λ counts.
         FieldsShow (display formats.Accepting P.shows) all progress.old counts progress.new) }
     ensures left { IfErr result (λ _.
@@ -165,7 +119,7 @@ fn accept_fields<D: Disk, S: Disk, C: Sources, W: Write, P: Progress>(
     let mut fields = sheet.fields();
     while let Some(field) = fields.next() {
         match accept_field(
-            alloc, request, host, sources, store, field, counts, all, progress, writer,
+            alloc, request, driver, store, field, counts, all, progress, writer,
         ) {
             Ok(after) => counts = after,
             Err(fault) => return Err(fault),
@@ -179,38 +133,35 @@ fn accept_and_stop<D: Disk, S: Disk, C: Sources, W: Write, P: Progress>(
     alloc: Global,
     request: &Request,
     sheet: &Sheet,
-    host: &mut Host<D>,
-    sources: &mut C,
+    driver: &mut CopyDriver<D, C>,
     store: &mut Store<S>,
     progress: &mut P,
     writer: &mut W,
 ) -> Result<Counts, RunFault>
     requires few { length sheet.now.contents.fields < 2 ^ 31 }
-    requires stands { (w : World) × IsHost host.old w }
+    requires stands { (w : World) × IsHost driver.old.host w }
     requires goes_on { GoesOn sheet.now.contents store.old }
     ensures written { store.old.gathers ≡ false → store.new.gathers ≡ false }
-    ensures ok { (w : World) → IsHost host.old w → (ops : List Op) → (disk : DiskView)
+    ensures ok { (w : World) → IsHost driver.old.host w → (ops : List Op) → (disk : DiskView)
         → Stores ops [] disk store.old → IfOk result (λ counts. (ended : FieldsEnded
         (to_accept (way C.after C.clock C.wakes request.now.limit) request.now.chosen)
-        sheet.now.contents.fields w host.old.store.disk
-        (passage sources.old sources.new (W.contents writer.old) (W.contents writer.new)) counts)
+        sheet.now.contents.fields w driver.old.host.store.disk
+        (passage driver.old.sources driver.new.sources (W.contents writer.old) (W.contents writer.new)) counts)
         × PutAll (storing ops [] disk store.new) (accepted ended.0)) }
-    ensures err { (w : World) → IsHost host.old w → IsCopy sheet.now.contents w host.old.store.disk
+    ensures err { (w : World) → IsHost driver.old.host w → IsCopy sheet.now.contents w driver.old.host.store.disk
         → (ops : List Op) → (disk : DiskView) → Stores ops [] disk store.old
         → IfErr result (AcceptLeft
         (to_accept (way C.after C.clock C.wakes request.now.limit) request.now.chosen)
         sheet.now.contents
-        (passage sources.old sources.new (W.contents writer.old) (W.contents writer.new)) (filing ops disk store.new.disk)) }
+        (passage driver.old.sources driver.new.sources (W.contents writer.old) (W.contents writer.new)) (filing ops disk store.new.disk)) }
     ensures shown { SheetShows (display formats.Accepting P.shows)
         (checked_count request.now.chosen sheet.now.contents.fields)
         progress.old progress.new result }
 {
     let all = count_checked(&request.chosen, sheet);
-    let counted = accept_fields(
-        alloc, request, sheet, host, sources, store, all, progress, writer,
-    );
+    let counted = accept_fields(alloc, request, sheet, driver, store, all, progress, writer);
     progress.show(Sight::Nothing);
-    stop_all(host, sources);
+    stop_all(&driver.host, &mut driver.sources);
     counted
 }
 
@@ -220,31 +171,44 @@ fn accepted_on_copy<S: Disk, C: Sources, W: Write, P: Progress>(
     alloc: Global,
     request: &Request,
     sheet: &Sheet,
-    sources: &mut C,
+    sources: C,
     store: &mut Store<S>,
     progress: &mut P,
     writer: &mut W,
-) -> Option<Result<Counts, RunFault>>
+) -> Gave<Option<Result<Counts, RunFault>>, C>
     requires made { (ops : List Op) × Makes ops sheet.now.contents }
     requires few { length sheet.now.contents.fields < 2 ^ 31 }
     requires goes_on { GoesOn sheet.now.contents store.old }
     ensures written { store.old.gathers ≡ false → store.new.gathers ≡ false }
-    ensures none { IfNone result ((sources.new ≡ sources.old) × (writer.new ≡ writer.old)
+    ensures none { IfNone result.answer ((result.sources ≡ sources) × (writer.new ≡ writer.old)
         × (progress.new ≡ progress.old) × (store.new ≡ store.old)) }
     ensures some { (ops : List Op) → (disk : DiskView) → Stores ops [] disk store.old
-        → IfSome result (OnCopy
+        → IfSome result.answer (OnCopy
         (to_accept (way C.after C.clock C.wakes request.now.limit) request.now.chosen)
         sheet.now.contents
-        (passage sources.old sources.new (W.contents writer.old) (W.contents writer.new)) (storing ops [] disk store.new)) }
-    ensures shown { IfSome result (λ counted. SheetShows (display formats.Accepting P.shows)
+        (passage sources result.sources (W.contents writer.old) (W.contents writer.new)) (storing ops [] disk store.new)) }
+    ensures shown { IfSome result.answer (λ counted. SheetShows (display formats.Accepting P.shows)
         (checked_count request.now.chosen sheet.now.contents.fields)
         progress.old progress.new counted) }
 {
-    match open_copy(alloc, sheet) {
-        Some(mut host) => Some(accept_and_stop(
-            alloc, request, sheet, &mut host, sources, store, progress, writer,
-        )),
-        None => None,
+    let Some(host) = open_copy(alloc, sheet) else {
+        return Gave {
+            answer: None,
+            sources,
+        };
+    };
+    let mut driver = drive_copy(alloc, host, sources);
+    let counted = accept_and_stop(alloc, request, sheet, &mut driver, store, progress, writer);
+    let Driver {
+        alloc: _,
+        host: _,
+        sources,
+        sink: _,
+        agenda: _,
+    } = driver;
+    Gave {
+        answer: Some(counted),
+        sources,
     }
 }
 
@@ -253,23 +217,23 @@ fn accepted_on_copy<S: Disk, C: Sources, W: Write, P: Progress>(
 fn accepted_on_copies<S: Disk, C: Sources, W: Write, P: Progress>(
     alloc: Global,
     request: &Request,
-    sources: &mut C,
+    sources: C,
     store: &mut Store<S>,
     progress: &mut P,
     writer: &mut W,
-) -> Option<Result<Counts, RunFault>>
+) -> Gave<Option<Result<Counts, RunFault>>, C>
     requires made { (ops : List Op) × Makes ops store.old.sheet.contents }
     requires few { length store.old.sheet.contents.fields < 2 ^ 31 }
     requires goes_on { GoesOn store.old.sheet.contents store.old }
     ensures written { store.old.gathers ≡ false → store.new.gathers ≡ false }
-    ensures none { IfNone result ((sources.new ≡ sources.old) × (writer.new ≡ writer.old)
+    ensures none { IfNone result.answer ((result.sources ≡ sources) × (writer.new ≡ writer.old)
         × (progress.new ≡ progress.old) × (store.new ≡ store.old)) }
     ensures some { (ops : List Op) → (disk : DiskView) → Stores ops [] disk store.old
-        → IfSome result (OnCopy
+        → IfSome result.answer (OnCopy
         (to_accept (way C.after C.clock C.wakes request.now.limit) request.now.chosen)
         store.old.sheet.contents
-        (passage sources.old sources.new (W.contents writer.old) (W.contents writer.new)) (storing ops [] disk store.new)) }
-    ensures shown { IfSome result (λ counted. SheetShows (display formats.Accepting P.shows)
+        (passage sources result.sources (W.contents writer.old) (W.contents writer.new)) (storing ops [] disk store.new)) }
+    ensures shown { IfSome result.answer (λ counted. SheetShows (display formats.Accepting P.shows)
         (checked_count request.now.chosen store.old.sheet.contents.fields)
         progress.old progress.new counted) }
 {
@@ -284,7 +248,10 @@ fn accepted_on_copies<S: Disk, C: Sources, W: Write, P: Progress>(
             progress,
             writer,
         ),
-        None => None,
+        None => Gave {
+            answer: None,
+            sources,
+        },
     }
 }
 
@@ -292,11 +259,11 @@ fn accepted_on_copies<S: Disk, C: Sources, W: Write, P: Progress>(
 pub(crate) fn accept_sheet<S: Disk, C: Sources, W: Write, P: Progress>(
     alloc: Global,
     request: &Request,
-    sources: &mut C,
+    sources: C,
     store: &mut Store<S>,
     progress: &mut P,
     writer: &mut W,
-) -> Result<Counts, RunFault>
+) -> Gave<Result<Counts, RunFault>, C>
     requires made { (ops : List Op) × Makes ops store.old.sheet.contents }
     requires goes_on { GoesOn store.old.sheet.contents store.old }
     ensures written { store.old.gathers ≡ false → store.new.gathers ≡ false }
@@ -304,23 +271,40 @@ pub(crate) fn accept_sheet<S: Disk, C: Sources, W: Write, P: Progress>(
         → SheetAccepts
         (to_accept (way C.after C.clock C.wakes request.now.limit) request.now.chosen)
         store.old.sheet.contents
-        (passage sources.old sources.new (W.contents writer.old) (W.contents writer.new))
-        ((writer.new ≡ writer.old) × (sources.new ≡ sources.old)) (filing ops disk store.new.disk) result }
+        (passage sources result.sources (W.contents writer.old) (W.contents writer.new))
+        ((writer.new ≡ writer.old) × (result.sources ≡ sources)) (filing ops disk store.new.disk) result.answer }
     ensures shown { SheetShows (display formats.Accepting P.shows)
         (checked_count request.now.chosen store.old.sheet.contents.fields)
-        progress.old progress.new result }
+        progress.old progress.new result.answer }
 {
     worksheet::laws::ops_make_worksheets();
-    let Some(counted) = accepted_on_copies(alloc, request, sources, store, progress, writer) else {
-        progress.show(Sight::Nothing);
-        return Err(RunFault::OutOfMemory);
-    };
-    match counted {
-        Ok(counts) => match tell_closing(Format::Accepting, counts, writer) {
-            Ok(()) => Ok(counts),
-            Err(fault) => Err(fault),
+    let Gave { answer, sources } = accepted_on_copies(
+        alloc, request, sources, store, progress, writer,
+    );
+    match answer {
+        Some(counted) => match counted {
+            Ok(counts) => match tell_closing(Format::Accepting, counts, writer) {
+                Ok(()) => Gave {
+                    answer: Ok(counts),
+                    sources,
+                },
+                Err(fault) => Gave {
+                    answer: Err(fault),
+                    sources,
+                },
+            },
+            Err(fault) => Gave {
+                answer: Err(fault),
+                sources,
+            },
         },
-        Err(fault) => Err(fault),
+        None => {
+            progress.show(Sight::Nothing);
+            Gave {
+                answer: Err(RunFault::OutOfMemory),
+                sources,
+            }
+        }
     }
 }
 
@@ -339,7 +323,7 @@ pub fn check_accepting<D: Disk, C: Sources, W: Write, P: Progress>(
     alloc: Global,
     request: &Request,
     disk: D,
-    mut sources: C,
+    sources: C,
     progress: &mut P,
     writer: &mut W,
 ) -> Checked<D, C>
@@ -362,7 +346,9 @@ pub fn check_accepting<D: Disk, C: Sources, W: Write, P: Progress>(
 {
     match Store::open(alloc, disk) {
         Ok(mut store) => {
-            let answer = accept_named(alloc, request, &mut sources, &mut store, progress, writer);
+            let Gave { answer, sources } = accept_named(
+                alloc, request, sources, &mut store, progress, writer,
+            );
             Checked {
                 disk: store.into_disk(),
                 sources,

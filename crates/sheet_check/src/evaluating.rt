@@ -1,37 +1,25 @@
-//! The evaluation of a field.
-ghost use Rattle.std.specs.Prelude.{◌≡◌, ◌∷◌, ◌&&◌, ◌-◌, [], List, IfErr, IfOk, Some, false, is_some, not};
+//! The evaluation of a field by itself.
+ghost use Rattle.std.specs.Prelude.{◌≡◌, ◌∷◌, ◌&&◌, ◌-◌, [], IfErr, IfOk, false, is_some, not};
 ghost use Rattle.session_engine.specs.World.{World, life_of};
 ghost use Rattle.session_engine.specs.Host.{IsHost};
-ghost use Rattle.child_edge.specs.Faithful.{at, Beat, Served};
-ghost use Rattle.child_edge.specs.Told.{told};
-ghost use Rattle.sheet_check.specs.Evaluated.{Evaluated, WaitedBy, begins_asked, begins_for_memory, came_if, eval_of, fault_on_copy, is_asked as says_asked, is_for_memory as says_for_memory, shown_in, way};
-ghost use Rattle.sheet_check.specs.inside.Checking.{AskFailed, EvaluationBroke, WaitBroke, fault_of_cause};
+ghost use Rattle.child_edge.specs.Faithful.{at};
+ghost use Rattle.sheet_check.specs.Evaluated.{came_if, fault_on_copy, shown_in, way};
+ghost use Rattle.sheet_check.specs.Fields.{Evaluated, comes_by};
+ghost use Rattle.sheet_check.specs.Marks as marked;
+ghost use Rattle.sheet_check.specs.inside.Checking.{CameRemembered, EvaluationBroke};
 
+use crate::driving::{CopyDriver, checking_plan, drive_plan};
+use crate::marks::{is_in_time, lacked_memory, was_asked};
+use crate::silence::Mark;
 use arrivals::Sources;
-use child_edge::{EdgeCause, EdgeFault, serve, wait};
 use disk_model::Disk;
-use evaluation::wait_within;
-use host_events::{Command, HostFault, Reply};
+use host_events::HostFault;
 use offline_programs::RunFault;
 use session_engine::Host;
 use session_engine::host::LifeView;
 use sheet_json::Took;
-use std::alloc::Global;
-use worksheet::{Field, Name, Refusal};
-
-/// The fault of a check by why its edge broke off. Its disk lies in memory, so it fails for lack of that
-/// alone.
-fn check_fault(cause: EdgeCause) -> RunFault
-    ensures { result ≡ fault_of_cause cause }
-{
-    match cause {
-        EdgeCause::Host(HostFault::Disk) => RunFault::OutOfMemory,
-        EdgeCause::Host(HostFault::OutOfMemory) => RunFault::Host(HostFault::OutOfMemory),
-        EdgeCause::Host(HostFault::JournalFull) => RunFault::Host(HostFault::JournalFull),
-        EdgeCause::Host(HostFault::Closed) => RunFault::Host(HostFault::Closed),
-        EdgeCause::OutOfMemory => RunFault::OutOfMemory,
-    }
-}
+use std::alloc::{AllocError, Global};
+use worksheet::{Field, Name};
 
 /// The fault of a check by that of a wait within a limit, or of an evaluation, on the same disk.
 pub(crate) fn wait_fault(fault: RunFault) -> RunFault
@@ -52,91 +40,31 @@ pub(crate) fn wait_fault(fault: RunFault) -> RunFault
     }
 }
 
-/// Whether a reply says that a line was asked.
-fn is_asked(reply: &Reply) -> bool
-    ensures { result ≡ says_asked reply.now }
+/// Whether an answer came to the field with this number: its line was asked, and its time wasn't over.
+fn comes(marks: &[Mark], id: u32) -> bool
+    ensures { result ≡ comes_by marks.now id }
 {
-    match reply {
-        Reply::Asked(_) => true,
-        Reply::Done | Reply::Field(_) | Reply::Refused(_) | Reply::Child(_) | Reply::Nothing =>
-            false,
+    was_asked(marks) && is_in_time(marks, id)
+}
+
+/// The same, and a fault where there was no memory for the line.
+fn remembered(marks: &[Mark], id: u32) -> Result<bool, RunFault>
+    ensures ok { IfOk result (λ came. (came ≡ comes_by marks.now id) × (marked.lacked_memory marks.now ≡ false)) }
+    ensures err { IfErr result (λ why. why ≡ RunFault.OutOfMemory) }
+{
+    if lacked_memory(marks) {
+        return Err(RunFault::OutOfMemory);
     }
+    Ok(comes(marks, id))
 }
 
-/// Whether a reply says that there was no memory for the line.
-fn is_for_memory(reply: &Reply) -> bool
-    ensures { result ≡ says_for_memory reply.now }
+/// This number alone.
+fn one_id(alloc: Global, id: u32) -> Result<Vec<u32>, AllocError>
+    ensures { IfOk result (λ ids. ids.items ≡ id ∷ []) }
 {
-    matches!(reply, Reply::Refused(Refusal::OutOfMemory))
-}
-
-/// Whether the first of these replies says that the line was asked; a fault where it says that there was
-/// no memory for it.
-fn was_asked(replies: &[Reply]) -> Result<bool, RunFault>
-    ensures ok { IfOk result (λ asked. (asked ≡ begins_asked replies.now)
-        × (begins_for_memory replies.now ≡ false)) }
-    ensures err { IfErr result (λ fault. fault ≡ RunFault.OutOfMemory) }
-{
-    match replies.first() {
-        None => Ok(false),
-        Some(reply) if is_for_memory(reply) => Err(RunFault::OutOfMemory),
-        Some(reply) => Ok(is_asked(reply)),
-    }
-}
-
-/// Asks the line of a field. Whether it was asked; `OutOfMemory` where there is no memory for it.
-fn ask<D: Disk, C: Sources>(
-    alloc: Global,
-    host: &mut Host<D>,
-    sources: &mut C,
-    id: u32,
-) -> Result<bool, RunFault>
-    ensures ok { (w : World) → IsHost host.old w → IfOk result (λ asked. (beats : List Beat) × (t : World)
-        × Served C.after (at w sources.old host.old.store.disk) (eval_of id) beats
-        (at t sources.new host.new.store.disk)
-        × IsHost host.new t × (asked ≡ begins_asked (told beats))
-        × (begins_for_memory (told beats) ≡ false)) }
-    ensures err { (w : World) → IsHost host.old w → IfErr result (AskFailed
-        C.after id (at w sources.old host.old.store.disk) host.new sources.new) }
-{
-    match serve(alloc, host, sources, Command::Eval { id }) {
-        Ok(replies) => was_asked(replies.as_slice()),
-        Err(EdgeFault { replies: _, cause }) => Err(check_fault(cause)),
-    }
-}
-
-/// Waits for the answers. Whether the time of the field with this number, whose line was sent last, wasn't
-/// over.
-fn wait_for_all<D: Disk, C: Sources>(
-    alloc: Global,
-    limit: Option<u32>,
-    host: &mut Host<D>,
-    sources: &mut C,
-    id: u32,
-) -> Result<bool, RunFault>
-    ensures ok { (w : World) → IsHost host.old w → IfOk result (λ in_time. (t : World)
-        × WaitedBy limit (way C.after C.clock C.wakes limit) id (at w sources.old host.old.store.disk)
-        in_time (at t sources.new host.new.store.disk) × IsHost host.new t) }
-    ensures err { (w : World) → IsHost host.old w → IfErr result (WaitBroke
-        (way C.after C.clock C.wakes limit) id (at w sources.old host.old.store.disk) host.new sources.new) }
-{
-    match limit {
-        None => match wait(alloc, host, sources) {
-            Ok(_) => Ok(true),
-            Err(EdgeFault { replies: _, cause }) => Err(check_fault(cause)),
-        },
-        Some(seconds) => match wait_within(alloc, host, sources, seconds, id) {
-            Ok(in_time) => Ok(in_time),
-            Err(fault) => Err(wait_fault(fault)),
-        },
-    }
-}
-
-/// Whether an answer came: the line was asked, and its time wasn't over.
-fn comes(asked: bool, in_time: bool) -> bool
-    ensures { result ≡ (asked && in_time) }
-{
-    asked && in_time
+    let mut ids = Vec::new(alloc);
+    ids.push(id)?;
+    Ok(ids)
 }
 
 /// Whether no life is given.
@@ -162,14 +90,13 @@ pub(crate) struct Came {
     pub(crate) took: Took,
 }
 
-/// What it came to, by whether the line was asked and its time wasn't over; by the clock's two readings; and by
-/// whether no interpreter was there.
-fn came_of(asked: bool, in_time: bool, begun: u64, ended: u64, started: bool) -> Came
-    ensures answered { result.is_there ≡ (asked && in_time) }
+/// What it came to, by whether an answer came; by the clock's two readings; and by whether no interpreter was there.
+fn came_of(is_there: bool, begun: u64, ended: u64, started: bool) -> Came
+    ensures there { result.is_there ≡ is_there }
     ensures took { result.took ≡ record { millis = ended - begun; started = started } }
 {
     Came {
-        is_there: comes(asked, in_time),
+        is_there,
         took: Took {
             millis: ended.saturating_sub(begun),
             started,
@@ -177,29 +104,47 @@ fn came_of(asked: bool, in_time: bool, begun: u64, ended: u64, started: bool) ->
     }
 }
 
-/// Evaluates a field: asks its line, and waits for the answer, within the limit of time where there is one.
-pub(crate) fn evaluate<D: Disk, C: Sources>(
-    alloc: Global,
+/// Evaluates the field with this number by itself, within the limit of time where there is one. Whether an answer
+/// came.
+fn evaluate_alone<D: Disk, C: Sources>(
+    driver: &mut CopyDriver<D, C>,
     limit: Option<u32>,
-    host: &mut Host<D>,
-    sources: &mut C,
+    id: u32,
+) -> Result<bool, RunFault>
+    ensures ok { (w : World) → IsHost driver.old.host w → IfOk result (λ came. CameRemembered
+        (way C.after C.clock C.wakes limit) id (at w driver.old.sources driver.old.host.store.disk)
+        driver.new.host driver.new.sources driver.new.sink.kept × (came ≡ comes_by driver.new.sink.kept id)) }
+    ensures err { (w : World) → IsHost driver.old.host w → IfErr result (EvaluationBroke
+        (way C.after C.clock C.wakes limit) id (at w driver.old.sources driver.old.host.store.disk)
+        driver.new.host driver.new.sources) }
+{
+    let Ok(ids) = one_id(driver.alloc, id) else {
+        return Err(RunFault::OutOfMemory);
+    };
+    match drive_plan(driver, checking_plan(ids, limit, 1)) {
+        Ok(()) => remembered(driver.sink.kept.as_slice(), id),
+        Err(fault) => Err(wait_fault(fault)),
+    }
+}
+
+/// Evaluates a field: its line is asked, and its answer is waited for, within the limit of time where there is one.
+pub(crate) fn evaluate<D: Disk, C: Sources>(
+    driver: &mut CopyDriver<D, C>,
+    limit: Option<u32>,
     field: &Field,
 ) -> Result<Came, RunFault>
-    ensures ok { (w : World) → IsHost host.old w → IfOk result (λ came. (t : World)
-        × Evaluated (way C.after C.clock C.wakes limit) field.now (at w sources.old host.old.store.disk)
-        (came_if came.is_there (shown_in t field.now.id)) came.took (at t sources.new host.new.store.disk)
-        × IsHost host.new t) }
-    ensures err { (w : World) → IsHost host.old w → IfErr result (EvaluationBroke
-        (way C.after C.clock C.wakes limit) field.now.id (at w sources.old host.old.store.disk) host.new sources.new) }
+    ensures ok { (w : World) → IsHost driver.old.host w → IfOk result (λ came. (t : World)
+        × Evaluated (way C.after C.clock C.wakes limit) field.now (at w driver.old.sources driver.old.host.store.disk)
+        (came_if came.is_there (shown_in t field.now.id)) came.took (at t driver.new.sources driver.new.host.store.disk)
+        × IsHost driver.new.host t) }
+    ensures err { (w : World) → IsHost driver.old.host w → IfErr result (EvaluationBroke
+        (way C.after C.clock C.wakes limit) field.now.id (at w driver.old.sources driver.old.host.store.disk)
+        driver.new.host driver.new.sources) }
 {
-    let begun = sources.now();
-    let started = is_down(host, field.session);
-    let asked = match ask(alloc, host, sources, field.id) {
-        Ok(asked) => asked,
-        Err(fault) => return Err(fault),
-    };
-    match wait_for_all(alloc, limit, host, sources, field.id) {
-        Ok(in_time) => Ok(came_of(asked, in_time, begun, sources.now(), started)),
+    let begun = driver.sources.now();
+    let started = is_down(&driver.host, field.session);
+    match evaluate_alone(driver, limit, field.id) {
+        Ok(is_there) => Ok(came_of(is_there, begun, driver.sources.now(), started)),
         Err(fault) => Err(fault),
     }
 }

@@ -10,6 +10,7 @@ mod copying;
 mod differing;
 mod driving;
 mod evaluating;
+mod marks;
 mod named;
 mod progress;
 mod putting;

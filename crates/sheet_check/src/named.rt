@@ -17,8 +17,9 @@ ghost use Rattle.sheet_check.specs.inside.Accepting.{GoesOn};
 
 use crate::checking::check_sheet;
 use crate::differing::accept_sheet;
+use crate::driving::Gave;
 use crate::progress::Progress;
-use crate::together::{Gave, check_by_sessions};
+use crate::together::check_by_sessions;
 use arrivals::Sources;
 use check_report::{Chosen, Counts, Ids, Request};
 use disk_model::Disk;
@@ -115,25 +116,36 @@ pub(crate) fn check_named<C: Sources, W: Write, P: Progress>(
     alloc: Global,
     request: &Request,
     sheet: &Sheet,
-    sources: &mut C,
+    sources: C,
     progress: &mut P,
     writer: &mut W,
-) -> Result<Counts, CheckFault>
+) -> Gave<Result<Counts, CheckFault>, C>
     requires { (ops : List Op) × Makes ops sheet.now.contents }
     ensures checked { ByNames (missing_named request.now.chosen sheet.now.contents.fields)
-        ((writer.new ≡ writer.old) × (sources.new ≡ sources.old))
+        ((writer.new ≡ writer.old) × (result.sources ≡ sources))
         (SheetAnswer
         (one_by_one (way C.after C.clock C.wakes request.now.limit) request.now.chosen request.now.format)
-        sheet.now.contents (passage sources.old sources.new (W.contents writer.old) (W.contents writer.new))
-        ((writer.new ≡ writer.old) × (sources.new ≡ sources.old))) result }
+        sheet.now.contents (passage sources result.sources (W.contents writer.old) (W.contents writer.new))
+        ((writer.new ≡ writer.old) × (result.sources ≡ sources))) result.answer }
     ensures shown { ByNames (missing_named request.now.chosen sheet.now.contents.fields)
         (progress.new ≡ progress.old)
         (SheetShows (display request.now.format P.shows)
-        (checked_count request.now.chosen sheet.now.contents.fields) progress.old progress.new) result }
+        (checked_count request.now.chosen sheet.now.contents.fields) progress.old progress.new) result.answer }
 {
     match missing_named(&request.chosen, sheet) {
-        Some(id) => Err(CheckFault::NoField(id)),
-        None => answer_as(check_sheet(alloc, request, sheet, sources, progress, writer)),
+        Some(id) => Gave {
+            answer: Err(CheckFault::NoField(id)),
+            sources,
+        },
+        None => {
+            let Gave { answer, sources } = check_sheet(
+                alloc, request, sheet, sources, progress, writer,
+            );
+            Gave {
+                answer: answer_as(answer),
+                sources,
+            }
+        }
     }
 }
 
@@ -180,30 +192,41 @@ pub(crate) fn check_named_together<C: Sources, W: Write, P: Progress>(
 pub(crate) fn accept_named<S: Disk, C: Sources, W: Write, P: Progress>(
     alloc: Global,
     request: &Request,
-    sources: &mut C,
+    sources: C,
     store: &mut Store<S>,
     progress: &mut P,
     writer: &mut W,
-) -> Result<Counts, CheckFault>
+) -> Gave<Result<Counts, CheckFault>, C>
     requires made { (ops : List Op) × Makes ops store.old.sheet.contents }
     requires goes_on { GoesOn store.old.sheet.contents store.old }
     ensures written { store.old.gathers ≡ false → store.new.gathers ≡ false }
     ensures accepted { (ops : List Op) → (disk : DiskView) → Stores ops [] disk store.old
         → ByNames (missing_named request.now.chosen store.old.sheet.contents.fields)
-        (((writer.new ≡ writer.old) × (sources.new ≡ sources.old)) × (store.new ≡ store.old))
+        (((writer.new ≡ writer.old) × (result.sources ≡ sources)) × (store.new ≡ store.old))
         (SheetAccepts
         (to_accept (way C.after C.clock C.wakes request.now.limit) request.now.chosen)
         store.old.sheet.contents
-        (passage sources.old sources.new (W.contents writer.old) (W.contents writer.new))
-        ((writer.new ≡ writer.old) × (sources.new ≡ sources.old)) (filing ops disk store.new.disk)) result }
+        (passage sources result.sources (W.contents writer.old) (W.contents writer.new))
+        ((writer.new ≡ writer.old) × (result.sources ≡ sources)) (filing ops disk store.new.disk)) result.answer }
     ensures shown { ByNames (missing_named request.now.chosen store.old.sheet.contents.fields)
         (progress.new ≡ progress.old)
         (SheetShows (display formats.Accepting P.shows)
-        (checked_count request.now.chosen store.old.sheet.contents.fields) progress.old progress.new) result }
+        (checked_count request.now.chosen store.old.sheet.contents.fields) progress.old progress.new) result.answer }
 {
     let missing = missing_named(&request.chosen, store.sheet());
     match missing {
-        Some(id) => Err(CheckFault::NoField(id)),
-        None => answer_as(accept_sheet(alloc, request, sources, store, progress, writer)),
+        Some(id) => Gave {
+            answer: Err(CheckFault::NoField(id)),
+            sources,
+        },
+        None => {
+            let Gave { answer, sources } = accept_sheet(
+                alloc, request, sources, store, progress, writer,
+            );
+            Gave {
+                answer: answer_as(answer),
+                sources,
+            }
+        }
     }
 }

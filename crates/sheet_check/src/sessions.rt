@@ -1,8 +1,9 @@
-//! Whether the fields that are checked are of several sessions.
-ghost use Rattle.std.specs.Prelude.{◌≡◌, find};
+//! How many fields are checked, and whether they are of several sessions.
+ghost use Rattle.std.specs.Prelude.{◌≡◌, ◌<◌, ◌^◌, find, length};
 ghost use Rattle.std.specs.List.{list_any};
 ghost use Rattle.std.specs.Option.{option_copied};
 ghost use Rattle.check_report.specs.Chosen.{is_chosen};
+ghost use Rattle.sheet_check.specs.Progress.{checked_count};
 ghost use Rattle.sheet_check.specs.Together as together;
 
 use check_report::Chosen;
@@ -39,4 +40,19 @@ pub(crate) fn has_several(chosen: &Chosen, sheet: &Sheet) -> bool
         None => false,
         Some(first) => has_beside(chosen, first.session, sheet),
     }
+}
+
+/// How many fields of a worksheet are checked.
+pub(crate) fn count_checked(chosen: &Chosen, sheet: &Sheet) -> u32
+    requires { length sheet.now.contents.fields < 2 ^ 31 }
+    ensures { result ≡ checked_count chosen.now sheet.now.contents.fields }
+{
+    let mut count: u32 = 0;
+    let mut fields = sheet.fields();
+    while let Some(field) = fields.next() {
+        if chosen.has(field) {
+            count += 1;
+        }
+    }
+    count
 }

@@ -1,6 +1,6 @@
 //! What a check lends a driver: programs of which none is looked for, and a sink that prints nothing.
 ghost use Rattle.std.specs.Prelude.{◌≡◌, ◌++◌, ◌∷◌, [], IfErr, OnOk};
-ghost use Rattle.sheet_check.specs.Driven.{late_shown, over_number};
+ghost use Rattle.sheet_check.specs.Marks.{line_marks, note_marks, refusal_marks, reply_marks, shown_marks};
 
 use block_tree::Sequence;
 use disk_model::Disk;
@@ -10,6 +10,7 @@ use host_events::{Outcome, Reply};
 use offline_programs::RunFault;
 use session_engine::Host;
 use tellings::Note;
+use worksheet::Refusal;
 
 /// No program is looked for: each counts as there.
 #[derive(Drop)]
@@ -25,31 +26,78 @@ impl Programs for AllThere {
     }
 }
 
-/// A sink that prints nothing, and keeps the numbers of the fields whose time was over, in the order in which that is noted.
-#[derive(Drop)]
-pub(crate) struct LateFields {
-    pub(crate) ids: Sequence<u32>,
+/// What is kept of what would be printed.
+#[derive(Clone, Copy, Debug, PartialEq, Eq)]
+pub(crate) enum Mark {
+    /// The line of a field was asked.
+    Asked,
+    /// There was no memory for it.
+    NoMemory,
+    /// The time of the field with this number was over.
+    Over(u32),
 }
 
-impl LateFields {
-    /// Keeps a number after the others. `OutOfMemory`: it isn't kept.
-    fn keep(&mut self, id: u32) -> Result<(), RunFault>
-        ensures ok { OnOk result (self.new.ids ≡ self.old.ids ++ id ∷ []) }
+/// A sink that prints nothing, and keeps marks, in the order in which it would print.
+#[derive(Drop)]
+pub(crate) struct Marks {
+    pub(crate) kept: Sequence<Mark>,
+}
+
+impl Marks {
+    /// Keeps a mark after the others. `OutOfMemory`: it isn't kept.
+    fn keep(&mut self, mark: Mark) -> Result<(), RunFault>
+        ensures ok { OnOk result (self.new.kept ≡ self.old.kept ++ mark ∷ []) }
         ensures err { IfErr result (λ why. why ≡ RunFault.OutOfMemory) }
     {
-        match self.ids.push(id) {
+        match self.kept.push(mark) {
             Ok(()) => Ok(()),
             Err(_) => Err(RunFault::OutOfMemory),
         }
     }
 
+    /// Keeps that there was no memory for a line, where it was refused for that.
+    fn keep_refusal(&mut self, why: Refusal) -> Result<(), RunFault>
+        ensures ok { OnOk result (self.new.kept ≡ self.old.kept ++ refusal_marks why) }
+        ensures err { IfErr result (λ why. why ≡ RunFault.OutOfMemory) }
+    {
+        match why {
+            Refusal::OutOfMemory => self.keep(Mark::NoMemory),
+            _ => Ok(()),
+        }
+    }
+
+    /// Keeps what a reply says of its line.
+    fn keep_reply(&mut self, reply: &Reply) -> Result<(), RunFault>
+        ensures ok { OnOk result (self.new.kept ≡ self.old.kept ++ reply_marks reply.now) }
+        ensures err { IfErr result (λ why. why ≡ RunFault.OutOfMemory) }
+    {
+        match reply {
+            Reply::Asked(_) => self.keep(Mark::Asked),
+            Reply::Refused(why) => self.keep_refusal(*why),
+            Reply::Done | Reply::Field(_) | Reply::Child(_) | Reply::Nothing => Ok(()),
+        }
+    }
+
+    /// The same of lines, one after another.
+    fn keep_lines(&mut self, outcomes: &[Outcome]) -> Result<(), RunFault>
+        ensures ok { OnOk result (self.new.kept ≡ self.old.kept ++ line_marks outcomes.now) }
+        ensures err { IfErr result (λ why. why ≡ RunFault.OutOfMemory) }
+    {
+        for outcome in outcomes {
+            if let Err(fault) = self.keep_reply(&outcome.reply) {
+                return Err(fault);
+            }
+        }
+        Ok(())
+    }
+
     /// Keeps the number of the field whose time was over, where that is noted.
     fn keep_noted(&mut self, note: Note) -> Result<(), RunFault>
-        ensures ok { OnOk result (self.new.ids ≡ self.old.ids ++ over_number note) }
+        ensures ok { OnOk result (self.new.kept ≡ self.old.kept ++ note_marks note) }
         ensures err { IfErr result (λ why. why ≡ RunFault.OutOfMemory) }
     {
         match note {
-            Note::Over(id, _) => self.keep(id),
+            Note::Over(id, _) => self.keep(Mark::Over(id)),
             Note::Bad(_)
             | Note::Nothing(_)
             | Note::Waited(_, _)
@@ -62,7 +110,7 @@ impl LateFields {
 
     /// The same of what is shown.
     fn keep_shown(&mut self, show: Show) -> Result<(), RunFault>
-        ensures ok { OnOk result (self.new.ids ≡ self.old.ids ++ late_shown show) }
+        ensures ok { OnOk result (self.new.kept ≡ self.old.kept ++ shown_marks show) }
         ensures err { IfErr result (λ why. why ≡ RunFault.OutOfMemory) }
     {
         match show {
@@ -74,18 +122,18 @@ impl LateFields {
     }
 }
 
-impl Sink for LateFields {
-    ghost use Rattle.sheet_check.specs.Driven.{late_rules};
+impl Sink for Marks {
+    ghost use Rattle.sheet_check.specs.Marks.{mark_rules};
 
-    ghost rules = { late_rules };
+    ghost rules = { mark_rules };
 
     fn lines<D: Disk>(
         &mut self,
         _host: &Host<D>,
         _first: u64,
-        _outcomes: &[Outcome],
+        outcomes: &[Outcome],
     ) -> Result<(), RunFault> {
-        Ok(())
+        self.keep_lines(outcomes)
     }
 
     fn lives<D: Disk>(&mut self, _host: &Host<D>, _outcomes: &[Outcome]) -> Result<(), RunFault> {

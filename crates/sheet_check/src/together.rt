@@ -1,5 +1,5 @@
 //! The check of a worksheet whose fields are evaluated side by side.
-ghost use Rattle.std.specs.Prelude.{◌≡◌, ◌<◌, ◌^◌, [], List, Err, IfErr, IfNone, IfOk, IfSome, length};
+ghost use Rattle.std.specs.Prelude.{◌≡◌, ◌<◌, ◌^◌, List, Err, IfErr, IfNone, IfOk, IfSome, length};
 ghost use Rattle.worksheet.specs.declared.op.Op.{Op};
 ghost use Rattle.recovery.specs.Sheets.{Makes};
 ghost use Rattle.session_engine.specs.World.{World};
@@ -13,24 +13,22 @@ ghost use Rattle.sheet_check.specs.Evaluated.{way};
 ghost use Rattle.sheet_check.specs.Check.{IsCopy, OnlyRead, passage};
 ghost use Rattle.sheet_check.specs.declared.named.CheckFault.TheVariants as named;
 ghost use Rattle.sheet_check.specs.Progress.{CheckShows, FieldsLeft, FieldsShow, SheetShows, checked_count, display};
-ghost use Rattle.sheet_check.specs.Together.{TellsBySessions, TellsTogether, TogetherAnswer, TogetherTells, checking_plan as plan_of_check, cleared, side_by_side};
+ghost use Rattle.sheet_check.specs.Together.{TellsBySessions, TellsTogether, TogetherAnswer, TogetherTells, cleared, side_by_side};
 ghost use Rattle.sheet_check.specs.inside.Comparing.{BrokeTogether, CameTogether, EndedTogether, FailedTogether, OnCleared, ReportedTogether};
 
-use crate::checking::{Checked, check_sheet, count_checked, tell_closing};
+use crate::checking::{Checked, check_sheet, tell_closing};
 use crate::clearing::{checked_ids, open_cleared};
 use crate::comparing::compare_fields;
-use crate::driving::{CopyDriver, drive_copy, drive_plan};
+use crate::driving::{CopyDriver, Gave, checking_plan, drive_copy, drive_plan};
 use crate::evaluating::wait_fault;
 use crate::named::{CheckFault, check_named_together};
 use crate::progress::{Progress, Sight};
-use crate::sessions::has_several;
+use crate::sessions::{count_checked, has_several};
 use arrivals::Sources;
-use block_tree::Sequence;
 use check_report::{Counts, Request};
 use child_edge::stop_all;
 use disk_model::Disk;
 use driver::Driver;
-use evaluation::{Plan, Which};
 use journal::OpenFault;
 use offline_programs::RunFault;
 use recovery::Store;
@@ -38,23 +36,8 @@ use std::alloc::Global;
 use std::io::Write;
 use worksheet::Sheet;
 
-/// How the fields with these numbers are evaluated: all of them, up to the end.
-pub(crate) fn checking_plan(ids: Vec<u32>, limit: Option<u32>, jobs: u32) -> Plan
-    ensures { result ≡ plan_of_check ids.items limit jobs }
-{
-    Plan {
-        which: Which::Named(Sequence::from_vec(ids)),
-        unanswered: false,
-        strict: false,
-        at_errors: false,
-        limit,
-        keep_going: true,
-        jobs,
-    }
-}
-
-/// Evaluates the fields of a worksheet that are checked, on a copy of it. The numbers of those whose time was
-/// over are in the driver's sink.
+/// Evaluates the fields of a worksheet that are checked, on a copy of it. The marks of that are in the driver's
+/// sink.
 fn evaluate_checked<D: Disk, C: Sources>(
     alloc: Global,
     request: &Request,
@@ -65,7 +48,7 @@ fn evaluate_checked<D: Disk, C: Sources>(
     requires { (w : World) × IsHost driver.old.host w }
     ensures ok { (w : World) → IsHost driver.old.host w → IfOk result (λ done. CameTogether
         (side_by_side (way C.after C.clock C.wakes request.now.limit) jobs request.now.chosen request.now.format)
-        sheet.now.contents.fields (at w driver.old.sources driver.old.host.store.disk) driver.new.host driver.new.sources driver.new.sink.ids) }
+        sheet.now.contents.fields (at w driver.old.sources driver.old.host.store.disk) driver.new.host driver.new.sources driver.new.sink.kept) }
     ensures err { (w : World) → IsHost driver.old.host w → IfErr result (BrokeTogether
         (side_by_side (way C.after C.clock C.wakes request.now.limit) jobs request.now.chosen request.now.format)
         sheet.now.contents.fields (at w driver.old.sources driver.old.host.store.disk) driver.new.host driver.new.sources) }
@@ -112,7 +95,7 @@ fn check_together_on<D: Disk, C: Sources, W: Write, P: Progress>(
             request,
             sheet,
             &driver.host,
-            driver.sink.ids.as_slice(),
+            driver.sink.kept.as_slice(),
             all,
             progress,
             writer,
@@ -152,12 +135,6 @@ fn check_together_and_stop<D: Disk, C: Sources, W: Write, P: Progress>(
     progress.show(Sight::Nothing);
     stop_all(&driver.host, &mut driver.sources);
     counted
-}
-
-/// What was answered, and the sources that are given back.
-pub(crate) struct Gave<T, C> {
-    pub(crate) answer: T,
-    pub(crate) sources: C,
 }
 
 /// Checks a worksheet on a copy of it, whose host ends here. None where there is no memory for the copy.
@@ -267,7 +244,7 @@ pub(crate) fn check_by_sessions<C: Sources, W: Write, P: Progress>(
     request: &Request,
     jobs: u32,
     sheet: &Sheet,
-    mut sources: C,
+    sources: C,
     progress: &mut P,
     writer: &mut W,
 ) -> Gave<Result<Counts, RunFault>, C>
@@ -283,10 +260,7 @@ pub(crate) fn check_by_sessions<C: Sources, W: Write, P: Progress>(
     if has_several(&request.chosen, sheet) {
         check_sheet_together(alloc, request, jobs, sheet, sources, progress, writer)
     } else {
-        Gave {
-            answer: check_sheet(alloc, request, sheet, &mut sources, progress, writer),
-            sources,
-        }
+        check_sheet(alloc, request, sheet, sources, progress, writer)
     }
 }
 

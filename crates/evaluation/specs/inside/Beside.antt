@@ -1,26 +1,17 @@
 -- What the functions about fields that wait side by side promise each other.
-use Rattle.std.specs.Prelude.{◌≡◌, ◌⊎◌, ◌<◌, ◌≤◌, ◌-◌, ◌&&◌, ℕ, Bool, true, false, not, is_some, List, length, slice_get}
+use Rattle.std.specs.Prelude.{◌≡◌, ◌<◌, ◌≤◌, ◌-◌, ◌&&◌, ℕ, Bool, true, false, not, is_some, List, length, slice_get}
 use Rattle.worksheet.specs.declared.field.Field.{Field}
 use Rattle.worksheet.specs.declared.field.Session.{Session}
-use Rattle.session_engine.specs.World.{World, sheet_in}
-use Rattle.live.specs.declared.holding.Hold.TheVariants as hold
+use Rattle.session_engine.specs.World.{World}
 use Rattle.child_edge.specs.Seats.{seats_of, waits}
 use Rattle.evaluation.specs.declared.plan.Plan.{Plan}
 use Rattle.evaluation.specs.declared.plan.Stand.{Stand}
-use Rattle.evaluation.specs.Meant.{IsAsked, is_passed, stop_line}
-use Rattle.evaluation.specs.Beside.{is_waiting_one, joins}
-
--- no field is asked next
-pub record AsksNone (plan : Plan) (fields : List Field) (meant : List ℕ) (stand : Stand) : Type 0 where
-  pub each : (k id : ℕ) → IsAsked plan fields meant stand k id → ⊥
+use Rattle.evaluation.specs.Meant.{is_passed, stop_line}
+use Rattle.evaluation.specs.Beside.{is_waiting_one}
 
 -- the first field that was neither asked nor passed over isn't passed over here, and a strict evaluation doesn't stop before it
 abbrev pub is_due : Plan → List Field → List ℕ → Stand → Bool
 is_due plan fields meant stand = not (is_some (stop_line plan fields stand)) && not (is_passed plan fields stand.lasts meant stand.taken)
-
--- this field is the next, and no item waits or it joins those that wait
-abbrev pub IsDueAt : Plan → World → List ℕ → Stand → ℕ → ℕ → Type 0
-IsDueAt plan w meant stand k id = IsAsked plan (sheet_in w).fields meant stand k id × ((stand.held ≡ hold.Free) ⊎ (joins plan w stand k id ≡ true))
 
 abbrev pub one_if : Bool → ℕ
 one_if true = 1

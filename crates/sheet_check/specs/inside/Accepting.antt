@@ -25,7 +25,8 @@ use Rattle.check_report.specs.Reports.{Case, case, report_front}
 use Rattle.check_report.specs.Errors.{brings_error}
 use Rattle.check_report.specs.Words.{acceptance_text}
 use Rattle.live.specs.Records.{Left}
-use Rattle.sheet_check.specs.Evaluated.{FieldChecked, FieldsChecked, OneByOne, reason_shown_in}
+use Rattle.sheet_check.specs.Evaluated.{OneByOne, reason_shown_in}
+use Rattle.sheet_check.specs.Fields.{FieldChecked, FieldsChecked}
 use Rattle.sheet_check.specs.Check.{IsCopy, Passage}
 use Rattle.sheet_check.specs.Accept.{AcceptLeft, accepted, accepted_answer, accepted_of, filing}
 use Rattle.sheet_check.specs.declared.accepting.Finding.{Finding}

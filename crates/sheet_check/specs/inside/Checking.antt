@@ -1,24 +1,15 @@
 -- What the functions of a check promise each other. No public contract names this.
-use Rattle.std.specs.Prelude.{◌≡◌, ◌+◌, ◌⊎◌, ℕ, List, [], ◌∷◌, ◌++◌, Option, Some, Result, IfOk, IfErr}
-use Rattle.host_events.specs.declared.event.Event.{Event}
-use Rattle.host_events.specs.declared.outcome.HostFault.{HostFault}
-use Rattle.host_events.specs.declared.outcome.HostFault.TheVariants as hosts
-use Rattle.child_edge.specs.declared.serving.EdgeCause.{EdgeCause}
-use Rattle.child_edge.specs.declared.serving.EdgeCause.TheVariants as cause
-use Rattle.child_edge.specs.Edge.{Stopped}
-use Rattle.host_events.specs.declared.command.Command.TheVariants as command
-use Rattle.sheet_text.specs.declared.script.ScriptLine.TheVariants as line
-use Rattle.sheet_programs.specs.Lines.{LineLed}
+use Rattle.std.specs.Prelude.{◌≡◌, ◌+◌, ◌⊎◌, ℕ, false, List, [], ◌∷◌, ◌++◌, Option, Some, Result, IfOk, IfErr}
 use Rattle.std.specs.Io.KnownBytes.{Appends}
 use Rattle.disk_model.specs.Disk.{DiskView}
 use Rattle.worksheet.specs.declared.field.Answer.{Answer}
 use Rattle.worksheet.specs.declared.field.Field.{Field}
+use Rattle.worksheet.specs.Contents.{Contents}
 use Rattle.session_engine.specs.World.{World}
 use Rattle.session_engine.specs.Host.{HostView, IsHost}
-use Rattle.child_edge.specs.Faithful.{Relation, At, at, Beat, Served, ServedUpTo}
+use Rattle.child_edge.specs.Faithful.{At, at}
 use Rattle.child_edge.specs.Seats.{running}
 use Rattle.child_edge.specs.Stops.{Stops}
-use Rattle.sheet_programs.specs.Told.{StandsOrStopped}
 use Rattle.offline_programs.specs.declared.fault.RunFault.{RunFault}
 use Rattle.offline_programs.specs.declared.fault.RunFault.TheVariants as fault
 use Rattle.check_report.specs.declared.verdict.Counts.{Counts}
@@ -29,37 +20,27 @@ use Rattle.check_report.specs.Reports.{Case, case, case_text, cases_text, report
 use Rattle.check_report.specs.Verdicts.{counted_with, counts_of, total}
 use Rattle.check_report.specs.Errors.{brings_error}
 use Rattle.live.specs.Records.{Left}
-use Rattle.sheet_check.specs.Evaluated.{Evaluated, FieldChecked, FieldsChecked, OneByOne, Way, eval_of, reason_shown_in}
-use Rattle.worksheet.specs.Contents.{Contents}
-use Rattle.sheet_check.specs.Check.{FirstLed, FirstTooLong, FirstUnwatched, FirstUpTo, IsCopy, NotOfDisk, Passage, TooLongBy, UnwatchedBy, WaitLedBy, WaitUpToBy}
-use Rattle.sheet_check.specs.declared.progress.Sight.TheVariants as sight
+use Rattle.sheet_check.specs.Check.{FirstBroke, FirstLed, IsCopy, Passage, StopsAll, world_at_break}
+use Rattle.sheet_check.specs.Driven.{DriveBroke, DrivenToEnd, IsOfEvaluation, one_plan}
+use Rattle.sheet_check.specs.Evaluated.{OneByOne, Way, fault_on_copy, reason_shown_in}
+use Rattle.sheet_check.specs.Fields.{Evaluated, FieldChecked, FieldsChecked}
+use Rattle.sheet_check.specs.Marks.{lacked_memory}
 use Rattle.sheet_check.specs.Progress.{Display, MakesRoom}
+use Rattle.sheet_check.specs.declared.progress.Sight.TheVariants as sight
+use Rattle.sheet_check.specs.declared.silence.Mark.{Mark}
 
--- the fault of a check by why its edge broke off
-abbrev pub fault_of_cause : EdgeCause → RunFault
-fault_of_cause (cause.Host hosts.Disk) = fault.OutOfMemory
-fault_of_cause (cause.Host hosts.OutOfMemory) = fault.Host hosts.OutOfMemory
-fault_of_cause (cause.Host hosts.JournalFull) = fault.Host hosts.JournalFull
-fault_of_cause (cause.Host hosts.Closed) = fault.Host hosts.Closed
-fault_of_cause cause.OutOfMemory = fault.OutOfMemory
+-- A field was evaluated from here by itself, and this is where the copy's host stands.
+abbrev pub CameAlone : {C : Type 0} → Way C → ℕ → At C → HostView → C → List Mark → Type 0
+CameAlone o id s h c marks = (t : World) × DrivenToEnd o (one_plan o id) s marks (at t c h.store.disk) × IsHost h t
 
--- An `eval` broke off: up to the event at which the host had a fault, or for lack of memory.
-pub data AskFailed {C : Type 0} (R : Relation C) (id : ℕ) (s : At C) (h : HostView) (c : C) : RunFault → Type 0 where
-  stopped : (f : HostFault) (beats : List Beat) (e : Event) (t : World) (d : DiskView) → ServedUpTo R s (eval_of id) beats e (at t c d) → Stopped d h t e f → NotOfDisk f
-      → AskFailed R id s h c (fault.Host f)
-  unremembered : (t : World) (d : DiskView) → LineLed R (Some (line.Command (command.Eval id))) s (at t c d) → StandsOrStopped h t d → AskFailed R id s h c fault.OutOfMemory
+-- The same, and there was memory for its line, or there was none.
+abbrev pub CameRemembered : {C : Type 0} → Way C → ℕ → At C → HostView → C → List Mark → Type 0
+CameRemembered o id s h c marks = CameAlone o id s h c marks × (lacked_memory marks ≡ false)
 
--- The wait for an answer broke off in the same ways, or the sources couldn't be watched, or as many steps came as are counted.
-pub data WaitBroke {C : Type 0} (o : Way C) (id : ℕ) (s : At C) (h : HostView) (c : C) : RunFault → Type 0 where
-  stopped : (f : HostFault) (e : Event) (t : World) (d : DiskView) → WaitUpToBy o.limit o id s e (at t c d) → Stopped d h t e f → NotOfDisk f → WaitBroke o id s h c (fault.Host f)
-  unremembered : (t : World) (d : DiskView) → WaitLedBy o.limit o id s (at t c d) → StandsOrStopped h t d → WaitBroke o id s h c fault.OutOfMemory
-  unwatched : (t : World) → UnwatchedBy o.limit o id s (at t c h.store.disk) → IsHost h t → WaitBroke o id s h c fault.Input
-  too_long : (t : World) → TooLongBy o.limit o id s (at t c h.store.disk) → IsHost h t → WaitBroke o id s h c fault.InputTooLong
-
--- An evaluation broke off, in its `eval` or in the wait after it.
-abbrev pub EvaluationBroke : {C : Type 0} → Way C → ℕ → At C → HostView → C → RunFault → Type 0
-EvaluationBroke {C = C} o id s h c why =
-    AskFailed o.after id s h c why ⊎ ((beats : List Beat) × (mid : At C) × Served o.after s (eval_of id) beats mid × WaitBroke o id mid h c why)
+-- An evaluation broke off, or there was no memory for its line.
+pub data EvaluationBroke {C : Type 0} (o : Way C) (id : ℕ) (s : At C) (h : HostView) (c : C) (why : RunFault) : Type 0 where
+  halted : (cause : RunFault) → why ≡ fault_on_copy cause → IsOfEvaluation why → DriveBroke o (one_plan o id) s h c cause → EvaluationBroke o id s h c why
+  unremembered : (marks : List Mark) → why ≡ fault.OutOfMemory → CameAlone o id s h c marks → EvaluationBroke o id s h c why
 
 -- What a field came to couldn't be reported: there was no memory for it, and nothing was written, or the writer failed.
 pub data Untold (a b : Option (List ℕ)) (why : RunFault) : Type 0 where
@@ -94,23 +75,17 @@ abbrev pub FieldWrote : {C : Type 0} → OneByOne C → Field → At C → Left 
 FieldWrote o field s l counts after = (cases : List Case) × (t : World) × FieldChecked o.way o.chosen field s cases (at t l.sources l.host.store.disk)
     × IsHost l.host t × (after ≡ counted_on (judgements_of cases) counts) × Appends l.out l.now (cases_text o.format (total counts + 1) cases)
 
--- The first of these fields was evaluated up to the event at which the host had a fault, or to where the host stands, or has stopped; of
--- it nothing is written.
-pub data FirstFailed {C : Type 0} (o : OneByOne C) (fields : List Field) (s : At C) (h : HostView) (c : C) : RunFault → Type 0 where
-  stopped : (f : HostFault) (e : Event) (t : World) (d : DiskView) → FirstUpTo o.way o.chosen fields s e (at t c d) → Stopped d h t e f → NotOfDisk f → FirstFailed o fields s h c (fault.Host f)
-  unremembered : (t : World) (d : DiskView) → FirstLed o.way o.chosen fields s (at t c d) → StandsOrStopped h t d → FirstFailed o fields s h c fault.OutOfMemory
-  unwritten : (t : World) (d : DiskView) → FirstLed o.way o.chosen fields s (at t c d) → StandsOrStopped h t d → FirstFailed o fields s h c fault.Output
-  unwatched : (t : World) → FirstUnwatched o.way o.chosen fields s (at t c h.store.disk) → IsHost h t → FirstFailed o fields s h c fault.Input
-  too_long : (t : World) → FirstTooLong o.way o.chosen fields s (at t c h.store.disk) → IsHost h t → FirstFailed o fields s h c fault.InputTooLong
+-- The evaluation of the first of these fields broke off, or it led to where the host stands; of it nothing is written.
+pub data FirstFailed {C : Type 0} (o : OneByOne C) (fields : List Field) (s : At C) (h : HostView) (c : C) (why : RunFault) : Type 0 where
+  halted : FirstBroke o fields s h c why → FirstFailed o fields s h c why
+  unremembered : (t : World) → why ≡ fault.OutOfMemory → FirstLed o fields s (at t c h.store.disk) → IsHost h t → FirstFailed o fields s h c why
+  unwritten : (t : World) → why ≡ fault.Output → FirstLed o fields s (at t c h.store.disk) → IsHost h t → FirstFailed o fields s h c why
 
 -- The same, and each life that goes on was stopped.
-pub data FirstStopped {C : Type 0} (o : OneByOne C) (fields : List Field) (s : At C) (d : C) : RunFault → Type 0 where
-  stopped : (f : HostFault) (e : Event) (t : At C) (h : HostView) → FirstUpTo o.way o.chosen fields s e t → Stopped t.disk h t.world e f → NotOfDisk f
-      → Stops o.way.after (running t.world) t.children d → FirstStopped o fields s d (fault.Host f)
-  unremembered : (t : At C) → FirstLed o.way o.chosen fields s t → Stops o.way.after (running t.world) t.children d → FirstStopped o fields s d fault.OutOfMemory
-  unwritten : (t : At C) → FirstLed o.way o.chosen fields s t → Stops o.way.after (running t.world) t.children d → FirstStopped o fields s d fault.Output
-  unwatched : (t : At C) → FirstUnwatched o.way o.chosen fields s t → Stops o.way.after (running t.world) t.children d → FirstStopped o fields s d fault.Input
-  too_long : (t : At C) → FirstTooLong o.way o.chosen fields s t → Stops o.way.after (running t.world) t.children d → FirstStopped o fields s d fault.InputTooLong
+pub data FirstStopped {C : Type 0} (o : OneByOne C) (fields : List Field) (s : At C) (d : C) (why : RunFault) : Type 0 where
+  halted : (h : HostView) (c : C) (b : FirstBroke o fields s h c why) → StopsAll o.way.after h (world_at_break b.broke) c d → FirstStopped o fields s d why
+  unremembered : (t : At C) → why ≡ fault.OutOfMemory → FirstLed o fields s t → Stops o.way.after (running t.world) t.children d → FirstStopped o fields s d why
+  unwritten : (t : At C) → why ≡ fault.Output → FirstLed o fields s t → Stops o.way.after (running t.world) t.children d → FirstStopped o fields s d why
 
 -- The check of a field ended early, whatever fields come after it, and of it nothing is written, but where the writer failed.
 abbrev pub FieldFailed : {C : Type 0} → OneByOne C → Field → At C → Left C → RunFault → Type 0

@@ -19,10 +19,10 @@ returns-in-Ok-clause-checked g c =
 pub returns-in-Ok-clause-failed : goal.returns-in-Ok-clause-failed
 returns-in-Ok-clause-failed g c = λ is.
     absurd (check_unopened (one_by_one (way g.C.Children.after g.C.Sources.clock g.C.Sources.wakes c.args.request.now.limit) c.args.request.now.chosen c.args.request.now.format) c.sheet.result.now.contents
-    (passage c.args.sources c.check_named-answer.new.sources (g.W.Write.contents c.args.writer.now) (g.W.Write.contents c.check_named-answer.new.writer))
+    (passage c.args.sources c.check_named-answer.result.sources (g.W.Write.contents c.args.writer.now) (g.W.Write.contents c.check_named-answer.new.writer))
     (missing_named c.args.request.now.chosen c.sheet.result.now.contents.fields)
-    ((c.check_named-answer.new.writer ≡ c.args.writer.now) × (c.check_named-answer.new.sources ≡ c.args.sources))
-    c.check_named-answer.result opens.Disk c.check_named-answer.ensures.checked is)
+    ((c.check_named-answer.new.writer ≡ c.args.writer.now) × (c.check_named-answer.result.sources ≡ c.args.sources))
+    c.check_named-answer.result.answer opens.Disk c.check_named-answer.ensures.checked is)
 
 pub returns-in-Err-clause-checked : goal.returns-in-Err-clause-checked
 returns-in-Err-clause-checked g c = unopened c.in-Err.field-0.cause refl (refl, refl) c.in-Err.ensures.fault

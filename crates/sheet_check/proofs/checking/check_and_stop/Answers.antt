@@ -10,15 +10,15 @@ use Rattle.sheet_check.proofs.checking.check_and_stop.Goals as goal
 pub returns-clause-ok : goal.returns-clause-ok
 returns-clause-ok g c = λ w h.
     IfOk-weaker c.check_fields-counted.result _ _
-    (λ counts p. fields_ended (one_by_one (way g.C.Children.after g.C.Sources.clock g.C.Sources.wakes c.args.request.now.limit) c.args.request.now.chosen c.args.request.now.format) c.args.sheet.now.contents.fields (at w c.args.sources.now c.args.host.now.store.disk) c.check_fields-counted.new.host c.check_fields-counted.new.sources c.stop_all.new.children
+    (λ counts p. fields_ended (one_by_one (way g.C.Children.after g.C.Sources.clock g.C.Sources.wakes c.args.request.now.limit) c.args.request.now.chosen c.args.request.now.format) c.args.sheet.now.contents.fields (at w c.args.driver.now.sources c.args.driver.now.host.store.disk) c.check_fields-counted.new.driver.host c.check_fields-counted.new.driver.sources c.stop_all.new.children
     (g.W.Write.contents c.args.writer.now) (g.W.Write.contents c.check_fields-counted.new.writer) counts (c.stop_all.ensures.working, c.stop_all.ensures.stopped) p)
     (c.check_fields-counted.ensures.ok w h)
 
 pub returns-clause-err : goal.returns-clause-err
 returns-clause-err g c = λ w h.
     IfErr-weaker c.check_fields-counted.result _ _
-    (λ why p. fields_stopped (one_by_one (way g.C.Children.after g.C.Sources.clock g.C.Sources.wakes c.args.request.now.limit) c.args.request.now.chosen c.args.request.now.format) c.args.sheet.now.contents.fields (at w c.args.sources.now c.args.host.now.store.disk) c.check_fields-counted.new.host c.check_fields-counted.new.sources c.stop_all.new.children
-    (g.W.Write.contents c.args.writer.now) (g.W.Write.contents c.check_fields-counted.new.writer) why (c.stop_all.ensures.working, c.stop_all.ensures.stopped) p)
+    (λ why p. fields_stopped (one_by_one (way g.C.Children.after g.C.Sources.clock g.C.Sources.wakes c.args.request.now.limit) c.args.request.now.chosen c.args.request.now.format) c.args.sheet.now.contents.fields (at w c.args.driver.now.sources c.args.driver.now.host.store.disk) c.check_fields-counted.new.driver.host c.check_fields-counted.new.driver.sources c.stop_all.new.children
+    (g.W.Write.contents c.args.writer.now) (g.W.Write.contents c.check_fields-counted.new.writer) why (c.stop_all.ensures.working, c.stop_all.ensures.stopped) c.stop_all.ensures.numbered p)
     (c.check_fields-counted.ensures.err w h)
 
 pub returns-clause-shown : goal.returns-clause-shown

@@ -13,6 +13,6 @@ invariant-loop-field g l = record {
   few : total l.counts + length l.fields ≤ length l.fn.sheet.contents.fields;
   errors : l.counts.errors ≤ total l.counts;
   shown : FieldsShow (display l.fn.request.format g.P.Progress.shows) l.fn.all l.fn.progress l.counts l.progress;
-  runs : (w : World) → IsHost l.fn.host w
-      → FieldsSoFar (one_by_one (way g.C.Children.after g.C.Sources.clock g.C.Sources.wakes l.fn.request.limit) l.fn.request.chosen l.fn.request.format) l.fn.sheet.contents.fields l.fields (at w l.fn.sources l.fn.host.store.disk) l.host l.sources (g.W.Write.contents l.fn.writer) (g.W.Write.contents l.writer) l.counts;
+  runs : (w : World) → IsHost l.fn.driver.host w
+      → FieldsSoFar (one_by_one (way g.C.Children.after g.C.Sources.clock g.C.Sources.wakes l.fn.request.limit) l.fn.request.chosen l.fn.request.format) l.fn.sheet.contents.fields l.fields (at w l.fn.driver.sources l.fn.driver.host.store.disk) l.driver.host l.driver.sources (g.W.Write.contents l.fn.writer) (g.W.Write.contents l.writer) l.counts;
 }

@@ -6,7 +6,7 @@ use Rattle.sheet_check.proofs.checking.check_shown.Goals as goal
 
 pub returns-in-Err-clause-err : goal.returns-in-Err-clause-err
 returns-in-Err-clause-err g c = λ w h.
-    evaluation_failed (one_by_one (way g.C.Children.after g.C.Sources.clock g.C.Sources.wakes c.args.request.now.limit) c.args.request.now.chosen c.args.request.now.format) c.args.field.now c.requires (at w c.args.sources.now c.args.host.now.store.disk) c.evaluate.new.host c.evaluate.new.sources
+    evaluation_failed (one_by_one (way g.C.Children.after g.C.Sources.clock g.C.Sources.wakes c.args.request.now.limit) c.args.request.now.chosen c.args.request.now.format) c.args.field.now c.requires (at w c.args.driver.now.sources c.args.driver.now.host.store.disk) c.evaluate.new.driver.host c.evaluate.new.driver.sources
     (g.W.Write.contents c.args.writer.now) c.in-Err.fault (c.in-Err.ensures.err w h)
 
 pub returns-clause-ok : goal.returns-clause-ok
@@ -20,6 +20,6 @@ pub returns-clause-err : goal.returns-clause-err
 returns-clause-err g c = λ w h.
     let q = c.in-Ok.ensures.ok w h in
     IfErr-weaker c.tell_what_came.result _ _
-    (λ why p. tell_failed (one_by_one (way g.C.Children.after g.C.Sources.clock g.C.Sources.wakes c.args.request.now.limit) c.args.request.now.chosen c.args.request.now.format) c.args.field.now c.requires (at w c.args.sources.now c.args.host.now.store.disk) c.evaluate.new.host c.evaluate.new.sources
+    (λ why p. tell_failed (one_by_one (way g.C.Children.after g.C.Sources.clock g.C.Sources.wakes c.args.request.now.limit) c.args.request.now.chosen c.args.request.now.format) c.args.field.now c.requires (at w c.args.driver.now.sources c.args.driver.now.host.store.disk) c.evaluate.new.driver.host c.evaluate.new.driver.sources
     (came_if c.in-Ok.came.is_there (shown_in q.0 c.args.field.now.id)) c.in-Ok.came.took q.0 q.1 q.2 (g.W.Write.contents c.args.writer.now) (g.W.Write.contents c.tell_what_came.new.writer) why p)
     c.tell_what_came.ensures.err

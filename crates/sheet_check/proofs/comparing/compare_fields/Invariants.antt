@@ -12,5 +12,5 @@ invariant-loop-field g l = record {
   few : total l.counts + length l.fields ≤ length l.fn.sheet.contents.fields;
   errors : l.counts.errors ≤ total l.counts;
   shown : FieldsShow (display l.fn.request.format g.P.Progress.shows) l.fn.all l.fn.progress l.counts l.progress;
-  runs : (w : World) → IsHost l.fn.host w → ComparedSoFar (comparing l.fn.request.chosen l.fn.request.format w l.fn.late) l.fn.sheet.contents.fields l.fields (g.W.Write.contents l.fn.writer) (g.W.Write.contents l.writer) l.counts;
+  runs : (w : World) → IsHost l.fn.host w → ComparedSoFar (comparing l.fn.request.chosen l.fn.request.format w l.fn.marks) l.fn.sheet.contents.fields l.fields (g.W.Write.contents l.fn.writer) (g.W.Write.contents l.writer) l.counts;
 }

@@ -22,7 +22,7 @@ loop-field-init g c =
       stands = c.requires.stands;
       written = λ at_once. at_once;
       goes = c.requires.goes_on;
-      runs = λ w h ops disk stores. none_took (way g.C.Children.after g.C.Sources.clock g.C.Sources.wakes c.args.request.now.limit) c.args.request.now.chosen c.args.sheet.now.contents.fields _ w c.args.host.now c.args.sources.now (g.W.Write.contents c.args.writer.now) ops disk c.args.store.now c.none-counts.result c.fields-fields.ensures c.none-counts.ensures h stores;
+      runs = λ w h ops disk stores. none_took (way g.C.Children.after g.C.Sources.clock g.C.Sources.wakes c.args.request.now.limit) c.args.request.now.chosen c.args.sheet.now.contents.fields _ w c.args.driver.now.host c.args.driver.now.sources (g.W.Write.contents c.args.writer.now) ops disk c.args.store.now c.none-counts.result c.fields-fields.ensures c.none-counts.ensures h stores;
     }
 
 pub accept_field-requires-clause-few : goal.accept_field-requires-clause-few
@@ -52,21 +52,21 @@ loop-field-preserved g c =
       goes = goes_further c.args.sheet.now.contents c.loop-field.store c.accept_field.new.store was.goes took.0.0 took.1;
       runs = λ w h ops disk stores.
           let so = was.runs w h ops disk stores in
-          one_took (way g.C.Children.after g.C.Sources.clock g.C.Sources.wakes c.args.request.now.limit) c.args.request.now.chosen c.args.sheet.now.contents.fields c.loop-field.fields c.in-Some.field.now c.next.new.self (at w c.args.sources.now c.args.host.now.store.disk) c.loop-field.host c.loop-field.sources
-          (g.W.Write.contents c.args.writer.now) (g.W.Write.contents c.loop-field.writer) ops disk c.loop-field.store c.loop-field.counts c.accept_field.new.host c.accept_field.new.sources (g.W.Write.contents c.accept_field.new.writer)
+          one_took (way g.C.Children.after g.C.Sources.clock g.C.Sources.wakes c.args.request.now.limit) c.args.request.now.chosen c.args.sheet.now.contents.fields c.loop-field.fields c.in-Some.field.now c.next.new.self (at w c.args.driver.now.sources c.args.driver.now.host.store.disk) c.loop-field.driver.host c.loop-field.driver.sources
+          (g.W.Write.contents c.args.writer.now) (g.W.Write.contents c.loop-field.writer) ops disk c.loop-field.store c.loop-field.counts c.accept_field.new.driver.host c.accept_field.new.driver.sources (g.W.Write.contents c.accept_field.new.writer)
           c.accept_field.new.store c.in-Some.ensures.steps so c.in-Ok.after (c.in-Ok.ensures.ok so.so.leads so.so.stands ops (accepted so.so.cases) disk so.kept);
     }
 
 pub returns-clause-ok : goal.returns-clause-ok
 returns-clause-ok g c = λ w h ops disk stores.
-    all_took (way g.C.Children.after g.C.Sources.clock g.C.Sources.wakes c.args.request.now.limit) c.args.request.now.chosen c.args.sheet.now.contents.fields c.loop-field.fields (at w c.args.sources.now c.args.host.now.store.disk) c.loop-field.host c.loop-field.sources
+    all_took (way g.C.Children.after g.C.Sources.clock g.C.Sources.wakes c.args.request.now.limit) c.args.request.now.chosen c.args.sheet.now.contents.fields c.loop-field.fields (at w c.args.driver.now.sources c.args.driver.now.host.store.disk) c.loop-field.driver.host c.loop-field.driver.sources
     (g.W.Write.contents c.args.writer.now) (g.W.Write.contents c.loop-field.writer) ops disk c.loop-field.store c.loop-field.counts c.in_default.ensures.steps.0 (c.loop-field.invariant.runs w h ops disk stores)
 
 pub returns-in-Err-clause-err : goal.returns-in-Err-clause-err
 returns-in-Err-clause-err g c = λ w h ops disk stores.
     let so = c.loop-field.invariant.runs w h ops disk stores in
-    one_broke (way g.C.Children.after g.C.Sources.clock g.C.Sources.wakes c.args.request.now.limit) c.args.request.now.chosen c.args.sheet.now.contents.fields c.loop-field.fields c.in-Some.field.now c.next.new.self (at w c.args.sources.now c.args.host.now.store.disk) c.loop-field.host c.loop-field.sources
-    (g.W.Write.contents c.args.writer.now) (g.W.Write.contents c.loop-field.writer) ops disk c.loop-field.store c.loop-field.counts c.accept_field.new.host c.accept_field.new.sources (g.W.Write.contents c.accept_field.new.writer)
+    one_broke (way g.C.Children.after g.C.Sources.clock g.C.Sources.wakes c.args.request.now.limit) c.args.request.now.chosen c.args.sheet.now.contents.fields c.loop-field.fields c.in-Some.field.now c.next.new.self (at w c.args.driver.now.sources c.args.driver.now.host.store.disk) c.loop-field.driver.host c.loop-field.driver.sources
+    (g.W.Write.contents c.args.writer.now) (g.W.Write.contents c.loop-field.writer) ops disk c.loop-field.store c.loop-field.counts c.accept_field.new.driver.host c.accept_field.new.driver.sources (g.W.Write.contents c.accept_field.new.writer)
     c.accept_field.new.store c.in-Some.ensures.steps so c.in-Err.fault (c.in-Err.ensures.err so.so.leads so.so.stands ops (accepted so.so.cases) disk so.kept)
 
 pub returns-in-Err-clause-written : goal.returns-in-Err-clause-written

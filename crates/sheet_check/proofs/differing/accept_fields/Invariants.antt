@@ -20,9 +20,9 @@ invariant-loop-field g l = record {
   errors : l.counts.errors ≤ total l.counts;
   shown : FieldsShow (display format.Accepting g.P.Progress.shows) l.fn.all l.fn.progress l.counts l.progress;
   rest : (gone : List Field) × (l.fn.sheet.contents.fields ≡ gone ++ l.fields);
-  stands : (w : World) × IsHost l.host w;
+  stands : (w : World) × IsHost l.driver.host w;
   written : l.fn.store.gathers ≡ false → l.store.gathers ≡ false;
   goes : GoesOn l.fn.sheet.contents l.store;
-  runs : (w : World) → IsHost l.fn.host w → (ops : List Op) → (disk : DiskView) → Stores ops [] disk l.fn.store
-      → TookSoFar (way g.C.Children.after g.C.Sources.clock g.C.Sources.wakes l.fn.request.limit) l.fn.request.chosen l.fn.sheet.contents.fields l.fields (at w l.fn.sources l.fn.host.store.disk) l.host l.sources (g.W.Write.contents l.fn.writer) (g.W.Write.contents l.writer) ops disk l.store l.counts;
+  runs : (w : World) → IsHost l.fn.driver.host w → (ops : List Op) → (disk : DiskView) → Stores ops [] disk l.fn.store
+      → TookSoFar (way g.C.Children.after g.C.Sources.clock g.C.Sources.wakes l.fn.request.limit) l.fn.request.chosen l.fn.sheet.contents.fields l.fields (at w l.fn.driver.sources l.fn.driver.host.store.disk) l.driver.host l.driver.sources (g.W.Write.contents l.fn.writer) (g.W.Write.contents l.writer) ops disk l.store l.counts;
 }

@@ -13,10 +13,10 @@ returns-in-Some-clause-shown g c =
 
 pub returns-in-None-clause-accepted : goal.returns-in-None-clause-accepted
 returns-in-None-clause-accepted g c = λ ops disk stores.
-    all_named c.accept_sheet.result (ap (λ (s : SheetView). missing_named c.args.request.now.chosen s.contents.fields) (sym c.sheet.ensures.sheet) ∙ sym c.missing_named-missing.ensures ∙ c.in-None.is) c.answer_as.ensures
-    (c.accept_sheet.ensures.accepted ops disk stores)
+    all_named c.accept_sheet-answer.result.answer (ap (λ (s : SheetView). missing_named c.args.request.now.chosen s.contents.fields) (sym c.sheet.ensures.sheet) ∙ sym c.missing_named-missing.ensures ∙ c.in-None.is) c.answer_as.ensures
+    (c.accept_sheet-answer.ensures.accepted ops disk stores)
 
 pub returns-in-None-clause-shown : goal.returns-in-None-clause-shown
 returns-in-None-clause-shown g c =
-    all_named c.accept_sheet.result (ap (λ (s : SheetView). missing_named c.args.request.now.chosen s.contents.fields) (sym c.sheet.ensures.sheet) ∙ sym c.missing_named-missing.ensures ∙ c.in-None.is) c.answer_as.ensures
-    c.accept_sheet.ensures.shown
+    all_named c.accept_sheet-answer.result.answer (ap (λ (s : SheetView). missing_named c.args.request.now.chosen s.contents.fields) (sym c.sheet.ensures.sheet) ∙ sym c.missing_named-missing.ensures ∙ c.in-None.is) c.answer_as.ensures
+    c.accept_sheet-answer.ensures.shown

@@ -1,5 +1,0 @@
-use Rattle.evaluation.proofs.Unsaid.{events_unsaid}
-use Rattle.evaluation.proofs.silence.SilenceTells.events.Goals as goal
-
-pub returns-clause-ok : goal.returns-clause-ok
-returns-clause-ok g c = events_unsaid c.args._replies.now (g.W.Write.contents c.args._writer.now)
