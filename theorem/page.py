@@ -1,5 +1,5 @@
 #!/usr/bin/env python3
-"""Writes docs/trust/THEOREM.md, the theorem, and two pages behind it: WORKED_RUN.md, an example, and DEFINITIONS.md, each definition and
+"""Writes docs/trust/THEOREM.md, the theorem, and two pages after it: WORKED_RUN.md, an example, and DEFINITIONS.md, each definition and
 type that the theorem needs, in the order in which a reader meets them.
 
     theorem/page.py           writes the pages, and prints how many definitions and lines there are
@@ -49,7 +49,7 @@ NOT_EXPANDED: set[Key] = {
     ("plugin_core.Answers", "answers_from"),
     ("plugin_core.Answers", "asked_places"),
     ("plugin_core.Past", "ends_from"),
-    ("scheme_text.Told", "told_by_text"),
+    ("scheme_text.Reported", "reported_by_text"),
 }
 
 # Sentences above definitions that lean on what their file has before them, or say more than the definition: words as they are, and those that
@@ -103,9 +103,9 @@ LAWS_BESIDE: dict[Key, tuple[Key, str]] = {
         "LAW adds that a line which waits is the input, as it is now, of a field of its life's session, and that this field shows nothing "
         "meanwhile.",
     ),
-    ("scheme_text.Told", "told_by"): (("scheme_text.Laws", "ToldAsAValue"), "It is computed byte by byte; LAW says what it is."),
+    ("scheme_text.Reported", "reported_by"): (("scheme_text.Laws", "ReportedAsAValue"), "It is computed byte by byte; LAW says what it is."),
     ("plugin_core.Answers", "answers_of"): (("plugin_core.AskPoints", "AnswersByAskPoints"), "It is computed; LAW says which blocks it has."),
-    ("journal.Area", "end_of"): (("journal.Laws", "GateBehind"), "LAW says what it is."),
+    ("journal.Area", "end_of"): (("journal.Laws", "GateAfter"), "LAW says what it is."),
 }
 
 # The headings under which definitions stand, each with the modules that it takes.

@@ -172,7 +172,7 @@ def text() -> str:
             f"Without the answer is `{shown[0]}`, the worksheet after the first three events; with it `{shown[1]}`, that after four.",
             "Only after the last sync does `step` return, and is `answered 1` printed.",
             "No image opens to anything else, none to less than what was acknowledged, and none is damaged. By hand:",
-            "{host_laws.Turns.Turned} has `taken` = events 1 to 3, or 1 to 4, with the others as `lost`, and `told` = the first three outcomes.",
+            "{host_laws.Turns.Turned} has `taken` = events 1 to 3, or 1 to 4, with the others as `lost`, and `reported` = the first three outcomes.",
         ]
     )
 

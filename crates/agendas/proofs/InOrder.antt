@@ -5,7 +5,7 @@ use Rattle.std.specs.Prelude.{◌⊎◌, IfSome, Option, None, Some, Result, map
 use Rattle.session_engine.specs.World.{World}
 use Rattle.host_events.specs.declared.event.Event.{Event}
 use Rattle.session_engine.specs.Joining.{ToBeTaken, alone, asking, with_more}
-use Rattle.child_edge.specs.Faithful.{Beat}
+use Rattle.child_edge.specs.Faithful.{Entry}
 use Rattle.arrivals.specs.Lines.{InputLine, whole}
 use Rattle.arrivals.specs.Held.{Held, KeepsLines, left_with, to_come}
 use Rattle.live.specs.Arrivals.{said_by}
@@ -141,32 +141,32 @@ of_saying a w now r b (says m going none about said) = in_order_on a (heeded a) 
 -- no line joined what lives gave
 none_joined : (a b : LinesAt) (w : World) (events all : List Event) → ToBeTaken (asking LinesJoin a b) w events all → Leads a b
 none_joined a b w events all (alone same) = moved a a b same (same_lines a a refl refl refl refl)
-none_joined a b w events all (with_more told first more j) = moved a a b j.answered.2 (same_lines a a refl refl refl refl)
+none_joined a b w events all (with_more reported first more j) = moved a a b j.answered.2 (same_lines a a refl refl refl refl)
 
 module _ {C K : Type 0} (sources : SourceRules C) (sink : SinkRules K) where
-  fails_so : (p q : RunPlace LinesAt C K) (i : Item) (beats : List Beat) (why : RunFault) → Fails (rules lines_rules sources sink) p i beats why q → Leads p.agenda q.agenda
-  fails_so p q i beats why (step.unsaid now w a clock said) = of_saying p.agenda p.world now (Err w) a said
-  fails_so p q i beats why (step.uncounted many) = same_lines p.agenda p.agenda refl refl refl refl
-  fails_so p q i beats why (step.unwatched x c wakes) = same_lines p.agenda p.agenda refl refl refl refl
-  fails_so p q i beats why (step.unheard seat most) = same_lines p.agenda p.agenda refl refl refl refl
-  fails_so p q i beats why (step.too_many from events many) = same_lines p.agenda p.agenda refl refl refl refl
-  fails_so p q i beats why (step.untaken from events) = same_lines p.agenda p.agenda refl refl refl refl
-  fails_so p q i beats why (step.lost from events h l) = same_lines p.agenda p.agenda refl refl refl refl
-  fails_so p q i beats why (step.broken from events bs e x w c d h t failed) = same_lines p.agenda p.agenda refl refl refl refl
-  fails_so p q i beats why (step.too_many_heard events many) = same_lines p.agenda p.agenda refl refl refl refl
-  fails_so p q i beats why (step.unjoined events) = same_lines p.agenda p.agenda refl refl refl refl
-  fails_so p q i beats why (step.lost_joined events all a h all_are l) = none_joined p.agenda a p.world events all all_are
-  fails_so p q i beats why (step.broken_joined events all a bs e x w c d h all_are t failed) = none_joined p.agenda a p.world events all all_are
-  fails_so p q i beats why (step.untaken_whole first events bs x y fails) = fails_so p q (take (Some first) events) beats why fails
-  fails_so p q i beats why (step.unwritten line x h failed) = same_lines p.agenda p.agenda refl refl refl refl
-  fails_so p q i beats why (step.unnumbered line many) = same_lines p.agenda p.agenda refl refl refl refl
-  fails_so p q i beats why step.unstalled = same_lines p.agenda p.agenda refl refl refl refl
-  fails_so p q i beats why (step.uncounted_line first outcomes many) = same_lines p.agenda p.agenda refl refl refl refl
-  fails_so p q i beats why (step.unprinted s w k is t) = same_lines p.agenda p.agenda refl refl refl refl
+  fails_so : (p q : RunPlace LinesAt C K) (i : Item) (entries : List Entry) (why : RunFault) → Fails (rules lines_rules sources sink) p i entries why q → Leads p.agenda q.agenda
+  fails_so p q i entries why (step.unsaid now w a clock said) = of_saying p.agenda p.world now (Err w) a said
+  fails_so p q i entries why (step.uncounted many) = same_lines p.agenda p.agenda refl refl refl refl
+  fails_so p q i entries why (step.unwatched x c wakes) = same_lines p.agenda p.agenda refl refl refl refl
+  fails_so p q i entries why (step.unheard seat most) = same_lines p.agenda p.agenda refl refl refl refl
+  fails_so p q i entries why (step.too_many from events many) = same_lines p.agenda p.agenda refl refl refl refl
+  fails_so p q i entries why (step.untaken from events) = same_lines p.agenda p.agenda refl refl refl refl
+  fails_so p q i entries why (step.lost from events h l) = same_lines p.agenda p.agenda refl refl refl refl
+  fails_so p q i entries why (step.broken from events bs e x w c d h t failed) = same_lines p.agenda p.agenda refl refl refl refl
+  fails_so p q i entries why (step.too_many_heard events many) = same_lines p.agenda p.agenda refl refl refl refl
+  fails_so p q i entries why (step.unjoined events) = same_lines p.agenda p.agenda refl refl refl refl
+  fails_so p q i entries why (step.lost_joined events all a h all_are l) = none_joined p.agenda a p.world events all all_are
+  fails_so p q i entries why (step.broken_joined events all a bs e x w c d h all_are t failed) = none_joined p.agenda a p.world events all all_are
+  fails_so p q i entries why (step.untaken_whole first events bs x y fails) = fails_so p q (take (Some first) events) entries why fails
+  fails_so p q i entries why (step.unwritten line x h failed) = same_lines p.agenda p.agenda refl refl refl refl
+  fails_so p q i entries why (step.unnumbered line many) = same_lines p.agenda p.agenda refl refl refl refl
+  fails_so p q i entries why step.unstalled = same_lines p.agenda p.agenda refl refl refl refl
+  fails_so p q i entries why (step.uncounted_line first outcomes many) = same_lines p.agenda p.agenda refl refl refl refl
+  fails_so p q i entries why (step.unprinted s w k is t) = same_lines p.agenda p.agenda refl refl refl refl
 
   pub step_leads : (p q : RunPlace LinesAt C K) (todo next : List Item) (s : RunStep) → Goes (rules lines_rules sources sink) p todo s next q → Leads p.agenda q.agenda
   step_leads p q todo next s (step.asks now t a clock said) = of_saying p.agenda p.world now (Ok t) a said
-  step_leads p q todo next s (step.watches x w c a rest wakes told) = moved p.agenda _ a told (same_lines p.agenda _ refl refl refl refl)
+  step_leads p q todo next s (step.watches x w c a rest wakes reported) = moved p.agenda _ a reported (same_lines p.agenda _ refl refl refl refl)
   step_leads p q todo next s (step.hears seat most events c rest h) = same_lines p.agenda p.agenda refl refl refl refl
   step_leads p q todo next s (step.takes from events outcomes followed w c d rest t) = same_lines p.agenda p.agenda refl refl refl refl
   step_leads p q todo next s (step.joins events outcomes first more later followed a w c d rest j t) = moved p.agenda p.agenda a j.answered.2 (same_lines p.agenda p.agenda refl refl refl refl)
@@ -174,10 +174,10 @@ module _ {C K : Type 0} (sources : SourceRules C) (sink : SinkRules K) where
   step_leads p q todo next s (step.refuses_whole first events outcomes one rest r) = same_lines p.agenda p.agenda refl refl refl refl
   step_leads p q todo next s (step.rewrites line o w d rest gives kept) = same_lines p.agenda p.agenda refl refl refl refl
   step_leads p q todo next s (step.stalls_all rest) = same_lines p.agenda p.agenda refl refl refl refl
-  step_leads p q todo next s (step.interrupts name told c rest i) = same_lines p.agenda p.agenda refl refl refl refl
+  step_leads p q todo next s (step.interrupts name reported c rest i) = same_lines p.agenda p.agenda refl refl refl refl
   step_leads p q todo next s (step.prints t k rest went) = same_lines p.agenda p.agenda refl refl refl refl
   step_leads p q todo next s (step.heeds c now n a rest clock (held, done, same)) = moved p.agenda _ a same (same_lines p.agenda _ refl refl refl refl)
-  step_leads p q todo next s (step.breaks i beats why there rest fails) = fails_so p there i beats why fails
+  step_leads p q todo next s (step.breaks i entries why there rest fails) = fails_so p there i entries why fails
   step_leads p q todo next s (step.prints_fault why out k went) = same_lines p.agenda p.agenda refl refl refl refl
 
   pub run_leads : (p q : RunPlace LinesAt C K) (todo left : List Item) (steps : List RunStep) → Run (rules lines_rules sources sink) p todo steps left q → Leads p.agenda q.agenda

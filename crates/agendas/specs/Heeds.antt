@@ -37,23 +37,23 @@ over_if number true = Some (note.Waited number false)
 over_if number false = None
 
 abbrev pub over_note : ℕ → Hold → Hold → Option Note
-over_note number before behind = over_if number (is_held before && not (is_held behind))
+over_note number before following = over_if number (is_held before && not (is_held following))
 
 -- what came of an interrupt is noted
 abbrev pub interrupt_note : (Interrupted → Note) → Option Interrupted → Option Note
 interrupt_note of None = None
-interrupt_note of (Some told) = Some (of told)
+interrupt_note of (Some reported) = Some (of reported)
 
 -- The wait after what lives gave: it goes on as long as an item waits for an answer. Where something closed, the next line of that session was
 -- sent, so the time of a line begins again.
 abbrev pub LifeGoesOn : Option ℕ → World → ℕ → Bool → Hold → Hold → Type 0
-LifeGoesOn limit w now closed held behind =
-    ((waits w ≡ []) × (behind ≡ hold.Free)) ⊎ ((waits w ≢ []) × (behind ≡ begun_again limit now (has_limit held && closed) held))
+LifeGoesOn limit w now closed held following =
+    ((waits w ≡ []) × (following ≡ hold.Free)) ⊎ ((waits w ≢ []) × (following ≡ begun_again limit now (has_limit held && closed) held))
 
 -- the wait after an interrupt of a life whose time is over: after the last one there are two seconds more, and a strict input stops
-abbrev pub behind_warning : Bool → ℕ → List Seat → Hold → Hold
-behind_warning strict now [] held = stop_if (strict && true) (warned now)
-behind_warning strict now (seat ∷ rest) held = held
+abbrev pub after_warning : Bool → ℕ → List Seat → Hold → Hold
+after_warning strict now [] held = stop_if (strict && true) (warned now)
+after_warning strict now (seat ∷ rest) held = held
 
 -- What is noted of what came, and which wait goes on then, by what was done.
 abbrev pub HeedsDone : LinesAt → World → ℕ → TurnCame → Doing → Option Note → Hold → Type 0
@@ -68,7 +68,7 @@ HeedsDone a w now c doing.Life n held =
     (on : Hold) × LifeGoesOn a.manner.limit w now (closed_one c) a.held on × (n ≡ over_note a.number a.held on)
     × (held ≡ stop_if (a.manner.strict && went_wrong c) on)
 HeedsDone a w now c (doing.Warning seat) n held =
-    (n ≡ interrupt_note (note.Warned seat) c.interrupted) × (held ≡ behind_warning a.manner.strict now a.late a.held)
+    (n ≡ interrupt_note (note.Warned seat) c.interrupted) × (held ≡ after_warning a.manner.strict now a.late a.held)
 HeedsDone a w now c doing.Stall n held =
     (n ≡ Some (note.Waited a.number true)) × (held ≡ stop_if (a.manner.strict && went_wrong c) hold.Free)
 

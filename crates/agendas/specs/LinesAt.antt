@@ -1,4 +1,4 @@
--- Where an agenda of lines lines_stand.
+-- Where an agenda of lines stands.
 use Rattle.std.specs.Prelude.{ℕ, ◌+◌, true, List, [], Option, Some, None}
 use Rattle.child_calls.specs.declared.seat.Seat.{Seat}
 use Rattle.arrivals.specs.Lines.{InputLine}
@@ -118,9 +118,9 @@ abbrev pub with_transaction : LinesAt → Option Transaction → LinesAt
 with_transaction a b = record a { transaction = b }
 
 -- the input ended in a transaction, which goes wrong
-abbrev pub behind_end : LinesAt → LinesAt
-behind_end a = record a { doing = doing.Line true; transaction = None }
+abbrev pub after_end : LinesAt → LinesAt
+after_end a = record a { doing = doing.Line true; transaction = None }
 
 -- so many lines were taken as one group
-abbrev pub behind_group : LinesAt → ℕ → LinesAt
-behind_group a count = record a { number = a.number + count; doing = doing.Commands }
+abbrev pub after_group : LinesAt → ℕ → LinesAt
+after_group a count = record a { number = a.number + count; doing = doing.Commands }

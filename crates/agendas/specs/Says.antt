@@ -55,4 +55,4 @@ pub data LinesSay (a : LinesAt) (w : World) (now : ℕ) (r : Result Turn RunFaul
 
 -- Whose turn it is was returned.
 abbrev pub LinesWoken : LinesAt → Woken → LinesAt → Type 0
-LinesWoken a told b = b ≡ record a { due = Some told }
+LinesWoken a reported b = b ≡ record a { due = Some reported }

@@ -17,7 +17,7 @@ use Rattle.driver.specs.declared.turn.Turn.{Turn}
 use Rattle.driver.specs.declared.turn.Turn.TheVariants as turn
 use Rattle.agendas.specs.declared.doing.Transaction.{Transaction}
 use Rattle.agendas.specs.declared.doing.Chosen.{Chosen}
-use Rattle.agendas.specs.LinesAt.{LinesAt, behind_end, behind_group, after_line, counted, given_to, read_to}
+use Rattle.agendas.specs.LinesAt.{LinesAt, after_end, after_group, after_line, counted, given_to, read_to}
 use Rattle.agendas.specs.Transactions.{asked_in}
 use Rattle.agendas.specs.Alone.{AsksAlone, AsksLines}
 
@@ -48,15 +48,15 @@ ReadsOn a r b =
 -- The input is at its end. Where it ends in a transaction, nothing of that is done, which is noted first.
 abbrev pub EndsInput : Option Transaction → LinesAt → Turn → LinesAt → Type 0
 EndsInput None a t b = (t ≡ turn.End) × (b ≡ a)
-EndsInput (Some transaction) a t b = (t ≡ turn.Show (show.Note (note.Undone transaction.first a.number))) × (b ≡ behind_end a)
+EndsInput (Some transaction) a t b = (t ≡ turn.Show (show.Note (note.Undone transaction.first a.number))) × (b ≡ after_end a)
 
--- What is asked for of the input, or why nothing is, and where the agenda lines_stand then.
+-- What is asked for of the input, or why nothing is, and where the agenda stands then.
 pub data TakesInput (a : LinesAt) (w : World) (now : ℕ) (r : Result Turn RunFault) (b : LinesAt) : Type 0 where
   -- Lines that are there together, of which each says a command other than `checkpoint`. A strict input takes its lines one by one, and so are those
   -- of a transaction taken.
   together : (given : List (List ℕ)) (k : Held) (t : Turn) → a.manner.strict ≡ false → a.transaction ≡ None → AllByRecursion SaysGrouped given → 1 ≤ length given
       → length given ≤ most_together → Readiness a.buffer true → ComeNext (map whole given) a.buffer k → r ≡ Ok t
-      → AsksLines (a.number + 1) (lines_events given) t → b ≡ behind_group (given_to a k) (length given) → TakesInput a w now r b
+      → AsksLines (a.number + 1) (lines_events given) t → b ≡ after_group (given_to a k) (length given) → TakesInput a w now r b
   -- the next line by itself
   alone : (l : InputLine) (k : Held) → Readiness a.buffer true → ComeNext (l ∷ []) a.buffer k → TakesGivenLine (given_to a k) w now (said_by l) r b → TakesInput a w now r b
   -- No line is there, and more is read.

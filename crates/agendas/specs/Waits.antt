@@ -5,13 +5,13 @@ use Rattle.live.specs.declared.live_line.LiveLine.{LiveLine}
 use Rattle.live.specs.declared.live_line.LiveLine.TheVariants as live
 use Rattle.live.specs.declared.holding.Hold.{Hold}
 use Rattle.live.specs.declared.holding.Hold.TheVariants as hold
-use Rattle.live.specs.Saying.{seconds_behind}
+use Rattle.live.specs.Saying.{seconds_from}
 use Rattle.live.specs.Arrivals.{respite}
 
 -- A wait that names no seconds lasts as long as it takes. Where a line may take so many, its time is over so many after this reading.
 abbrev pub untimed : Option ℕ → ℕ → Hold
 untimed None now = hold.Wait
-untimed (Some seconds) now = hold.Limited (seconds_behind now seconds)
+untimed (Some seconds) now = hold.Limited (seconds_from now seconds)
 
 -- which wait a line begins
 abbrev pub begun : Option ℕ → ℕ → Option LiveLine → Hold
@@ -21,7 +21,7 @@ begun limit now (Some (live.Script (line.Command command))) = hold.Free
 begun limit now (Some (live.Script line.Wait)) = untimed limit now
 begun limit now (Some (live.Script line.Print)) = hold.Free
 begun limit now (Some (live.PrintField id)) = hold.Free
-begun limit now (Some (live.WaitFor seconds)) = hold.Until (seconds_behind now seconds)
+begun limit now (Some (live.WaitFor seconds)) = hold.Until (seconds_from now seconds)
 begun limit now (Some (live.Interrupt name)) = hold.Free
 begun limit now (Some (live.Export format)) = hold.Free
 begun limit now (Some live.Begin) = hold.Free
@@ -34,4 +34,4 @@ begun_again limit now true held = untimed limit now
 
 -- the wait after interpreters were interrupted
 abbrev pub warned : ℕ → Hold
-warned now = hold.Warned (seconds_behind now respite)
+warned now = hold.Warned (seconds_from now respite)

@@ -31,7 +31,7 @@ fn has_closed(reply: &Reply) -> bool
     ensures { result ≡ saying.has_closed reply.now }
 {
     match reply {
-        Reply::Child(told) => told.closed.is_some(),
+        Reply::Child(reported) => reported.closed.is_some(),
         Reply::Done | Reply::Field(_) | Reply::Asked(_) | Reply::Refused(_) | Reply::Nothing =>
             false,
     }
@@ -133,16 +133,16 @@ pub fn interrupt_of(came: &Came) -> Option<Interrupted>
     ensures { result ≡ (came_of came.now).interrupted }
 {
     match came {
-        Came::Interrupted(told) => Some(*told),
+        Came::Interrupted(reported) => Some(*reported),
         Came::Gave(_) | Came::Joined(_) | Came::Alone(_) | Came::Shown => None,
     }
 }
 
 /// That the wait of this line is over is noted where it was one and isn't any more.
-fn note_over(number: u64, before: Hold, behind: Hold) -> Option<Note>
-    ensures { result ≡ over_note number before behind }
+fn note_over(number: u64, before: Hold, following: Hold) -> Option<Note>
+    ensures { result ≡ over_note number before following }
 {
-    if is_held(before) && !is_held(behind) {
+    if is_held(before) && !is_held(following) {
         Some(Note::Waited(number, false))
     } else {
         None
@@ -150,27 +150,27 @@ fn note_over(number: u64, before: Hold, behind: Hold) -> Option<Note>
 }
 
 /// What came of the interrupt for which this line asked is noted.
-fn note_interrupted(number: u64, name: Name, told: Option<Interrupted>) -> Option<Note>
-    ensures { result ≡ interrupt_note (Note.Interrupted number name) told }
+fn note_interrupted(number: u64, name: Name, reported: Option<Interrupted>) -> Option<Note>
+    ensures { result ≡ interrupt_note (Note.Interrupted number name) reported }
 {
-    match told {
-        Some(told) => Some(Note::Interrupted(number, name, told)),
+    match reported {
+        Some(reported) => Some(Note::Interrupted(number, name, reported)),
         None => None,
     }
 }
 
 /// What came of the interrupt of this life is noted, whose time is over.
-fn note_warned(seat: Seat, told: Option<Interrupted>) -> Option<Note>
-    ensures { result ≡ interrupt_note (Note.Warned seat) told }
+fn note_warned(seat: Seat, reported: Option<Interrupted>) -> Option<Note>
+    ensures { result ≡ interrupt_note (Note.Warned seat) reported }
 {
-    match told {
-        Some(told) => Some(Note::Warned(seat, told)),
+    match reported {
+        Some(reported) => Some(Note::Warned(seat, reported)),
         None => None,
     }
 }
 
 /// The wait after what lives gave, of which something closed or not.
-fn behind_life<D: Disk>(
+fn after_life<D: Disk>(
     host: &Host<D>,
     limit: Option<u32>,
     now: u64,
@@ -187,8 +187,8 @@ fn behind_life<D: Disk>(
 }
 
 /// The wait after the interrupt of a life whose time is over: after the last one there are two seconds more.
-fn behind_warning(strict: bool, now: u64, late: &[Seat], held: Hold) -> Hold
-    ensures { result ≡ heeds.behind_warning strict now late.now held }
+fn after_warning(strict: bool, now: u64, late: &[Seat], held: Hold) -> Hold
+    ensures { result ≡ heeds.after_warning strict now late.now held }
 {
     match late {
         [] => stop_if(strict, true, warned(now)),
@@ -208,7 +208,7 @@ impl<R: Read> ByLines<R> {
             × (lines_stand R.remaining self.new ≡ holding (lines_stand R.remaining self.old) held) }
     {
         let before = self.held;
-        let on = behind_life(host, self.manner.limit, now, closed_one(came), before);
+        let on = after_life(host, self.manner.limit, now, closed_one(came), before);
         self.held = stop_if(self.manner.strict, went_wrong(came), on);
         note_over(self.number, before, on)
     }
@@ -254,7 +254,7 @@ impl<R: Read> ByLines<R> {
             Doing::Transaction(first) => self.heed_transaction(first, came),
             Doing::Life => self.heed_life(host, now, came),
             Doing::Warning(seat) => {
-                self.held = behind_warning(strict, now, self.late.as_slice(), self.held);
+                self.held = after_warning(strict, now, self.late.as_slice(), self.held);
                 note_warned(seat, interrupt_of(came))
             }
             Doing::Stall => {

@@ -23,7 +23,7 @@ use tellings::Note;
 
 impl<R: Read> ByLines<R> {
     ghost use Rattle.agendas.specs.Alone.{AsksLines};
-    ghost use Rattle.agendas.specs.LinesAt.{behind_group, after_line, counted, lines_stand, with_transaction};
+    ghost use Rattle.agendas.specs.LinesAt.{after_group, after_line, counted, lines_stand, with_transaction};
     ghost use Rattle.agendas.specs.Taking.{EndsInput, ReadsOn, TakesAlone, TakesInput, TakesGivenLine};
     ghost use Rattle.offline_programs.specs.declared.fault.RunFault.TheVariants as fault;
 
@@ -31,7 +31,7 @@ impl<R: Read> ByLines<R> {
     fn group(&mut self, events: Vec<Event>, count: u64) -> Turn
         requires { self.old.number + count + 1 < 2 ^ 64 }
         ensures turn { AsksLines (self.old.number + 1) events.items result }
-        ensures stands { lines_stand R.remaining self.new ≡ behind_group (lines_stand R.remaining self.old) count }
+        ensures stands { lines_stand R.remaining self.new ≡ after_group (lines_stand R.remaining self.old) count }
     {
         let first = self.number + 1;
         self.number += count;

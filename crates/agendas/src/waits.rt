@@ -4,7 +4,7 @@ ghost use Rattle.session_engine.specs.World.{World, sheet_in};
 ghost use Rattle.session_engine.specs.Host.{IsHost};
 ghost use Rattle.worksheet.specs.Checks.{has_field, has_session};
 ghost use Rattle.live.specs.Saying as saying;
-ghost use Rattle.live.specs.Saying.{IsLimited, IsTimed, StallsAtEnd, seconds_behind};
+ghost use Rattle.live.specs.Saying.{IsLimited, IsTimed, StallsAtEnd, seconds_from};
 ghost use Rattle.live.specs.Arrivals.{IsOver, input_at, patience_at};
 ghost use Rattle.agendas.specs.Waits as waits;
 
@@ -16,7 +16,7 @@ use worksheet::Name;
 
 /// The moment so many seconds after this one.
 fn seconds_after(now: u64, seconds: u32) -> u64
-    ensures { result ≡ seconds_behind now seconds }
+    ensures { result ≡ seconds_from now seconds }
 {
     now.saturating_add(u64::from(seconds) * 1_000)
 }

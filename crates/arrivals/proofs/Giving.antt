@@ -15,11 +15,11 @@ pub record Took (h k : Held) (r : NextLine) (n : ℕ) : Type 0 where
   pub rest : k.bytes ≡ drop n h.bytes
   pub dropping : k.dropping ≡ false
   pub ended : k.ended ≡ h.ended
-  pub told : Tells r k (first_line h.dropping (take n h.bytes))
+  pub reported : Tells r k (first_line h.dropping (take n h.bytes))
 
-left-behind : (h k : Held) (r : NextLine) (n : ℕ) → Took h k r n → (more : List ℕ) → left_with k more ≡ input_lines (drop n h.bytes ++ if_read h.ended more)
+left-following : (h k : Held) (r : NextLine) (n : ℕ) → Took h k r n → (more : List ℕ) → left_with k more ≡ input_lines (drop n h.bytes ++ if_read h.ended more)
 unfolding left_with
-left-behind h k r n t more =
+left-following h k r n t more =
     ap (λ d. lines_from d (k.bytes ++ if_read k.ended more)) t.dropping ∙ ap (λ b. input_lines (b ++ if_read k.ended more)) t.rest
     ∙ ap (λ e. input_lines (drop n h.bytes ++ if_read e more)) t.ended
 
@@ -28,20 +28,20 @@ pub took-gives : (h k : Held) (r : NextLine) (n : ℕ) → Took h k r n → n �
     → ((more : List ℕ) → line_len (h.bytes ++ if_read h.ended more) ≡ n) → GivesLine h r k
 unfolding left_with
 took-gives h k next.Line n t fits some is = λ more.
-    line_off h.dropping h.bytes (if_read h.ended more) n (is more) fits some ∙ ap (λ l. l ∷ input_lines (drop n h.bytes ++ if_read h.ended more)) t.told
-    ∙ ap (λ ls. whole k.line ∷ ls) (sym (left-behind h k next.Line n t more))
+    line_off h.dropping h.bytes (if_read h.ended more) n (is more) fits some ∙ ap (λ l. l ∷ input_lines (drop n h.bytes ++ if_read h.ended more)) t.reported
+    ∙ ap (λ ls. whole k.line ∷ ls) (sym (left-following h k next.Line n t more))
 took-gives h k next.TooLong n t fits some is = λ more.
-    line_off h.dropping h.bytes (if_read h.ended more) n (is more) fits some ∙ ap (λ l. l ∷ input_lines (drop n h.bytes ++ if_read h.ended more)) t.told
-    ∙ ap (λ ls. too_long ∷ ls) (sym (left-behind h k next.TooLong n t more))
-took-gives h k next.More n t fits some is = absurd t.told
-took-gives h k next.End n t fits some is = absurd t.told
+    line_off h.dropping h.bytes (if_read h.ended more) n (is more) fits some ∙ ap (λ l. l ∷ input_lines (drop n h.bytes ++ if_read h.ended more)) t.reported
+    ∙ ap (λ ls. too_long ∷ ls) (sym (left-following h k next.TooLong n t more))
+took-gives h k next.More n t fits some is = absurd t.reported
+took-gives h k next.End n t fits some is = absurd t.reported
 
 -- they are the first line, which isn't given yet
 pub next-line : (h : Held) (line : List ℕ) (n : ℕ) → first_line h.dropping (take n h.bytes) ≡ whole line → n ≤ length h.bytes → 0 < n → HasFeed h.bytes
     → ((more : List ℕ) → line_len (h.bytes ++ if_read h.ended more) ≡ n) → IsNextLine h line
-next-line h line n told fits some feed is =
+next-line h line n reported fits some feed is =
     let k : Held = record { bytes = drop n h.bytes; line = line; dropping = false; ended = h.ended } in
-    (feed, λ more. (left_with k more, took-gives h k next.Line n (record { rest = refl; dropping = refl; ended = refl; told = told }) fits (λ no. some) is more))
+    (feed, λ more. (left_with k more, took-gives h k next.Line n (record { rest = refl; dropping = refl; ended = refl; reported = reported }) fits (λ no. some) is more))
 
 -- all bytes are the last line
 pub line_len-last : (bytes : List ℕ) (ended : Bool) → IsUnended bytes → ended ≡ true → (more : List ℕ) → line_len (bytes ++ if_read ended more) ≡ length bytes

@@ -31,13 +31,13 @@ range-front room start end len fits =
 pub under-leb : (a b : ℕ) → a ≤ b → nat_le a b ≡ true
 under-leb a b under = grind (arith, nat_tests)
 
-pub told-long : (d : Bool) (bytes raw : List ℕ) → d ≡ false → bytes ≡ raw → longest_line < length (without_terminator raw) → first_line d bytes ≡ too_long
+pub reported-long : (d : Bool) (bytes raw : List ℕ) → d ≡ false → bytes ≡ raw → longest_line < length (without_terminator raw) → first_line d bytes ≡ too_long
 unfolding bounded_line
-told-long d bytes raw e f long = ap (λ x. first_line x bytes) e ∙ ap bounded_line f ∙ cond-false _ _ _ (over-leb _ _ long)
+reported-long d bytes raw e f long = ap (λ x. first_line x bytes) e ∙ ap bounded_line f ∙ cond-false _ _ _ (over-leb _ _ long)
 
-pub told-whole : (d : Bool) (bytes raw line : List ℕ) → d ≡ false → bytes ≡ raw → length (without_terminator raw) ≤ longest_line → line ≡ without_terminator raw → first_line d bytes ≡ whole line
+pub reported-whole : (d : Bool) (bytes raw line : List ℕ) → d ≡ false → bytes ≡ raw → length (without_terminator raw) ≤ longest_line → line ≡ without_terminator raw → first_line d bytes ≡ whole line
 unfolding bounded_line
-told-whole d bytes raw line e f fits own = ap (λ x. first_line x bytes) e ∙ ap bounded_line f ∙ cond-true _ _ _ (under-leb _ _ fits) ∙ ap whole (sym own)
+reported-whole d bytes raw line e f fits own = ap (λ x. first_line x bytes) e ∙ ap bounded_line f ∙ cond-true _ _ _ (under-leb _ _ fits) ∙ ap whole (sym own)
 
 -- the first line feed
 pub record FirstFeed (bytes : List ℕ) (at : ℕ) : Type 0 where

@@ -5,7 +5,7 @@ use Rattle.std.proofs.lemmas.Bool.Decides.{nat_tests}
 use Rattle.std.proofs.lemmas.List.{take-append-le, drop-append-le, drop-drop, drop_at, get_or_append_left}
 use Rattle.bstr.specs.Text.{line_len, no_cr, without_terminator}
 use Rattle.bstr.proofs.lemmas.LineLemmas.{line_len-at, line_len-bounds, lines-nil, lines-step}
-use Rattle.arrivals.specs.Lines.{too_long, longest_line, bounded_line, input_lines, behind_line}
+use Rattle.arrivals.specs.Lines.{too_long, longest_line, bounded_line, input_lines, past_line}
 use Rattle.arrivals.specs.Held.{IsUnended, lines_from}
 use Rattle.arrivals.specs.inside.Buffers.{first_line}
 
@@ -28,7 +28,7 @@ pub input-nil : input_lines [] ≡ []
 unfolding input_lines
 input-nil = ap (map bounded_line) lines-nil
 
-pub input-step : (bytes : List ℕ) → 0 < length bytes → input_lines bytes ≡ bounded_line (take (line_len bytes) bytes) ∷ input_lines (behind_line bytes)
+pub input-step : (bytes : List ℕ) → 0 < length bytes → input_lines bytes ≡ bounded_line (take (line_len bytes) bytes) ∷ input_lines (past_line bytes)
 unfolding input_lines
 input-step bytes some = ap (map bounded_line) (lines-step bytes some)
 
@@ -74,8 +74,8 @@ input-long bytes long =
     let over : longest_line < length (without_terminator bytes) = omega arith in
     cond-false _ _ _ (over-leb (length (without_terminator bytes)) longest_line over)
 
-behind-on : (bytes more : List ℕ) → IsUnended bytes → behind_line (bytes ++ more) ≡ behind_line more
-behind-on bytes more none =
+following-on : (bytes more : List ℕ) → IsUnended bytes → past_line (bytes ++ more) ≡ past_line more
+following-on bytes more none =
     ap (λ n. drop n (bytes ++ more)) (line_len-on bytes more none) ∙ sym (drop-drop (line_len more) (length bytes) (bytes ++ more))
     ∙ ap (drop (line_len more)) (drop_at bytes more (length bytes) refl)
 
@@ -88,6 +88,6 @@ lines-dropped false bytes more none long =
     let bounds = line_len-bounds all (omega arith) in
     let taken = length-take-le n all bounds.1 in
     let far = line_len-on bytes more none in
-    input-step all (omega arith) ∙ ap (λ l. l ∷ input_lines (behind_line all)) (input-long (take n all) (omega arith))
-    ∙ ap (λ t. too_long ∷ input_lines t) (behind-on bytes more none)
-lines-dropped true bytes more none long = ap (λ t. too_long ∷ input_lines t) (behind-on bytes more none)
+    input-step all (omega arith) ∙ ap (λ l. l ∷ input_lines (past_line all)) (input-long (take n all) (omega arith))
+    ∙ ap (λ t. too_long ∷ input_lines t) (following-on bytes more none)
+lines-dropped true bytes more none long = ap (λ t. too_long ∷ input_lines t) (following-on bytes more none)

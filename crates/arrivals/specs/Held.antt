@@ -1,6 +1,6 @@
 -- What was read of an input and isn't given yet, and the lines still to come.
 use Rattle.std.specs.Prelude.{◌≡◌, ◌≢◌, ◌⊎◌, ℕ, ◌+◌, ◌≤◌, ◌<◌, Bool, true, false, List, [], ◌∷◌, ◌++◌, Option, Some, IfSome, option_map, length, slice_index, if◌then◌else◌}
-use Rattle.arrivals.specs.Lines.{InputLine, whole, too_long, longest_line, input_lines, behind_line}
+use Rattle.arrivals.specs.Lines.{InputLine, whole, too_long, longest_line, input_lines, past_line}
 use Rattle.arrivals.specs.declared.buffer.NextLine.{NextLine}
 use Rattle.arrivals.specs.declared.buffer.NextLine.TheVariants as next
 
@@ -21,7 +21,7 @@ nothing_held = record { bytes = []; line = []; dropping = false; ended = false }
 -- the lines of these bytes, of which the first may be the rest of one that is too long
 abbrev pub lines_from : Bool → List ℕ → List InputLine
 lines_from false bytes = input_lines bytes
-lines_from true bytes = too_long ∷ input_lines (behind_line bytes)
+lines_from true bytes = too_long ∷ input_lines (past_line bytes)
 
 -- after the end of the input reads give nothing
 abbrev pub if_read : Bool → List ℕ → List ℕ

@@ -21,5 +21,5 @@ unfoldable pub input_lines : List ℕ → List InputLine
 input_lines bytes = map bounded_line (lines_of bytes)
 
 -- the bytes after the first line
-abbrev pub behind_line : List ℕ → List ℕ
-behind_line bytes = drop (line_len bytes) bytes
+abbrev pub past_line : List ℕ → List ℕ
+past_line bytes = drop (line_len bytes) bytes

@@ -25,26 +25,26 @@ may_come a woken.Input = is_wanted a.input
 may_come a (woken.Life seat) = true
 may_come a woken.TimeOver = is_some a.patience
 
-abbrev pub behind_patience : Option ℕ → Option Woken
-behind_patience None = None
-behind_patience (Some millis) = Some woken.TimeOver
+abbrev pub after_patience : Option ℕ → Option Woken
+after_patience None = None
+after_patience (Some millis) = Some woken.TimeOver
 
-abbrev pub behind_input : Input → Option ℕ → Option Woken
-behind_input input.HeldBack patience = behind_patience patience
-behind_input input.Empty patience = Some woken.Input
-behind_input input.Ready patience = Some woken.Input
+abbrev pub after_input : Input → Option ℕ → Option Woken
+after_input input.HeldBack patience = after_patience patience
+after_input input.Empty patience = Some woken.Input
+after_input input.Ready patience = Some woken.Input
 
 -- after the list: the input where it is wanted, else that the time is over where there is a limit, else a fault
-abbrev pub behind_turns : Asked → Option Woken
-behind_turns a = behind_input a.input a.patience
+abbrev pub after_turns : Asked → Option Woken
+after_turns a = after_input a.input a.patience
 
 abbrev pub AtTurn : Option ℕ → List Woken → Asked → Option Woken → List Woken → Type 0
-AtTurn None ws a told vs = (told ≡ behind_turns a) × (vs ≡ ws)
-AtTurn (Some i) ws a told vs = (told ≡ slice_get ws i) × (vs ≡ remove ws i)
+AtTurn None ws a reported vs = (reported ≡ after_turns a) × (vs ≡ ws)
+AtTurn (Some i) ws a reported vs = (reported ≡ slice_get ws i) × (vs ≡ remove ws i)
 
 -- The first turn that may come is returned and taken off. No child is touched.
 abbrev pub ByTurns : TurnList → Asked → Option Woken → TurnList → Type 0
-ByTurns s a told t = (t.parts ≡ s.parts) × AtTurn (position (may_come a) s.turns) s.turns a told t.turns
+ByTurns s a reported t = (t.parts ≡ s.parts) × AtTurn (position (may_come a) s.turns) s.turns a reported t.turns
 
 -- A call on a child is answered by its part, and no turn is taken.
 abbrev pub ByChild : TurnList → Call → Answer → TurnList → Type 0

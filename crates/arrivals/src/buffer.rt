@@ -109,7 +109,7 @@ fn slide(room: &mut Vec<u8>, start: usize, end: usize)
 }
 
 /// One read into the room from this place on.
-fn read_behind<R: Read>(reader: &mut R, room: &mut Vec<u8>, at: usize) -> Result<usize, ReadFault>
+fn read_after<R: Read>(reader: &mut R, room: &mut Vec<u8>, at: usize) -> Result<usize, ReadFault>
     requires { at < length room.old.items }
     ensures front { take at room.new.items ≡ take at room.old.items }
     ensures size { length room.new.items ≡ length room.old.items }
@@ -188,7 +188,7 @@ impl LineBuffer {
         ensures rest { self.new.bytes ≡ drop len self.old.bytes }
         ensures dropping { self.new.dropping ≡ false }
         ensures ended { self.new.ended ≡ self.old.ended }
-        ensures told { Tells result self.new (first_line self.old.dropping (take len self.old.bytes)) }
+        ensures reported { Tells result self.new (first_line self.old.dropping (take len self.old.bytes)) }
         ensures given { is_given result ≡ true }
     {
         let start = self.start;
@@ -269,7 +269,7 @@ impl LineBuffer {
         if self.end >= ROOM {
             return Ok(());
         }
-        match read_behind(reader, &mut self.room, self.end) {
+        match read_after(reader, &mut self.room, self.end) {
             Ok(len) => {
                 self.ended = len == 0;
                 self.end += len;

@@ -1,7 +1,7 @@
 //! Sources that answer by a script.
 ghost use Rattle.std.specs.Prelude.{◌≡◌, ◌<◌, IfSome, length, position};
 ghost use Rattle.std.specs.Result.{result_ok};
-ghost use Rattle.arrivals.specs.Turns.{behind_turns, may_come as turn_may_come};
+ghost use Rattle.arrivals.specs.Turns.{after_turns, may_come as turn_may_come};
 ghost use Rattle.arrivals.specs.Watching.{asked};
 
 use crate::sources::{Input, Sources, WatchFault, Woken};
@@ -88,8 +88,8 @@ fn place(turns: &[Woken], input: Input, patience: Option<u64>) -> Option<usize>
 }
 
 /// What is returned where no turn may come.
-fn behind(input: Input, patience: Option<u64>) -> Result<Woken, WatchFault>
-    ensures { result_ok result ≡ behind_turns (asked input patience) }
+fn following(input: Input, patience: Option<u64>) -> Result<Woken, WatchFault>
+    ensures { result_ok result ≡ after_turns (asked input patience) }
 {
     match input {
         Input::Empty | Input::Ready => Ok(Woken::Input),
@@ -120,7 +120,7 @@ impl Sources for ScriptedSources {
     fn watch(&mut self, input: Input, patience: Option<u64>) -> Result<Woken, WatchFault> {
         match place(self.turns.as_slice(), input, patience) {
             Some(at) => Ok(self.turns.remove(at)),
-            None => behind(input, patience),
+            None => following(input, patience),
         }
     }
 }

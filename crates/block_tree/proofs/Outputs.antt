@@ -6,62 +6,62 @@ use Rattle.std.proofs.Math.Nat.{le-max_left, le-max_right, max-le}
 use Rattle.block_tree.specs.Tree.{Items, Tree, Piece, text_piece, block_piece, items_from, end, text, block}
 use Rattle.block_tree.specs.Output.{output, output_items, is_aside, join}
 use Rattle.block_tree.specs.inside.Words.{no_output}
-use Rattle.block_tree.specs.inside.Growing.{text_behind, block_behind}
+use Rattle.block_tree.specs.inside.Growing.{text_after, block_after}
 use Rattle.block_tree.specs.View.{piece_of, tree_of, piece_text, piece_block, tree_roll, tree_out}
 use Rattle.block_tree.specs.declared.tree.Item.{Item}
 use Rattle.block_tree.specs.declared.tree.Item.TheVariants.{Block, Text}
 use Rattle.block_tree.specs.declared.tree.Node.{Node, Node-F, roll-Node, out-Node}
 use Rattle.block_tree.specs.Shape.{is_proper, begins_with_text, is_block_within, is_block, is_tag_name, levels, depth, longest_tag, most_levels}
 
-pub text_behind_text : (ps : List Piece) (s t : List ℕ) → text_behind (items_from (ps ++ text_piece s ∷ [])) t ≡ items_from (ps ++ text_piece (s ++ t) ∷ [])
-text_behind_text [] s t = refl
-text_behind_text (block_piece b ∷ ps) s t = ap (block b.channel b.name b.items) (text_behind_text ps s t)
-text_behind_text (text_piece u ∷ []) s t = refl
-text_behind_text (text_piece u ∷ text_piece v ∷ ps) s t = ap (text u) (text_behind_text (text_piece v ∷ ps) s t)
-text_behind_text (text_piece u ∷ block_piece b ∷ ps) s t = ap (text u) (text_behind_text (block_piece b ∷ ps) s t)
+pub text_after_text : (ps : List Piece) (s t : List ℕ) → text_after (items_from (ps ++ text_piece s ∷ [])) t ≡ items_from (ps ++ text_piece (s ++ t) ∷ [])
+text_after_text [] s t = refl
+text_after_text (block_piece b ∷ ps) s t = ap (block b.channel b.name b.items) (text_after_text ps s t)
+text_after_text (text_piece u ∷ []) s t = refl
+text_after_text (text_piece u ∷ text_piece v ∷ ps) s t = ap (text u) (text_after_text (text_piece v ∷ ps) s t)
+text_after_text (text_piece u ∷ block_piece b ∷ ps) s t = ap (text u) (text_after_text (block_piece b ∷ ps) s t)
 
-pub text_behind_block : (ps : List Piece) (c : Tree) (t : List ℕ) → text_behind (items_from (ps ++ block_piece c ∷ [])) t ≡ items_from ((ps ++ block_piece c ∷ []) ++ text_piece t ∷ [])
-text_behind_block [] c t = refl
-text_behind_block (block_piece b ∷ ps) c t = ap (block b.channel b.name b.items) (text_behind_block ps c t)
-text_behind_block (text_piece u ∷ []) c t = refl
-text_behind_block (text_piece u ∷ text_piece v ∷ ps) c t = ap (text u) (text_behind_block (text_piece v ∷ ps) c t)
-text_behind_block (text_piece u ∷ block_piece b ∷ ps) c t = ap (text u) (text_behind_block (block_piece b ∷ ps) c t)
+pub text_after_block : (ps : List Piece) (c : Tree) (t : List ℕ) → text_after (items_from (ps ++ block_piece c ∷ [])) t ≡ items_from ((ps ++ block_piece c ∷ []) ++ text_piece t ∷ [])
+text_after_block [] c t = refl
+text_after_block (block_piece b ∷ ps) c t = ap (block b.channel b.name b.items) (text_after_block ps c t)
+text_after_block (text_piece u ∷ []) c t = refl
+text_after_block (text_piece u ∷ text_piece v ∷ ps) c t = ap (text u) (text_after_block (text_piece v ∷ ps) c t)
+text_after_block (text_piece u ∷ block_piece b ∷ ps) c t = ap (text u) (text_after_block (block_piece b ∷ ps) c t)
 
-pub items_behind : (ps : List Piece) (b : Tree) → items_from (ps ++ block_piece b ∷ []) ≡ block_behind (items_from ps) b
-items_behind [] b = refl
-items_behind (text_piece t ∷ ps) b = ap (text t) (items_behind ps b)
-items_behind (block_piece c ∷ ps) b = ap (block c.channel c.name c.items) (items_behind ps b)
+pub items_after : (ps : List Piece) (b : Tree) → items_from (ps ++ block_piece b ∷ []) ≡ block_after (items_from ps) b
+items_after [] b = refl
+items_after (text_piece t ∷ ps) b = ap (text t) (items_after ps b)
+items_after (block_piece c ∷ ps) b = ap (block c.channel c.name c.items) (items_after ps b)
 
-join_text_behind : (s : List ℕ) (x : Items) (t : List ℕ) → join s (text_behind x t) ≡ text_behind (join s x) t
-join_text_behind s end t = refl
-join_text_behind s (text u end) t = ap (λ w. text w end) (sym (append_assoc s u t))
-join_text_behind s (text u (text v rest)) t = refl
-join_text_behind s (text u (block c n i rest)) t = refl
-join_text_behind s (block c n i rest) t = refl
+join_text_after : (s : List ℕ) (x : Items) (t : List ℕ) → join s (text_after x t) ≡ text_after (join s x) t
+join_text_after s end t = refl
+join_text_after s (text u end) t = ap (λ w. text w end) (sym (append_assoc s u t))
+join_text_after s (text u (text v rest)) t = refl
+join_text_after s (text u (block c n i rest)) t = refl
+join_text_after s (block c n i rest) t = refl
 
-join_block_behind : (s : List ℕ) (x : Items) (b : Tree) → join s (block_behind x b) ≡ block_behind (join s x) b
-join_block_behind s end b = refl
-join_block_behind s (text u rest) b = refl
-join_block_behind s (block c n i rest) b = refl
+join_block_after : (s : List ℕ) (x : Items) (b : Tree) → join s (block_after x b) ≡ block_after (join s x) b
+join_block_after s end b = refl
+join_block_after s (text u rest) b = refl
+join_block_after s (block c n i rest) b = refl
 
-chosen_text : (a : Bool) (c : Bool) (n : List ℕ) (i x : Items) (t : List ℕ) → cond a (text_behind x t) (block c n i (text_behind x t)) ≡ text_behind (cond a x (block c n i x)) t
+chosen_text : (a : Bool) (c : Bool) (n : List ℕ) (i x : Items) (t : List ℕ) → cond a (text_after x t) (block c n i (text_after x t)) ≡ text_after (cond a x (block c n i x)) t
 chosen_text true c n i x t = refl
 chosen_text false c n i x t = refl
 
-chosen_block : (a : Bool) (c : Bool) (n : List ℕ) (i x : Items) (b : Tree) → cond a (block_behind x b) (block c n i (block_behind x b)) ≡ block_behind (cond a x (block c n i x)) b
+chosen_block : (a : Bool) (c : Bool) (n : List ℕ) (i x : Items) (b : Tree) → cond a (block_after x b) (block c n i (block_after x b)) ≡ block_after (cond a x (block c n i x)) b
 chosen_block true c n i x b = refl
 chosen_block false c n i x b = refl
 
-pub output_text : (ps : List Piece) (t : List ℕ) → output_items (items_from (ps ++ text_piece t ∷ [])) ≡ text_behind (output_items (items_from ps)) t
+pub output_text : (ps : List Piece) (t : List ℕ) → output_items (items_from (ps ++ text_piece t ∷ [])) ≡ text_after (output_items (items_from ps)) t
 output_text [] t = refl
-output_text (text_piece s ∷ ps) t = ap (join s) (output_text ps t) ∙ join_text_behind s (output_items (items_from ps)) t
+output_text (text_piece s ∷ ps) t = ap (join s) (output_text ps t) ∙ join_text_after s (output_items (items_from ps)) t
 output_text (block_piece b ∷ ps) t = ap (λ x. cond (is_aside b.channel b.name) x (block b.channel b.name (output_items b.items) x)) (output_text ps t)
     ∙ chosen_text (is_aside b.channel b.name) b.channel b.name (output_items b.items) (output_items (items_from ps)) t
 
 pub kept_block : (ps : List Piece) (b : Tree) → is_aside b.channel b.name ≡ false
-    → output_items (items_from (ps ++ block_piece b ∷ [])) ≡ block_behind (output_items (items_from ps)) (record { channel = b.channel; name = b.name; items = output_items b.items })
+    → output_items (items_from (ps ++ block_piece b ∷ [])) ≡ block_after (output_items (items_from ps)) (record { channel = b.channel; name = b.name; items = output_items b.items })
 kept_block [] b h = ap (λ a. cond a end (block b.channel b.name (output_items b.items) end)) h
-kept_block (text_piece s ∷ ps) b h = ap (join s) (kept_block ps b h) ∙ join_block_behind s (output_items (items_from ps)) (record { channel = b.channel; name = b.name; items = output_items b.items })
+kept_block (text_piece s ∷ ps) b h = ap (join s) (kept_block ps b h) ∙ join_block_after s (output_items (items_from ps)) (record { channel = b.channel; name = b.name; items = output_items b.items })
 kept_block (block_piece c ∷ ps) b h = ap (λ x. cond (is_aside c.channel c.name) x (block c.channel c.name (output_items c.items) x)) (kept_block ps b h)
     ∙ chosen_block (is_aside c.channel c.name) c.channel c.name (output_items c.items) (output_items (items_from ps)) (record { channel = b.channel; name = b.name; items = output_items b.items })
 
@@ -70,17 +70,17 @@ left_block [] b h = ap (λ a. cond a end (block b.channel b.name (output_items b
 left_block (text_piece s ∷ ps) b h = ap (join s) (left_block ps b h)
 left_block (block_piece c ∷ ps) b h = ap (λ x. cond (is_aside c.channel c.name) x (block c.channel c.name (output_items c.items) x)) (left_block ps b h)
 
-pub ruleset output_rules = (tree_roll, output_text, items_behind, kept_block, left_block)
+pub ruleset output_rules = (tree_roll, output_text, items_after, kept_block, left_block)
 
-pub grown_text : (xs : List Item) (s t : List ℕ) → items_from (map piece_of (xs ++ Text (s ++ t) ∷ [])) ≡ text_behind (items_from (map piece_of (xs ++ Text s ∷ []))) t
+pub grown_text : (xs : List Item) (s t : List ℕ) → items_from (map piece_of (xs ++ Text (s ++ t) ∷ [])) ≡ text_after (items_from (map piece_of (xs ++ Text s ∷ []))) t
 grown_text xs s t = ap items_from (map-append piece_of xs (Text (s ++ t) ∷ []) ∙ ap (λ p. map piece_of xs ++ p ∷ []) (piece_text (s ++ t)))
-    ∙ sym (text_behind_text (map piece_of xs) s t)
-    ∙ sym (ap (λ ps. text_behind (items_from ps) t) (map-append piece_of xs (Text s ∷ []) ∙ ap (λ p. map piece_of xs ++ p ∷ []) (piece_text s)))
+    ∙ sym (text_after_text (map piece_of xs) s t)
+    ∙ sym (ap (λ ps. text_after (items_from ps) t) (map-append piece_of xs (Text s ∷ []) ∙ ap (λ p. map piece_of xs ++ p ∷ []) (piece_text s)))
 
-pub grown_block : (xs : List Item) (n : Node) (t : List ℕ) → items_from (map piece_of ((xs ++ Block n ∷ []) ++ Text t ∷ [])) ≡ text_behind (items_from (map piece_of (xs ++ Block n ∷ []))) t
+pub grown_block : (xs : List Item) (n : Node) (t : List ℕ) → items_from (map piece_of ((xs ++ Block n ∷ []) ++ Text t ∷ [])) ≡ text_after (items_from (map piece_of (xs ++ Block n ∷ []))) t
 grown_block xs n t = ap items_from (map-append piece_of (xs ++ Block n ∷ []) (Text t ∷ []) ∙ ap₂ (λ ps p. ps ++ p ∷ []) (map-append piece_of xs (Block n ∷ []) ∙ ap (λ p. map piece_of xs ++ p ∷ []) (piece_block n)) (piece_text t))
-    ∙ sym (text_behind_block (map piece_of xs) (tree_of n) t)
-    ∙ sym (ap (λ ps. text_behind (items_from ps) t) (map-append piece_of xs (Block n ∷ []) ∙ ap (λ p. map piece_of xs ++ p ∷ []) (piece_block n)))
+    ∙ sym (text_after_block (map piece_of xs) (tree_of n) t)
+    ∙ sym (ap (λ ps. text_after (items_from ps) t) (map-append piece_of xs (Block n ∷ []) ∙ ap (λ p. map piece_of xs ++ p ∷ []) (piece_block n)))
 
 pub ruleset grown = (grown_text, grown_block)
 
@@ -88,8 +88,8 @@ taken : (xs : List Item) (i : ℕ) (x : Item) → i < length xs → x ≡ get_or
 taken xs i x h e = ap (map piece_of) (take_more xs i x h ∙ ap (λ y. take i xs ++ y ∷ []) (sym e)) ∙ map-append piece_of (take i xs) (x ∷ [])
 
 pub next_text : (xs : List Item) (i : ℕ) (x : Item) (t : List ℕ) (kept : Items) → i < length xs → x ≡ get_or xs i x → x ≡ Text t
-    → kept ≡ output_items (items_from (map piece_of (take i xs))) → text_behind kept t ≡ output_items (items_from (map piece_of (take (i + 1) xs)))
-next_text xs i x t kept h e is so = ap (λ k. text_behind k t) so ∙ sym (output_text (map piece_of (take i xs)) t)
+    → kept ≡ output_items (items_from (map piece_of (take i xs))) → text_after kept t ≡ output_items (items_from (map piece_of (take (i + 1) xs)))
+next_text xs i x t kept h e is so = ap (λ k. text_after k t) so ∙ sym (output_text (map piece_of (take i xs)) t)
     ∙ sym (ap (λ ps. output_items (items_from ps)) (taken xs i x h e ∙ ap (λ p. map piece_of (take i xs) ++ p ∷ []) (ap piece_of is ∙ piece_text t)))
 
 pub next_aside : (xs : List Item) (i : ℕ) (x : Item) (n : Node) (kept : Items) → i < length xs → x ≡ get_or xs i x → x ≡ Block n → is_aside (out-Node n).tag.channel (out-Node n).tag.name ≡ true
@@ -103,7 +103,7 @@ pub next_block : (xs : List Item) (i : ℕ) (x : Item) (n m : Node) (ys : List I
     → items_from (map piece_of (ys ++ Block m ∷ [])) ≡ output_items (items_from (map piece_of (take (i + 1) xs)))
 next_block xs i x n m ys h e is aside made so =
     ap items_from (map-append piece_of ys (Block m ∷ []) ∙ ap (λ p. map piece_of ys ++ p ∷ []) (piece_block m))
-    ∙ items_behind (map piece_of ys) (tree_of m) ∙ ap₂ block_behind so made
+    ∙ items_after (map piece_of ys) (tree_of m) ∙ ap₂ block_after so made
     ∙ sym (kept_block (map piece_of (take i xs)) (tree_of n) (ap (λ b. is_aside b.channel b.name) (tree_out n) ∙ aside))
     ∙ sym (ap (λ ps. output_items (items_from ps)) (taken xs i x h e ∙ ap (λ p. map piece_of (take i xs) ++ p ∷ []) (ap piece_of is ∙ piece_block n)))
 

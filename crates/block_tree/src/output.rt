@@ -1,7 +1,7 @@
 //! Outputs: blocks without prompts and default inputs.
 ghost use Rattle.std.specs.Prelude.{◌≡◌, ◌||◌, IfOk, OnOk, map};
 ghost use Rattle.block_tree.specs.inside.Asides.{has_aside};
-ghost use Rattle.block_tree.specs.inside.Growing.{text_behind};
+ghost use Rattle.block_tree.specs.inside.Growing.{text_after};
 ghost use Rattle.block_tree.specs.Output.{is_aside, output, output_items};
 ghost use Rattle.block_tree.specs.Tree.{items_from};
 ghost use Rattle.block_tree.specs.View.{piece_of, tree_of};
@@ -22,7 +22,7 @@ fn is_aside_tag(tag: &Tag) -> bool
 #[tactic(auto, using(crate::proofs::Outputs::grown))]
 fn push_text(alloc: Global, items: &mut Vec<Item>, text: &[u8]) -> Result<(), OutOfMemory>
     ensures { OnOk result (items_from (map piece_of items.new.items)
-        ≡ text_behind (items_from (map piece_of items.old.items)) text.now) }
+        ≡ text_after (items_from (map piece_of items.old.items)) text.now) }
 {
     match items.pop() {
         Some(Item::Text(mut last)) => {

@@ -9,12 +9,12 @@ use Rattle.sheet_json.specs.Objects.{telling_data}
 use Rattle.sheet_json.specs.Plain.{IsSoundTelling}
 use Rattle.sheet_json.specs.Sheets.{telling_line, tellings_text}
 use Rattle.sheet_json.specs.Tellings.{Telling}
-use Rattle.sheet_json.specs.Tellings as told
+use Rattle.sheet_json.specs.Tellings as reported
 use Rattle.sheet_json.proofs.PlainValues.{tellings_are_plain}
 use Rattle.sheet_json.proofs.Within.{text_within}
 use Rattle.check_report.specs.declared.report.Format.TheVariants as format
 use Rattle.check_report.specs.declared.verdict.Counts.{Counts}
-use Rattle.check_report.specs.Json.{counts_told, json_head, json_tail}
+use Rattle.check_report.specs.Json.{counts_reported, json_head, json_tail}
 use Rattle.check_report.specs.Laws.{JsonIsItsLines, report_tellings}
 use Rattle.check_report.specs.Reports.{Case, cases_text, report_text, telling_of, judgements_of}
 use Rattle.check_report.specs.Verdicts.{counts_of, total}
@@ -50,8 +50,8 @@ third = codes ",\"same\":"
 abbrev fourth : List ℕ
 fourth = codes ",\"type\":\"compared\",\"unanswered\":"
 
-abbrev behind : List ℕ
-behind = codes "}\n{\"type\":\"end\"}\n"
+abbrev following : List ℕ
+following = codes "}\n{\"type\":\"end\"}\n"
 
 -- the parts, each with all that follows it
 abbrev row : (a e b n c d rest : List ℕ) → List ℕ
@@ -75,12 +75,12 @@ further a e b n c d x more =
     (ap (λ t. third ++ t) (part c last more longer
     (ap (λ t. fourth ++ t) (part d x more (x ++ more) refl)))))))))))
 
-counts_are : (counts : Counts) → compact_text (telling_data (counts_told counts))
+counts_are : (counts : Counts) → compact_text (telling_data (counts_reported counts))
     ≡ row (decimal counts.differ) (decimal counts.errors) (decimal counts.left_out) (decimal counts.new) (decimal counts.same) (decimal counts.unanswered) (125 ∷ [])
 unfolding escape_byte
 counts_are counts = refl
 
-end_is : telling_line told.end ≡ codes "{\"type\":\"end\"}\n"
+end_is : telling_line reported.end ≡ codes "{\"type\":\"end\"}\n"
 unfolding escape_byte
 end_is = refl
 
@@ -93,8 +93,8 @@ closing_is counts =
     let c = decimal counts.same in
     let d = decimal counts.unanswered in
     let last = codes "{\"type\":\"end\"}\n" in
-    three_to_the_right first a erring e second b (second_part counts) ∙ ap (λ t. first ++ (a ++ (erring ++ (e ++ (second ++ (b ++ t)))))) (three_to_the_right adding n third c fourth d behind)
-    ∙ sym (ap (λ t. (t ++ 10 ∷ []) ++ telling_line told.end) (counts_are counts) ∙ ap (λ t. (row a e b n c d (125 ∷ []) ++ 10 ∷ []) ++ t) end_is
+    three_to_the_right first a erring e second b (second_part counts) ∙ ap (λ t. first ++ (a ++ (erring ++ (e ++ (second ++ (b ++ t)))))) (three_to_the_right adding n third c fourth d following)
+    ∙ sym (ap (λ t. (t ++ 10 ∷ []) ++ telling_line reported.end) (counts_are counts) ∙ ap (λ t. (row a e b n c d (125 ∷ []) ++ 10 ∷ []) ++ t) end_is
     ∙ ap (λ t. t ++ last) (further a e b n c d (125 ∷ []) (10 ∷ [])) ∙ further a e b n c d (125 ∷ 10 ∷ []) last)
 
 -- The report is the lines of its tellings.
@@ -109,10 +109,10 @@ jsons number (c ∷ cases) = ap (λ t. telling_line (telling_of c) ++ t) (jsons 
 
 pub json_report : (cases : List Case) → report_text format.Json cases ≡ tellings_text (report_tellings cases)
 json_report cases =
-    let last = counts_told (counts_of (judgements_of cases)) in
-    append_assoc json_head (cases_text format.Json 1 cases) (telling_line last ++ telling_line told.end)
-    ∙ ap (λ t. json_head ++ t) (ap (λ t. t ++ (telling_line last ++ telling_line told.end)) (jsons 1 cases)
-    ∙ ap (λ t. tellings_text (map telling_of cases) ++ (telling_line last ++ t)) (sym (append-nil (telling_line told.end))) ∙ sym (tellings-append (map telling_of cases) (last ∷ told.end ∷ [])))
+    let last = counts_reported (counts_of (judgements_of cases)) in
+    append_assoc json_head (cases_text format.Json 1 cases) (telling_line last ++ telling_line reported.end)
+    ∙ ap (λ t. json_head ++ t) (ap (λ t. t ++ (telling_line last ++ telling_line reported.end)) (jsons 1 cases)
+    ∙ ap (λ t. tellings_text (map telling_of cases) ++ (telling_line last ++ t)) (sym (append-nil (telling_line reported.end))) ∙ sym (tellings-append (map telling_of cases) (last ∷ reported.end ∷ [])))
 
 -- Each of them is one line.
 
@@ -122,7 +122,7 @@ one_line t s = (compact_text (telling_data t), refl, text_within (telling_data t
 within : (n : ℕ) → n < 2 ^ 32 → n < 2 ^ 64
 within n h = omega (arith, h)
 
-counts_sound : (counts : Counts) → total counts < 2 ^ 32 → counts.errors < 2 ^ 32 → IsSoundTelling (counts_told counts)
+counts_sound : (counts : Counts) → total counts < 2 ^ 32 → counts.errors < 2 ^ 32 → IsSoundTelling (counts_reported counts)
 counts_sound counts h e = (omega (arith, h), omega (arith, h), omega (arith, h), omega (arith, h), within counts.errors e, omega (arith, h))
 
 each_line : (cases : List Case) (more : List Telling) → AllByRecursion (λ c. IsSoundTelling (telling_of c)) cases → AllByRecursion (λ t. IsOneLine (telling_line t)) more
@@ -135,6 +135,6 @@ json_is_its_lines cases sound few =
     let counts = counts_of (judgements_of cases) in
     let fits : total counts < 2 ^ 32 = omega (arith, total-of cases, few) in
     let errors : counts.errors < 2 ^ 32 = omega (arith, errors-of cases, few) in (
-      one_line told.hello tt,
-      each_line cases (counts_told counts ∷ told.end ∷ []) sound (one_line (counts_told counts) (counts_sound counts fits errors), (one_line told.end tt, tt)),
+      one_line reported.hello tt,
+      each_line cases (counts_reported counts ∷ reported.end ∷ []) sound (one_line (counts_reported counts) (counts_sound counts fits errors), (one_line reported.end tt, tt)),
     )

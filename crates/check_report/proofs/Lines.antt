@@ -41,11 +41,11 @@ line-first line rest h =
     lines-append (length whole) whole rest (omega arith) (inr last) ∙ ap (λ t. t ++ lines_of rest) (lines-one whole (omega (arith, long)) before)
 
 -- the lines of a text that are no comments
-abbrev pub told : List ℕ → List (List ℕ)
-told text = filter is_tap_line (lines_of text)
+abbrev pub reported : List ℕ → List (List ℕ)
+reported text = filter is_tap_line (lines_of text)
 
-pub told-first : (line rest : List ℕ) → list_all stays line ≡ true → is_tap_line (line ++ 10 ∷ []) ≡ true → told ((line ++ 10 ∷ []) ++ rest) ≡ (line ++ 10 ∷ []) ∷ told rest
-told-first line rest h t = ap (filter is_tap_line) (line-first line rest h) ∙ ap (λ b. cond b ((line ++ 10 ∷ []) ∷ told rest) (told rest)) t
+pub reported-first : (line rest : List ℕ) → list_all stays line ≡ true → is_tap_line (line ++ 10 ∷ []) ≡ true → reported ((line ++ 10 ∷ []) ++ rest) ≡ (line ++ 10 ∷ []) ∷ reported rest
+reported-first line rest h t = ap (filter is_tap_line) (line-first line rest h) ∙ ap (λ b. cond b ((line ++ 10 ∷ []) ∷ reported rest) (reported rest)) t
 
-pub comment-first : (line rest : List ℕ) → list_all stays line ≡ true → is_tap_line (line ++ 10 ∷ []) ≡ false → told ((line ++ 10 ∷ []) ++ rest) ≡ told rest
-comment-first line rest h t = ap (filter is_tap_line) (line-first line rest h) ∙ ap (λ b. cond b ((line ++ 10 ∷ []) ∷ told rest) (told rest)) t
+pub comment-first : (line rest : List ℕ) → list_all stays line ≡ true → is_tap_line (line ++ 10 ∷ []) ≡ false → reported ((line ++ 10 ∷ []) ++ rest) ≡ reported rest
+comment-first line rest h t = ap (filter is_tap_line) (line-first line rest h) ∙ ap (λ b. cond b ((line ++ 10 ∷ []) ∷ reported rest) (reported rest)) t

@@ -3,7 +3,7 @@ use Rattle.std.proofs.Common.{◌≡◌, ℕ, ◌-◌, Bool, true, false, cond, 
 use Rattle.std.specs.Prelude.{◌==◌, ◌&&◌, ◌||◌, not, nat_lt}
 use Rattle.std.specs.List.{list_all}
 use Rattle.std.proofs.lemmas.List.Folds.{list_all-append}
-use Rattle.check_report.specs.Xml.{xml_belonging, stays_in_xml, xml_reference, replacement, xml_behind, xml_byte}
+use Rattle.check_report.specs.Xml.{xml_belonging, stays_in_xml, xml_reference, replacement, xml_after, xml_byte}
 use Rattle.check_report.specs.Laws.{has_xml_references_alone, is_xml_mark, XmlHasNoMarks}
 
 abbrev pub passes : ℕ → Bool
@@ -47,13 +47,13 @@ byte_passes true b = go (stays_in_xml b) refl
     go true e = ap (λ t. list_all passes (cond t (xml_reference b) replacement)) e ∙ reference_passes b e
     go false e = ap (λ t. list_all passes (cond t (xml_reference b) replacement)) e
 
-unmarked_text : (left : ℕ) (bytes : List ℕ) → list_all passes (xml_behind left bytes) ≡ true
-unfolding xml_behind
+unmarked_text : (left : ℕ) (bytes : List ℕ) → list_all passes (xml_after left bytes) ≡ true
+unfolding xml_after
 unmarked_text left [] = refl
 unmarked_text left (b ∷ bytes) =
     let n = xml_belonging left (b ∷ bytes) in
-    list_all-append passes (xml_byte (nat_lt 0 n) b) (xml_behind (n - 1) bytes)
-    ∙ both (list_all passes (xml_byte (nat_lt 0 n) b)) (list_all passes (xml_behind (n - 1) bytes)) (byte_passes (nat_lt 0 n) b) (unmarked_text (n - 1) bytes)
+    list_all-append passes (xml_byte (nat_lt 0 n) b) (xml_after (n - 1) bytes)
+    ∙ both (list_all passes (xml_byte (nat_lt 0 n) b)) (list_all passes (xml_after (n - 1) bytes)) (byte_passes (nat_lt 0 n) b) (unmarked_text (n - 1) bytes)
 
 -- References.
 
@@ -85,12 +85,12 @@ byte_keeps belongs b rest = go (belongs && stays_in_xml b)
     go true = reference_keeps b rest
     go false = refl
 
-referenced_text : (left : ℕ) (bytes : List ℕ) → has_xml_references_alone (xml_behind left bytes) ≡ true
-unfolding xml_behind
+referenced_text : (left : ℕ) (bytes : List ℕ) → has_xml_references_alone (xml_after left bytes) ≡ true
+unfolding xml_after
 referenced_text left [] = refl
 referenced_text left (b ∷ bytes) =
     let n = xml_belonging left (b ∷ bytes) in
-    byte_keeps (nat_lt 0 n) b (xml_behind (n - 1) bytes) ∙ referenced_text (n - 1) bytes
+    byte_keeps (nat_lt 0 n) b (xml_after (n - 1) bytes) ∙ referenced_text (n - 1) bytes
 
 pub no_marks : XmlHasNoMarks
 no_marks bytes = (unmarked_text 0 bytes, referenced_text 0 bytes)

@@ -13,10 +13,10 @@ use Rattle.worksheet.specs.Names.{is_name}
 use Rattle.check_report.specs.declared.verdict.Verdict.{Verdict}
 use Rattle.check_report.specs.declared.verdict.Verdict.TheVariants as verdict
 use Rattle.check_report.specs.Points.{Point}
-use Rattle.check_report.specs.Tap.{comments, comments_behind, description, directive, duration_line, plan_line, point_line, result_words, started_line, tap_point, tap_points, took_block, version_line}
+use Rattle.check_report.specs.Tap.{comments, comments_after, description, directive, duration_line, plan_line, point_line, result_words, started_line, tap_point, tap_points, took_block, version_line}
 use Rattle.check_report.specs.Laws.{ArePoints, IsPoint, IsTook, TapIsItsPoints, is_tap_line, point_lines}
 use Rattle.sheet_json.specs.declared.checks.Took.{Took}
-use Rattle.check_report.proofs.Lines.{both-first, both-second, comment-first, stays, told, told-first}
+use Rattle.check_report.proofs.Lines.{both-first, both-second, comment-first, stays, reported, reported-first}
 
 all : (xs ys : List ℕ) → list_all stays xs ≡ true → list_all stays ys ≡ true → list_all stays (xs ++ ys) ≡ true
 all xs ys p q = list_all-append stays xs ys ∙ (rw (p, q) refl)
@@ -25,41 +25,41 @@ all xs ys p q = list_all-append stays xs ys ∙ (rw (p, q) refl)
 
 -- what is left of a text, where a line begins or after a front of a comment
 record Unheard (bytes : List ℕ) : Type 0 where
-  at_start : (rest : List ℕ) → told (comments_behind true bytes ++ rest) ≡ told rest
-  inside : (front rest : List ℕ) → list_all stays front ≡ true → told ((35 ∷ front) ++ (comments_behind false bytes ++ rest)) ≡ told rest
+  at_start : (rest : List ℕ) → reported (comments_after true bytes ++ rest) ≡ reported rest
+  inside : (front rest : List ℕ) → list_all stays front ≡ true → reported ((35 ∷ front) ++ (comments_after false bytes ++ rest)) ≡ reported rest
 
-ended : (front bytes rest : List ℕ) → list_all stays front ≡ true → told ((35 ∷ front) ++ (10 ∷ (bytes ++ rest))) ≡ told (bytes ++ rest)
-ended front bytes rest h = ap told (sym (append_assoc (35 ∷ front) (10 ∷ []) (bytes ++ rest))) ∙ comment-first (35 ∷ front) (bytes ++ rest) h refl
+ended : (front bytes rest : List ℕ) → list_all stays front ≡ true → reported ((35 ∷ front) ++ (10 ∷ (bytes ++ rest))) ≡ reported (bytes ++ rest)
+ended front bytes rest h = ap reported (sym (append_assoc (35 ∷ front) (10 ∷ []) (bytes ++ rest))) ∙ comment-first (35 ∷ front) (bytes ++ rest) h refl
 
 byte-unheard : (byte : ℕ) (bytes : List ℕ) → Unheard bytes → (feed : Bool) → (byte == 10) ≡ feed → Unheard (byte ∷ bytes)
-unfolding comments_behind
+unfolding comments_after
 byte-unheard byte bytes u true e =
     let is : byte ≡ 10 = eqb-true byte 10 e in
     record {
       at_start = λ rest.
-          ap (λ f. told (35 ∷ 32 ∷ byte ∷ (comments_behind f bytes ++ rest))) e ∙ ap (λ b. told (35 ∷ 32 ∷ b ∷ (comments_behind true bytes ++ rest))) is
-          ∙ ended (32 ∷ []) (comments_behind true bytes) rest refl ∙ u.at_start rest;
+          ap (λ f. reported (35 ∷ 32 ∷ byte ∷ (comments_after f bytes ++ rest))) e ∙ ap (λ b. reported (35 ∷ 32 ∷ b ∷ (comments_after true bytes ++ rest))) is
+          ∙ ended (32 ∷ []) (comments_after true bytes) rest refl ∙ u.at_start rest;
       inside = λ front rest h.
-          ap (λ f. told ((35 ∷ front) ++ (byte ∷ (comments_behind f bytes ++ rest)))) e ∙ ap (λ b. told ((35 ∷ front) ++ (b ∷ (comments_behind true bytes ++ rest)))) is
-          ∙ ended front (comments_behind true bytes) rest h ∙ u.at_start rest;
+          ap (λ f. reported ((35 ∷ front) ++ (byte ∷ (comments_after f bytes ++ rest)))) e ∙ ap (λ b. reported ((35 ∷ front) ++ (b ∷ (comments_after true bytes ++ rest)))) is
+          ∙ ended front (comments_after true bytes) rest h ∙ u.at_start rest;
     }
 byte-unheard byte bytes u false e =
     let one : list_all stays (byte ∷ []) ≡ true = rw e refl in
     record {
       at_start = λ rest.
-          ap (λ f. told (35 ∷ 32 ∷ byte ∷ (comments_behind f bytes ++ rest))) e ∙ u.inside (32 ∷ byte ∷ []) rest one;
+          ap (λ f. reported (35 ∷ 32 ∷ byte ∷ (comments_after f bytes ++ rest))) e ∙ u.inside (32 ∷ byte ∷ []) rest one;
       inside = λ front rest h.
-          ap (λ f. told ((35 ∷ front) ++ (byte ∷ (comments_behind f bytes ++ rest)))) e
-          ∙ ap (λ t. told (35 ∷ t)) (sym (append_assoc front (byte ∷ []) (comments_behind false bytes ++ rest)))
+          ap (λ f. reported ((35 ∷ front) ++ (byte ∷ (comments_after f bytes ++ rest)))) e
+          ∙ ap (λ t. reported (35 ∷ t)) (sym (append_assoc front (byte ∷ []) (comments_after false bytes ++ rest)))
           ∙ u.inside (front ++ byte ∷ []) rest (all front (byte ∷ []) h one);
     }
 
 unheard : (bytes : List ℕ) → Unheard bytes
-unfolding comments_behind
+unfolding comments_after
 unheard [] = record { at_start = λ rest. refl; inside = λ front rest h. ended front [] rest h }
 unheard (byte ∷ bytes) = byte-unheard byte bytes (unheard bytes) (byte == 10) refl
 
-pub comments-unheard : (text rest : List ℕ) → told (comments text ++ rest) ≡ told rest
+pub comments-unheard : (text rest : List ℕ) → reported (comments text ++ rest) ≡ reported rest
 comments-unheard text rest = (unheard text).at_start rest
 
 -- The lines of points.
@@ -81,24 +81,24 @@ decimal-stays = decimal_by_steps (λ n ds. list_all stays ds ≡ true) one more
 -- What an evaluation took is no line that is reported.
 
 -- a line that begins with a space
-passed-over : (line rest : List ℕ) → list_all stays line ≡ true → told (((32 ∷ line) ++ 10 ∷ []) ++ rest) ≡ told rest
+passed-over : (line rest : List ℕ) → list_all stays line ≡ true → reported (((32 ∷ line) ++ 10 ∷ []) ++ rest) ≡ reported rest
 passed-over line rest h = comment-first (32 ∷ line) rest h refl
 
-duration-unheard : (millis : ℕ) (rest : List ℕ) → millis < 2 ^ 64 → told (duration_line millis ++ rest) ≡ told rest
+duration-unheard : (millis : ℕ) (rest : List ℕ) → millis < 2 ^ 64 → reported (duration_line millis ++ rest) ≡ reported rest
 duration-unheard millis rest low = passed-over (codes " duration_ms: " ++ decimal millis) rest (all (codes " duration_ms: ") (decimal millis) refl (decimal-stays millis low))
 
-started-unheard : (started : Bool) (rest : List ℕ) → told (started_line started ++ rest) ≡ told rest
+started-unheard : (started : Bool) (rest : List ℕ) → reported (started_line started ++ rest) ≡ reported rest
 started-unheard true rest = passed-over (codes " started: true") rest refl
 started-unheard false rest = passed-over (codes " started: false") rest refl
 
-took-unheard : (took : Option Took) (rest : List ℕ) → IsTook took → told (took_block took ++ rest) ≡ told rest
+took-unheard : (took : Option Took) (rest : List ℕ) → IsTook took → reported (took_block took ++ rest) ≡ reported rest
 took-unheard None rest fits = refl
 took-unheard (Some took) rest fits =
     let opening = codes "  ---\n" in
     let duration = duration_line took.millis in
     let started = started_line took.started in
     let closing = codes "  ...\n" in
-    ap told (append_assoc (opening ++ duration ++ started) closing rest ∙ append_assoc (opening ++ duration) started (closing ++ rest) ∙ append_assoc opening duration (started ++ (closing ++ rest)))
+    ap reported (append_assoc (opening ++ duration ++ started) closing rest ∙ append_assoc (opening ++ duration) started (closing ++ rest) ∙ append_assoc opening duration (started ++ (closing ++ rest)))
     ∙ passed-over (codes " ---") (duration ++ (started ++ (closing ++ rest))) refl
     ∙ duration-unheard took.millis (started ++ (closing ++ rest)) fits
     ∙ started-unheard took.started (closing ++ rest)
@@ -156,12 +156,12 @@ result-stays verdict.Unanswered = refl
 result-stays verdict.LeftOut = refl
 result-stays verdict.New = refl
 
-result-told : (v : Verdict) (more : List ℕ) → is_tap_line (result_words v ++ more) ≡ true
-result-told verdict.Same more = refl
-result-told verdict.Differs more = refl
-result-told verdict.Unanswered more = refl
-result-told verdict.LeftOut more = refl
-result-told verdict.New more = refl
+result-reported : (v : Verdict) (more : List ℕ) → is_tap_line (result_words v ++ more) ≡ true
+result-reported verdict.Same more = refl
+result-reported verdict.Differs more = refl
+result-reported verdict.Unanswered more = refl
+result-reported verdict.LeftOut more = refl
+result-reported verdict.New more = refl
 
 module _ (number : ℕ) (p : Point) (is : IsPoint p) (low : number < 2 ^ 64) where
   named : List ℕ
@@ -188,36 +188,36 @@ module _ (number : ℕ) (p : Point) (is : IsPoint p) (low : number < 2 ^ 64) whe
       ap (λ t. r ++ n ++ d ++ t) (directive-is p.verdict) ∙ sym (append_assoc (r ++ n ++ d) w (10 ∷ []))
       ∙ ap (λ t. (t ++ w) ++ 10 ∷ []) (append_assoc r n d) ∙ ap (λ t. t ++ 10 ∷ []) (append_assoc r (n ++ d) w)
 
-  point-told : (rest : List ℕ) → told (tap_point number p ++ rest) ≡ point_line number p.id p.session p.verdict ∷ told rest
-  point-told rest =
+  point-reported : (rest : List ℕ) → reported (tap_point number p ++ rest) ≡ point_line number p.id p.session p.verdict ∷ reported rest
+  point-reported rest =
       let line = result_words p.verdict ++ named in
       let all_stay = all (result_words p.verdict) named (result-stays p.verdict) named-stays in
-      let heard : is_tap_line (line ++ 10 ∷ []) ≡ true = ap is_tap_line (append_assoc (result_words p.verdict) named (10 ∷ [])) ∙ result-told p.verdict (named ++ 10 ∷ []) in
+      let heard : is_tap_line (line ++ 10 ∷ []) ≡ true = ap is_tap_line (append_assoc (result_words p.verdict) named (10 ∷ [])) ∙ result-reported p.verdict (named ++ 10 ∷ []) in
       let point = point_line number p.id p.session p.verdict in
-      let further = took_block p.took ++ (comments p.told ++ rest) in
-      ap told (append_assoc (point ++ took_block p.took) (comments p.told) rest ∙ append_assoc point (took_block p.took) (comments p.told ++ rest))
-      ∙ ap (λ l. told (l ++ further)) point_line-is
-      ∙ told-first line further all_stay heard
-      ∙ ap (λ t. (line ++ 10 ∷ []) ∷ t) (took-unheard p.took (comments p.told ++ rest) is.took ∙ comments-unheard p.told rest)
-      ∙ ap (λ l. l ∷ told rest) (sym point_line-is)
+      let further = took_block p.took ++ (comments p.reported ++ rest) in
+      ap reported (append_assoc (point ++ took_block p.took) (comments p.reported) rest ∙ append_assoc point (took_block p.took) (comments p.reported ++ rest))
+      ∙ ap (λ l. reported (l ++ further)) point_line-is
+      ∙ reported-first line further all_stay heard
+      ∙ ap (λ t. (line ++ 10 ∷ []) ∷ t) (took-unheard p.took (comments p.reported ++ rest) is.took ∙ comments-unheard p.reported rest)
+      ∙ ap (λ l. l ∷ reported rest) (sym point_line-is)
 
-points-told : (points : List Point) (number : ℕ) (rest : List ℕ) → ArePoints points → number + length points < 2 ^ 64 → told (tap_points number points ++ rest) ≡ point_lines number points ++ told rest
-points-told [] number rest are few = refl
-points-told (p ∷ points) number rest are few =
-    ap told (append_assoc (tap_point number p) (tap_points (number + 1) points) rest)
-    ∙ point-told number p are.0 (omega (arith, few)) (tap_points (number + 1) points ++ rest)
-    ∙ ap (λ t. point_line number p.id p.session p.verdict ∷ t) (points-told points (number + 1) rest are.1 (omega (arith, few)))
+points-reported : (points : List Point) (number : ℕ) (rest : List ℕ) → ArePoints points → number + length points < 2 ^ 64 → reported (tap_points number points ++ rest) ≡ point_lines number points ++ reported rest
+points-reported [] number rest are few = refl
+points-reported (p ∷ points) number rest are few =
+    ap reported (append_assoc (tap_point number p) (tap_points (number + 1) points) rest)
+    ∙ point-reported number p are.0 (omega (arith, few)) (tap_points (number + 1) points ++ rest)
+    ∙ ap (λ t. point_line number p.id p.session p.verdict ∷ t) (points-reported points (number + 1) rest are.1 (omega (arith, few)))
 
-plan-told : (count : ℕ) → count < 2 ^ 64 → told (plan_line count) ≡ plan_line count ∷ []
-plan-told count low =
+plan-reported : (count : ℕ) → count < 2 ^ 64 → reported (plan_line count) ≡ plan_line count ∷ []
+plan-reported count low =
     let line = codes "1.." ++ decimal count in
-    ap told (sym (append-nil (line ++ 10 ∷ []))) ∙ told-first line [] (all (codes "1..") (decimal count) refl (decimal-stays count low)) refl
+    ap reported (sym (append-nil (line ++ 10 ∷ []))) ∙ reported-first line [] (all (codes "1..") (decimal count) refl (decimal-stays count low)) refl
     ∙ ap (λ t. plan_line count ∷ t) (ap (λ ls. filter is_tap_line ls) lines-nil)
 
 pub tap_is_points : TapIsItsPoints
 tap_is_points points are few =
     let plan = plan_line (length points) in
-    ap told (append_assoc version_line (tap_points 1 points) plan)
-    ∙ told-first (codes "TAP version 13") (tap_points 1 points ++ plan) refl refl
-    ∙ ap (λ t. version_line ∷ t) (points-told points 1 plan are (omega (arith, few)))
-    ∙ ap (λ t. version_line ∷ (point_lines 1 points ++ t)) (plan-told (length points) (omega (arith, few)))
+    ap reported (append_assoc version_line (tap_points 1 points) plan)
+    ∙ reported-first (codes "TAP version 13") (tap_points 1 points ++ plan) refl refl
+    ∙ ap (λ t. version_line ∷ t) (points-reported points 1 plan are (omega (arith, few)))
+    ∙ ap (λ t. version_line ∷ (point_lines 1 points ++ t)) (plan-reported (length points) (omega (arith, few)))

@@ -12,8 +12,8 @@ abbrev pub is_dash : ℕ → Bool
 is_dash byte = byte == 45
 
 -- what stands after the first of these bytes, where there is one
-abbrev pub behind_first : (ℕ → Bool) → List ℕ → Option (List ℕ)
-behind_first p bytes = option_map (λ at. drop (at + 1) bytes) (position p bytes)
+abbrev pub following_first : (ℕ → Bool) → List ℕ → Option (List ℕ)
+following_first p bytes = option_map (λ at. drop (at + 1) bytes) (position p bytes)
 
 abbrev pub from_to : ℕ → ℕ → Ids
 from_to first last = record { first = first; last = last }
@@ -25,12 +25,12 @@ range_of (Some first) None = None
 range_of (Some first) (Some last) = if nat_le first last then Some (from_to first last) else None
 
 -- one number, or two with a dash between them
-abbrev pub part_behind : List ℕ → Option (List ℕ) → Option Ids
-part_behind front None = option_map (λ id. from_to id id) (number_written front)
-part_behind front (Some rest) = range_of (number_written front) (number_written rest)
+abbrev pub part_after : List ℕ → Option (List ℕ) → Option Ids
+part_after front None = option_map (λ id. from_to id id) (number_written front)
+part_after front (Some rest) = range_of (number_written front) (number_written rest)
 
 abbrev pub part_of : List ℕ → Option Ids
-part_of part = part_behind (before_first is_dash part) (behind_first is_dash part)
+part_of part = part_after (before_first is_dash part) (following_first is_dash part)
 
 -- after others
 abbrev pub with_others : List Ids → Option (List Ids) → Option (List Ids)

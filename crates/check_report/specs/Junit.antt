@@ -55,7 +55,7 @@ result_end verdict.New = codes "</skipped></testcase>\n"
 
 -- a case
 abbrev pub junit_case : Point → List ℕ
-junit_case p = case_start p.id p.session p.input p.took ++ result_start p.verdict ++ xml_text p.told ++ result_end p.verdict
+junit_case p = case_start p.id p.session p.input p.took ++ result_start p.verdict ++ xml_text p.reported ++ result_end p.verdict
 
 -- a whole report
 abbrev pub junit_text : List Point → List ℕ

@@ -10,14 +10,14 @@ use Rattle.sheet_json.specs.Lines.{IsOneLine}
 use Rattle.sheet_json.specs.Plain.{IsSoundTelling}
 use Rattle.sheet_json.specs.Sheets.{telling_line, tellings_text}
 use Rattle.sheet_json.specs.Tellings.{Telling}
-use Rattle.sheet_json.specs.Tellings as told
+use Rattle.sheet_json.specs.Tellings as reported
 use Rattle.sheet_json.specs.declared.checks.Took.{Took}
 use Rattle.check_report.specs.declared.report.Format.TheVariants as format
 use Rattle.check_report.specs.declared.hunks.Hunk.{Hunk}
 use Rattle.check_report.specs.Brief.{brief_text}
 use Rattle.check_report.specs.Hunks.{hunk_of, lines_added, some_lines, lines_removed, tail_start}
 use Rattle.check_report.specs.Points.{Point}
-use Rattle.check_report.specs.Json.{counts_told}
+use Rattle.check_report.specs.Json.{counts_reported}
 use Rattle.check_report.specs.Reports.{Case, point_of, report_text, telling_of, judgements_of}
 use Rattle.check_report.specs.Verdicts.{counts_of}
 use Rattle.check_report.specs.Words.{acceptance_text, accepted_counts_text, counts_text, verdict_text, whole_text}
@@ -51,7 +51,7 @@ point_lines number (p ∷ points) = point_line number p.id p.session p.verdict �
 
 -- what a report tells in lines of JSON: first, of each case in their order, then the counts, and last that it came to its end
 abbrev pub report_tellings : List Case → List Telling
-report_tellings cases = told.hello ∷ (map telling_of cases ++ counts_told (counts_of (judgements_of cases)) ∷ told.end ∷ [])
+report_tellings cases = reported.hello ∷ (map telling_of cases ++ counts_reported (counts_of (judgements_of cases)) ∷ reported.end ∷ [])
 
 -- A report as TAP and one in JUnit's XML are those of its points, one as JSON is the lines of its tellings, and those in words have the texts of their cases and then the counts.
 abbrev pub ReportsAreTheirTexts : Type 0
@@ -97,22 +97,22 @@ abbrev pub XmlHasNoMarks : Type 0
 XmlHasNoMarks = (bytes : List ℕ) → (list_all (λ byte. not (is_xml_mark byte)) (xml_text bytes) ≡ true) × (has_xml_references_alone (xml_text bytes) ≡ true)
 
 -- whether a tag is open after a byte
-abbrev pub tag_behind : Bool → ℕ → Bool
-tag_behind inside byte = cond inside (not (byte == 62)) (byte == 60)
+abbrev pub tag_after : Bool → ℕ → Bool
+tag_after inside byte = cond inside (not (byte == 62)) (byte == 60)
 
 -- the tags of a text, from each '<' to the '>' after it, by whether one is open
 abbrev pub tags : Bool → List ℕ → List ℕ
 tags inside [] = []
-tags inside (byte ∷ rest) = cond (inside || byte == 60) (byte ∷ tags (tag_behind inside byte) rest) (tags (tag_behind inside byte) rest)
+tags inside (byte ∷ rest) = cond (inside || byte == 60) (byte ∷ tags (tag_after inside byte) rest) (tags (tag_after inside byte) rest)
 
 -- a point of which nothing is reported
-abbrev pub untold : Point → Point
-untold p = record p { told = [] }
+abbrev pub withheld : Point → Point
+withheld p = record p { reported = [] }
 
 -- The tags of a report in JUnit's XML are those of one in which nothing is reported: what an interpreter wrote is no element, no
 -- attribute, and no part of one.
 abbrev pub TextsAreNoTags : Type 0
-TextsAreNoTags = (points : List Point) → tags false (junit_text points) ≡ tags false (junit_text (map untold points))
+TextsAreNoTags = (points : List Point) → tags false (junit_text points) ≡ tags false (junit_text (map withheld points))
 
 -- two lists of lines are the same before what a hunk of them marks, and after it
 abbrev pub AgreeAround : Hunk → List (List ℕ) → List (List ℕ) → Type 0

@@ -11,7 +11,7 @@ pub record Point : Type 0 where
   pub input : List ℕ
   pub verdict : Verdict
   pub took : Option Took
-  pub told : List ℕ
+  pub reported : List ℕ
 
 abbrev pub point : ℕ → List ℕ → List ℕ → Verdict → Option Took → List ℕ → Point
-point id session input verdict took told = record { id = id; session = session; input = input; verdict = verdict; took = took; told = told }
+point id session input verdict took reported = record { id = id; session = session; input = input; verdict = verdict; took = took; reported = reported }

@@ -17,7 +17,7 @@ use Rattle.check_report.specs.Points.{Point, point}
 use Rattle.check_report.specs.Words.{acceptance_text, accepted_counts_text, counts_text, verdict_text, whole_text}
 use Rattle.check_report.specs.Tap.{plan_line, tap_point, version_line}
 use Rattle.check_report.specs.Junit.{head, junit_case, tail}
-use Rattle.check_report.specs.Json.{checked_told, json_head, json_tail}
+use Rattle.check_report.specs.Json.{checked_reported, json_head, json_tail}
 use Rattle.sheet_json.specs.Sheets.{telling_line}
 use Rattle.sheet_json.specs.Tellings.{Telling}
 use Rattle.sheet_json.specs.declared.checks.Took.{Took}
@@ -44,7 +44,7 @@ judgements_of cases = map (λ c. judgement_of c.came c.verdict) cases
 
 -- the same in JSON
 abbrev pub telling_of : Case → Telling
-telling_of c = checked_told c.field c.came c.lost c.verdict c.took
+telling_of c = checked_reported c.field c.came c.lost c.verdict c.took
 
 -- what stands first
 abbrev pub opening_text : Format → List ℕ

@@ -59,17 +59,17 @@ abbrev pub comments_end : Bool → List ℕ
 comments_end begins = cond begins [] (10 ∷ [])
 
 -- the comments of what is left of a text, by whether a line begins there
-unfoldable pub comments_behind : Bool → List ℕ → List ℕ
-comments_behind begins [] = comments_end begins
-comments_behind begins (byte ∷ rest) = comment_byte begins byte ++ comments_behind (byte == 10) rest
+unfoldable pub comments_after : Bool → List ℕ → List ℕ
+comments_after begins [] = comments_end begins
+comments_after begins (byte ∷ rest) = comment_byte begins byte ++ comments_after (byte == 10) rest
 
 -- each line of a text as a comment
 abbrev pub comments : List ℕ → List ℕ
-comments text = comments_behind true text
+comments text = comments_after true text
 
 -- a point, what it took, and what is reported of it
 abbrev pub tap_point : ℕ → Point → List ℕ
-tap_point number p = point_line number p.id p.session p.verdict ++ took_block p.took ++ comments p.told
+tap_point number p = point_line number p.id p.session p.verdict ++ took_block p.took ++ comments p.reported
 
 -- points, of which the first has this number
 abbrev pub tap_points : ℕ → List Point → List ℕ

@@ -38,10 +38,10 @@ abbrev pub xml_belonging : ℕ → List ℕ → ℕ
 xml_belonging left bytes = cond (nat_lt 0 left) left (xml_length bytes)
 
 -- the bytes after a character of which so many are left
-unfoldable pub xml_behind : ℕ → List ℕ → List ℕ
-xml_behind left [] = []
-xml_behind left (byte ∷ rest) = xml_byte (nat_lt 0 (xml_belonging left (byte ∷ rest))) byte ++ xml_behind (xml_belonging left (byte ∷ rest) - 1) rest
+unfoldable pub xml_after : ℕ → List ℕ → List ℕ
+xml_after left [] = []
+xml_after left (byte ∷ rest) = xml_byte (nat_lt 0 (xml_belonging left (byte ∷ rest))) byte ++ xml_after (xml_belonging left (byte ∷ rest) - 1) rest
 
 -- a text: its characters, and U+FFFD for each byte that is part of none which XML can have
 abbrev pub xml_text : List ℕ → List ℕ
-xml_text bytes = xml_behind 0 bytes
+xml_text bytes = xml_after 0 bytes

@@ -70,7 +70,7 @@ impl Hunk {
     }
 
     /// Where the lines begin with which both end.
-    fn behind(self) -> usize
+    fn following(self) -> usize
         ensures { result ≡ hunks.tail_start self }
     {
         self.old.saturating_sub(self.back)
@@ -275,6 +275,6 @@ pub(crate) fn write_hunk<W: Write>(
     write_part(b"  ", hunk.hidden(), hunk.before(), old, writer)?;
     write_part(b"- ", hunk.front, hunk.removed(), old, writer)?;
     write_part(b"+ ", hunk.front, hunk.added(), new, writer)?;
-    write_part(b"  ", hunk.behind(), hunk.after(), old, writer)?;
+    write_part(b"  ", hunk.following(), hunk.after(), old, writer)?;
     Ok(())
 }

@@ -29,7 +29,7 @@ fn dash_in(bytes: &[u8]) -> Option<usize>
 /// The bytes up to the next comma, and those after it.
 fn split_comma(bytes: &[u8]) -> (&[u8], Option<&[u8]>)
     ensures before { result.0.now ≡ before_first lists.is_comma bytes.now }
-    ensures behind { option_copied result.1 ≡ lists.behind_first lists.is_comma bytes.now }
+    ensures following { option_copied result.1 ≡ lists.following_first lists.is_comma bytes.now }
 {
     match comma_in(bytes) {
         None => (bytes, None),
@@ -40,7 +40,7 @@ fn split_comma(bytes: &[u8]) -> (&[u8], Option<&[u8]>)
 /// The bytes up to the next dash, and those after it.
 fn split_dash(bytes: &[u8]) -> (&[u8], Option<&[u8]>)
     ensures before { result.0.now ≡ before_first lists.is_dash bytes.now }
-    ensures behind { option_copied result.1 ≡ lists.behind_first lists.is_dash bytes.now }
+    ensures following { option_copied result.1 ≡ lists.following_first lists.is_dash bytes.now }
 {
     match dash_in(bytes) {
         None => (bytes, None),
@@ -50,7 +50,7 @@ fn split_dash(bytes: &[u8]) -> (&[u8], Option<&[u8]>)
 
 /// One number.
 fn read_one(bytes: &[u8]) -> Option<Ids>
-    ensures { result ≡ lists.part_behind bytes.now None }
+    ensures { result ≡ lists.part_after bytes.now None }
 {
     match read_number(bytes) {
         None => None,
@@ -78,8 +78,8 @@ fn read_range(first: &[u8], last: &[u8]) -> Option<Ids>
 fn read_part(part: &[u8]) -> Option<Ids>
     ensures { result ≡ lists.part_of part.now }
 {
-    let (front, behind) = split_dash(part);
-    match behind {
+    let (front, following) = split_dash(part);
+    match following {
         None => read_one(front),
         Some(rest) => read_range(front, rest),
     }
@@ -94,12 +94,12 @@ pub fn read_ids(alloc: Global, text: &[u8]) -> Result<Option<Sequence<Ids>>, Out
     let mut all = Vec::new(alloc);
     let mut rest = text;
     loop {
-        let (part, behind) = split_comma(rest);
+        let (part, following) = split_comma(rest);
         let Some(ids) = read_part(part) else {
             return Ok(None);
         };
         all.push(ids)?;
-        match behind {
+        match following {
             None => return Ok(Some(Sequence::from_vec(all))),
             Some(others) => rest = others,
         }

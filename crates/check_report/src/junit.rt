@@ -144,15 +144,15 @@ pub(crate) fn write_case<W: Write>(
     input: &[u8],
     verdict: Verdict,
     took: Option<Took>,
-    told: &[u8],
+    reported: &[u8],
     out: &mut W,
 ) -> Result<(), WriteFault>
     ensures { OnOk result (Appends (W.contents out.old) (W.contents out.new)
-        (junit.junit_case (point id session.now input.now verdict took told.now))) }
+        (junit.junit_case (point id session.now input.now verdict took reported.now))) }
 {
     write_start(id, session, input, took, out)?;
     write_result_start(verdict, out)?;
-    write_text(told, out)?;
+    write_text(reported, out)?;
     write_result_end(verdict, out)?;
     Ok(())
 }

@@ -4,7 +4,7 @@ ghost use Rattle.std.specs.Io.KnownBytes.{Appends};
 ghost use Rattle.serde_json.specs.View.{view};
 ghost use Rattle.sheet_json.specs.Objects.{telling_data};
 ghost use Rattle.sheet_json.specs.Sheets.{telling_line};
-ghost use Rattle.check_report.specs.Json.{checked_told, json_head, json_tail};
+ghost use Rattle.check_report.specs.Json.{checked_reported, json_head, json_tail};
 ghost use Rattle.check_report.specs.inside.Closing.{first_part, second_part};
 
 use crate::verdict::{Counts, Verdict};
@@ -12,7 +12,7 @@ use crate::writing::{write_bytes, write_id};
 use block_tree::Reason;
 use serde_json::Value;
 use sheet_json::{
-    Took, differs_value, left_out_value, new_value, same_value, told_bytes, unanswered_value,
+    Took, differs_value, left_out_value, new_value, reported_bytes, same_value, unanswered_value,
 };
 use sheet_text::WriteFault;
 use std::alloc::{AllocError, Global};
@@ -29,7 +29,7 @@ fn case_value(
     took: Option<Took>,
 ) -> Result<Value, AllocError>
     ensures { IfOk result (λ value. view value
-        ≡ telling_data (checked_told field.now came.now lost verdict took)) }
+        ≡ telling_data (checked_reported field.now came.now lost verdict took)) }
 {
     match verdict {
         Verdict::Same => same_value(alloc, field, took),
@@ -50,12 +50,12 @@ pub(crate) fn case_in_memory(
     took: Option<Took>,
 ) -> Option<Vec<u8>>
     ensures { IfSome result (λ line. line.items
-        ≡ telling_line (checked_told field.now came.now lost verdict took)) }
+        ≡ telling_line (checked_reported field.now came.now lost verdict took)) }
 {
     let Ok(value) = case_value(alloc, field, came, lost, verdict, took) else {
         return Option::None;
     };
-    match told_bytes(alloc, &value) {
+    match reported_bytes(alloc, &value) {
         Ok(line) => Some(line),
         Err(_) => Option::None,
     }

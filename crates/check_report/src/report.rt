@@ -6,7 +6,7 @@ ghost use Rattle.check_report.specs.Reports.{Unreported, case as case_of, case_t
 ghost use Rattle.check_report.specs.Words as printed;
 ghost use Rattle.check_report.specs.Tap as taps;
 ghost use Rattle.check_report.specs.Junit as junits;
-ghost use Rattle.check_report.specs.Json.{checked_told};
+ghost use Rattle.check_report.specs.Json.{checked_reported};
 ghost use Rattle.sheet_json.specs.Sheets.{telling_line};
 
 use crate::brief::brief_in_memory;
@@ -263,11 +263,11 @@ fn write_as_point<W: Write>(
     field: &Field,
     verdict: Verdict,
     took: Option<Took>,
-    told: &[u8],
+    reported: &[u8],
     writer: &mut W,
 ) -> Result<(), WriteFault>
     ensures { OnOk result (Appends (W.contents writer.old) (W.contents writer.new)
-        (taps.tap_point number (point field.now.id field.now.session field.now.input verdict took told.now))) }
+        (taps.tap_point number (point field.now.id field.now.session field.now.input verdict took reported.now))) }
 {
     write_point(
         number,
@@ -275,7 +275,7 @@ fn write_as_point<W: Write>(
         field.session.as_slice(),
         verdict,
         took,
-        told,
+        reported,
         writer,
     )?;
     writer.flush().map_err(|_| WriteFault)?;
@@ -287,11 +287,11 @@ fn write_as_case<W: Write>(
     field: &Field,
     verdict: Verdict,
     took: Option<Took>,
-    told: &[u8],
+    reported: &[u8],
     writer: &mut W,
 ) -> Result<(), WriteFault>
     ensures { OnOk result (Appends (W.contents writer.old) (W.contents writer.new)
-        (junits.junit_case (point field.now.id field.now.session field.now.input verdict took told.now))) }
+        (junits.junit_case (point field.now.id field.now.session field.now.input verdict took reported.now))) }
 {
     write_case(
         field.id,
@@ -299,7 +299,7 @@ fn write_as_case<W: Write>(
         field.input.as_bytes(),
         verdict,
         took,
-        told,
+        reported,
         writer,
     )?;
     writer.flush().map_err(|_| WriteFault)?;
@@ -321,10 +321,10 @@ fn report_point<W: Write>(
         (printed.verdict_text field.now came.now verdict)))) }
     ensures err { IfErr result (Unreported (W.contents writer.old) (W.contents writer.new)) }
 {
-    let Some(told) = verdict_in_memory(alloc, field, came, verdict) else {
+    let Some(reported) = verdict_in_memory(alloc, field, came, verdict) else {
         return Err(ReportFault::OutOfMemory);
     };
-    match write_as_point(number, field, verdict, took, told.as_slice(), writer) {
+    match write_as_point(number, field, verdict, took, reported.as_slice(), writer) {
         Ok(()) => Ok(()),
         Err(_) => Err(ReportFault::Output),
     }
@@ -344,10 +344,10 @@ fn report_junit<W: Write>(
         (printed.verdict_text field.now came.now verdict)))) }
     ensures err { IfErr result (Unreported (W.contents writer.old) (W.contents writer.new)) }
 {
-    let Some(told) = verdict_in_memory(alloc, field, came, verdict) else {
+    let Some(reported) = verdict_in_memory(alloc, field, came, verdict) else {
         return Err(ReportFault::OutOfMemory);
     };
-    match write_as_case(field, verdict, took, told.as_slice(), writer) {
+    match write_as_case(field, verdict, took, reported.as_slice(), writer) {
         Ok(()) => Ok(()),
         Err(_) => Err(ReportFault::Output),
     }
@@ -373,7 +373,7 @@ fn report_json<W: Write>(
     writer: &mut W,
 ) -> Result<(), ReportFault>
     ensures ok { OnOk result (Appends (W.contents writer.old) (W.contents writer.new)
-        (telling_line (checked_told field.now came.now lost verdict took))) }
+        (telling_line (checked_reported field.now came.now lost verdict took))) }
     ensures err { IfErr result (Unreported (W.contents writer.old) (W.contents writer.new)) }
 {
     let Some(line) = case_in_memory(alloc, field, came, lost, verdict, took) else {
@@ -397,10 +397,10 @@ fn report_accepting<W: Write>(
         (printed.acceptance_text field.now came.now verdict)) }
     ensures err { IfErr result (Unreported (W.contents writer.old) (W.contents writer.new)) }
 {
-    let Some(told) = acceptance_in_memory(alloc, field, came, verdict) else {
+    let Some(reported) = acceptance_in_memory(alloc, field, came, verdict) else {
         return Err(ReportFault::OutOfMemory);
     };
-    match bring_out(told.as_slice(), writer) {
+    match bring_out(reported.as_slice(), writer) {
         Ok(()) => Ok(()),
         Err(_) => Err(ReportFault::Output),
     }

@@ -182,14 +182,14 @@ pub(crate) fn write_point<W: Write>(
     session: &[u8],
     verdict: Verdict,
     took: Option<Took>,
-    told: &[u8],
+    reported: &[u8],
     out: &mut W,
 ) -> Result<(), WriteFault>
     ensures { OnOk result (Appends (W.contents out.old) (W.contents out.new)
-        (tap.tap_point number (point id session.now [] verdict took told.now))) }
+        (tap.tap_point number (point id session.now [] verdict took reported.now))) }
 {
     write_point_line(number, id, session, verdict, out)?;
     write_took(took, out)?;
-    write_comments(told, out)?;
+    write_comments(reported, out)?;
     Ok(())
 }

@@ -19,16 +19,16 @@ use Rattle.session_engine.specs.declared.play.GroupFault.{GroupFault}
 use Rattle.session_engine.specs.declared.play.GroupFault.TheVariants as group
 use Rattle.child_calls.specs.Calls.{Answer}
 use Rattle.child_edge.specs.Edge.{BrokeOff, Ran, Stopped}
-use Rattle.child_edge.specs.Faithful.{Relation, At, at, Beat, Carried, FirstOf, Follows, Served, ServedUpTo, due_of}
+use Rattle.child_edge.specs.Faithful.{Relation, At, at, Entry, Carried, FirstOf, Follows, Served, ServedUpTo, due_of}
 use Rattle.child_edge.specs.Kept.{HoldsSheet}
-use Rattle.child_edge.specs.Told.{told}
-use Rattle.child_edge.specs.Together.{AtOnce, CarriesOut, FailsTogether, Followed, LeavesEither, LostTogether, RanTogether, Together, beats_behind, trace_of}
+use Rattle.child_edge.specs.Reported.{reported}
+use Rattle.child_edge.specs.Together.{AtOnce, CarriesOut, FailsTogether, Followed, LeavesEither, LostTogether, RanTogether, Together, entries_after, trace_of}
 use Rattle.child_edge.specs.declared.together.GaveTogether.{GaveTogether}
 use Rattle.child_edge.specs.declared.together.TogetherFault.{TogetherFault}
 use Rattle.child_edge.specs.declared.together.TogetherFault.TheVariants as halt
 use Rattle.child_edge.specs.inside.Gating.{CarriedSoFar, EachUpTo, HaltsAtOnce, OneCarried, OneUpTo, TookAtOnce}
 use Rattle.child_edge.proofs.Faulting.{same-at}
-use Rattle.child_edge.proofs.Waits.{FirstOf-more, told-join}
+use Rattle.child_edge.proofs.Waits.{FirstOf-more, reported-join}
 
 -- The gate.
 
@@ -73,7 +73,7 @@ module _ (w : World) (old new : HostView) (before : old.store.real ≡ old.store
     taken = p.played.done;
     dropped = p.rest;
     split = p.played.split;
-    untold = p.untold;
+    withheld = p.withheld;
     leads = p.played.leads;
     runs = p.played.runs;
     closed = p.closed;
@@ -113,48 +113,48 @@ module _ (w : World) (old new : HostView) (before : old.store.real ≡ old.store
 
 -- Effects.
 
-behind-one : (f : Followed) → f.beats ≡ beats_behind (f ∷ [])
-behind-one f = sym (append-nil f.beats)
+following-one : (f : Followed) → f.entries ≡ entries_after (f ∷ [])
+following-one f = sym (append-nil f.entries)
 
-pub behind-append : (fs gs : List Followed) → beats_behind (fs ++ gs) ≡ beats_behind fs ++ beats_behind gs
-behind-append [] gs = refl
-behind-append (f ∷ fs) gs = ap (λ (x : List Beat). f.beats ++ x) (behind-append fs gs) ∙ sym (append_assoc f.beats (beats_behind fs) (beats_behind gs))
+pub following-append : (fs gs : List Followed) → entries_after (fs ++ gs) ≡ entries_after fs ++ entries_after gs
+following-append [] gs = refl
+following-append (f ∷ fs) gs = ap (λ (x : List Entry). f.entries ++ x) (following-append fs gs) ∙ sym (append_assoc f.entries (entries_after fs) (entries_after gs))
 
 module _ {C : Type 0} (R : Relation C) (o : Outcome) (w : World) (c m : C) (d : DiskView) (a : Option Answer) (carried : Carried R c o.effect a m) where
   -- nothing comes of it
   pub carried_alone : due_of o.effect a ≡ None → OneCarried R o (at w c d) [] (at w m d)
-  carried_alone none = (record { answer = a; beats = [] } ∷ [], (record { answer = a; beats = [] }, m, refl, carried, (sym none, refl)), refl)
+  carried_alone none = (record { answer = a; entries = [] } ∷ [], (record { answer = a; entries = [] }, m, refl, carried, (sym none, refl)), refl)
 
   -- its fault and all that comes of it
-  pub carried_on : (e : Event) (bs : List Beat) (t : At C) → due_of o.effect a ≡ Some e → Served R (at w m d) e bs t → OneCarried R o (at w c d) bs t
-  carried_on e bs t due served = let f : Followed = record { answer = a; beats = bs } in
-      (f ∷ [], (f, m, refl, carried, subst (λ (x : Option Event). Follows R (at w m d) x bs None t) (sym due) served), behind-one f)
+  pub carried_on : (e : Event) (bs : List Entry) (t : At C) → due_of o.effect a ≡ Some e → Served R (at w m d) e bs t → OneCarried R o (at w c d) bs t
+  carried_on e bs t due served = let f : Followed = record { answer = a; entries = bs } in
+      (f ∷ [], (f, m, refl, carried, subst (λ (x : Option Event). Follows R (at w m d) x bs None t) (sym due) served), following-one f)
 
-  pub carried_up_to : (e : Event) (bs : List Beat) (left : Event) (t : At C) → due_of o.effect a ≡ Some e → ServedUpTo R (at w m d) e bs left t → OneUpTo R o (at w c d) bs left t
-  carried_up_to e bs left t due served = let f : Followed = record { answer = a; beats = bs } in
-      (f ∷ [], (f, m, refl, carried, subst (λ (x : Option Event). Follows R (at w m d) x bs (Some left) t) (sym due) served), behind-one f)
+  pub carried_up_to : (e : Event) (bs : List Entry) (left : Event) (t : At C) → due_of o.effect a ≡ Some e → ServedUpTo R (at w m d) e bs left t → OneUpTo R o (at w c d) bs left t
+  carried_up_to e bs left t due served = let f : Followed = record { answer = a; entries = bs } in
+      (f ∷ [], (f, m, refl, carried, subst (λ (x : Option Event). Follows R (at w m d) x bs (Some left) t) (sym due) served), following-one f)
 
 module _ {C : Type 0} (R : Relation C) (outcomes : List Outcome) (s : At C) (before : List Reply) where
   pub none_carried : (w : World) (h : HostView) (c : C) → IsHost h w → s ≡ at w c h.store.disk → Ran (CarriedSoFar R outcomes 0 s) before h c before
-  none_carried w h c stands is = record { beats = []; leads = w; form = ([], (refl, sym is), refl); stands = stands; replied = sym (append-nil before) }
+  none_carried w h c stands is = record { entries = []; leads = w; form = ([], (refl, sym is), refl); stands = stands; replied = sym (append-nil before) }
 
   module _ (k : ℕ) (o : Outcome) (h g : HostView) (c d : C) (old new : List Reply) (so : Ran (CarriedSoFar R outcomes k s) before h c old) (is : slice_get outcomes k ≡ Some o) where
     pub one_carried : Ran (OneCarried R o (at so.leads c h.store.disk)) old g d new → Ran (CarriedSoFar R outcomes (k + 1) s) before g d new
     one_carried p = record {
-      beats = so.beats ++ p.beats;
+      entries = so.entries ++ p.entries;
       leads = p.leads;
       form = (
         so.form.0 ++ p.form.0,
         FirstOf-more (CarriesOut R None) outcomes k s so.form.0 (at so.leads c h.store.disk) o p.form.0 (at p.leads d g.store.disk) so.form.1 is p.form.1,
-        ap (λ (x : List Beat). x ++ p.beats) so.form.2 ∙ ap (λ (x : List Beat). beats_behind so.form.0 ++ x) p.form.2 ∙ sym (behind-append so.form.0 p.form.0),
+        ap (λ (x : List Entry). x ++ p.entries) so.form.2 ∙ ap (λ (x : List Entry). entries_after so.form.0 ++ x) p.form.2 ∙ sym (following-append so.form.0 p.form.0),
       );
       stands = p.stands;
-      replied = told-join before old new so.beats p.beats so.replied p.replied;
+      replied = reported-join before old new so.entries p.entries so.replied p.replied;
     }
 
     pub one_broke : (f : HostFault) → BrokeOff (OneUpTo R o (at so.leads c h.store.disk)) old g d new f → BrokeOff (EachUpTo R outcomes s) before g d new f
     one_broke f p = record {
-      beats = so.beats ++ p.beats;
+      entries = so.entries ++ p.entries;
       leads = p.leads;
       disk = p.disk;
       failed = p.failed;
@@ -167,10 +167,10 @@ module _ {C : Type 0} (R : Relation C) (outcomes : List Outcome) (s : At C) (bef
         so.form.1,
         is,
         p.form.1,
-        ap (λ (x : List Beat). x ++ p.beats) so.form.2 ∙ ap (λ (x : List Beat). beats_behind so.form.0 ++ x) p.form.2 ∙ sym (behind-append so.form.0 p.form.0),
+        ap (λ (x : List Entry). x ++ p.entries) so.form.2 ∙ ap (λ (x : List Entry). entries_after so.form.0 ++ x) p.form.2 ∙ sym (following-append so.form.0 p.form.0),
       );
       stopped = p.stopped;
-      replied = told-join before old new so.beats p.beats so.replied p.replied;
+      replied = reported-join before old new so.entries p.entries so.replied p.replied;
     }
 
 -- All of it.
@@ -202,7 +202,7 @@ module _ {C : Type 0} (R : Relation C) (w : World) (c d : C) (events : List Even
     leads = p.leads;
     run = subst (λ (os : List Outcome). Together R (at w c old.store.disk) events os p.form.0 (at p.leads d new.store.disk)) (sym is) (record { middle = took.0; disk = mid.store.disk; kept = took.1; carried = p.form.1 });
     stands = p.stands;
-    replied = are ∙ p.replied ∙ ap told p.form.2;
+    replied = are ∙ p.replied ∙ ap reported p.form.2;
   }
 
   pub broke_together : (f : HostFault) → BrokeOff (EachUpTo R outcomes (at took.0 c mid.store.disk)) [] new d replies f → FailsTogether R (at w c old.store.disk) events new d (halt.Host f)

@@ -13,17 +13,17 @@ use Rattle.session_engine.specs.declared.joining.Joint.{Joint}
 use Rattle.session_engine.specs.declared.joining.JoinFault.{JoinFault}
 use Rattle.session_engine.specs.declared.joining.JoinFault.TheVariants as stops
 use Rattle.child_edge.specs.Edge.{BrokeOff, Ran}
-use Rattle.child_edge.specs.Faithful.{Relation, At, at, Beat, FirstOf}
-use Rattle.child_edge.specs.Told.{told}
-use Rattle.child_edge.specs.Together.{CarriesOut, Followed, Together, beats_behind, trace_of}
+use Rattle.child_edge.specs.Faithful.{Relation, At, at, Entry, FirstOf}
+use Rattle.child_edge.specs.Reported.{reported}
+use Rattle.child_edge.specs.Together.{CarriesOut, Followed, Together, entries_after, trace_of}
 use Rattle.child_edge.specs.Joined.{FailsJoined, JoiningEdge, RanJoined, joining_edge}
 use Rattle.child_edge.specs.declared.joined.GaveJoined.{GaveJoined}
 use Rattle.child_edge.specs.declared.together.TogetherFault.{TogetherFault}
 use Rattle.child_edge.specs.declared.together.TogetherFault.TheVariants as halt
 use Rattle.child_edge.specs.inside.Gating.{CarriedSoFar, EachUpTo}
 use Rattle.child_edge.specs.inside.Joining.{HaltsWithJoined, JointCarried, JointUpTo, TookWithJoined}
-use Rattle.child_edge.proofs.Gates.{behind-append, fails_at_once, lost_at_once, stopped_at_once, took_at_once}
-use Rattle.child_edge.proofs.Waits.{told-join}
+use Rattle.child_edge.proofs.Gates.{following-append, fails_at_once, lost_at_once, stopped_at_once, took_at_once}
+use Rattle.child_edge.proofs.Waits.{reported-join}
 
 -- Things of two lists in turn.
 
@@ -66,20 +66,20 @@ module _ {C : Type 0} (R : Relation C) (os ps : List Outcome) (s : At C) (before
     (so : Ran (CarriedSoFar R os (length os) s) before h c old) where
   pub carried_both : Ran (CarriedSoFar R ps (length ps) (at so.leads c h.store.disk)) old g d new → Ran (CarriedSoFar R (os ++ ps) (length (os ++ ps)) s) before g d new
   carried_both p = record {
-    beats = so.beats ++ p.beats;
+    entries = so.entries ++ p.entries;
     leads = p.leads;
     form = (
       so.form.0 ++ p.form.0,
       first_of_both (CarriesOut R None) os ps (length ps) (length (os ++ ps)) s so.form.0 (at so.leads c h.store.disk) p.form.0 (at p.leads d g.store.disk) (length-append os ps) so.form.1 p.form.1,
-      ap (λ (x : List Beat). x ++ p.beats) so.form.2 ∙ ap (λ (x : List Beat). beats_behind so.form.0 ++ x) p.form.2 ∙ sym (behind-append so.form.0 p.form.0),
+      ap (λ (x : List Entry). x ++ p.entries) so.form.2 ∙ ap (λ (x : List Entry). entries_after so.form.0 ++ x) p.form.2 ∙ sym (following-append so.form.0 p.form.0),
     );
     stands = p.stands;
-    replied = told-join before old new so.beats p.beats so.replied p.replied;
+    replied = reported-join before old new so.entries p.entries so.replied p.replied;
   }
 
   pub broke_later : (f : HostFault) → BrokeOff (EachUpTo R ps (at so.leads c h.store.disk)) old g d new f → BrokeOff (EachUpTo R (os ++ ps) s) before g d new f
   broke_later f p = let (k, followed, last, place, next, front, is, broken, are) = p.form in record {
-    beats = so.beats ++ p.beats;
+    entries = so.entries ++ p.entries;
     leads = p.leads;
     disk = p.disk;
     failed = p.failed;
@@ -92,17 +92,17 @@ module _ {C : Type 0} (R : Relation C) (os ps : List Outcome) (s : At C) (before
       first_of_both (CarriesOut R None) os ps k (length os + k) s so.form.0 (at so.leads c h.store.disk) followed place refl so.form.1 front,
       slice_right os ps k (length os + k) refl ∙ is,
       broken,
-      ap (λ (x : List Beat). x ++ p.beats) so.form.2 ∙ ap (λ (x : List Beat). beats_behind so.form.0 ++ x) are ∙ sym (behind-append so.form.0 (followed ++ last))
-          ∙ ap (λ (fs : List Followed). beats_behind fs) (sym (append_assoc so.form.0 followed last)),
+      ap (λ (x : List Entry). x ++ p.entries) so.form.2 ∙ ap (λ (x : List Entry). entries_after so.form.0 ++ x) are ∙ sym (following-append so.form.0 (followed ++ last))
+          ∙ ap (λ (fs : List Followed). entries_after fs) (sym (append_assoc so.form.0 followed last)),
     );
     stopped = p.stopped;
-    replied = told-join before old new so.beats p.beats so.replied p.replied;
+    replied = reported-join before old new so.entries p.entries so.replied p.replied;
   }
 
 module _ {C : Type 0} (R : Relation C) (os ps : List Outcome) (s : At C) (before : List Reply) (h : HostView) (c : C) (new : List Reply) (f : HostFault) where
   pub broke_sooner : BrokeOff (EachUpTo R os s) before h c new f → BrokeOff (EachUpTo R (os ++ ps) s) before h c new f
   broke_sooner p = let (k, followed, last, place, next, front, is, broken, are) = p.form in record {
-    beats = p.beats;
+    entries = p.entries;
     leads = p.leads;
     disk = p.disk;
     failed = p.failed;
@@ -152,7 +152,7 @@ module _ {C : Type 0} (R : Relation C) (A : Asking) (w : World) (c d : C) (event
         (subst (λ (os : List Outcome). Together R (at w c old.store.disk) (events ++ took.more) (joint.outcomes.items ++ os) p.form.0 (at p.leads d new.store.disk)) (sym later)
         (record { middle = took.kept.0; disk = mid.store.disk; kept = took.kept.1; carried = p.form.1 }));
     stands = p.stands;
-    replied = are ∙ p.replied ∙ ap told p.form.2;
+    replied = are ∙ p.replied ∙ ap reported p.form.2;
   }
 
   pub broke_joined : (f : HostFault) → ToBeTaken A w events (events ++ took.more) → BrokeOff (JointUpTo R joint (at took.kept.0 c mid.store.disk)) [] new d replies f

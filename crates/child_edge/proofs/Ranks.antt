@@ -69,32 +69,32 @@ rank-kill n l (Some end) = omega arith
 rank-kill n l (Some calls.no_memory) = omega arith
 
 -- nothing is due after a start that was refused, whether the life went on or not
-rank-refused : (w : World) (l : Option Going) (d : Does) (a : Option Answer) → d ≡ ends_life w reason.StartRefused false l reply.Nothing → rank (due_of d.told.effect a) < 1
-rank-refused w None d a h = subst (λ (x : Does). rank (due_of x.told.effect a) < 1) (sym h) (omega arith)
-rank-refused w (Some l) d a h = subst (λ (x : Does). rank (due_of x.told.effect a) < 1) (sym h) (omega arith)
+rank-refused : (w : World) (l : Option Going) (d : Does) (a : Option Answer) → d ≡ ends_life w reason.StartRefused false l reply.Nothing → rank (due_of d.reported.effect a) < 1
+rank-refused w None d a h = subst (λ (x : Does). rank (due_of x.reported.effect a) < 1) (sym h) (omega arith)
+rank-refused w (Some l) d a h = subst (λ (x : Does). rank (due_of x.reported.effect a) < 1) (sym h) (omega arith)
 
 -- after another end of a life only that it couldn't be stopped
-rank-ended : (w : World) (l : Option Going) (why : Reason) (d : Does) (a : Option Answer) → d ≡ ends_life w why true l reply.Nothing → rank (due_of d.told.effect a) < 2
-rank-ended w None why d a h = subst (λ (x : Does). rank (due_of x.told.effect a) < 2) (sym h) (omega arith)
-rank-ended w (Some l) why d a h = subst (λ (x : Does). rank (due_of x.told.effect a) < 2) (sym h) (omega (arith, rank-kill l.name l.number a))
+rank-ended : (w : World) (l : Option Going) (why : Reason) (d : Does) (a : Option Answer) → d ≡ ends_life w why true l reply.Nothing → rank (due_of d.reported.effect a) < 2
+rank-ended w None why d a h = subst (λ (x : Does). rank (due_of x.reported.effect a) < 2) (sym h) (omega arith)
+rank-ended w (Some l) why d a h = subst (λ (x : Does). rank (due_of x.reported.effect a) < 2) (sym h) (omega (arith, rank-kill l.name l.number a))
 
-rank-ignored : (w : World) (d : Does) (a : Option Answer) → d ≡ tells w reply.Nothing → rank (due_of d.told.effect a) < 1
-rank-ignored w d a h = subst (λ (x : Does). rank (due_of x.told.effect a) < 1) (sym h) (omega arith)
+rank-ignored : (w : World) (d : Does) (a : Option Answer) → d ≡ tells w reply.Nothing → rank (due_of d.reported.effect a) < 1
+rank-ignored w d a h = subst (λ (x : Does). rank (due_of x.reported.effect a) < 1) (sym h) (omega arith)
 
 -- what is due after an event is less than the event
-due-rank : (w : World) (e : Event) (d : Does) (a : Option Answer) → MayDo w e d → rank (due_of d.told.effect a) < rank_of e
-due-rank w (event.Command c) d a h = omega (arith, rank-due d.told.effect a)
+due-rank : (w : World) (e : Event) (d : Does) (a : Option Answer) → MayDo w e d → rank (due_of d.reported.effect a) < rank_of e
+due-rank w (event.Command c) d a h = omega (arith, rank-due d.reported.effect a)
 due-rank w (Child name life child.StartRefused) d a h = rank-refused w (with_number life (life_of w name)) d a h
 due-rank w (Child name life child.StopFault) d a h = rank-ignored w d a h
 due-rank w (Child name life child.SendFault) d a h = rank-ended w (with_number life (life_of w name)) reason.SendFault d a h
-due-rank w (Child name life (child.Piece p)) d a h = omega (arith, rank-due d.told.effect a)
-due-rank w (Child name life child.End) d a h = omega (arith, rank-due d.told.effect a)
-due-rank w (Child name life child.ReadFault) d a h = omega (arith, rank-due d.told.effect a)
-due-rank w (Child name life child.Stalled) d a h = omega (arith, rank-due d.told.effect a)
+due-rank w (Child name life (child.Piece p)) d a h = omega (arith, rank-due d.reported.effect a)
+due-rank w (Child name life child.End) d a h = omega (arith, rank-due d.reported.effect a)
+due-rank w (Child name life child.ReadFault) d a h = omega (arith, rank-due d.reported.effect a)
+due-rank w (Child name life child.Stalled) d a h = omega (arith, rank-due d.reported.effect a)
 
 -- of the outcome that is returned
-pub rank-told : (w : World) (e : Event) (d : Does) (o : Outcome) (a : Option Answer) → MayDo w e d → o ≡ d.told → rank (due_of o.effect a) < rank_of e
-rank-told w e d o a may same = subst (λ (x : Outcome). rank (due_of x.effect a) < rank_of e) (sym same) (due-rank w e d a may)
+pub rank-reported : (w : World) (e : Event) (d : Does) (o : Outcome) (a : Option Answer) → MayDo w e d → o ≡ d.reported → rank (due_of o.effect a) < rank_of e
+rank-reported w e d o a may same = subst (λ (x : Outcome). rank (due_of x.effect a) < rank_of e) (sym same) (due-rank w e d a may)
 
 pub rank-most : (e : Event) → rank_of e ≤ 3
 rank-most (Child name life child.StartRefused) = omega arith

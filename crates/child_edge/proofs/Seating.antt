@@ -39,8 +39,8 @@ all-lives number w xs left ss e h s n =
     sym (append-nil xs) ∙ ap (λ (l : List Session). xs ++ lives_of number l) (sym e) ∙ h ∙ ap (lives_of number) s ∙ lives-same number (number_of w) n (sheet_in w).sessions
 
 -- the number that a host tells
-pub told-number : (w : World) (name : List ℕ) (view : Option LifeView) → view ≡ option_map life_view (life_of w name) → option_map (λ v. v.number) view ≡ number_of w name
-told-number w name view e = ap (λ (o : Option LifeView). option_map (λ v. v.number) o) e ∙ go (life_of w name)
+pub reported-number : (w : World) (name : List ℕ) (view : Option LifeView) → view ≡ option_map life_view (life_of w name) → option_map (λ v. v.number) view ≡ number_of w name
+reported-number w name view e = ap (λ (o : Option LifeView). option_map (λ v. v.number) o) e ∙ go (life_of w name)
   where
     go : (o : Option Going) → option_map (λ v. v.number) (option_map life_view o) ≡ option_map (λ l. l.number) o
     go None = refl

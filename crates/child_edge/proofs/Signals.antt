@@ -21,8 +21,8 @@ module _ {C : Type 0} (R : Relation C) (w : World) (name : List ℕ) (c : C) (s 
   pub no_session : s ≡ None → Interrupts R w name c interrupted.NoSession c
   no_session none = subst (λ (x : Option Session). InterruptsOf R x (seat_of name (option_map life_view (life_of w name))) c interrupted.NoSession c) (sym none ∙ is) (refl, refl)
 
-  pub in_session : (d : C) (told : Interrupted) (one : Session) (view : Option LifeView) → s ≡ Some one → view ≡ option_map life_view (life_of w name)
-      → InterruptsFirst R (seat_of name view) c told d → Interrupts R w name c told d
-  in_session d told one view some life p =
-      subst (λ (x : Option Session). InterruptsOf R x (seat_of name (option_map life_view (life_of w name))) c told d) (sym some ∙ is)
-      (subst (λ (v : Option LifeView). InterruptsFirst R (seat_of name v) c told d) life p)
+  pub in_session : (d : C) (reported : Interrupted) (one : Session) (view : Option LifeView) → s ≡ Some one → view ≡ option_map life_view (life_of w name)
+      → InterruptsFirst R (seat_of name view) c reported d → Interrupts R w name c reported d
+  in_session d reported one view some life p =
+      subst (λ (x : Option Session). InterruptsOf R x (seat_of name (option_map life_view (life_of w name))) c reported d) (sym some ∙ is)
+      (subst (λ (v : Option LifeView). InterruptsFirst R (seat_of name v) c reported d) life p)

@@ -5,14 +5,14 @@ use Rattle.child_edge.specs.declared.waiting.Waiting.{Waiting}
 use Rattle.child_calls.specs.declared.seat.Seat.{Seat}
 use Rattle.child_edge.specs.Limits.{most_turns}
 use Rattle.child_edge.specs.Seats.{waits}
-use Rattle.child_edge.specs.Faithful.{Relation, At, at, Beat, FirstOf, Taken, OneTurn, Turns, Waited, hearing}
+use Rattle.child_edge.specs.Faithful.{Relation, At, at, Entry, FirstOf, Taken, OneTurn, Turns, Waited, hearing}
 use Rattle.child_edge.specs.Broken.{WaitSoFar, WaitStopped}
 use Rattle.child_edge.specs.Steps.{Came, IsBegun}
 use Rattle.disk_model.specs.Disk.{DiskView}
 use Rattle.session_engine.specs.World.{World}
 use Rattle.child_edge.proofs.Waits.{FirstOf-more, Turns-more}
 
-module _ {C : Type 0} (R : Relation C) (wait : Waiting) (s : At C) (bs : List Beat) (t : At C) (came : Came R wait s bs t) where
+module _ {C : Type 0} (R : Relation C) (wait : Waiting) (s : At C) (bs : List Entry) (t : At C) (came : Came R wait s bs t) where
   pub came_so_far : WaitSoFar R most_turns s bs t
   came_so_far = record {
     whole = wait.whole;
@@ -22,13 +22,13 @@ module _ {C : Type 0} (R : Relation C) (wait : Waiting) (s : At C) (bs : List Be
     last = came.last;
     turns = came.turns;
     part = record { whole = wait.place; fits = subst (λ (x : List Seat). wait.place ≤ length x) came.seats came.place; are_done = subst (λ (x : List Seat). FirstOf (Taken (hearing R (nat_lt wait.whole most_turns)) None) x wait.place came.mid came.last t) came.seats came.part };
-    beats = came.beats;
+    entries = came.entries;
   }
 
   -- the turn is whole
   pub came_turn : wait.place ≡ length wait.seats.items → Turns R most_turns (wait.whole + 1) s bs t
   came_turn all =
-      subst (λ (l : List Beat). Turns R most_turns (wait.whole + 1) s l t) (sym came.beats)
+      subst (λ (l : List Entry). Turns R most_turns (wait.whole + 1) s l t) (sym came.entries)
       (Turns-more R most_turns wait.whole s came.before came.mid (nat_lt wait.whole most_turns) came.last t came.turns refl
       (subst (λ (x : List Seat). OneTurn (hearing R (nat_lt wait.whole most_turns)) x came.mid came.last t) came.seats
       (subst (λ (k : ℕ). FirstOf (Taken (hearing R (nat_lt wait.whole most_turns)) None) wait.seats.items k came.mid came.last t) all came.part)))
@@ -38,8 +38,8 @@ module _ {C : Type 0} (R : Relation C) (wait : Waiting) (s : At C) (bs : List Be
   came_idle none =
       let at_start : wait.place ≡ 0 = omega (arith, came.place, ap length none) in
       let part : FirstOf (Taken (hearing R (nat_lt wait.whole most_turns)) None) wait.seats.items 0 came.mid came.last t = subst (λ (k : ℕ). FirstOf (Taken (hearing R (nat_lt wait.whole most_turns)) None) wait.seats.items k came.mid came.last t) at_start came.part in
-      let same : bs ≡ came.before = came.beats ∙ ap (λ (x : List Beat). came.before ++ x) part.0 ∙ append-nil came.before in
-      let turns : Turns R most_turns wait.whole s bs t = subst (λ (x : At C). Turns R most_turns wait.whole s bs x) (sym part.1) (subst (λ (x : List Beat). Turns R most_turns wait.whole s x came.mid) (sym same) came.turns) in
+      let same : bs ≡ came.before = came.entries ∙ ap (λ (x : List Entry). came.before ++ x) part.0 ∙ append-nil came.before in
+      let turns : Turns R most_turns wait.whole s bs t = subst (λ (x : At C). Turns R most_turns wait.whole s bs x) (sym part.1) (subst (λ (x : List Entry). Turns R most_turns wait.whole s x came.mid) (sym same) came.turns) in
       (wait.whole, turns, inl (ap (λ (x : At C). waits x.world) part.1 ∙ sym came.seats ∙ none, came.fits))
 
   -- none waits after it
@@ -61,11 +61,11 @@ module _ {C : Type 0} (R : Relation C) (wait : Waiting) (s : At C) (bs : List Be
     seats = seats;
     turns = subst (λ (k : ℕ). Turns R most_turns k s bs t) (sym whole) (came_turn all);
     part = subst (λ (k : ℕ). FirstOf (Taken (hearing R (nat_lt next.whole most_turns)) None) next.seats.items k t [] t) (sym place) (refl, refl);
-    beats = sym (append-nil bs);
+    entries = sym (append-nil bs);
   }
 
   -- one life more
-  pub came_on : (next : Waiting) (seat : Seat) (cs : List Beat) (v : At C) → wait.place < length wait.seats.items → slice_get wait.seats.items wait.place ≡ Some seat → next.whole ≡ wait.whole → next.seats ≡ wait.seats
+  pub came_on : (next : Waiting) (seat : Seat) (cs : List Entry) (v : At C) → wait.place < length wait.seats.items → slice_get wait.seats.items wait.place ≡ Some seat → next.whole ≡ wait.whole → next.seats ≡ wait.seats
       → next.place ≡ wait.place + 1 → Taken (hearing R (nat_lt wait.whole most_turns)) None seat t cs v → Came R next s (bs ++ cs) v
   came_on next seat cs v room here whole seats place taken = record {
     mid = came.mid;
@@ -79,11 +79,11 @@ module _ {C : Type 0} (R : Relation C) (wait : Waiting) (s : At C) (bs : List Be
         (subst (λ x. FirstOf (Taken (hearing R (nat_lt wait.whole most_turns)) None) x.items next.place came.mid (came.last ++ cs) v) (sym seats)
         (subst (λ (k : ℕ). FirstOf (Taken (hearing R (nat_lt wait.whole most_turns)) None) wait.seats.items k came.mid (came.last ++ cs) v) (sym place)
         (FirstOf-more (Taken (hearing R (nat_lt wait.whole most_turns)) None) wait.seats.items wait.place came.mid came.last t seat cs v came.part here taken)));
-    beats = ap (λ (x : List Beat). x ++ cs) came.beats ∙ append_assoc came.before came.last cs;
+    entries = ap (λ (x : List Entry). x ++ cs) came.entries ∙ append_assoc came.before came.last cs;
   }
 
   -- a life broke off
-  pub came_broke : (seat : Seat) (cs : List Beat) (e : Event) (v : At C) → slice_get wait.seats.items wait.place ≡ Some seat → Taken (hearing R (nat_lt wait.whole most_turns)) (Some e) seat t cs v
+  pub came_broke : (seat : Seat) (cs : List Entry) (e : Event) (v : At C) → slice_get wait.seats.items wait.place ≡ Some seat → Taken (hearing R (nat_lt wait.whole most_turns)) (Some e) seat t cs v
       → WaitStopped R most_turns s (bs ++ cs) e v
   came_broke seat cs e v here broken = record {
     whole = wait.whole;
@@ -101,9 +101,9 @@ module _ {C : Type 0} (R : Relation C) (wait : Waiting) (s : At C) (bs : List Be
       are_done = subst (λ (x : List Seat). FirstOf (Taken (hearing R (nat_lt wait.whole most_turns)) None) x wait.place came.mid came.last t) came.seats came.part;
       is_next = subst (λ (x : List Seat). slice_get x wait.place ≡ Some seat) came.seats here;
       broken = broken;
-      beats = refl;
+      entries = refl;
     };
-    beats = ap (λ (x : List Beat). x ++ cs) came.beats ∙ append_assoc came.before came.last cs;
+    entries = ap (λ (x : List Entry). x ++ cs) came.entries ∙ append_assoc came.before came.last cs;
   }
 
 -- it begins
@@ -117,5 +117,5 @@ came_begun R wait w c d b = record {
   seats = b.seats;
   turns = subst (λ (k : ℕ). Turns R most_turns k (at w c d) [] (at w c d)) (sym b.whole) (refl, refl);
   part = subst (λ (k : ℕ). FirstOf (Taken (hearing R (nat_lt wait.whole most_turns)) None) wait.seats.items k (at w c d) [] (at w c d)) (sym b.place) (refl, refl);
-  beats = refl;
+  entries = refl;
 }

@@ -10,14 +10,14 @@ use Rattle.host_events.specs.declared.outcome.Outcome.{Outcome}
 use Rattle.host_events.specs.declared.outcome.HostFault.{HostFault}
 use Rattle.host_events.specs.declared.outcome.HostFault.TheVariants as faults
 use Rattle.session_engine.specs.World.{World, sheet_in}
-use Rattle.session_engine.specs.Does.{Does, Gives, behind}
+use Rattle.session_engine.specs.Does.{Does, Gives, following}
 use Rattle.session_engine.specs.Host.{HostView, OnDisk}
 use Rattle.session_engine.specs.Faults.{CauseOf}
 use Rattle.session_engine.specs.Crash.{LeftAmong, Moments, MomentsBefore}
 use Rattle.session_engine.proofs.Playing.{EitherSheet, either_sheet}
 use Rattle.child_edge.specs.Kept.{HoldsSheet, Kept}
 use Rattle.host_events.specs.declared.reply.Reply.{Reply}
-use Rattle.child_edge.specs.Faithful.{Relation, At, at, Beat, Beats, Follows, FirstOf, Taken, Turns, Served, ServedUpTo, Waited, due_after, hearing}
+use Rattle.child_edge.specs.Faithful.{Relation, At, at, Entry, Entries, Follows, FirstOf, Taken, Turns, Served, ServedUpTo, Waited, due_after, hearing}
 use Rattle.child_edge.specs.Broken.{WaitSoFar, WaitStopped}
 use Rattle.child_edge.specs.Seats.{waits}
 use Rattle.child_calls.specs.declared.seat.Seat.{Seat}
@@ -25,63 +25,63 @@ use Rattle.child_edge.specs.Edge.{Ran, BrokeOff, Stopped}
 use Rattle.child_edge.specs.Moments.{events_of, outcomes_of, LeavesFronts, LeavesFrontsUpTo, RanFrom, BrokeFrom}
 
 -- From this world and disk these entries led to those, whatever the children did.
-abbrev pub Goes : World → DiskView → List Beat → World → DiskView → Type 0
+abbrev pub Goes : World → DiskView → List Entry → World → DiskView → Type 0
 Goes w d [] v f = (v ≡ w) × (f ≡ d)
 Goes w d (b ∷ bs) v f = (mid : World) × (now : DiskView) × (gives : Gives w b.event b.outcome mid) × Kept w gives.0 mid d now × Goes mid now bs v f
 
 -- each form goes
 
-pub goes_on_by : (w : World) (d : DiskView) (bs : List Beat) (m : World) (e : DiskView) (cs : List Beat) (v : World) (f : DiskView) → Goes w d bs m e → Goes m e cs v f → Goes w d (bs ++ cs) v f
+pub goes_on_by : (w : World) (d : DiskView) (bs : List Entry) (m : World) (e : DiskView) (cs : List Entry) (v : World) (f : DiskView) → Goes w d bs m e → Goes m e cs v f → Goes w d (bs ++ cs) v f
 goes_on_by w d [] m e cs v f p q = subst (λ (x : World). Goes x d cs v f) p.0 (subst (λ (x : DiskView). Goes m x cs v f) p.1 q)
 goes_on_by w d (b ∷ bs) m e cs v f p q = (p.0, p.1, p.2, p.3, goes_on_by p.0 p.1 bs m e cs v f p.4 q)
 
 module _ {C : Type 0} (R : Relation C) where
-  beat-goes : (s : At C) (e : Event) (b : Beat) (t : At C) → Beats R s e b t → (gives : Gives s.world b.event b.outcome t.world) × Kept s.world gives.0 t.world s.disk t.disk
-  beat-goes s e b t p =
-      let q : Beats R s b.event b t = subst (λ (x : Event). Beats R s x b t) (sym p.event) p in
+  entry-goes : (s : At C) (e : Event) (b : Entry) (t : At C) → Entries R s e b t → (gives : Gives s.world b.event b.outcome t.world) × Kept s.world gives.0 t.world s.disk t.disk
+  entry-goes s e b t p =
+      let q : Entries R s b.event b t = subst (λ (x : Event). Entries R s x b t) (sym p.event) p in
       (q.steps, q.kept)
 
-  pub follows-goes : (s : At C) (due : Option Event) (bs : List Beat) (left : Option Event) (t : At C) → Follows R s due bs left t → Goes s.world s.disk bs t.world t.disk
+  pub follows-goes : (s : At C) (due : Option Event) (bs : List Entry) (left : Option Event) (t : At C) → Follows R s due bs left t → Goes s.world s.disk bs t.world t.disk
   follows-goes s due [] left t p = (ap (λ (x : At C). x.world) p.1, ap (λ (x : At C). x.disk) p.1)
   follows-goes s None (b ∷ bs) left t p = absurd p
   follows-goes s (Some e) (b ∷ bs) left t p =
-      let one = beat-goes s e b p.0 p.1 in
+      let one = entry-goes s e b p.0 p.1 in
       (p.0.world, p.0.disk, one.0, one.1, follows-goes p.0 (due_after b) bs left t p.2)
 
-  pub first-goes : {A : Type 0} (P : A → At C → List Beat → At C → Type 0) → ((x : A) (s : At C) (bs : List Beat) (t : At C) → P x s bs t → Goes s.world s.disk bs t.world t.disk)
-      → (xs : List A) (k : ℕ) (s : At C) (bs : List Beat) (t : At C) → FirstOf P xs k s bs t → Goes s.world s.disk bs t.world t.disk
+  pub first-goes : {A : Type 0} (P : A → At C → List Entry → At C → Type 0) → ((x : A) (s : At C) (bs : List Entry) (t : At C) → P x s bs t → Goes s.world s.disk bs t.world t.disk)
+      → (xs : List A) (k : ℕ) (s : At C) (bs : List Entry) (t : At C) → FirstOf P xs k s bs t → Goes s.world s.disk bs t.world t.disk
   first-goes P each xs zero s bs t p =
-      subst (λ (l : List Beat). Goes s.world s.disk l t.world t.disk) (sym p.0) (ap (λ (x : At C). x.world) p.1, ap (λ (x : At C). x.disk) p.1)
+      subst (λ (l : List Entry). Goes s.world s.disk l t.world t.disk) (sym p.0) (ap (λ (x : At C). x.world) p.1, ap (λ (x : At C). x.disk) p.1)
   first-goes P each xs (suc k) s bs t p =
-      subst (λ (l : List Beat). Goes s.world s.disk l t.world t.disk) (sym p.7)
+      subst (λ (l : List Entry). Goes s.world s.disk l t.world t.disk) (sym p.7)
       (goes_on_by s.world s.disk p.2 p.1.world p.1.disk p.3 t.world t.disk (first-goes P each xs k s p.2 p.1 p.5) (each p.0 p.1 p.3 t p.6))
 
-  pub taken-goes : (listens : Bool) (left : Option Event) (seat : Seat) (s : At C) (bs : List Beat) (t : At C)
+  pub taken-goes : (listens : Bool) (left : Option Event) (seat : Seat) (s : At C) (bs : List Entry) (t : At C)
       → Taken (hearing R listens) left seat s bs t → Goes s.world s.disk bs t.world t.disk
   taken-goes listens left seat s bs t p = follows-goes (at s.world p.1 s.disk) (Some (Child seat.name seat.life p.0)) bs left t p.3
 
-  pub turns-goes : (most n : ℕ) (s : At C) (bs : List Beat) (t : At C) → Turns R most n s bs t → Goes s.world s.disk bs t.world t.disk
+  pub turns-goes : (most n : ℕ) (s : At C) (bs : List Entry) (t : At C) → Turns R most n s bs t → Goes s.world s.disk bs t.world t.disk
   turns-goes most zero s bs t p =
-      subst (λ (l : List Beat). Goes s.world s.disk l t.world t.disk) (sym p.0) (ap (λ (x : At C). x.world) p.1, ap (λ (x : At C). x.disk) p.1)
+      subst (λ (l : List Entry). Goes s.world s.disk l t.world t.disk) (sym p.0) (ap (λ (x : At C). x.world) p.1, ap (λ (x : At C). x.disk) p.1)
   turns-goes most (suc n) s bs t p =
-      subst (λ (l : List Beat). Goes s.world s.disk l t.world t.disk) (sym p.5)
+      subst (λ (l : List Entry). Goes s.world s.disk l t.world t.disk) (sym p.5)
       (goes_on_by s.world s.disk p.1 p.0.world p.0.disk p.2 t.world t.disk (turns-goes most n s p.1 p.0 p.3)
       (first-goes (Taken (hearing R _) None) (λ x. taken-goes _ None x) (waits p.0.world) _ p.0 p.2 t p.4))
 
-  pub so-far-goes : (most : ℕ) (s : At C) (bs : List Beat) (t : At C) → WaitSoFar R most s bs t → Goes s.world s.disk bs t.world t.disk
+  pub so-far-goes : (most : ℕ) (s : At C) (bs : List Entry) (t : At C) → WaitSoFar R most s bs t → Goes s.world s.disk bs t.world t.disk
   so-far-goes most s bs t p =
-      subst (λ (l : List Beat). Goes s.world s.disk l t.world t.disk) (sym p.beats)
+      subst (λ (l : List Entry). Goes s.world s.disk l t.world t.disk) (sym p.entries)
       (goes_on_by s.world s.disk p.before p.mid.world p.mid.disk p.last t.world t.disk (turns-goes most p.whole s p.before p.mid p.turns)
       (first-goes (Taken (hearing R _) None) (λ x. taken-goes _ None x) (waits p.mid.world) p.part.whole p.mid p.last t p.part.are_done))
 
-  pub stopped-goes : (most : ℕ) (s : At C) (bs : List Beat) (e : Event) (t : At C) → WaitStopped R most s bs e t → Goes s.world s.disk bs t.world t.disk
+  pub stopped-goes : (most : ℕ) (s : At C) (bs : List Entry) (e : Event) (t : At C) → WaitStopped R most s bs e t → Goes s.world s.disk bs t.world t.disk
   stopped-goes most s bs e t p =
       let q = p.part in
-      let turn : Goes p.mid.world p.mid.disk p.last t.world t.disk = subst (λ (l : List Beat). Goes p.mid.world p.mid.disk l t.world t.disk) (sym q.beats)
+      let turn : Goes p.mid.world p.mid.disk p.last t.world t.disk = subst (λ (l : List Entry). Goes p.mid.world p.mid.disk l t.world t.disk) (sym q.entries)
       (goes_on_by p.mid.world p.mid.disk q.before q.mid.world q.mid.disk q.last t.world t.disk
       (first-goes (Taken (hearing R _) None) (λ x. taken-goes _ None x) (waits p.mid.world) q.whole p.mid q.before q.mid q.are_done)
       (taken-goes _ (Some e) q.seat q.mid q.last t q.broken)) in
-      subst (λ (l : List Beat). Goes s.world s.disk l t.world t.disk) (sym p.beats)
+      subst (λ (l : List Entry). Goes s.world s.disk l t.world t.disk) (sym p.entries)
       (goes_on_by s.world s.disk p.before p.mid.world p.mid.disk p.last t.world t.disk (turns-goes most p.whole s p.before p.mid p.turns) turn)
 
 -- what a timeline leaves
@@ -104,7 +104,7 @@ left_more w e o mid es os i gives l = record {
 
 -- the moments of one event, whatever comes after it
 one_event : (w : World) (e : Event) (o : Outcome) (mid : World) (es : List Event) (os : List Outcome) (old new : DiskView) (gives : Gives w e o mid)
-    → HoldsSheet w old → OnDisk w.ops gives.0.anew gives.0.op old new → InModel old (LeavesOnly (LeftAmong w (e ∷ es) (o ∷ os)) old.history new.history)
+    → HoldsSheet w old → OnDisk w.ops gives.0.again gives.0.op old new → InModel old (LeavesOnly (LeftAmong w (e ∷ es) (o ∷ os)) old.history new.history)
 one_event w e o mid es os old new gives holds disk model = weakens (EitherSheet w gives.0) (LeftAmong w (e ∷ es) (o ∷ os)) old.history new.history
     (λ i image. ⊎_elim
     (left_none w (e ∷ es) (o ∷ os) i)
@@ -113,7 +113,7 @@ one_event w e o mid es os old new gives holds disk model = weakens (EitherSheet 
     (either_sheet w gives.0 old new holds disk model)
 
 -- the moments of a timeline, and then those that these events leave
-pub goes_then : (w : World) (d : DiskView) (bs : List Beat) (v : World) (f : DiskView) (es : List Event) (os : List Outcome) (g : DiskView) → HoldsSheet w d → Goes w d bs v f
+pub goes_then : (w : World) (d : DiskView) (bs : List Entry) (v : World) (f : DiskView) (es : List Event) (os : List Outcome) (g : DiskView) → HoldsSheet w d → Goes w d bs v f
     → InModel f (LeavesOnly (LeftAmong v es os) f.history g.history) → InModel d (LeavesOnly (LeftAmong w (events_of bs ++ es) (outcomes_of bs ++ os)) d.history g.history)
 goes_then w d [] v f es os g holds p last =
     subst (λ (x : World). InModel d (LeavesOnly (LeftAmong x es os) d.history g.history)) p.0 (subst (λ (x : DiskView). InModel x (LeavesOnly (LeftAmong v es os) x.history g.history)) p.1 last)
@@ -125,18 +125,18 @@ goes_then w d (b ∷ bs) v f es os g holds p last = λ model.
     (goes_then p.0 p.1 bs v f es os g p.3.holds p.4 last (subst IsTrue (sym p.3.same.keeps_model) model)))
 
 -- the sheet that a timeline leaves is that of its end
-pub goes_holds : (w : World) (d : DiskView) (bs : List Beat) (v : World) (f : DiskView) → HoldsSheet w d → Goes w d bs v f → HoldsSheet v f
+pub goes_holds : (w : World) (d : DiskView) (bs : List Entry) (v : World) (f : DiskView) → HoldsSheet w d → Goes w d bs v f → HoldsSheet v f
 goes_holds w d [] v f holds p = subst (λ (x : World). HoldsSheet x f) (sym p.0) (subst (λ (x : DiskView). HoldsSheet w x) (sym p.1) holds)
 goes_holds w d (b ∷ bs) v f holds p = goes_holds p.0 p.1 bs v f p.3.holds p.4
 
-pub goes_leaves : (w : World) (d : DiskView) (bs : List Beat) (v : World) (f : DiskView) → HoldsSheet w d → Goes w d bs v f → LeavesFronts w bs d f
+pub goes_leaves : (w : World) (d : DiskView) (bs : List Entry) (v : World) (f : DiskView) → HoldsSheet w d → Goes w d bs v f → LeavesFronts w bs d f
 goes_leaves w d bs v f holds p =
     subst (λ (es : List Event). Moments w es (outcomes_of bs) d f) (append-nil (events_of bs))
     (subst (λ (os : List Outcome). Moments w (events_of bs ++ []) os d f) (append-nil (outcomes_of bs))
     (goes_then w d bs v f [] [] f holds p (λ model. started (LeftAmong v [] []) f.history (λ i image. left_none v [] [] i (goes_holds w d bs v f holds p model i image)))))
 
 -- up to an event that had this fault
-pub goes_up_to : (w : World) (d : DiskView) (bs : List Beat) (v : World) (f : DiskView) (e : Event) (fault : HostFault) (h : HostView) → HoldsSheet w d → Goes w d bs v f → Stopped f h v e fault
+pub goes_up_to : (w : World) (d : DiskView) (bs : List Entry) (v : World) (f : DiskView) (e : Event) (fault : HostFault) (h : HostView) → HoldsSheet w d → Goes w d bs v f → Stopped f h v e fault
     → LeavesFrontsUpTo w bs e fault d h.store.disk
 goes_up_to w d bs v f e fault h holds p stopped = go fault stopped.cause
   where
@@ -150,25 +150,25 @@ goes_up_to w d bs v f e fault h holds p stopped = go fault stopped.cause
     go faults.Closed cause = absurd cause
     go faults.Disk cause =
         let write = cause.1.0 in
-        let gives : Gives v e write.does.told (behind v write.does) = (write.does, write.may, refl, refl) in (
-          write.does.told,
-          goes_then w d bs v f (e ∷ []) (write.does.told ∷ []) h.store.disk holds p
-              (one_event v e write.does.told (behind v write.does) [] [] f h.store.disk gives stopped.held cause.1.1),
+        let gives : Gives v e write.does.reported (following v write.does) = (write.does, write.may, refl, refl) in (
+          write.does.reported,
+          goes_then w d bs v f (e ∷ []) (write.does.reported ∷ []) h.store.disk holds p
+              (one_event v e write.does.reported (following v write.does) [] [] f h.store.disk gives stopped.held cause.1.1),
         )
     go faults.OutOfMemory cause = unmoved cause.0
     go faults.JournalFull cause = unmoved cause.0
 
 -- So do runs of each form.
 
-pub ran_from : {C : Type 0} (s : At C) (Form : At C → List Beat → At C → Type 0) → ((bs : List Beat) (t : At C) → Form s bs t → Goes s.world s.disk bs t.world t.disk)
+pub ran_from : {C : Type 0} (s : At C) (Form : At C → List Entry → At C → Type 0) → ((bs : List Entry) (t : At C) → Form s bs t → Goes s.world s.disk bs t.world t.disk)
     → (h : HostView) (c : C) (replies : List Reply) → HoldsSheet s.world s.disk → Ran (Form s) [] h c replies → RanFrom s Form h c replies
-ran_from s Form goes h c replies holds r = record { ran = r; moments = goes_leaves s.world s.disk r.beats r.leads h.store.disk holds (goes r.beats (at r.leads c h.store.disk) r.form) }
+ran_from s Form goes h c replies holds r = record { ran = r; moments = goes_leaves s.world s.disk r.entries r.leads h.store.disk holds (goes r.entries (at r.leads c h.store.disk) r.form) }
 
-pub broke_from : {C : Type 0} (s : At C) (Form : At C → List Beat → Event → At C → Type 0) → ((bs : List Beat) (e : Event) (t : At C) → Form s bs e t → Goes s.world s.disk bs t.world t.disk)
+pub broke_from : {C : Type 0} (s : At C) (Form : At C → List Entry → Event → At C → Type 0) → ((bs : List Entry) (e : Event) (t : At C) → Form s bs e t → Goes s.world s.disk bs t.world t.disk)
     → (h : HostView) (c : C) (replies : List Reply) (fault : HostFault) → HoldsSheet s.world s.disk → BrokeOff (Form s) [] h c replies fault → BrokeFrom s Form h c replies fault
 broke_from s Form goes h c replies fault holds r = record {
   broke = r;
-  moments = goes_up_to s.world s.disk r.beats r.leads r.disk r.failed fault h holds (goes r.beats r.failed (at r.leads c r.disk) r.form) r.stopped;
+  moments = goes_up_to s.world s.disk r.entries r.leads r.disk r.failed fault h holds (goes r.entries r.failed (at r.leads c r.disk) r.form) r.stopped;
 }
 
 module _ {C : Type 0} (R : Relation C) where

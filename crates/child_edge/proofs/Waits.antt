@@ -6,21 +6,21 @@ use Rattle.child_edge.specs.Seats.{waits}
 use Rattle.child_edge.specs.declared.serving.EdgeCause.{EdgeCause}
 use Rattle.child_edge.specs.declared.serving.EdgeCause.TheVariants as cause
 use Rattle.child_edge.specs.Edge.{ByCause}
-use Rattle.child_edge.specs.Faithful.{Relation, At, Beat, FirstOf, OneTurn, Turns, hearing}
-use Rattle.child_edge.specs.Told.{told}
-use Rattle.child_edge.proofs.Chains.{told-append}
+use Rattle.child_edge.specs.Faithful.{Relation, At, Entry, FirstOf, OneTurn, Turns, hearing}
+use Rattle.child_edge.specs.Reported.{reported}
+use Rattle.child_edge.proofs.Chains.{reported-append}
 
 pub FirstOf-more : {A S B : Type 0} (P : A → S → List B → S → Type 0) (xs : List A) (k : ℕ) (s : S) (before : List B) (mid : S) (x : A) (last : List B) (t : S)
     → FirstOf P xs k s before mid → slice_get xs k ≡ Some x → P x mid last t → FirstOf P xs (k + 1) s (before ++ last) t
 FirstOf-more P xs k s before mid x last t h e p = rw add-one (x, mid, before, last, e, h, p, refl)
 
-pub Turns-more : {C : Type 0} (R : Relation C) (most n : ℕ) (s : At C) (before : List Beat) (mid : At C) (listens : Bool) (last : List Beat) (t : At C)
+pub Turns-more : {C : Type 0} (R : Relation C) (most n : ℕ) (s : At C) (before : List Entry) (mid : At C) (listens : Bool) (last : List Entry) (t : At C)
     → Turns R most n s before mid → listens ≡ nat_lt n most → OneTurn (hearing R listens) (waits mid.world) mid last t → Turns R most (n + 1) s (before ++ last) t
 Turns-more R most n s before mid listens last t h e p = rw add-one (mid, before, last, h, rw e at p, refl)
 
-pub told-join : (all old new : List Reply) (bs cs : List Beat) → old ≡ all ++ told bs → new ≡ old ++ told cs → new ≡ all ++ told (bs ++ cs)
-told-join all old new bs cs h k =
-    k ∙ ap (λ t. t ++ told cs) h ∙ append_assoc all (told bs) (told cs) ∙ ap (λ t. all ++ t) (sym (told-append bs cs))
+pub reported-join : (all old new : List Reply) (bs cs : List Entry) → old ≡ all ++ reported bs → new ≡ old ++ reported cs → new ≡ all ++ reported (bs ++ cs)
+reported-join all old new bs cs h k =
+    k ∙ ap (λ t. t ++ reported cs) h ∙ append_assoc all (reported bs) (reported cs) ∙ ap (λ t. all ++ t) (sym (reported-append bs cs))
 
 pub by_cause : (c : EdgeCause) (P : HostFault → Type 0) (Q : Type 0) (P' : HostFault → Type 0) (Q' : Type 0) → ByCause c P Q → ((f : HostFault) → P f → P' f) → (Q → Q') → ByCause c P' Q'
 by_cause (cause.Host f) P Q P' Q' h p q = p f h

@@ -15,8 +15,8 @@ use Rattle.child_edge.specs.declared.serving.EdgeCause.{EdgeCause}
 use Rattle.child_edge.specs.declared.serving.EdgeCause.TheVariants as cause
 use Rattle.child_calls.specs.declared.seat.Seat.{Seat}
 use Rattle.child_edge.specs.Kept.{HoldsSheet}
-use Rattle.child_edge.specs.Faithful.{At, at, Beat, Hears, Relation}
-use Rattle.child_edge.specs.Told.{told}
+use Rattle.child_edge.specs.Faithful.{At, at, Entry, Hears, Relation}
+use Rattle.child_edge.specs.Reported.{reported}
 
 -- This fault came with this event, on a disk that was so before it, and held the worksheet. The host is closed; its worksheet and
 -- each life's number are as before the event. Where the disk failed, the event may give an op, and each image at every moment of it
@@ -30,22 +30,22 @@ pub record Stopped (before : DiskView) (h : HostView) (w : World) (e : Event) (f
   pub cause : CauseOf w e before h.store.disk fault
 
 -- A run of this form came about, and leads to where the host and the children are now. Its replies come after those before.
-pub record Ran {C : Type 0} (Form : List Beat → At C → Type 0) (before : List Reply) (h : HostView) (c : C) (replies : List Reply) : Type 0 where
-  pub beats : List Beat
+pub record Ran {C : Type 0} (Form : List Entry → At C → Type 0) (before : List Reply) (h : HostView) (c : C) (replies : List Reply) : Type 0 where
+  pub entries : List Entry
   pub leads : World
-  pub form : Form beats (at leads c h.store.disk)
+  pub form : Form entries (at leads c h.store.disk)
   pub stands : IsHost h leads
-  pub replied : replies ≡ before ++ told beats
+  pub replied : replies ≡ before ++ reported entries
 
 -- A run of this form came about up to an event that was due, at which the host had this fault.
-pub record BrokeOff {C : Type 0} (Form : List Beat → Event → At C → Type 0) (before : List Reply) (h : HostView) (c : C) (replies : List Reply) (fault : HostFault) : Type 0 where
-  pub beats : List Beat
+pub record BrokeOff {C : Type 0} (Form : List Entry → Event → At C → Type 0) (before : List Reply) (h : HostView) (c : C) (replies : List Reply) (fault : HostFault) : Type 0 where
+  pub entries : List Entry
   pub leads : World
   pub disk : DiskView
   pub failed : Event
-  pub form : Form beats failed (at leads c disk)
+  pub form : Form entries failed (at leads c disk)
   pub stopped : Stopped disk h leads failed fault
-  pub replied : replies ≡ before ++ told beats
+  pub replied : replies ≡ before ++ reported entries
 
 -- this where the host had a fault, and that where memory was refused
 abbrev pub ByCause : EdgeCause → (HostFault → Type 0) → Type 0 → Type 0

@@ -29,7 +29,7 @@ abbrev pub at : {C : Type 0} → World → C → DiskView → At C
 at w c disk = record { world = w; children = c; disk = disk }
 
 -- An entry of a run's trace: an event, its outcome, and what the call that is its effect gave.
-pub record Beat : Type 0 where
+pub record Entry : Type 0 where
   pub event : Event
   pub outcome : Outcome
   pub answer : Option Answer
@@ -55,7 +55,7 @@ due_of (Some f) (Some no_memory) = None
 due_of (Some f) None = None
 due_of None a = None
 
-abbrev pub due_after : Beat → Option Event
+abbrev pub due_after : Entry → Option Event
 due_after b = due_of b.outcome.effect b.answer
 
 -- an effect is one call, and no effect is none
@@ -66,24 +66,24 @@ Carried R c None (Some a) d = ⊥
 Carried R c (Some f) None d = ⊥
 
 -- The event was taken, what it gives is on the disk, and its effect was carried out.
-pub record Beats {C : Type 0} (R : Relation C) (s : At C) (e : Event) (b : Beat) (t : At C) : Type 0 where
+pub record Entries {C : Type 0} (R : Relation C) (s : At C) (e : Event) (b : Entry) (t : At C) : Type 0 where
   pub event : b.event ≡ e
   pub steps : Gives s.world e b.outcome t.world
   pub kept : Kept s.world steps.0 t.world s.disk t.disk
   pub carried : Carried R s.children b.outcome.effect b.answer t.children
 
 -- From where this event is due, if one is, these come, each due by the one before it, up to where that one is due.
-abbrev pub Follows : {C : Type 0} → Relation C → At C → Option Event → List Beat → Option Event → At C → Type 0
+abbrev pub Follows : {C : Type 0} → Relation C → At C → Option Event → List Entry → Option Event → At C → Type 0
 Follows R s due [] left t = (left ≡ due) × (t ≡ s)
 Follows R s None (b ∷ bs) left t = ⊥
-Follows {C = C} R s (Some e) (b ∷ bs) left t = (mid : At C) × Beats R s e b mid × Follows R mid (due_after b) bs left t
+Follows {C = C} R s (Some e) (b ∷ bs) left t = (mid : At C) × Entries R s e b mid × Follows R mid (due_after b) bs left t
 
 -- an event and all that comes of it
-abbrev pub Served : {C : Type 0} → Relation C → At C → Event → List Beat → At C → Type 0
+abbrev pub Served : {C : Type 0} → Relation C → At C → Event → List Entry → At C → Type 0
 Served R s e bs t = Follows R s (Some e) bs None t
 
 -- an event and what comes of it, up to where this one is due
-abbrev pub ServedUpTo : {C : Type 0} → Relation C → At C → Event → List Beat → Event → At C → Type 0
+abbrev pub ServedUpTo : {C : Type 0} → Relation C → At C → Event → List Entry → Event → At C → Type 0
 ServedUpTo R s e bs left t = Follows R s (Some e) bs (Some left) t
 
 -- the first k of these things, one after another, and the entries of all of them
@@ -126,25 +126,25 @@ abbrev pub hearing : {C : Type 0} → Relation C → Bool → Hearing C
 hearing after listens = record { after = after; listens = listens }
 
 -- the event of a life, and what comes of it, up to where this event is due if one is
-abbrev pub Taken : {C : Type 0} → Hearing C → Option Event → Seat → At C → List Beat → At C → Type 0
+abbrev pub Taken : {C : Type 0} → Hearing C → Option Event → Seat → At C → List Entry → At C → Type 0
 Taken {C = C} h left seat s bs t =
     (event : ChildEvent) × (mid : C) × Hears h.after h.listens seat s.children event mid × Follows h.after (at s.world mid s.disk) (Some (Child seat.name seat.life event)) bs left t
 
 -- that up to where this event is due
-abbrev pub TakenUpTo : {C : Type 0} → Hearing C → Seat → At C → List Beat → Event → At C → Type 0
+abbrev pub TakenUpTo : {C : Type 0} → Hearing C → Seat → At C → List Entry → Event → At C → Type 0
 TakenUpTo h seat s bs left t = Taken h (Some left) seat s bs t
 
 -- a turn: each of these lives once, in order
-abbrev pub OneTurn : {C : Type 0} → Hearing C → List Seat → At C → List Beat → At C → Type 0
+abbrev pub OneTurn : {C : Type 0} → Hearing C → List Seat → At C → List Entry → At C → Type 0
 OneTurn h seats s bs t = EachOf (Taken h None) seats s bs t
 
 -- So many turns, each of the lives in which an item waits as it begins. The first `most` listen; after them these lives count as
 -- stalled.
-abbrev pub Turns : {C : Type 0} → Relation C → ℕ → ℕ → At C → List Beat → At C → Type 0
+abbrev pub Turns : {C : Type 0} → Relation C → ℕ → ℕ → At C → List Entry → At C → Type 0
 Turns R most zero s bs t = (bs ≡ []) × (t ≡ s)
 Turns {C = C} R most (suc n) s bs t =
-    (mid : At C) × (before : List Beat) × (last : List Beat) × Turns R most n s before mid × OneTurn (hearing R (nat_lt n most)) (waits mid.world) mid last t × (bs ≡ before ++ last)
+    (mid : At C) × (before : List Entry) × (last : List Entry) × Turns R most n s before mid × OneTurn (hearing R (nat_lt n most)) (waits mid.world) mid last t × (bs ≡ before ++ last)
 
 -- A wait: turns until no item waits, or all that listen and one in which those that still wait stall.
-abbrev pub Waited : {C : Type 0} → Relation C → ℕ → At C → List Beat → At C → Type 0
+abbrev pub Waited : {C : Type 0} → Relation C → ℕ → At C → List Entry → At C → Type 0
 Waited R most s bs t = (n : ℕ) × Turns R most n s bs t × (((waits t.world ≡ []) × (n ≤ most)) ⊎ (n ≡ suc most))

@@ -12,23 +12,23 @@ use Rattle.child_edge.specs.declared.interrupting.Interrupted.{Interrupted}
 use Rattle.child_edge.specs.declared.interrupting.Interrupted.TheVariants as interrupted
 
 -- what is reported of an interrupt, by what its call gave
-abbrev pub interrupt_told : Answer → Interrupted
-interrupt_told done = interrupted.Sent
-interrupt_told fault = interrupted.Failed
-interrupt_told (piece bytes) = interrupted.Failed
-interrupt_told end = interrupted.Failed
-interrupt_told no_memory = interrupted.Failed
+abbrev pub interrupt_reported : Answer → Interrupted
+interrupt_reported done = interrupted.Sent
+interrupt_reported fault = interrupted.Failed
+interrupt_reported (piece bytes) = interrupted.Failed
+interrupt_reported end = interrupted.Failed
+interrupt_reported no_memory = interrupted.Failed
 
 -- the first of these lives is interrupted by one call, and where there is none nothing is done
 abbrev pub InterruptsFirst : {C : Type 0} → Relation C → List Seat → C → Interrupted → C → Type 0
-InterruptsFirst R [] c told d = (told ≡ interrupted.Idle) × (d ≡ c)
-InterruptsFirst R (seat ∷ seats) c told d = (a : Answer) × R c (interrupt seat.name seat.life) a d × (told ≡ interrupt_told a)
+InterruptsFirst R [] c reported d = (reported ≡ interrupted.Idle) × (d ≡ c)
+InterruptsFirst R (seat ∷ seats) c reported d = (a : Answer) × R c (interrupt seat.name seat.life) a d × (reported ≡ interrupt_reported a)
 
 -- this session, where there is one, which has these lives
 abbrev pub InterruptsOf : {C : Type 0} → Relation C → Option Session → List Seat → C → Interrupted → C → Type 0
-InterruptsOf R None seats c told d = (told ≡ interrupted.NoSession) × (d ≡ c)
-InterruptsOf R (Some session) seats c told d = InterruptsFirst R seats c told d
+InterruptsOf R None seats c reported d = (reported ≡ interrupted.NoSession) × (d ≡ c)
+InterruptsOf R (Some session) seats c reported d = InterruptsFirst R seats c reported d
 
 -- the life of the session with this name is interrupted where an item waits in it
 abbrev pub Interrupts : {C : Type 0} → Relation C → World → List ℕ → C → Interrupted → C → Type 0
-Interrupts R w name c told d = InterruptsOf R (session_named (sheet_in w).sessions name) (seat_of name (option_map life_view (life_of w name))) c told d
+Interrupts R w name c reported d = InterruptsOf R (session_named (sheet_in w).sessions name) (seat_of name (option_map life_view (life_of w name))) c reported d

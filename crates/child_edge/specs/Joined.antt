@@ -6,9 +6,9 @@ use Rattle.session_engine.specs.World.{World}
 use Rattle.session_engine.specs.Host.{HostView, IsHost}
 use Rattle.session_engine.specs.Joining.{Asking, JoinsAfter, ToBeTaken}
 use Rattle.child_edge.specs.Edge.{Stopped}
-use Rattle.child_edge.specs.Faithful.{Relation, At, Beat, at}
-use Rattle.child_edge.specs.Together.{Followed, LostTogether, Together, TogetherUpTo, beats_behind}
-use Rattle.child_edge.specs.Told.{told}
+use Rattle.child_edge.specs.Faithful.{Relation, At, Entry, at}
+use Rattle.child_edge.specs.Together.{Followed, LostTogether, Together, TogetherUpTo, entries_after}
+use Rattle.child_edge.specs.Reported.{reported}
 use Rattle.child_edge.specs.declared.joined.GaveJoined.{GaveJoined}
 use Rattle.child_edge.specs.declared.together.TogetherFault.{TogetherFault}
 use Rattle.child_edge.specs.declared.together.TogetherFault.TheVariants as halt
@@ -29,7 +29,7 @@ pub record RanJoined {C : Type 0} (R : JoiningEdge C) (s : At C) (events : List 
   pub leads : World
   pub run : Together R.after s (events ++ more) (gave.outcomes.items ++ gave.later.items) followed (at leads c h.store.disk)
   pub stands : IsHost h leads
-  pub replied : gave.replies.items ≡ told (beats_behind followed)
+  pub replied : gave.replies.items ≡ reported (entries_after followed)
 
 -- What a fault of that leaves: without memory none of the events was taken, and nobody was asked.
 abbrev pub FailsJoined : {C : Type 0} → JoiningEdge C → At C → List Event → HostView → C → TogetherFault → Type 0
@@ -37,4 +37,4 @@ FailsJoined R s events h c halt.OutOfMemory = R.asking.unasked × IsHost h s.wor
 FailsJoined R s events h c halt.Lost = (all : List Event) × ToBeTaken R.asking s.world events all × LostTogether s.world all s.disk h × (c ≡ s.children)
 FailsJoined R s events h c (halt.Host f) =
     (all : List Event) × ToBeTaken R.asking s.world events all
-    × (beats : List Beat) × (e : Event) × (v : World) × (d : DiskView) × TogetherUpTo R.after s all beats e (at v c d) × Stopped d h v e f
+    × (entries : List Entry) × (e : Event) × (v : World) × (d : DiskView) × TogetherUpTo R.after s all entries e (at v c d) × Stopped d h v e f

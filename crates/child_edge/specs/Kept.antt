@@ -14,5 +14,5 @@ HoldsSheet w disk = InModel disk (Leaves (IsSheetImage (sheet_in w)) disk.histor
 -- op; while the journal was rewritten, each was one of the same worksheet. After the event each is one of that world's.
 pub record Kept (w : World) (did : Does) (v : World) (old new : DiskView) : Type 0 where
   pub same : SameDisk old new
-  pub moments : OnDisk w.ops did.anew did.op old new
+  pub moments : OnDisk w.ops did.again did.op old new
   pub holds : HoldsSheet v new

@@ -3,7 +3,7 @@ pub mod Seats
 pub mod Kept
 pub mod Faithful
 pub mod Broken
-pub mod Told
+pub mod Reported
 pub mod Edge
 pub mod Moments
 pub mod Steps

@@ -6,7 +6,7 @@ use Rattle.session_engine.specs.Host.{HostView}
 use Rattle.child_edge.specs.declared.waiting.Waiting.{Waiting}
 use Rattle.child_edge.specs.Limits.{most_turns}
 use Rattle.child_edge.specs.Seats.{waits}
-use Rattle.child_edge.specs.Faithful.{Relation, At, at, Beat, FirstOf, Taken, Turns, Waited, hearing}
+use Rattle.child_edge.specs.Faithful.{Relation, At, at, Entry, FirstOf, Taken, Turns, Waited, hearing}
 use Rattle.child_edge.specs.Edge.{Ran}
 
 -- The wait has not taken a life yet.
@@ -16,16 +16,16 @@ pub record IsBegun (wait : Waiting) (w : World) : Type 0 where
   pub seats : wait.seats.items ≡ waits w
 
 -- The wait came so far, from here to there: whole turns, and the first lives of the turn that it is in.
-pub record Came {C : Type 0} (R : Relation C) (wait : Waiting) (s : At C) (bs : List Beat) (t : At C) : Type 0 where
+pub record Came {C : Type 0} (R : Relation C) (wait : Waiting) (s : At C) (bs : List Entry) (t : At C) : Type 0 where
   pub mid : At C
-  pub before : List Beat
-  pub last : List Beat
+  pub before : List Entry
+  pub last : List Entry
   pub fits : wait.whole ≤ most_turns
   pub place : wait.place ≤ length wait.seats.items
   pub seats : wait.seats.items ≡ waits mid.world
   pub turns : Turns R most_turns wait.whole s before mid
   pub part : FirstOf (Taken (hearing R (nat_lt wait.whole most_turns)) None) wait.seats.items wait.place mid last t
-  pub beats : bs ≡ before ++ last
+  pub entries : bs ≡ before ++ last
 
 -- How many lives a wait may still take, and more: each step makes it less.
 abbrev pub left_of : Waiting → ℕ

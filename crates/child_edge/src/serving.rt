@@ -8,10 +8,10 @@ ghost use Rattle.child_edge.specs.Moments.{BrokeFrom, RanFrom};
 ghost use Rattle.child_edge.specs.Limits.{most_turns};
 ghost use Rattle.child_calls.specs.Calls.{Answer};
 ghost use Rattle.child_calls.specs.Answers.{sent};
-ghost use Rattle.child_edge.specs.Faithful.{at, Beat, Beats, Carried, call_of, due_of, due_after, fault_of, Served, ServedUpTo, TakenUpTo, hearing};
+ghost use Rattle.child_edge.specs.Faithful.{at, Entry, Entries, Carried, call_of, due_of, due_after, fault_of, Served, ServedUpTo, TakenUpTo, hearing};
 ghost use Rattle.child_edge.specs.Faithful.{Hears, Taken, Waited};
 ghost use Rattle.child_edge.specs.Broken.{WaitSoFar, WaitStopped};
-ghost use Rattle.child_edge.specs.Told.{spoken};
+ghost use Rattle.child_edge.specs.Reported.{spoken};
 
 use crate::waiting::Waiting;
 use child_calls::{ChildFault, Children, ReceiveFault, Received, Seat};
@@ -103,14 +103,14 @@ fn step<D: Disk>(host: &mut Host<D>, event: Event) -> Result<Outcome, HostFault>
 }
 
 /// One event, with its effect: the reply, and the event that is due then.
-fn beat<D: Disk, C: Children>(
+fn entry<D: Disk, C: Children>(
     host: &mut Host<D>,
     children: &mut C,
     event: Event,
 ) -> Result<(Reply, Option<Event>), HostFault>
     ensures same { SameDisk host.old.store.disk host.new.store.disk }
-    ensures ok { (w : World) → IsHost host.old w → IfOk result (λ r. (b : Beat) × (v : World)
-        × Beats C.after (at w children.old host.old.store.disk) event b (at v children.new host.new.store.disk) × IsHost host.new v
+    ensures ok { (w : World) → IsHost host.old w → IfOk result (λ r. (b : Entry) × (v : World)
+        × Entries C.after (at w children.old host.old.store.disk) event b (at v children.new host.new.store.disk) × IsHost host.new v
         × (r.0 ≡ b.outcome.reply) × (r.1 ≡ due_after b)) }
     ensures err { (w : World) → IsHost host.old w
         → IfErr result (Stopped host.old.store.disk host.new w event) }
@@ -162,7 +162,7 @@ pub(crate) fn follow<D: Disk, C: Children>(
         let Some(event) = due else {
             return Ok(());
         };
-        match beat(host, children, event) {
+        match entry(host, children, event) {
             Ok((reply, next)) => {
                 tell(replies, reply);
                 due = next;

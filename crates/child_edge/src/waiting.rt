@@ -5,7 +5,7 @@ ghost use Rattle.session_engine.specs.World.{World};
 ghost use Rattle.session_engine.specs.Host.{IsHost};
 ghost use Rattle.child_edge.specs.Edge.{BrokeOff, ByCause, ClosedOrNoMemory, HeardOne, Ran};
 ghost use Rattle.child_edge.specs.Limits.{most_turns};
-ghost use Rattle.child_edge.specs.Faithful.{At, at, Beat, Waited};
+ghost use Rattle.child_edge.specs.Faithful.{At, at, Entry, Waited};
 ghost use Rattle.child_edge.specs.Broken.{WaitStopped};
 ghost use Rattle.child_edge.specs.Steps.{Came, IsBegun, left_of};
 
@@ -50,11 +50,11 @@ impl Waiting {
     ) -> Result<(), EdgeCause>
         requires { self.old.place < length self.old.seats.items }
         ensures same { SameDisk host.old.store.disk host.new.store.disk }
-        ensures ok { (s : At C) (bs : List Beat) (w : World) → IsHost host.old w
+        ensures ok { (s : At C) (bs : List Entry) (w : World) → IsHost host.old w
             → Came C.after self.old s bs (at w children.old host.old.store.disk)
             → OnOk result (Ran (λ cs t. Came C.after self.new s (bs ++ cs) t)
             replies.old.items host.new children.new replies.new.items) }
-        ensures err { (s : At C) (bs : List Beat) (w : World) → IsHost host.old w
+        ensures err { (s : At C) (bs : List Entry) (w : World) → IsHost host.old w
             → Came C.after self.old s bs (at w children.old host.old.store.disk)
             → IfErr result (λ cause. ByCause cause
             (BrokeOff (λ cs e t. WaitStopped C.after most_turns s (bs ++ cs) e t)
@@ -94,16 +94,16 @@ impl Waiting {
         replies: &mut Vec<Reply>,
     ) -> Result<bool, EdgeCause>
         ensures same { SameDisk host.old.store.disk host.new.store.disk }
-        ensures took { (s : At C) (bs : List Beat) (w : World) → IsHost host.old w
+        ensures took { (s : At C) (bs : List Entry) (w : World) → IsHost host.old w
             → Came C.after self.old s bs (at w children.old host.old.store.disk)
             → IfOk result (λ more. more ≡ true → Ran (λ cs t. Came C.after self.new s (bs ++ cs) t)
             replies.old.items host.new children.new replies.new.items) }
-        ensures over { (s : At C) (bs : List Beat) (w : World) → IsHost host.old w
+        ensures over { (s : At C) (bs : List Entry) (w : World) → IsHost host.old w
             → Came C.after self.old s bs (at w children.old host.old.store.disk)
             → IfOk result (λ more. more ≡ false
             → Waited C.after most_turns s bs (at w children.old host.old.store.disk) × (host.new ≡ host.old)
             × (children.new ≡ children.old) × (replies.new.items ≡ replies.old.items)) }
-        ensures err { (s : At C) (bs : List Beat) (w : World) → IsHost host.old w
+        ensures err { (s : At C) (bs : List Entry) (w : World) → IsHost host.old w
             → Came C.after self.old s bs (at w children.old host.old.store.disk)
             → IfErr result (λ cause. ByCause cause
             (BrokeOff (λ cs e t. WaitStopped C.after most_turns s (bs ++ cs) e t)

@@ -48,8 +48,8 @@ module _ (fill : Fill) (w : Written) (old : List ℕ) (inside : w.at ≤ length 
           let past : length old ≤ end = grind (arith, nat_tests, is) in
           drop_all end padded (omega (arith, past, length-padded)) ∙ sym (drop_all end old past)
 
-  behind : drop end (laid fill w old) ≡ drop end padded
-  behind =
+  following : drop end (laid fill w old) ≡ drop end padded
+  following =
       let fits = left_fits fill w.bytes in
       let torn = torn_by_write padded w.at left (omega (arith, inside, length-padded)) in
       let on : w.at + length left + (length w.bytes - length left) ≡ end = omega (arith, fits) in
@@ -60,7 +60,7 @@ module _ (fill : Fill) (w : Written) (old : List ℕ) (inside : w.at ≤ length 
   pub torn_by_fill : Torn w.at (length w.bytes) old (laid fill w old)
   torn_by_fill = record {
     before = (torn_by_write padded w.at left (omega (arith, inside, length-padded))).before ∙ take-append-le w.at old zeros inside;
-    after = behind ∙ past_end;
+    after = following ∙ past_end;
     no_shorter = omega (arith, length-laid);
     no_longer = omega (arith, length-laid);
   }

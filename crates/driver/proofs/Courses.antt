@@ -12,7 +12,7 @@ use Rattle.session_engine.specs.World.{World, sheet_in}
 use Rattle.session_engine.specs.Does.{Runs}
 use Rattle.session_engine.specs.Host.{HostView}
 use Rattle.session_engine.specs.Crash.{LeftAmong, Moments, MomentsBefore}
-use Rattle.child_edge.specs.Faithful.{Beat}
+use Rattle.child_edge.specs.Faithful.{Entry}
 use Rattle.child_edge.specs.Kept.{HoldsSheet}
 use Rattle.child_edge.specs.Edge.{Stopped}
 use Rattle.child_edge.specs.Moments.{events_of, outcomes_of, LeavesFronts, LeavesFrontsUpTo}
@@ -22,7 +22,7 @@ use Rattle.child_edge.specs.Together.{LeavesEither}
 
 -- From this world and disk these entries led to those. At every moment each image was one of the worksheet after some of the first of
 -- them, and at the end each is one of the worksheet after all.
-pub record Course (w : World) (d : DiskView) (bs : List Beat) (v : World) (f : DiskView) : Type 0 where
+pub record Course (w : World) (d : DiskView) (bs : List Entry) (v : World) (f : DiskView) : Type 0 where
   pub runs : Runs w (events_of bs) (outcomes_of bs) v
   pub same : SameDisk d f
   pub moments : HoldsSheet w d → LeavesFronts w bs d f
@@ -87,15 +87,15 @@ either_moments w es os v d f runs either = λ model.
 
 -- Courses.
 
-pub events_append : (bs cs : List Beat) → events_of (bs ++ cs) ≡ events_of bs ++ events_of cs
+pub events_append : (bs cs : List Entry) → events_of (bs ++ cs) ≡ events_of bs ++ events_of cs
 events_append [] cs = refl
 events_append (b ∷ bs) cs = ap (λ (l : List Event). b.event ∷ l) (events_append bs cs)
 
-pub outcomes_append : (bs cs : List Beat) → outcomes_of (bs ++ cs) ≡ outcomes_of bs ++ outcomes_of cs
+pub outcomes_append : (bs cs : List Entry) → outcomes_of (bs ++ cs) ≡ outcomes_of bs ++ outcomes_of cs
 outcomes_append [] cs = refl
 outcomes_append (b ∷ bs) cs = ap (λ (l : List Outcome). b.outcome ∷ l) (outcomes_append bs cs)
 
-pub course_on : (w : World) (d : DiskView) (bs : List Beat) (m : World) (e : DiskView) (cs : List Beat) (v : World) (f : DiskView) → Course w d bs m e → Course m e cs v f → Course w d (bs ++ cs) v f
+pub course_on : (w : World) (d : DiskView) (bs : List Entry) (m : World) (e : DiskView) (cs : List Entry) (v : World) (f : DiskView) → Course w d bs m e → Course m e cs v f → Course w d (bs ++ cs) v f
 course_on w d bs m e cs v f p q = record {
   runs = subst (λ (es : List Event). Runs w es (outcomes_of (bs ++ cs)) v) (sym (events_append bs cs))
       (subst (λ (os : List Outcome). Runs w (events_of bs ++ events_of cs) os v) (sym (outcomes_append bs cs)) (runs_on w (events_of bs) (outcomes_of bs) m (events_of cs) (outcomes_of cs) v p.runs q.runs));
@@ -106,21 +106,21 @@ course_on w d bs m e cs v f p q = record {
   holds = λ held. q.holds (p.holds held);
 }
 
-goes_runs : (w : World) (d : DiskView) (bs : List Beat) (v : World) (f : DiskView) → Goes w d bs v f → Runs w (events_of bs) (outcomes_of bs) v
+goes_runs : (w : World) (d : DiskView) (bs : List Entry) (v : World) (f : DiskView) → Goes w d bs v f → Runs w (events_of bs) (outcomes_of bs) v
 goes_runs w d [] v f p = p.0
 goes_runs w d (b ∷ bs) v f p = (p.0, p.2, goes_runs p.0 p.1 bs v f p.4)
 
-keeps_disk : (w : World) (d : DiskView) (bs : List Beat) (v : World) (f : DiskView) → Goes w d bs v f → SameDisk d f
+keeps_disk : (w : World) (d : DiskView) (bs : List Entry) (v : World) (f : DiskView) → Goes w d bs v f → SameDisk d f
 keeps_disk w d [] v f p = subst (SameDisk d) (sym p.1) (same-at d)
 keeps_disk w d (b ∷ bs) v f p = same-on d p.1 f p.3.same (keeps_disk p.0 p.1 bs v f p.4)
 
 -- where each event was on the disk before the next
-pub goes_course : (w : World) (d : DiskView) (bs : List Beat) (v : World) (f : DiskView) → Goes w d bs v f → Course w d bs v f
+pub goes_course : (w : World) (d : DiskView) (bs : List Entry) (v : World) (f : DiskView) → Goes w d bs v f → Course w d bs v f
 goes_course w d bs v f p =
     record { runs = goes_runs w d bs v f p; same = keeps_disk w d bs v f p; moments = λ held. goes_leaves w d bs v f held p; holds = λ held. goes_holds w d bs v f held p }
 
 -- up to an event that had this fault
-pub course_up_to : (w : World) (d : DiskView) (bs : List Beat) (v : World) (f : DiskView) (e : Event) (fault : HostFault) (h : HostView) → HoldsSheet w d → Course w d bs v f → Stopped f h v e fault
+pub course_up_to : (w : World) (d : DiskView) (bs : List Entry) (v : World) (f : DiskView) (e : Event) (fault : HostFault) (h : HostView) → HoldsSheet w d → Course w d bs v f → Stopped f h v e fault
     → LeavesFrontsUpTo w bs e fault d h.store.disk
 course_up_to w d bs v f e fault h held p stopped = go fault (goes_up_to v f [] v f e fault h stopped.held (refl, refl) stopped)
   where

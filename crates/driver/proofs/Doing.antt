@@ -10,7 +10,7 @@ use Rattle.host_events.specs.declared.outcome.HostFault.{HostFault}
 use Rattle.host_events.specs.declared.outcome.HostFault.TheVariants as hosts
 use Rattle.host_events.specs.declared.reply.Reply.{Reply}
 use Rattle.session_engine.specs.World.{World}
-use Rattle.session_engine.specs.Does.{behind}
+use Rattle.session_engine.specs.Does.{following}
 use Rattle.session_engine.specs.Host.{HostView, IsHost, Took}
 use Rattle.session_engine.specs.Faults.{Failed}
 use Rattle.child_calls.specs.declared.seat.Seat.{Seat}
@@ -25,7 +25,7 @@ use Rattle.child_edge.specs.declared.together.TogetherFault.TheVariants as at_ga
 use Rattle.child_edge.proofs.Faulting.{stopped_if}
 use Rattle.arrivals.specs.Watching.{Asked}
 use Rattle.arrivals.specs.declared.sources.Woken.{Woken}
-use Rattle.tellings.specs.Voice.{IsUntold}
+use Rattle.tellings.specs.Voice.{IsWithheld}
 use Rattle.tellings.specs.declared.note.Note.{Note}
 use Rattle.offline_programs.specs.declared.fault.RunFault.{RunFault}
 use Rattle.offline_programs.specs.declared.fault.RunFault.TheVariants as fault
@@ -39,7 +39,7 @@ use Rattle.driver.specs.Runs.{DidSteps, Parts, again, again_by, left_at_end, lef
 use Rattle.driver.proofs.Running.{did_break, did_more, did_one, run_join}
 
 module _ {A C K : Type 0} (R : Rules A C K) (n : ℕ) (rest : List Item) (w : World) (h : HostView) (stands : IsHost h w) where
-  pub did_print : (c : C) (k l : K) (a : A) (s : Report) (r : Result (Unit {0}) RunFault) → Tries R.sink k h.store.disk (printed_text R.sink.voice w s) (is_ok r) l → IfErr r (IsUntold R.sink.voice)
+  pub did_print : (c : C) (k l : K) (a : A) (s : Report) (r : Result (Unit {0}) RunFault) → Tries R.sink k h.store.disk (printed_text R.sink.voice w s) (is_ok r) l → IfErr r (IsWithheld R.sink.voice)
       → DidSteps R (seen n w (parts h c k a)) (print s ∷ rest) (left_by_answer (λ done. rest)) r (n, parts h c l a)
   did_print c k l a s (Ok done) tries is =
       did_one R (seen n w (parts h c k a)) (print s ∷ rest) (printed s) (left_by_answer (λ done. rest)) (Ok done) w (n, parts h c l a) (prints s l rest tries) stands
@@ -105,8 +105,8 @@ module _ {A C K : Type 0} (R : Rules A C K) (n : ℕ) (rest : List Item) (w : Wo
   failed_together left d g at_gate.Lost (l, same) =
       subst (λ (y : C). DidSteps R p (take from events ∷ rest) (left_by_answer left) (Err (fault.Host hosts.Disk)) (n, parts g y k a)) (sym same)
       (did_break R p (take from events) rest [] left (fault.Host hosts.Disk) w (n, parts g c k a) (lost from events g l) (lost_there events h.store.disk l))
-  failed_together left d g (at_gate.Host f) (beats, e, v, disk, up_to, gone) =
-      did_break R p (take from events) rest beats left (fault.Host f) v (n, parts g d k a) (broken from events beats e f v d disk g up_to gone) (stopped disk e f gone)
+  failed_together left d g (at_gate.Host f) (entries, e, v, disk, up_to, gone) =
+      did_break R p (take from events) rest entries left (fault.Host f) v (n, parts g d k a) (broken from events entries e f v d disk g up_to gone) (stopped disk e f gone)
 
 module _ {A C K : Type 0} (R : Rules A C K) (n : ℕ) (rest : List Item) (w : World) (h : HostView) (stands : IsHost h w) (c : C) (k : K) (a : A) where
   pub did_hear : {T : Type 0} (seat : Seat) (most : ℕ) (events : List Event) (d : C) (left : Result T RunFault → List Item) (r : Result T RunFault) (last : ℕ × Parts A C K) → HeardReady R.sources seat most c events d
@@ -134,12 +134,12 @@ module _ {A C K : Type 0} (R : Rules A C K) (n : ℕ) (rest : List Item) (w : Wo
       did_more R (seen n w (parts h c k a)) (interrupt name ∷ rest) (interrupted name result) (heed (interrupt_came result) ∷ rest) (seen n w (parts h d k a)) left r last (interrupts name result d rest is) did
 
   pub did_rewrite : {T : Type 0} (line : ℕ) (o : Outcome) (g : HostView) (left : Result T RunFault → List Item) (r : Result T RunFault) (last : ℕ × Parts A C K) → SameDisk h.store.disk g.store.disk
-      → (t : Took w (event.Command command.Checkpoint) h g o) → DidSteps R (seen n (behind w t.did) (parts g c k a)) (printing (Some line) (o ∷ []) [] ++ rest) left r last
+      → (t : Took w (event.Command command.Checkpoint) h g o) → DidSteps R (seen n (following w t.did) (parts g c k a)) (printing (Some line) (o ∷ []) [] ++ rest) left r last
       → DidSteps R (seen n w (parts h c k a)) (rewrite line ∷ rest) left r last
   did_rewrite line o g left r last same t did =
       did_more R (seen n w (parts h c k a)) (rewrite line ∷ rest) (rewrote (record { event = event.Command command.Checkpoint; outcome = o; answer = None })) (printing (Some line) (o ∷ []) [] ++ rest)
-      (seen n (behind w t.did) (parts g c k a)) left r last
-      (rewrites line o (behind w t.did) g.store.disk rest (t.did, t.may, t.told, refl) (record { same = same; moments = t.disk; holds = t.stands.stands.images })) did
+      (seen n (following w t.did) (parts g c k a)) left r last
+      (rewrites line o (following w t.did) g.store.disk rest (t.did, t.may, t.reported, refl) (record { same = same; moments = t.disk; holds = t.stands.stands.images })) did
 
   pub rewrite_failed : {T : Type 0} (line : ℕ) (g : HostView) (f : HostFault) (left : T → List Item) → SameDisk h.store.disk g.store.disk → g.closed ≡ true → Failed w (event.Command command.Checkpoint) h g f
       → DidSteps R (seen n w (parts h c k a)) (rewrite line ∷ rest) (left_by_answer left) (Err (fault.Host f)) (n, parts g c k a)

@@ -9,7 +9,7 @@ use Rattle.host_events.specs.declared.command.Command.TheVariants as command
 use Rattle.session_engine.specs.World.{World}
 use Rattle.session_engine.specs.Does.{Runs}
 use Rattle.session_engine.specs.Crash.{Moments}
-use Rattle.child_edge.specs.Faithful.{Beat, at}
+use Rattle.child_edge.specs.Faithful.{Entry, at}
 use Rattle.child_edge.specs.Kept.{HoldsSheet}
 use Rattle.child_edge.specs.Moments.{LeavesFronts, LeavesFrontsUpTo, events_of, outcomes_of}
 use Rattle.child_edge.specs.Edge.{Stopped}
@@ -17,7 +17,7 @@ use Rattle.child_edge.specs.Together.{LostTogether}
 use Rattle.host_events.specs.declared.outcome.HostFault.{HostFault}
 use Rattle.host_events.specs.declared.outcome.HostFault.TheVariants as faults
 use Rattle.offline_programs.specs.declared.fault.RunFault.{RunFault}
-use Rattle.driver.specs.Items.{Item, RunStep, after_fault, beats_of, print_fault, halt, take}
+use Rattle.driver.specs.Items.{Item, RunStep, after_fault, entries_of, print_fault, halt, take}
 use Rattle.driver.specs.Place.{RunPlace, Rules, run_at}
 use Rattle.driver.specs.Steps.{Fails, Goes, Run, asks, breaks, broken, broken_joined, prints_fault, hears, heeds, interrupts, joins, lost, lost_joined, rewrites, stalls_all, takes, prints, too_many, too_many_heard, uncounted, uncounted_line, unheard, unjoined, unnumbered, unsaid, unstalled, untaken, unprinted, unwatched, unwritten, watches, takes_whole, refuses_whole, untaken_whole}
 use Rattle.driver.specs.Laws.{LeavesFrontsOf, all_printed, broke_at, lost_at, trace}
@@ -27,27 +27,27 @@ use Rattle.driver.proofs.Order.{Broke, after_halt, after_is, no_step, step_cours
 
 -- Where a step leads.
 
-fails_lead : {A C K : Type 0} (R : Rules A C K) (p q : RunPlace A C K) (i : Item) (beats : List Beat) (why : RunFault) → Fails R p i beats why q → Runs p.world (events_of beats) (outcomes_of beats) q.world
-fails_lead R p q i beats why (unsaid now w a clock says) = refl
-fails_lead R p q i beats why (uncounted many) = refl
-fails_lead R p q i beats why (unwatched x c wakes) = refl
-fails_lead R p q i beats why (unheard seat most) = refl
-fails_lead R p q i beats why (too_many from events many) = refl
-fails_lead R p q i beats why (untaken from events) = refl
-fails_lead R p q i beats why (lost from events h l) = refl
-fails_lead R p q i beats why (broken from events bs e f w c d h t stopped) = (up_to_course R.sources.after (run_at p) events beats e (at w c d) t).runs
-fails_lead R p q i beats why (too_many_heard events many) = refl
-fails_lead R p q i beats why (unjoined events) = refl
-fails_lead R p q i beats why (lost_joined events all a h all_are l) = refl
-fails_lead R p q i beats why (broken_joined events all a bs e f w c d h all_are t stopped) = (up_to_course R.sources.after (run_at p) all beats e (at w c d) t).runs
-fails_lead R p q i beats why (untaken_whole first events bs w x fails) = fails_lead R p q (take (Some first) events) beats why fails
-fails_lead R p q i beats why (unwritten line f h stopped) = refl
-fails_lead R p q i beats why (unnumbered line many) = refl
-fails_lead R p q i beats why unstalled = refl
-fails_lead R p q i beats why (uncounted_line first outcomes many) = refl
-fails_lead R p q i beats why (unprinted s w k is tries) = refl
+fails_lead : {A C K : Type 0} (R : Rules A C K) (p q : RunPlace A C K) (i : Item) (entries : List Entry) (why : RunFault) → Fails R p i entries why q → Runs p.world (events_of entries) (outcomes_of entries) q.world
+fails_lead R p q i entries why (unsaid now w a clock says) = refl
+fails_lead R p q i entries why (uncounted many) = refl
+fails_lead R p q i entries why (unwatched x c wakes) = refl
+fails_lead R p q i entries why (unheard seat most) = refl
+fails_lead R p q i entries why (too_many from events many) = refl
+fails_lead R p q i entries why (untaken from events) = refl
+fails_lead R p q i entries why (lost from events h l) = refl
+fails_lead R p q i entries why (broken from events bs e f w c d h t stopped) = (up_to_course R.sources.after (run_at p) events entries e (at w c d) t).runs
+fails_lead R p q i entries why (too_many_heard events many) = refl
+fails_lead R p q i entries why (unjoined events) = refl
+fails_lead R p q i entries why (lost_joined events all a h all_are l) = refl
+fails_lead R p q i entries why (broken_joined events all a bs e f w c d h all_are t stopped) = (up_to_course R.sources.after (run_at p) all entries e (at w c d) t).runs
+fails_lead R p q i entries why (untaken_whole first events bs w x fails) = fails_lead R p q (take (Some first) events) entries why fails
+fails_lead R p q i entries why (unwritten line f h stopped) = refl
+fails_lead R p q i entries why (unnumbered line many) = refl
+fails_lead R p q i entries why unstalled = refl
+fails_lead R p q i entries why (uncounted_line first outcomes many) = refl
+fails_lead R p q i entries why (unprinted s w k is tries) = refl
 
-step_leads : {A C K : Type 0} (R : Rules A C K) (p mid : RunPlace A C K) (todo next : List Item) (s : RunStep) → Goes R p todo s next mid → Runs p.world (events_of (beats_of s)) (outcomes_of (beats_of s)) mid.world
+step_leads : {A C K : Type 0} (R : Rules A C K) (p mid : RunPlace A C K) (todo next : List Item) (s : RunStep) → Goes R p todo s next mid → Runs p.world (events_of (entries_of s)) (outcomes_of (entries_of s)) mid.world
 step_leads R p mid todo next s (asks now t a c says) = refl
 step_leads R p mid todo next s (watches q w c a rest wakes woken) = refl
 step_leads R p mid todo next s (hears seat most events c rest h) = refl
@@ -58,14 +58,14 @@ step_leads R p mid todo next s (takes_whole first events outcomes followed w c d
 step_leads R p mid todo next s (refuses_whole first events before last rest r) = refl
 step_leads R p mid todo next s (rewrites line o w d rest g k) = (w, g, refl)
 step_leads R p mid todo next s (stalls_all rest) = refl
-step_leads R p mid todo next s (interrupts name told c rest i) = refl
+step_leads R p mid todo next s (interrupts name reported c rest i) = refl
 step_leads R p mid todo next s (prints t k rest tries) = refl
 step_leads R p mid todo next s (heeds c now n a rest clock h) = refl
-step_leads R p mid todo next s (breaks i beats why q rest fails) = fails_lead R p q i beats why fails
+step_leads R p mid todo next s (breaks i entries why q rest fails) = fails_lead R p q i entries why fails
 step_leads R p mid todo next s (prints_fault why whole k tries) = refl
 
 -- events of these entries and then of those
-appended : (w : World) (bs : List Beat) (m : World) (cs : List Beat) (v : World) → Runs w (events_of bs) (outcomes_of bs) m → Runs m (events_of cs) (outcomes_of cs) v → Runs w (events_of (bs ++ cs)) (outcomes_of (bs ++ cs)) v
+appended : (w : World) (bs : List Entry) (m : World) (cs : List Entry) (v : World) → Runs w (events_of bs) (outcomes_of bs) m → Runs m (events_of cs) (outcomes_of cs) v → Runs w (events_of (bs ++ cs)) (outcomes_of (bs ++ cs)) v
 appended w bs m cs v p q =
     subst (λ (es : List Event). Runs w es (outcomes_of (bs ++ cs)) v) (sym (events_append bs cs))
     (subst (λ (os : List Outcome). Runs w (events_of bs ++ events_of cs) os v) (sym (outcomes_append bs cs))
@@ -74,67 +74,67 @@ appended w bs m cs v p q =
 pub leads_to : {A C K : Type 0} (R : Rules A C K) (p q : RunPlace A C K) (todo left : List Item) (steps : List RunStep) → Run R p todo steps left q → Runs p.world (events_of (trace steps)) (outcomes_of (trace steps)) q.world
 leads_to R p q todo left [] r = ap (λ (x : RunPlace _ _ _). x.world) r.1
 leads_to R p q todo left (s ∷ steps) (next, mid, goes, more) =
-    appended p.world (beats_of s) mid.world (trace steps) q.world (step_leads R p mid todo next s goes) (leads_to R mid q next left steps more)
+    appended p.world (entries_of s) mid.world (trace steps) q.world (step_leads R p mid todo next s goes) (leads_to R mid q next left steps more)
 
 -- What entries leave of the disk, after a course.
 
-module _ (w : World) (d : DiskView) (bs : List Beat) (m : World) (e : DiskView) (held : HoldsSheet w d) (c : Course w d bs m e) where
-  pub after : (cs : List Beat) (es : List Event) (os : List Outcome) (f : DiskView) → Moments m (events_of cs ++ es) (outcomes_of cs ++ os) e f → Moments w (events_of (bs ++ cs) ++ es) (outcomes_of (bs ++ cs) ++ os) d f
+module _ (w : World) (d : DiskView) (bs : List Entry) (m : World) (e : DiskView) (held : HoldsSheet w d) (c : Course w d bs m e) where
+  pub after : (cs : List Entry) (es : List Event) (os : List Outcome) (f : DiskView) → Moments m (events_of cs ++ es) (outcomes_of cs ++ os) e f → Moments w (events_of (bs ++ cs) ++ es) (outcomes_of (bs ++ cs) ++ os) d f
   after cs es os f later =
       subst (λ (l : List Event). Moments w l (outcomes_of (bs ++ cs) ++ os) d f) (sym (ap (λ (l : List Event). l ++ es) (events_append bs cs) ∙ append_assoc (events_of bs) (events_of cs) es))
       (subst (λ (l : List Outcome). Moments w (events_of bs ++ (events_of cs ++ es)) l d f) (sym (ap (λ (l : List Outcome). l ++ os) (outcomes_append bs cs) ∙ append_assoc (outcomes_of bs) (outcomes_of cs) os))
       (moments_on w (events_of bs) (outcomes_of bs) m (events_of cs ++ es) (outcomes_of cs ++ os) d e f c.runs c.same (c.moments held) later))
 
-  fronts_after : (cs : List Beat) (f : DiskView) → LeavesFronts m cs e f → LeavesFronts w (bs ++ cs) d f
+  fronts_after : (cs : List Entry) (f : DiskView) → LeavesFronts m cs e f → LeavesFronts w (bs ++ cs) d f
   fronts_after cs f later =
       subst (λ (l : List Event). Moments w l (outcomes_of (bs ++ cs)) d f) (append-nil (events_of (bs ++ cs)))
       (subst (λ (l : List Outcome). Moments w (events_of (bs ++ cs) ++ []) l d f) (append-nil (outcomes_of (bs ++ cs)))
       (after cs [] [] f (subst (λ (l : List Event). Moments m l (outcomes_of cs ++ []) e f) (sym (append-nil (events_of cs)))
       (subst (λ (l : List Outcome). Moments m (events_of cs) l e f) (sym (append-nil (outcomes_of cs))) later))))
 
-  unprinted_after : (cs : List Beat) (x : Event) (f : DiskView) → Moments m (events_of cs ++ x ∷ []) (outcomes_of cs) e f → Moments w (events_of (bs ++ cs) ++ x ∷ []) (outcomes_of (bs ++ cs)) d f
+  unprinted_after : (cs : List Entry) (x : Event) (f : DiskView) → Moments m (events_of cs ++ x ∷ []) (outcomes_of cs) e f → Moments w (events_of (bs ++ cs) ++ x ∷ []) (outcomes_of (bs ++ cs)) d f
   unprinted_after cs x f later =
       subst (λ (l : List Outcome). Moments w (events_of (bs ++ cs) ++ x ∷ []) l d f) (append-nil (outcomes_of (bs ++ cs)))
       (after cs (x ∷ []) [] f (subst (λ (l : List Outcome). Moments m (events_of cs ++ x ∷ []) l e f) (sym (append-nil (outcomes_of cs))) later))
 
-  up_to_after : (cs : List Beat) (x : Event) (fault : HostFault) (f : DiskView) → LeavesFrontsUpTo m cs x fault e f → LeavesFrontsUpTo w (bs ++ cs) x fault d f
+  up_to_after : (cs : List Entry) (x : Event) (fault : HostFault) (f : DiskView) → LeavesFrontsUpTo m cs x fault e f → LeavesFrontsUpTo w (bs ++ cs) x fault d f
   up_to_after cs x faults.Closed f later = later
   up_to_after cs x faults.Disk f later = (later.0, after cs (x ∷ []) (later.0 ∷ []) f later.1)
   up_to_after cs x faults.OutOfMemory f later = unprinted_after cs x f later
   up_to_after cs x faults.JournalFull f later = unprinted_after cs x f later
 
-behind : {A C K : Type 0} (p mid q : RunPlace A C K) (bs cs : List Beat) → HoldsSheet p.world p.disk → Course p.world p.disk bs mid.world mid.disk → LeavesFrontsOf mid cs q → LeavesFrontsOf p (bs ++ cs) q
-behind p mid q bs cs held c (all_printed m) = all_printed (fronts_after p.world p.disk bs mid.world mid.disk held c cs q.disk m)
-behind p mid q bs cs held c (broke_at d h e f stopped is m) = broke_at d h e f stopped is (up_to_after p.world p.disk bs mid.world mid.disk held c cs e f q.disk m)
-behind p mid q bs cs held c (lost_at events d h l is m) = lost_at events d h l is (after p.world p.disk bs mid.world mid.disk held c cs l.taken l.untold q.disk m)
+following : {A C K : Type 0} (p mid q : RunPlace A C K) (bs cs : List Entry) → HoldsSheet p.world p.disk → Course p.world p.disk bs mid.world mid.disk → LeavesFrontsOf mid cs q → LeavesFrontsOf p (bs ++ cs) q
+following p mid q bs cs held c (all_printed m) = all_printed (fronts_after p.world p.disk bs mid.world mid.disk held c cs q.disk m)
+following p mid q bs cs held c (broke_at d h e f stopped is m) = broke_at d h e f stopped is (up_to_after p.world p.disk bs mid.world mid.disk held c cs e f q.disk m)
+following p mid q bs cs held c (lost_at events d h l is m) = lost_at events d h l is (after p.world p.disk bs mid.world mid.disk held c cs l.taken l.withheld q.disk m)
 
 -- What an item leaves that failed.
 
 nothing_done : {A C K : Type 0} (p q : RunPlace A C K) → HoldsSheet p.world p.disk → q.disk ≡ p.disk → LeavesFrontsOf p [] q
 nothing_done p q held is = all_printed (subst (λ (d : DiskView). LeavesFronts p.world [] p.disk d) (sym is) ((no_step p.world p.disk).moments held))
 
-fails_leave : {A C K : Type 0} (R : Rules A C K) (p q : RunPlace A C K) (i : Item) (beats : List Beat) (why : RunFault) → HoldsSheet p.world p.disk → Fails R p i beats why q → LeavesFrontsOf p beats q
-fails_leave R p q i beats why held (unsaid now w a clock says) = nothing_done p q held refl
-fails_leave R p q i beats why held (uncounted many) = nothing_done p q held refl
-fails_leave R p q i beats why held (unwatched x c wakes) = nothing_done p q held refl
-fails_leave R p q i beats why held (unheard seat most) = nothing_done p q held refl
-fails_leave R p q i beats why held (too_many from events many) = nothing_done p q held refl
-fails_leave R p q i beats why held (untaken from events) = nothing_done p q held refl
-fails_leave R p q i beats why held (lost from events h l) = lost_at events p.disk h l refl (either_moments p.world l.taken l.untold l.leads p.disk h.store.disk l.runs l.moments)
-fails_leave R p q i beats why held (broken from events bs e f w c d h t stopped) =
-    broke_at d h e f stopped refl (course_up_to p.world p.disk beats w d e f h held (up_to_course R.sources.after (run_at p) events beats e (at w c d) t) stopped)
-fails_leave R p q i beats why held (too_many_heard events many) = nothing_done p q held refl
-fails_leave R p q i beats why held (unjoined events) = nothing_done p q held refl
-fails_leave R p q i beats why held (lost_joined events all a h all_are l) = lost_at all p.disk h l refl (either_moments p.world l.taken l.untold l.leads p.disk h.store.disk l.runs l.moments)
-fails_leave R p q i beats why held (broken_joined events all a bs e f w c d h all_are t stopped) =
-    broke_at d h e f stopped refl (course_up_to p.world p.disk beats w d e f h held (up_to_course R.sources.after (run_at p) all beats e (at w c d) t) stopped)
-fails_leave R p q i beats why held (untaken_whole first events bs w x fails) = fails_leave R p q (take (Some first) events) beats why held fails
-fails_leave R p q i beats why held (unwritten line f h stopped) =
+fails_leave : {A C K : Type 0} (R : Rules A C K) (p q : RunPlace A C K) (i : Item) (entries : List Entry) (why : RunFault) → HoldsSheet p.world p.disk → Fails R p i entries why q → LeavesFrontsOf p entries q
+fails_leave R p q i entries why held (unsaid now w a clock says) = nothing_done p q held refl
+fails_leave R p q i entries why held (uncounted many) = nothing_done p q held refl
+fails_leave R p q i entries why held (unwatched x c wakes) = nothing_done p q held refl
+fails_leave R p q i entries why held (unheard seat most) = nothing_done p q held refl
+fails_leave R p q i entries why held (too_many from events many) = nothing_done p q held refl
+fails_leave R p q i entries why held (untaken from events) = nothing_done p q held refl
+fails_leave R p q i entries why held (lost from events h l) = lost_at events p.disk h l refl (either_moments p.world l.taken l.withheld l.leads p.disk h.store.disk l.runs l.moments)
+fails_leave R p q i entries why held (broken from events bs e f w c d h t stopped) =
+    broke_at d h e f stopped refl (course_up_to p.world p.disk entries w d e f h held (up_to_course R.sources.after (run_at p) events entries e (at w c d) t) stopped)
+fails_leave R p q i entries why held (too_many_heard events many) = nothing_done p q held refl
+fails_leave R p q i entries why held (unjoined events) = nothing_done p q held refl
+fails_leave R p q i entries why held (lost_joined events all a h all_are l) = lost_at all p.disk h l refl (either_moments p.world l.taken l.withheld l.leads p.disk h.store.disk l.runs l.moments)
+fails_leave R p q i entries why held (broken_joined events all a bs e f w c d h all_are t stopped) =
+    broke_at d h e f stopped refl (course_up_to p.world p.disk entries w d e f h held (up_to_course R.sources.after (run_at p) all entries e (at w c d) t) stopped)
+fails_leave R p q i entries why held (untaken_whole first events bs w x fails) = fails_leave R p q (take (Some first) events) entries why held fails
+fails_leave R p q i entries why held (unwritten line f h stopped) =
     broke_at p.disk h (event.Command command.Checkpoint) f stopped refl (course_up_to p.world p.disk [] p.world p.disk (event.Command command.Checkpoint) f h held (no_step p.world p.disk) stopped)
-fails_leave R p q i beats why held (unnumbered line many) = nothing_done p q held refl
-fails_leave R p q i beats why held unstalled = nothing_done p q held refl
-fails_leave R p q i beats why held (uncounted_line first outcomes many) = nothing_done p q held refl
-fails_leave R p q i beats why held (unprinted s w k is tries) = nothing_done p q held refl
+fails_leave R p q i entries why held (unnumbered line many) = nothing_done p q held refl
+fails_leave R p q i entries why held unstalled = nothing_done p q held refl
+fails_leave R p q i entries why held (uncounted_line first outcomes many) = nothing_done p q held refl
+fails_leave R p q i entries why held (unprinted s w k is tries) = nothing_done p q held refl
 
 -- After a fault no event is taken, and the disk stays.
 
@@ -155,7 +155,7 @@ fault_line_stays R p q why left [] r = stays_at p q r.1
 fault_line_stays R p q why left (s ∷ steps) (next, mid, prints_fault w whole k tries, more) =
     let so = halt_stays R mid q why left steps more in
     record { world = so.world; disk = so.disk; none = so.none }
-fault_line_stays R p q why left (s ∷ steps) (next, mid, breaks i beats w x rest fails, more) = absurd (elim fails [ ])
+fault_line_stays R p q why left (s ∷ steps) (next, mid, breaks i entries w x rest fails, more) = absurd (elim fails [ ])
 
 pub fault_stays : {A C K : Type 0} (R : Rules A C K) (p q : RunPlace A C K) (why : RunFault) (next left : List Item) (steps : List RunStep) → next ≡ after_fault why → Run R p next steps left q → StaysThere p q steps
 fault_stays R p q why next left steps is r = by (after_is why)
@@ -164,21 +164,21 @@ fault_stays R p q why next left steps is r = by (after_is why)
     by (inl e) = halt_stays R p q why left steps (subst (λ (t : List Item). Run R p t steps left q) (is ∙ e) r)
     by (inr e) = fault_line_stays R p q why left steps (subst (λ (t : List Item). Run R p t steps left q) (is ∙ e) r)
 
-same_there : {A C K : Type 0} (p mid q : RunPlace A C K) (beats : List Beat) → q.world ≡ mid.world → q.disk ≡ mid.disk → LeavesFrontsOf p beats mid → LeavesFrontsOf p beats q
-same_there p mid q beats world disk (all_printed m) = all_printed (subst (λ (d : DiskView). LeavesFronts p.world beats p.disk d) (sym disk) m)
-same_there p mid q beats world disk (broke_at d h e f stopped is m) =
-    broke_at d h e f (subst (λ (w : World). Stopped d h w e f) (sym world) stopped) (disk ∙ is) (subst (λ (x : DiskView). LeavesFrontsUpTo p.world beats e f p.disk x) (sym disk) m)
-same_there p mid q beats world disk (lost_at events d h l is m) =
-    subst (λ (w : World). (x : LostTogether w events d h) → Moments p.world (events_of beats ++ x.taken) (outcomes_of beats ++ x.untold) p.disk q.disk → LeavesFrontsOf p beats q) world
-    (λ x y. lost_at events d h x (disk ∙ is) y) l (subst (λ (x : DiskView). Moments p.world (events_of beats ++ l.taken) (outcomes_of beats ++ l.untold) p.disk x) (sym disk) m)
+same_there : {A C K : Type 0} (p mid q : RunPlace A C K) (entries : List Entry) → q.world ≡ mid.world → q.disk ≡ mid.disk → LeavesFrontsOf p entries mid → LeavesFrontsOf p entries q
+same_there p mid q entries world disk (all_printed m) = all_printed (subst (λ (d : DiskView). LeavesFronts p.world entries p.disk d) (sym disk) m)
+same_there p mid q entries world disk (broke_at d h e f stopped is m) =
+    broke_at d h e f (subst (λ (w : World). Stopped d h w e f) (sym world) stopped) (disk ∙ is) (subst (λ (x : DiskView). LeavesFrontsUpTo p.world entries e f p.disk x) (sym disk) m)
+same_there p mid q entries world disk (lost_at events d h l is m) =
+    subst (λ (w : World). (x : LostTogether w events d h) → Moments p.world (events_of entries ++ x.taken) (outcomes_of entries ++ x.withheld) p.disk q.disk → LeavesFrontsOf p entries q) world
+    (λ x y. lost_at events d h x (disk ∙ is) y) l (subst (λ (x : DiskView). Moments p.world (events_of entries ++ l.taken) (outcomes_of entries ++ l.withheld) p.disk x) (sym disk) m)
 
 pub leave_fronts : {A C K : Type 0} (R : Rules A C K) (p q : RunPlace A C K) (todo left : List Item) (steps : List RunStep) → HoldsSheet p.world p.disk → Run R p todo steps left q → LeavesFrontsOf p (trace steps) q
 leave_fronts R p q todo left [] held r = nothing_done p q held (ap (λ (x : RunPlace _ _ _). x.disk) r.1)
 leave_fronts R p q todo left (s ∷ steps) held (next, mid, goes, more) = by (λ h. leave_fronts R mid q next left steps h more) (step_course R p mid todo next s goes)
   where
-    by : (HoldsSheet mid.world mid.disk → LeavesFrontsOf mid (trace steps) q) → (Course p.world p.disk (beats_of s) mid.world mid.disk ⊎ Broke R p s next mid) → LeavesFrontsOf p (trace (s ∷ steps)) q
-    by on (inl c) = behind p mid q (beats_of s) (trace steps) held c (on (c.holds held))
+    by : (HoldsSheet mid.world mid.disk → LeavesFrontsOf mid (trace steps) q) → (Course p.world p.disk (entries_of s) mid.world mid.disk ⊎ Broke R p s next mid) → LeavesFrontsOf p (trace (s ∷ steps)) q
+    by on (inl c) = following p mid q (entries_of s) (trace steps) held c (on (c.holds held))
     by on (inr b) =
         let so = fault_stays R mid q b.why next left steps b.left more in
-        subst (λ (l : List Beat). LeavesFrontsOf p l q) (sym (append-nil b.beats) ∙ ap (λ (l : List Beat). b.beats ++ l) (sym so.none) ∙ ap (λ (x : RunStep). beats_of x ++ trace steps) (sym b.step))
-        (same_there p mid q b.beats so.world so.disk (fails_leave R p mid b.item b.beats b.why held b.fails))
+        subst (λ (l : List Entry). LeavesFrontsOf p l q) (sym (append-nil b.entries) ∙ ap (λ (l : List Entry). b.entries ++ l) (sym so.none) ∙ ap (λ (x : RunStep). entries_of x ++ trace steps) (sym b.step))
+        (same_there p mid q b.entries so.world so.disk (fails_leave R p mid b.item b.entries b.why held b.fails))

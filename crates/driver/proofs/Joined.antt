@@ -50,8 +50,8 @@ module _ {A C K : Type 0} (R : Rules A C K) (n : ℕ) (rest : List Item) (w : Wo
   failed_joined events left b d g at_gate.Lost (all, all_are, l, same) =
       subst (λ (y : C). DidSteps R there (join events ∷ rest) (left_by_answer left) (Err (fault.Host hosts.Disk)) (n, parts g y k b)) (sym same)
       (did_break R there (join events) rest [] left (fault.Host hosts.Disk) w (n, parts g c k b) (lost_joined events all b g all_are l) (lost_there all h.store.disk l))
-  failed_joined events left b d g (at_gate.Host f) (all, all_are, beats, e, v, disk, up_to, gone) =
-      did_break R there (join events) rest beats left (fault.Host f) v (n, parts g d k b) (broken_joined events all b beats e f v d disk g all_are up_to gone) (stopped disk e f gone)
+  failed_joined events left b d g (at_gate.Host f) (all, all_are, entries, e, v, disk, up_to, gone) =
+      did_break R there (join events) rest entries left (fault.Host f) v (n, parts g d k b) (broken_joined events all b entries e f v d disk g all_are up_to gone) (stopped disk e f gone)
 
   -- what joined is printed, where any did
   pub none_joined : (first : Option ℕ) (later : List Outcome) (done : Unit {0}) → first ≡ None

@@ -3,12 +3,12 @@ use Rattle.std.proofs.Common.{◌≡◌, inl, inr, List, [], ◌∷◌, ◌++◌
 use Rattle.std.specs.Prelude.{◌⊎◌}
 use Rattle.disk_model.specs.Disk.{DiskView}
 use Rattle.session_engine.specs.World.{World}
-use Rattle.child_edge.specs.Faithful.{Beat, at}
+use Rattle.child_edge.specs.Faithful.{Entry, at}
 use Rattle.child_edge.specs.Kept.{HoldsSheet}
 use Rattle.offline_programs.specs.declared.fault.RunFault.{RunFault}
 use Rattle.offline_programs.specs.declared.fault.RunFault.TheVariants as fault
 use Rattle.driver.specs.Reports.{Report, printed_text}
-use Rattle.driver.specs.Items.{Item, RunStep, after_fault, beats_of, broke, print_fault, halt, printed}
+use Rattle.driver.specs.Items.{Item, RunStep, after_fault, entries_of, broke, print_fault, halt, printed}
 use Rattle.driver.specs.Place.{RunPlace, Rules, Tries, run_at}
 use Rattle.driver.specs.Steps.{Fails, Goes, Run, asks, breaks, prints_fault, hears, heeds, interrupts, joins, rewrites, stalls_all, takes, prints, watches, takes_whole, refuses_whole}
 use Rattle.driver.specs.Laws.{CutAt, PrintedAfter, trace}
@@ -30,14 +30,14 @@ no_step w d = goes_course w d [] w d (refl, refl)
 -- an item failed at this step
 pub record Broke {A C K : Type 0} (R : Rules A C K) (p : RunPlace A C K) (s : RunStep) (next : List Item) (mid : RunPlace A C K) : Type 0 where
   pub item : Item
-  pub beats : List Beat
+  pub entries : List Entry
   pub why : RunFault
-  pub fails : Fails R p item beats why mid
-  pub step : s ≡ broke beats why
+  pub fails : Fails R p item entries why mid
+  pub step : s ≡ broke entries why
   pub left : next ≡ after_fault why
 
 pub step_course : {A C K : Type 0} (R : Rules A C K) (p mid : RunPlace A C K) (todo next : List Item) (s : RunStep) → Goes R p todo s next mid
-    → Course p.world p.disk (beats_of s) mid.world mid.disk ⊎ Broke R p s next mid
+    → Course p.world p.disk (entries_of s) mid.world mid.disk ⊎ Broke R p s next mid
 step_course R p mid todo next s (asks now t a c says) = inl (no_step p.world p.disk)
 step_course R p mid todo next s (watches q w c a rest wakes woken) = inl (no_step p.world p.disk)
 step_course R p mid todo next s (hears seat most events c rest h) = inl (no_step p.world p.disk)
@@ -47,18 +47,18 @@ step_course R p mid todo next s (joins events outcomes first more later followed
 step_course R p mid todo next s (takes_whole first events outcomes followed w c d rest t accepted) = inl (together_course R.sources.after (run_at p) events outcomes followed (at w c d) t)
 step_course R p mid todo next s (refuses_whole first events before last rest r) = inl (no_step p.world p.disk)
 step_course R p mid todo next s (rewrites line o w d rest g k) =
-    inl (goes_course p.world p.disk (beats_of s) w d (w, d, g, k, (refl, refl)))
+    inl (goes_course p.world p.disk (entries_of s) w d (w, d, g, k, (refl, refl)))
 step_course R p mid todo next s (stalls_all rest) = inl (no_step p.world p.disk)
-step_course R p mid todo next s (interrupts name told c rest i) = inl (no_step p.world p.disk)
+step_course R p mid todo next s (interrupts name reported c rest i) = inl (no_step p.world p.disk)
 step_course R p mid todo next s (prints t k rest tries) = inl (no_step p.world p.disk)
 step_course R p mid todo next s (heeds c now n a rest clock h) = inl (no_step p.world p.disk)
-step_course R p mid todo next s (breaks i beats why q rest fails) = inr (record { item = i; beats = beats; why = why; fails = fails; step = refl; left = refl })
+step_course R p mid todo next s (breaks i entries why q rest fails) = inr (record { item = i; entries = entries; why = why; fails = fails; step = refl; left = refl })
 step_course R p mid todo next s (prints_fault why whole k tries) = inl (no_step p.world p.disk)
 
 -- After a fault nothing is printed but it.
 
 pub after_halt : {A C K : Type 0} (R : Rules A C K) (p mid : RunPlace A C K) (why : RunFault) (s : RunStep) (next : List Item) → Goes R p (halt why ∷ []) s next mid → ⊥
-after_halt R p mid why s next (breaks i beats w q rest fails) = elim fails [ ]
+after_halt R p mid why s next (breaks i entries w q rest fails) = elim fails [ ]
 
 halted : {A C K : Type 0} (R : Rules A C K) (p q : RunPlace A C K) (why : RunFault) (left : List Item) (before after : List RunStep) (s : Report)
     → Run R p (halt why ∷ []) (before ++ printed s ∷ after) left q → ⊥
@@ -70,7 +70,7 @@ fault_first R p mid why s next goes = elim goes [ ]
 
 fault_next : {A C K : Type 0} (R : Rules A C K) (p mid : RunPlace A C K) (why : RunFault) (s : RunStep) (next : List Item) → Goes R p (print_fault why ∷ []) s next mid → next ≡ halt why ∷ []
 fault_next R p mid why s next (prints_fault w whole k tries) = refl
-fault_next R p mid why s next (breaks i beats w q rest fails) = absurd (elim fails [ ])
+fault_next R p mid why s next (breaks i entries w q rest fails) = absurd (elim fails [ ])
 
 fault_only : {A C K : Type 0} (R : Rules A C K) (p q : RunPlace A C K) (why : RunFault) (left : List Item) (before after : List RunStep) (s : Report)
     → Run R p (print_fault why ∷ []) (before ++ printed s ∷ after) left q → ⊥
@@ -111,10 +111,10 @@ printed_there R p q todo left [] after s (next, mid, prints x k rest tries, more
     record { there = p; course = no_step p.world p.disk; sink = k; tries = tries; then_to_do = next; goes_on = more }
 printed_there R p q todo left (x ∷ before) after s (next, mid, goes, more) = by (printed_there R mid q next left before after s more) (step_course R p mid todo next x goes)
   where
-    by : PrintedThere R mid q left before after s → (Course p.world p.disk (beats_of x) mid.world mid.disk ⊎ Broke R p x next mid) → PrintedThere R p q left (x ∷ before) after s
+    by : PrintedThere R mid q left before after s → (Course p.world p.disk (entries_of x) mid.world mid.disk ⊎ Broke R p x next mid) → PrintedThere R p q left (x ∷ before) after s
     by so (inl c) = record {
       there = so.there;
-      course = course_on p.world p.disk (beats_of x) mid.world mid.disk (trace before) so.there.world so.there.disk c so.course;
+      course = course_on p.world p.disk (entries_of x) mid.world mid.disk (trace before) so.there.world so.there.disk c so.course;
       sink = so.sink;
       tries = so.tries;
       then_to_do = so.then_to_do;

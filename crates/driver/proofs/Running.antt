@@ -2,7 +2,7 @@
 use Rattle.std.proofs.Common.{◌≡◌, ℕ, List, [], ◌∷◌, ◌++◌, refl, subst, Ok, Err}
 use Rattle.std.specs.Prelude.{Result}
 use Rattle.session_engine.specs.World.{World}
-use Rattle.child_edge.specs.Faithful.{Beat}
+use Rattle.child_edge.specs.Faithful.{Entry}
 use Rattle.offline_programs.specs.declared.fault.RunFault.{RunFault}
 use Rattle.driver.specs.Items.{Item, RunStep, broke}
 use Rattle.driver.specs.Place.{RunPlace, Rules}
@@ -42,10 +42,10 @@ module _ {A C K : Type 0} (R : Rules A C K) (p : RunPlace A C K) (todo : List It
   did_fail f g why now d = record { steps = d.steps; world = d.world; ran = d.ran; stands = d.stands }
 
 -- the first item failed
-pub did_break : {A C K T : Type 0} (R : Rules A C K) (p : RunPlace A C K) (i : Item) (rest : List Item) (beats : List Beat) (f : T → List Item) (why : RunFault) (w : World) (now : ℕ × Parts A C K)
-    → Fails R p i beats why (seen now.0 w now.1) → Stands now.1.host w → DidSteps R p (i ∷ rest) (left_by_answer f) (Err why) now
-did_break R p i rest beats f why w now fails stands =
-    did_one R p (i ∷ rest) (broke beats why) (left_by_answer f) (Err why) w now (breaks i beats why (seen now.0 w now.1) rest fails) stands
+pub did_break : {A C K T : Type 0} (R : Rules A C K) (p : RunPlace A C K) (i : Item) (rest : List Item) (entries : List Entry) (f : T → List Item) (why : RunFault) (w : World) (now : ℕ × Parts A C K)
+    → Fails R p i entries why (seen now.0 w now.1) → Stands now.1.host w → DidSteps R p (i ∷ rest) (left_by_answer f) (Err why) now
+did_break R p i rest entries f why w now fails stands =
+    did_one R p (i ∷ rest) (broke entries why) (left_by_answer f) (Err why) w now (breaks i entries why (seen now.0 w now.1) rest fails) stands
 
 -- nothing was to be done
 pub did_none : {A C K T : Type 0} (R : Rules A C K) (w : World) (x : Parts A C K) (n : ℕ) (todo : List Item) (left : Result T RunFault → List Item) (answer : Result T RunFault) → left answer ≡ todo → StandsBy answer x.host w

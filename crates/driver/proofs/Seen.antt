@@ -7,7 +7,7 @@ use Rattle.host_events.specs.declared.event.Event.{Event}
 use Rattle.host_events.specs.declared.outcome.Outcome.{Outcome}
 use Rattle.session_engine.specs.World.{World}
 use Rattle.session_engine.specs.Joining.{JoinsAfter, ToBeTaken, alone, asking, with_more}
-use Rattle.child_edge.specs.Faithful.{Beat}
+use Rattle.child_edge.specs.Faithful.{Entry}
 use Rattle.tellings.specs.declared.note.Note.{Note}
 use Rattle.offline_programs.specs.declared.fault.RunFault.{RunFault}
 use Rattle.driver.specs.declared.turn.Turn.{Turn}
@@ -33,38 +33,38 @@ module _ {A B C K L : Type 0} (R : Rules A C K) (S : AgendaRules B) (written : L
   abbrev pub seen_parts : ProgramParts A C K → ProgramParts B C L
   seen_parts x = record { disk = x.disk; sources = x.sources; sink = g x.sink; agenda = f x.agenda }
 
-  asks_seen : (a b : A) (w : World) (events : List Event) (told : List Outcome) (first : Option ℕ) (more : List Event) → JoinsAfter (asking R.agenda.joins a b) w events told first more
-      → JoinsAfter (asking S.joins (f a) (f b)) w events told first more
-  asks_seen a b w events told first more j = record { world = j.world; runs = j.runs; answered = joins a j.world first more b j.answered }
+  asks_seen : (a b : A) (w : World) (events : List Event) (reported : List Outcome) (first : Option ℕ) (more : List Event) → JoinsAfter (asking R.agenda.joins a b) w events reported first more
+      → JoinsAfter (asking S.joins (f a) (f b)) w events reported first more
+  asks_seen a b w events reported first more j = record { world = j.world; runs = j.runs; answered = joins a j.world first more b j.answered }
 
   all_seen : (a b : A) (w : World) (events all : List Event) → ToBeTaken (asking R.agenda.joins a b) w events all → ToBeTaken (asking S.joins (f a) (f b)) w events all
   all_seen a b w events all (alone same) = alone (ap f same)
-  all_seen a b w events all (with_more told first more j) = with_more told first more (asks_seen a b w events told first more j)
+  all_seen a b w events all (with_more reported first more j) = with_more reported first more (asks_seen a b w events reported first more j)
 
-  fails_seen : (p q : RunPlace A C K) (i : Item) (beats : List Beat) (why : RunFault) → Fails R p i beats why q → Fails seen_rules (seen_place p) i beats why (seen_place q)
-  fails_seen p q i beats why (step.unsaid now w a clock said) = step.unsaid now w (f a) clock (says p.agenda p.world now (Err w) a said)
-  fails_seen p q i beats why (step.uncounted many) = step.uncounted many
-  fails_seen p q i beats why (step.unwatched x c wakes) = step.unwatched x c wakes
-  fails_seen p q i beats why (step.unheard seat most) = step.unheard seat most
-  fails_seen p q i beats why (step.too_many from events many) = step.too_many from events many
-  fails_seen p q i beats why (step.untaken from events) = step.untaken from events
-  fails_seen p q i beats why (step.lost from events h l) = step.lost from events h l
-  fails_seen p q i beats why (step.broken from events bs e x w c d h t stopped) = step.broken from events bs e x w c d h t stopped
-  fails_seen p q i beats why (step.too_many_heard events many) = step.too_many_heard events many
-  fails_seen p q i beats why (step.unjoined events) = step.unjoined events
-  fails_seen p q i beats why (step.lost_joined events all a h all_are l) = step.lost_joined events all (f a) h (all_seen p.agenda a p.world events all all_are) l
-  fails_seen p q i beats why (step.broken_joined events all a bs e x w c d h all_are t stopped) =
+  fails_seen : (p q : RunPlace A C K) (i : Item) (entries : List Entry) (why : RunFault) → Fails R p i entries why q → Fails seen_rules (seen_place p) i entries why (seen_place q)
+  fails_seen p q i entries why (step.unsaid now w a clock said) = step.unsaid now w (f a) clock (says p.agenda p.world now (Err w) a said)
+  fails_seen p q i entries why (step.uncounted many) = step.uncounted many
+  fails_seen p q i entries why (step.unwatched x c wakes) = step.unwatched x c wakes
+  fails_seen p q i entries why (step.unheard seat most) = step.unheard seat most
+  fails_seen p q i entries why (step.too_many from events many) = step.too_many from events many
+  fails_seen p q i entries why (step.untaken from events) = step.untaken from events
+  fails_seen p q i entries why (step.lost from events h l) = step.lost from events h l
+  fails_seen p q i entries why (step.broken from events bs e x w c d h t stopped) = step.broken from events bs e x w c d h t stopped
+  fails_seen p q i entries why (step.too_many_heard events many) = step.too_many_heard events many
+  fails_seen p q i entries why (step.unjoined events) = step.unjoined events
+  fails_seen p q i entries why (step.lost_joined events all a h all_are l) = step.lost_joined events all (f a) h (all_seen p.agenda a p.world events all all_are) l
+  fails_seen p q i entries why (step.broken_joined events all a bs e x w c d h all_are t stopped) =
       step.broken_joined events all (f a) bs e x w c d h (all_seen p.agenda a p.world events all all_are) t stopped
-  fails_seen p q i beats why (step.untaken_whole first events bs w x fails) = step.untaken_whole first events beats why (seen_place q) (fails_seen p q (take (Some first) events) beats why fails)
-  fails_seen p q i beats why (step.unwritten line x h stopped) = step.unwritten line x h stopped
-  fails_seen p q i beats why (step.unnumbered line many) = step.unnumbered line many
-  fails_seen p q i beats why step.unstalled = step.unstalled
-  fails_seen p q i beats why (step.uncounted_line first outcomes many) = step.uncounted_line first outcomes many
-  fails_seen p q i beats why (step.unprinted s w k is t) = step.unprinted s w (g k) is (tries p.sink p.disk (printed_text R.sink.voice p.world s) _ k t)
+  fails_seen p q i entries why (step.untaken_whole first events bs w x fails) = step.untaken_whole first events entries why (seen_place q) (fails_seen p q (take (Some first) events) entries why fails)
+  fails_seen p q i entries why (step.unwritten line x h stopped) = step.unwritten line x h stopped
+  fails_seen p q i entries why (step.unnumbered line many) = step.unnumbered line many
+  fails_seen p q i entries why step.unstalled = step.unstalled
+  fails_seen p q i entries why (step.uncounted_line first outcomes many) = step.uncounted_line first outcomes many
+  fails_seen p q i entries why (step.unprinted s w k is t) = step.unprinted s w (g k) is (tries p.sink p.disk (printed_text R.sink.voice p.world s) _ k t)
 
   step_seen : (p q : RunPlace A C K) (todo next : List Item) (s : RunStep) → Goes R p todo s next q → Goes seen_rules (seen_place p) todo s next (seen_place q)
   step_seen p q todo next s (step.asks now t a clock said) = step.asks now t (f a) clock (says p.agenda p.world now (Ok t) a said)
-  step_seen p q todo next s (step.watches x w c a rest wakes told) = step.watches x w c (f a) rest wakes (woken p.agenda w a told)
+  step_seen p q todo next s (step.watches x w c a rest wakes reported) = step.watches x w c (f a) rest wakes (woken p.agenda w a reported)
   step_seen p q todo next s (step.hears seat most events c rest h) = step.hears seat most events c rest h
   step_seen p q todo next s (step.takes from events outcomes followed w c d rest t) = step.takes from events outcomes followed w c d rest t
   step_seen p q todo next s (step.joins events outcomes first more later followed a w c d rest j t) =
@@ -73,10 +73,10 @@ module _ {A B C K L : Type 0} (R : Rules A C K) (S : AgendaRules B) (written : L
   step_seen p q todo next s (step.refuses_whole first events before last rest r) = step.refuses_whole first events before last rest r
   step_seen p q todo next s (step.rewrites line o w d rest gives kept) = step.rewrites line o w d rest gives kept
   step_seen p q todo next s (step.stalls_all rest) = step.stalls_all rest
-  step_seen p q todo next s (step.interrupts name told c rest i) = step.interrupts name told c rest i
+  step_seen p q todo next s (step.interrupts name reported c rest i) = step.interrupts name reported c rest i
   step_seen p q todo next s (step.prints t k rest went) = step.prints t (g k) rest (tries p.sink p.disk (printed_text R.sink.voice p.world t) true k went)
   step_seen p q todo next s (step.heeds c now n a rest clock h) = step.heeds c now n (f a) rest clock (heeds p.agenda p.world now c n a h)
-  step_seen p q todo next s (step.breaks i beats why there rest fails) = step.breaks i beats why (seen_place there) rest (fails_seen p there i beats why fails)
+  step_seen p q todo next s (step.breaks i entries why there rest fails) = step.breaks i entries why (seen_place there) rest (fails_seen p there i entries why fails)
   step_seen p q todo next s (step.prints_fault why whole k went) = step.prints_fault why whole (g k) (tries p.sink p.disk (R.sink.voice.fault why) whole k went)
 
   pub run_seen : (p q : RunPlace A C K) (todo left : List Item) (steps : List RunStep) → Run R p todo steps left q → Run seen_rules (seen_place p) todo steps left (seen_place q)
@@ -85,7 +85,7 @@ module _ {A B C K L : Type 0} (R : Rules A C K) (S : AgendaRules B) (written : L
 
   -- The same of a program over a disk.
   pub over_seen : (first last : ProgramParts A C K) (answer : Result (Unit {0}) RunFault) → Over R first last answer → Over seen_rules (seen_parts first) (seen_parts last) answer
-  over_seen first last answer (ran_over told o) = ran_over told (record {
+  over_seen first last answer (ran_over reported o) = ran_over reported (record {
     opened = o.opened;
     steps = o.steps;
     asked = o.asked;

@@ -13,16 +13,16 @@ use Rattle.host_events.specs.declared.outcome.HostFault.{HostFault}
 use Rattle.host_events.specs.declared.outcome.HostFault.TheVariants as hosts
 use Rattle.host_events.specs.declared.outcome.Outcome.{Outcome}
 use Rattle.host_events.specs.declared.reply.Reply.{Reply}
-use Rattle.child_edge.specs.Faithful.{Beat, at}
-use Rattle.child_edge.specs.Together.{beats_behind}
-use Rattle.child_edge.specs.Told.{told}
+use Rattle.child_edge.specs.Faithful.{Entry, at}
+use Rattle.child_edge.specs.Together.{entries_after}
+use Rattle.child_edge.specs.Reported.{reported}
 use Rattle.tellings.specs.declared.note.Note.{Note}
-use Rattle.tellings.specs.Voice.{Voice, IsUntold}
+use Rattle.tellings.specs.Voice.{Voice, IsWithheld}
 use Rattle.offline_programs.specs.declared.fault.RunFault.{RunFault}
 use Rattle.offline_programs.specs.declared.fault.RunFault.TheVariants as fault
 use Rattle.driver.specs.declared.turn.Turn.{Turn}
 use Rattle.driver.specs.declared.turn.Turn.TheVariants as turn
-use Rattle.driver.specs.Items.{Item, RunStep, after_fault, ask, beats_of, items_by, notes, printing, printing_joined, print_fault, halt}
+use Rattle.driver.specs.Items.{Item, RunStep, after_fault, ask, entries_of, items_by, notes, printing, printing_joined, print_fault, halt}
 use Rattle.driver.specs.Items as item
 use Rattle.driver.specs.Place.{RunPlace, Rules, run_at}
 use Rattle.driver.specs.Steps.{Fails, Goes, Run}
@@ -63,9 +63,9 @@ cause_true hosts.Disk w e a b cause = cause.0
 cause_true hosts.OutOfMemory w e a b cause = tt
 cause_true hosts.JournalFull w e a b cause = tt
 
-untold_true : (V : Voice) (why : RunFault) (a b : DiskView) → IsUntold V why → IsTrueFault why a b
-untold_true V why a b (inl is) = subst (λ (x : RunFault). IsTrueFault x a b) (sym is) tt
-untold_true V why a b (inr (is, takes)) = subst (λ (x : RunFault). IsTrueFault x a b) (sym is) tt
+withheld_true : (V : Voice) (why : RunFault) (a b : DiskView) → IsWithheld V why → IsTrueFault why a b
+withheld_true V why a b (inl is) = subst (λ (x : RunFault). IsTrueFault x a b) (sym is) tt
+withheld_true V why a b (inr (is, takes)) = subst (λ (x : RunFault). IsTrueFault x a b) (sym is) tt
 
 -- Of what is to be done nothing comes after a fault.
 
@@ -154,43 +154,43 @@ left_since (item.print_fault why ∷ rest) a b c same t = tt
 left_since (item.halt why ∷ rest) a b c same t = true_since why a b c same t
 
 module _ {A C K : Type 0} (R : Rules A C K) (own : (a : A) (w : World) (n : ℕ) (why : RunFault) (b : A) → R.agenda.says a w n (Err why) b → (d : DiskView) → IsTrueFault why d d) where
-  fails_true : (p q : RunPlace A C K) (i : Item) (beats : List Beat) (why : RunFault) → Fails R p i beats why q → IsTrueFault why p.disk q.disk
-  fails_true p q i beats why (step.unsaid now w a clock said) = own p.agenda p.world now why a said p.disk
-  fails_true p q i beats why (step.uncounted many) = tt
-  fails_true p q i beats why (step.unwatched x c wakes) = tt
-  fails_true p q i beats why (step.unheard seat most) = tt
-  fails_true p q i beats why (step.too_many from events many) = tt
-  fails_true p q i beats why (step.untaken from events) = tt
-  fails_true p q i beats why (step.lost from events h l) = l.failed
-  fails_true p q i beats why (step.broken from events bs e f w c d h t stopped) =
-      host_since f p.disk d h.store.disk (up_to_course R.sources.after (run_at p) events beats e (at w c d) t).same (cause_true f w e d h.store.disk stopped.cause)
-  fails_true p q i beats why (step.too_many_heard events many) = tt
-  fails_true p q i beats why (step.unjoined events) = tt
-  fails_true p q i beats why (step.lost_joined events all a h all_are l) = l.failed
-  fails_true p q i beats why (step.broken_joined events all a bs e f w c d h all_are t stopped) =
-      host_since f p.disk d h.store.disk (up_to_course R.sources.after (run_at p) all beats e (at w c d) t).same (cause_true f w e d h.store.disk stopped.cause)
-  fails_true p q i beats why (step.untaken_whole first events bs w x fails) = fails_true p q (item.take (Some first) events) beats why fails
-  fails_true p q i beats why (step.unwritten line f h stopped) = cause_true f p.world _ p.disk h.store.disk stopped.cause
-  fails_true p q i beats why (step.unnumbered line many) = tt
-  fails_true p q i beats why step.unstalled = tt
-  fails_true p q i beats why (step.uncounted_line first outcomes many) = tt
-  fails_true p q i beats why (step.unprinted s w k is tries) = untold_true R.sink.voice why p.disk p.disk is
+  fails_true : (p q : RunPlace A C K) (i : Item) (entries : List Entry) (why : RunFault) → Fails R p i entries why q → IsTrueFault why p.disk q.disk
+  fails_true p q i entries why (step.unsaid now w a clock said) = own p.agenda p.world now why a said p.disk
+  fails_true p q i entries why (step.uncounted many) = tt
+  fails_true p q i entries why (step.unwatched x c wakes) = tt
+  fails_true p q i entries why (step.unheard seat most) = tt
+  fails_true p q i entries why (step.too_many from events many) = tt
+  fails_true p q i entries why (step.untaken from events) = tt
+  fails_true p q i entries why (step.lost from events h l) = l.failed
+  fails_true p q i entries why (step.broken from events bs e f w c d h t stopped) =
+      host_since f p.disk d h.store.disk (up_to_course R.sources.after (run_at p) events entries e (at w c d) t).same (cause_true f w e d h.store.disk stopped.cause)
+  fails_true p q i entries why (step.too_many_heard events many) = tt
+  fails_true p q i entries why (step.unjoined events) = tt
+  fails_true p q i entries why (step.lost_joined events all a h all_are l) = l.failed
+  fails_true p q i entries why (step.broken_joined events all a bs e f w c d h all_are t stopped) =
+      host_since f p.disk d h.store.disk (up_to_course R.sources.after (run_at p) all entries e (at w c d) t).same (cause_true f w e d h.store.disk stopped.cause)
+  fails_true p q i entries why (step.untaken_whole first events bs w x fails) = fails_true p q (item.take (Some first) events) entries why fails
+  fails_true p q i entries why (step.unwritten line f h stopped) = cause_true f p.world _ p.disk h.store.disk stopped.cause
+  fails_true p q i entries why (step.unnumbered line many) = tt
+  fails_true p q i entries why step.unstalled = tt
+  fails_true p q i entries why (step.uncounted_line first outcomes many) = tt
+  fails_true p q i entries why (step.unprinted s w k is tries) = withheld_true R.sink.voice why p.disk p.disk is
 
   step_doing : (p mid : RunPlace A C K) (todo next : List Item) (s : RunStep) → Goes R p todo s next mid → AreDoing todo → AreDoing next ⊎ Broke R p s next mid
   step_doing p mid todo next s (step.asks now t a clock said) all = inl (turn_doing t)
-  step_doing p mid todo next s (step.watches x w c a rest wakes told) all = inl all.1
+  step_doing p mid todo next s (step.watches x w c a rest wakes reported) all = inl all.1
   step_doing p mid todo next s (step.hears seat most events c rest h) all = inl (tt, all.1)
   step_doing p mid todo next s (step.takes from events outcomes followed w c d rest t) all = inl (tt, (tt, (tt, all.1)))
   step_doing p mid todo next s (step.joins events outcomes first more later followed a w c d rest j t) all =
-      inl (joined_doing first outcomes later (told (beats_behind followed)) rest all.1)
+      inl (joined_doing first outcomes later (reported (entries_after followed)) rest all.1)
   step_doing p mid todo next s (step.takes_whole first events outcomes followed w c d rest t accepted) all = inl (tt, (tt, (tt, all.1)))
   step_doing p mid todo next s (step.refuses_whole first events before last rest r) all = inl (tt, (tt, (tt, all.1)))
   step_doing p mid todo next s (step.rewrites line o w d rest gives kept) all = inl (tt, (tt, (tt, all.1)))
   step_doing p mid todo next s (step.stalls_all rest) all = inl (tt, all.1)
-  step_doing p mid todo next s (step.interrupts name told c rest i) all = inl (tt, all.1)
+  step_doing p mid todo next s (step.interrupts name reported c rest i) all = inl (tt, all.1)
   step_doing p mid todo next s (step.prints t k rest went) all = inl all.1
   step_doing p mid todo next s (step.heeds c now n a rest clock h) all = inl (doing_on (notes n) rest (notes_doing n) all.1)
-  step_doing p mid todo next s (step.breaks i beats why there rest fails) all = inr (record { item = i; beats = beats; why = why; fails = fails; step = refl; left = refl })
+  step_doing p mid todo next s (step.breaks i entries why there rest fails) all = inr (record { item = i; entries = entries; why = why; fails = fails; step = refl; left = refl })
   step_doing p mid todo next s (step.prints_fault why whole k went) all = absurd all.0
 
   -- after a fault
@@ -201,10 +201,10 @@ module _ {A C K : Type 0} (R : Rules A C K) (own : (a : A) (w : World) (n : ℕ)
   at_fault : (p q : RunPlace A C K) (a : DiskView) (why : RunFault) (left : List Item) (steps : List RunStep) → IsTrueFault why a p.disk → Run R p (print_fault why ∷ []) steps left q → IsTrueLeft left a q.disk
   at_fault p q a why left [] t r = subst (λ (l : List Item). IsTrueLeft l a q.disk) (sym r.0) tt
   at_fault p q a why left (s ∷ steps) t (next, mid, step.prints_fault w whole k tries, more) = at_halt mid q a why left steps t more
-  at_fault p q a why left (s ∷ steps) t (next, mid, step.breaks i beats w x rest fails, more) = absurd (elim fails [ ])
+  at_fault p q a why left (s ∷ steps) t (next, mid, step.breaks i entries w x rest fails, more) = absurd (elim fails [ ])
 
-  behind_fault : (p q : RunPlace A C K) (a : DiskView) (why : RunFault) (next left : List Item) (steps : List RunStep) → next ≡ after_fault why → IsTrueFault why a p.disk → Run R p next steps left q → IsTrueLeft left a q.disk
-  behind_fault p q a why next left steps is t r = by (after_is why)
+  following_fault : (p q : RunPlace A C K) (a : DiskView) (why : RunFault) (next left : List Item) (steps : List RunStep) → next ≡ after_fault why → IsTrueFault why a p.disk → Run R p next steps left q → IsTrueLeft left a q.disk
+  following_fault p q a why next left steps is t r = by (after_is why)
     where
       by : ((after_fault why ≡ halt why ∷ []) ⊎ (after_fault why ≡ print_fault why ∷ [])) → IsTrueLeft left a q.disk
       by (inl e) = at_halt p q a why left steps t (subst (λ (l : List Item). Run R p l steps left q) (is ∙ e) r)
@@ -215,9 +215,9 @@ module _ {A C K : Type 0} (R : Rules A C K) (own : (a : A) (w : World) (n : ℕ)
   left_true p q todo left (s ∷ steps) all (next, mid, goes, more) = by (λ on. left_true mid q next left steps on more) (step_course R p mid todo next s goes) (step_doing p mid todo next s goes all)
     where
       broke : Broke R p s next mid → IsTrueLeft left p.disk q.disk
-      broke b = behind_fault mid q p.disk b.why next left steps b.left (fails_true p mid b.item b.beats b.why b.fails) more
+      broke b = following_fault mid q p.disk b.why next left steps b.left (fails_true p mid b.item b.entries b.why b.fails) more
 
-      by : (AreDoing next → IsTrueLeft left mid.disk q.disk) → (Course p.world p.disk (beats_of s) mid.world mid.disk ⊎ Broke R p s next mid) → (AreDoing next ⊎ Broke R p s next mid) → IsTrueLeft left p.disk q.disk
+      by : (AreDoing next → IsTrueLeft left mid.disk q.disk) → (Course p.world p.disk (entries_of s) mid.world mid.disk ⊎ Broke R p s next mid) → (AreDoing next ⊎ Broke R p s next mid) → IsTrueLeft left p.disk q.disk
       by on (inl c) (inl doing) = left_since left p.disk mid.disk q.disk c.same (on doing)
       by on (inl c) (inr b) = broke b
       by on (inr b) doing = broke b

@@ -59,9 +59,9 @@ module _ {A C K : Type 0} (R : Rules A C K) (n : ℕ) (rest : List Item) (w : Wo
       subst (λ (y : C). DidSteps R there (take_whole first events ∷ rest) (left_by_answer left) (Err (fault.Host hosts.Disk)) (n, parts g y k a)) (sym same)
       (did_break R there (take_whole first events) rest [] left (fault.Host hosts.Disk) w (n, parts g c k a)
       (untaken_whole first events [] (fault.Host hosts.Disk) (record there { disk = g.store.disk }) (lost (Some first) events g l)) (lost_there events h.store.disk l))
-  failed_whole left d g (at_gate.Host f) (beats, e, v, disk, up_to, gone) =
-      did_break R there (take_whole first events) rest beats left (fault.Host f) v (n, parts g d k a)
-      (untaken_whole first events beats (fault.Host f) (record there { world = v; sources = d; disk = g.store.disk }) (broken (Some first) events beats e f v d disk g up_to gone)) (stopped disk e f gone)
+  failed_whole left d g (at_gate.Host f) (entries, e, v, disk, up_to, gone) =
+      did_break R there (take_whole first events) rest entries left (fault.Host f) v (n, parts g d k a)
+      (untaken_whole first events entries (fault.Host f) (record there { world = v; sources = d; disk = g.store.disk }) (broken (Some first) events entries e f v d disk g up_to gone)) (stopped disk e f gone)
 
 module _ {A C K : Type 0} (R : Rules A C K) (n : ℕ) (rest : List Item) (w : World) (h : HostView) (stands : IsHost h w) (c : C) (k : K) (a : A) where
   -- the number of the refused line can't be counted
@@ -74,7 +74,7 @@ module _ {A C K : Type 0} (R : Rules A C K) (n : ℕ) (rest : List Item) (w : Wo
 pub of_group : {C : Type 0} (R : Relation C) (s : At C) (events : List Event) (h : HostView) (d : C) (gave : GaveWhole) → RanWhole R s events h d gave → length events ≤ most_together → IsOfGroup gave
 of_group R s events h d (Taken gave) (r, accepted) few = let same = as_many s.world events gave.outcomes.items r.run.middle r.run.kept.runs in omega (arith, same, few)
 of_group R s events h d (Refused count last) r few =
-    let told = as_many s.world r.at.done (r.before ++ last ∷ []) r.at.leads r.at.runs in
+    let reported = as_many s.world r.at.done (r.before ++ last ∷ []) r.at.leads r.at.runs in
     let one = length-append r.before (last ∷ []) in
     let all = ap length r.at.split ∙ length-append r.at.done r.at.rest in
-    omega (arith, told, one, all, few, r.many)
+    omega (arith, reported, one, all, few, r.many)

@@ -6,7 +6,7 @@ use Rattle.host_events.specs.declared.event.ChildEvent.TheVariants as child
 use Rattle.host_events.specs.declared.outcome.Outcome.{Outcome}
 use Rattle.host_events.specs.declared.reply.Reply.{Reply}
 use Rattle.child_calls.specs.declared.seat.Seat.{Seat}
-use Rattle.child_edge.specs.Faithful.{Beat}
+use Rattle.child_edge.specs.Faithful.{Entry}
 use Rattle.child_edge.specs.Together.{Followed, trace_of}
 use Rattle.child_edge.specs.declared.interrupting.Interrupted.{Interrupted}
 use Rattle.arrivals.specs.Watching.{Asked, asked}
@@ -57,13 +57,13 @@ pub data RunStep : Type 0 where
   took : List Event → List Outcome → List Followed → RunStep
   -- one of these commands was refused, so none was taken
   refused_whole : List Event → Outcome → RunStep
-  rewrote : Beat → RunStep
+  rewrote : Entry → RunStep
   stalled : List Seat → RunStep
   interrupted : List ℕ → Interrupted → RunStep
   printed : Report → RunStep
   heeded : TurnCame → Option Note → RunStep
   -- the item at the head failed, after these events were taken
-  broke : List Beat → RunFault → RunStep
+  broke : List Entry → RunFault → RunStep
   -- the fault was printed last of all, or that was tried
   printed_fault : RunFault → Bool → RunStep
 
@@ -113,16 +113,16 @@ abbrev pub stalls : Seat → Event
 stalls seat = Child seat.name seat.life child.Stalled
 
 -- the entries of the trace
-abbrev pub beats_of : RunStep → List Beat
-beats_of (chose t) = []
-beats_of (watched q w) = []
-beats_of (heard events) = []
-beats_of (took events outcomes followed) = trace_of events outcomes followed
-beats_of (refused_whole events o) = []
-beats_of (rewrote b) = b ∷ []
-beats_of (stalled seats) = []
-beats_of (interrupted name result) = []
-beats_of (printed s) = []
-beats_of (heeded c n) = []
-beats_of (broke beats why) = beats
-beats_of (printed_fault why whole) = []
+abbrev pub entries_of : RunStep → List Entry
+entries_of (chose t) = []
+entries_of (watched q w) = []
+entries_of (heard events) = []
+entries_of (took events outcomes followed) = trace_of events outcomes followed
+entries_of (refused_whole events o) = []
+entries_of (rewrote b) = b ∷ []
+entries_of (stalled seats) = []
+entries_of (interrupted name result) = []
+entries_of (printed s) = []
+entries_of (heeded c n) = []
+entries_of (broke entries why) = entries
+entries_of (printed_fault why whole) = []

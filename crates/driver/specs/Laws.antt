@@ -4,7 +4,7 @@ use Rattle.std.specs.List.{flat_map}
 use Rattle.disk_model.specs.Disk.{DiskView}
 use Rattle.host_events.specs.declared.event.Event.{Event}
 use Rattle.session_engine.specs.Does.{Runs}
-use Rattle.child_edge.specs.Faithful.{Beat}
+use Rattle.child_edge.specs.Faithful.{Entry}
 use Rattle.child_edge.specs.Kept.{HoldsSheet}
 use Rattle.child_edge.specs.Edge.{Stopped}
 use Rattle.child_edge.specs.Together.{LostTogether}
@@ -15,15 +15,15 @@ use Rattle.session_engine.specs.Host.{HostView}
 use Rattle.session_engine.specs.World.{World}
 use Rattle.offline_programs.specs.declared.fault.RunFault.{RunFault}
 use Rattle.driver.specs.Reports.{Report, printed_text}
-use Rattle.driver.specs.Items.{Item, RunStep, beats_of, printed}
+use Rattle.driver.specs.Items.{Item, RunStep, entries_of, printed}
 use Rattle.driver.specs.Place.{RunPlace, Rules, Tries}
 use Rattle.driver.specs.Steps.{Run}
 use Rattle.driver.specs.Over.{Over, ProgramParts}
 use Rattle.driver.specs.TrueFaults.{IsTrueFault, IsTrueOf}
 
 -- the entries of the trace of a run
-abbrev pub trace : List RunStep → List Beat
-trace steps = flat_map beats_of steps
+abbrev pub trace : List RunStep → List Entry
+trace steps = flat_map entries_of steps
 
 -- The first steps of a run are a run, and the others another from where those led.
 pub record CutAt {A C K : Type 0} (R : Rules A C K) (p : RunPlace A C K) (todo : List Item) (first last : List RunStep) (left : List Item) (q : RunPlace A C K) : Type 0 where
@@ -52,12 +52,12 @@ RepliesFollowSyncs {A = A} {C = C} {K = K} R = (p q : RunPlace A C K) (todo left
 -- What a run left of the disk at every moment, from its first place to its last: each image was one of the worksheet after some of the first events of
 -- its trace. Where it broke off at an event, that had this fault; where the disk failed at a gate, an image may be one of the worksheet after events
 -- of which nothing was printed.
-pub data LeavesFrontsOf {A C K : Type 0} (p : RunPlace A C K) (beats : List Beat) (q : RunPlace A C K) : Type 0 where
-  all_printed : LeavesFronts p.world beats p.disk q.disk → LeavesFrontsOf p beats q
+pub data LeavesFrontsOf {A C K : Type 0} (p : RunPlace A C K) (entries : List Entry) (q : RunPlace A C K) : Type 0 where
+  all_printed : LeavesFronts p.world entries p.disk q.disk → LeavesFrontsOf p entries q
   broke_at : (d : DiskView) (h : HostView) (e : Event) (f : HostFault) → Stopped d h q.world e f → q.disk ≡ h.store.disk
-      → LeavesFrontsUpTo p.world beats e f p.disk q.disk → LeavesFrontsOf p beats q
+      → LeavesFrontsUpTo p.world entries e f p.disk q.disk → LeavesFrontsOf p entries q
   lost_at : (events : List Event) (d : DiskView) (h : HostView) (l : LostTogether q.world events d h) → q.disk ≡ h.store.disk
-      → Moments p.world (events_of beats ++ l.taken) (outcomes_of beats ++ l.untold) p.disk q.disk → LeavesFrontsOf p beats q
+      → Moments p.world (events_of entries ++ l.taken) (outcomes_of entries ++ l.withheld) p.disk q.disk → LeavesFrontsOf p entries q
 
 abbrev pub RunsLeaveFronts : {A C K : Type 0} → Rules A C K → Type 0
 RunsLeaveFronts {A = A} {C = C} {K = K} R = (p q : RunPlace A C K) (todo left : List Item) (steps : List RunStep)

@@ -4,7 +4,7 @@ use Rattle.std.specs.List.{flat_map}
 use Rattle.host_events.specs.declared.outcome.Outcome.{Outcome}
 use Rattle.host_events.specs.declared.reply.Reply.{Reply}
 use Rattle.session_engine.specs.World.{World, sheet_in}
-use Rattle.child_edge.specs.Told.{spoken}
+use Rattle.child_edge.specs.Reported.{spoken}
 use Rattle.child_edge.specs.declared.interrupting.Interrupted.{Interrupted}
 use Rattle.tellings.specs.Voice.{Voice, lives_text, numbered_text}
 use Rattle.driver.specs.declared.report.Show.{Show}

@@ -16,18 +16,18 @@ use Rattle.session_engine.specs.Joining.{JoinsAfter, ToBeTaken, asking}
 use Rattle.session_engine.specs.Whole.{RefusedAt}
 use Rattle.child_calls.specs.declared.seat.Seat.{Seat}
 use Rattle.child_edge.specs.Edge.{Stopped}
-use Rattle.child_edge.specs.Faithful.{Beat, at}
+use Rattle.child_edge.specs.Faithful.{Entry, at}
 use Rattle.child_edge.specs.Interrupts.{Interrupts}
 use Rattle.child_edge.specs.Kept.{Kept}
 use Rattle.child_edge.specs.Seats.{waits}
-use Rattle.child_edge.specs.Together.{Followed, LostTogether, Together, TogetherUpTo, beats_behind}
-use Rattle.child_edge.specs.Told.{told}
+use Rattle.child_edge.specs.Together.{Followed, LostTogether, Together, TogetherUpTo, entries_after}
+use Rattle.child_edge.specs.Reported.{reported}
 use Rattle.child_edge.specs.declared.together.TogetherFault.{TogetherFault}
 use Rattle.child_edge.specs.declared.together.TogetherFault.TheVariants as at_gate
 use Rattle.child_edge.specs.declared.interrupting.Interrupted.{Interrupted}
 use Rattle.arrivals.specs.Watching.{Asked}
 use Rattle.arrivals.specs.declared.sources.Woken.{Woken}
-use Rattle.tellings.specs.Voice.{IsUntold}
+use Rattle.tellings.specs.Voice.{IsWithheld}
 use Rattle.tellings.specs.declared.note.Note.{Note}
 use Rattle.offline_programs.specs.declared.fault.RunFault.{RunFault}
 use Rattle.offline_programs.specs.declared.fault.RunFault.TheVariants as fault
@@ -48,7 +48,7 @@ fault_at_gate at_gate.Lost = fault.Host hosts.Disk
 fault_at_gate (at_gate.Host f) = fault.Host f
 
 -- The first item fails with this fault, after the events of these entries were taken, and leaves the run there.
-pub data Fails {A C K : Type 0} (R : Rules A C K) (p : RunPlace A C K) : Item → List Beat → RunFault → RunPlace A C K → Type 0 where
+pub data Fails {A C K : Type 0} (R : Rules A C K) (p : RunPlace A C K) : Item → List Entry → RunFault → RunPlace A C K → Type 0 where
   -- the agenda can't say what is next
   unsaid : (now : ℕ) (why : RunFault) (a : A) → R.sources.clock p.sources now → R.agenda.says p.agenda p.world now (Err why) a
       → Fails R p ask [] why (record p { asked = p.asked + 1; agenda = a })
@@ -67,20 +67,20 @@ pub data Fails {A C K : Type 0} (R : Rules A C K) (p : RunPlace A C K) : Item �
   lost : (from : Option ℕ) (events : List Event) (h : HostView) → LostTogether p.world events p.disk h
       → Fails R p (take from events) [] (fault.Host hosts.Disk) (record p { disk = h.store.disk })
   -- the host had this fault at one of the events, or at one that followed
-  broken : (from : Option ℕ) (events : List Event) (beats : List Beat) (e : Event) (f : HostFault) (w : World) (c : C) (d : DiskView) (h : HostView)
-      → TogetherUpTo R.sources.after (run_at p) events beats e (at w c d) → Stopped d h w e f
-      → Fails R p (take from events) beats (fault.Host f) (record p { world = w; sources = c; disk = h.store.disk })
+  broken : (from : Option ℕ) (events : List Event) (entries : List Entry) (e : Event) (f : HostFault) (w : World) (c : C) (d : DiskView) (h : HostView)
+      → TogetherUpTo R.sources.after (run_at p) events entries e (at w c d) → Stopped d h w e f
+      → Fails R p (take from events) entries (fault.Host f) (record p { world = w; sources = c; disk = h.store.disk })
   -- The same of events of lives and those that join them. There are too many, or there was no memory: none was taken, and the agenda wasn't asked.
   too_many_heard : (events : List Event) → most_together < length events → Fails R p (join events) [] fault.InputTooLong p
   unjoined : (events : List Event) → Fails R p (join events) [] fault.OutOfMemory p
   lost_joined : (events all : List Event) (a : A) (h : HostView) → ToBeTaken (asking R.agenda.joins p.agenda a) p.world events all → LostTogether p.world all p.disk h
       → Fails R p (join events) [] (fault.Host hosts.Disk) (record p { agenda = a; disk = h.store.disk })
-  broken_joined : (events all : List Event) (a : A) (beats : List Beat) (e : Event) (f : HostFault) (w : World) (c : C) (d : DiskView) (h : HostView)
-      → ToBeTaken (asking R.agenda.joins p.agenda a) p.world events all → TogetherUpTo R.sources.after (run_at p) all beats e (at w c d) → Stopped d h w e f
-      → Fails R p (join events) beats (fault.Host f) (record p { agenda = a; world = w; sources = c; disk = h.store.disk })
+  broken_joined : (events all : List Event) (a : A) (entries : List Entry) (e : Event) (f : HostFault) (w : World) (c : C) (d : DiskView) (h : HostView)
+      → ToBeTaken (asking R.agenda.joins p.agenda a) p.world events all → TogetherUpTo R.sources.after (run_at p) all entries e (at w c d) → Stopped d h w e f
+      → Fails R p (join events) entries (fault.Host f) (record p { agenda = a; world = w; sources = c; disk = h.store.disk })
   -- commands that are taken all or not at all fail as a group of lines does
-  untaken_whole : (first : ℕ) (events : List Event) (beats : List Beat) (why : RunFault) (q : RunPlace A C K) → Fails R p (take (Some first) events) beats why q
-      → Fails R p (take_whole first events) beats why q
+  untaken_whole : (first : ℕ) (events : List Event) (entries : List Entry) (why : RunFault) (q : RunPlace A C K) → Fails R p (take (Some first) events) entries why q
+      → Fails R p (take_whole first events) entries why q
   -- the host had this fault at the checkpoint
   unwritten : (line : ℕ) (f : HostFault) (h : HostView) → Stopped p.disk h p.world (event.Command command.Checkpoint) f
       → Fails R p (rewrite line) [] (fault.Host f) (record p { disk = h.store.disk })
@@ -90,7 +90,7 @@ pub data Fails {A C K : Type 0} (R : Rules A C K) (p : RunPlace A C K) : Item �
   -- the number of a line can't be counted: nothing is printed of it
   uncounted_line : (first : ℕ) (outcomes : List Outcome) → 2 ^ 64 ≤ first + most_together + 1 → Fails R p (print (lines first outcomes)) [] fault.InputTooLong p
   -- the sink failed, or there was no memory for the text
-  unprinted : (s : Report) (why : RunFault) (k : K) → IsUntold R.sink.voice why → Tries R.sink p.sink p.disk (printed_text R.sink.voice p.world s) false k
+  unprinted : (s : Report) (why : RunFault) (k : K) → IsWithheld R.sink.voice why → Tries R.sink p.sink p.disk (printed_text R.sink.voice p.world s) false k
       → Fails R p (print s) [] why (record p { sink = k })
 
 -- One step.
@@ -104,17 +104,17 @@ pub data Goes {A C K : Type 0} (R : Rules A C K) (p : RunPlace A C K) : List Ite
   -- All that the events give is durable before an effect of theirs is carried out, and before a word of it is printed.
   takes : (from : Option ℕ) (events : List Event) (outcomes : List Outcome) (followed : List Followed) (w : World) (c : C) (d : DiskView) (rest : List Item)
       → Together R.sources.after (run_at p) events outcomes followed (at w c d)
-      → Goes R p (take from events ∷ rest) (took events outcomes followed) (printing from outcomes (told (beats_behind followed)) ++ rest) (record p { world = w; sources = c; disk = d })
+      → Goes R p (take from events ∷ rest) (took events outcomes followed) (printing from outcomes (reported (entries_after followed)) ++ rest) (record p { world = w; sources = c; disk = d })
   -- The events of lives were taken, and then the agenda said what joins them. All that these and those give is durable before an effect of any of them is
   -- carried out, and before a word of it is printed.
   joins : (events : List Event) (outcomes : List Outcome) (first : Option ℕ) (more : List Event) (later : List Outcome) (followed : List Followed) (a : A) (w : World) (c : C) (d : DiskView) (rest : List Item)
       → JoinsAfter (asking R.agenda.joins p.agenda a) p.world events outcomes first more → Together R.sources.after (run_at p) (events ++ more) (outcomes ++ later) followed (at w c d)
-      → Goes R p (join events ∷ rest) (took (events ++ more) (outcomes ++ later) followed) (printing_joined first outcomes later (told (beats_behind followed)) rest)
+      → Goes R p (join events ∷ rest) (took (events ++ more) (outcomes ++ later) followed) (printing_joined first outcomes later (reported (entries_after followed)) rest)
       (record p { agenda = a; world = w; sources = c; disk = d })
   -- All commands of a whole group were accepted: they are taken as any group.
   takes_whole : (first : ℕ) (events : List Event) (outcomes : List Outcome) (followed : List Followed) (w : World) (c : C) (d : DiskView) (rest : List Item)
       → Together R.sources.after (run_at p) events outcomes followed (at w c d) → list_any is_refusal outcomes ≡ false
-      → Goes R p (take_whole first events ∷ rest) (took events outcomes followed) (printing (Some first) outcomes (told (beats_behind followed)) ++ rest) (record p { world = w; sources = c; disk = d })
+      → Goes R p (take_whole first events ∷ rest) (took events outcomes followed) (printing (Some first) outcomes (reported (entries_after followed)) ++ rest) (record p { world = w; sources = c; disk = d })
   -- One of them would be refused, after those before it: none is taken, and that refusal is printed, by the number of its line.
   refuses_whole : (first : ℕ) (events : List Event) (before : List Outcome) (last : Outcome) (rest : List Item)
       → RefusedAt p.world events before last
@@ -128,8 +128,8 @@ pub data Goes {A C K : Type 0} (R : Rules A C K) (p : RunPlace A C K) : List Ite
       → Goes R p (print s ∷ rest) (printed s) rest (record p { sink = k })
   heeds : (c : TurnCame) (now : ℕ) (n : Option Note) (a : A) (rest : List Item) → R.sources.clock p.sources now → R.agenda.heeds p.agenda p.world now c n a
       → Goes R p (heed c ∷ rest) (heeded c n) (notes n ++ rest) (record p { agenda = a })
-  breaks : (i : Item) (beats : List Beat) (why : RunFault) (q : RunPlace A C K) (rest : List Item) → Fails R p i beats why q
-      → Goes R p (i ∷ rest) (broke beats why) (after_fault why) q
+  breaks : (i : Item) (entries : List Entry) (why : RunFault) (q : RunPlace A C K) (rest : List Item) → Fails R p i entries why q
+      → Goes R p (i ∷ rest) (broke entries why) (after_fault why) q
   prints_fault : (why : RunFault) (whole : Bool) (k : K) → Tries R.sink p.sink p.disk (R.sink.voice.fault why) whole k
       → Goes R p (print_fault why ∷ []) (printed_fault why whole) (halt why ∷ []) (record p { sink = k })
 

@@ -15,7 +15,7 @@ pub trait Sink {
     ghost use Rattle.std.specs.Prelude.{◌+◌, ◌<◌, ◌^◌, IfErr, is_ok, length};
     ghost use Rattle.session_engine.specs.World.{World};
     ghost use Rattle.session_engine.specs.Host.{IsHost};
-    ghost use Rattle.tellings.specs.Voice.{IsUntold};
+    ghost use Rattle.tellings.specs.Voice.{IsWithheld};
     ghost use Rattle.driver.specs.Place.{SinkRules, Tries};
     ghost use Rattle.driver.specs.Reports.{printed_text};
     ghost use Rattle.driver.specs.Reports as report;
@@ -36,25 +36,25 @@ pub trait Sink {
         requires { first + length outcomes.now < 2 ^ 64 }
         ensures tries { (w : World) → IsHost host.now w
             → Tries rules self.old host.now.store.disk (printed_text rules.voice w (report.lines first outcomes.now)) (is_ok result) self.new }
-        ensures err { IfErr result (IsUntold rules.voice) };
+        ensures err { IfErr result (IsWithheld rules.voice) };
 
     /// Prints what lives gave that were taken as one group, and flushes nothing: `followed` comes next.
     fn lives<D: Disk>(&mut self, host: &Host<D>, outcomes: &[Outcome]) -> Result<(), RunFault>
         ensures tries { (w : World) → IsHost host.now w
             → Tries rules self.old host.now.store.disk (printed_text rules.voice w (report.lives outcomes.now)) (is_ok result) self.new }
-        ensures err { IfErr result (IsUntold rules.voice) };
+        ensures err { IfErr result (IsWithheld rules.voice) };
 
     /// Prints the replies to what followed effects.
     fn followed<D: Disk>(&mut self, host: &Host<D>, replies: &[Reply]) -> Result<(), RunFault>
         ensures tries { (w : World) → IsHost host.now w
             → Tries rules self.old host.now.store.disk (printed_text rules.voice w (report.followed replies.now)) (is_ok result) self.new }
-        ensures err { IfErr result (IsUntold rules.voice) };
+        ensures err { IfErr result (IsWithheld rules.voice) };
 
     /// Prints this.
     fn show<D: Disk>(&mut self, host: &Host<D>, show: Show) -> Result<(), RunFault>
         ensures tries { (w : World) → IsHost host.now w
             → Tries rules self.old host.now.store.disk (printed_text rules.voice w (report.shown show)) (is_ok result) self.new }
-        ensures err { IfErr result (IsUntold rules.voice) };
+        ensures err { IfErr result (IsWithheld rules.voice) };
 
     /// Prints a fault, last of all. Whether that went out.
     fn print_fault<D: Disk>(&mut self, host: &Host<D>, why: RunFault) -> bool

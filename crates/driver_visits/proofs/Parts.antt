@@ -13,13 +13,13 @@ use Rattle.disk_model.specs.inside.Moments.{weakens}
 use Rattle.session_engine.specs.Crash.{LeftAmong, Moments, MomentsBefore}
 use Rattle.session_engine.specs.Host.{HostView}
 use Rattle.child_edge.specs.Edge.{Stopped}
-use Rattle.child_edge.specs.Faithful.{Beat, at}
+use Rattle.child_edge.specs.Faithful.{Entry, at}
 use Rattle.child_edge.specs.Kept.{HoldsSheet}
 use Rattle.child_edge.specs.Moments.{events_of, outcomes_of}
 use Rattle.child_edge.specs.Together.{LostTogether}
 use Rattle.offline_programs.specs.declared.fault.RunFault.{RunFault}
 use Rattle.theorem.specs.Programs.{EndedAs, at_event, in_group, well}
-use Rattle.driver.specs.Items.{Item, RunStep, beats_of, take}
+use Rattle.driver.specs.Items.{Item, RunStep, entries_of, take}
 use Rattle.driver.specs.Place.{RunPlace, Rules, run_at}
 use Rattle.driver.specs.Steps.{Fails, Run, broken, broken_joined, lost, lost_joined, too_many, too_many_heard, uncounted, uncounted_line, unheard, unjoined, unnumbered, unprinted, unsaid, unstalled, untaken, untaken_whole, unwatched, unwritten}
 use Rattle.driver.specs.Laws.{trace}
@@ -30,13 +30,13 @@ use Rattle.driver.proofs.Order.{Broke, no_step, step_course}
 
 -- The entries led from this world and disk to those; then it ended so, at these events. At every moment each image is one of the worksheet after some of the
 -- first events.
-pub record Parted (w : World) (d : DiskView) (beats : List Beat) (back : DiskView) : Type 0 where
+pub record Parted (w : World) (d : DiskView) (entries : List Entry) (back : DiskView) : Type 0 where
   pub leads : World
   pub mid : DiskView
-  pub course : Course w d beats leads mid
+  pub course : Course w d entries leads mid
   pub events : List Event
   pub ended : EndedAs leads mid events back
-  pub moments : HoldsSheet w d → (outcomes : List Outcome) × Moments w (events_of beats ++ events) (outcomes_of beats ++ outcomes) d back
+  pub moments : HoldsSheet w d → (outcomes : List Outcome) × Moments w (events_of entries ++ events) (outcomes_of entries ++ outcomes) d back
 
 ended_well : (w : World) (d : DiskView) (back : DiskView) → back ≡ d → Parted w d [] back
 ended_well w d back is = record {
@@ -49,19 +49,19 @@ ended_well w d back is = record {
 }
 
 -- an event that had this fault, after these entries
-at_fault : (w : World) (d : DiskView) (beats : List Beat) (v : World) (mid : DiskView) (e : Event) (f : HostFault) (h : HostView) → Course w d beats v mid → Stopped mid h v e f → Parted w d beats h.store.disk
-at_fault w d beats v mid e f h course stopped = go f stopped (λ held. course_up_to w d beats v mid e f h held course stopped)
+at_fault : (w : World) (d : DiskView) (entries : List Entry) (v : World) (mid : DiskView) (e : Event) (f : HostFault) (h : HostView) → Course w d entries v mid → Stopped mid h v e f → Parted w d entries h.store.disk
+at_fault w d entries v mid e f h course stopped = go f stopped (λ held. course_up_to w d entries v mid e f h held course stopped)
   where
     ends : (x : HostFault) → Stopped mid h v e x → EndedAs v mid (e ∷ []) h.store.disk
     ends x s = at_event e x h.store.disk s.same s.cause
 
-    with : (x : HostFault) → Stopped mid h v e x → (HoldsSheet w d → (os : List Outcome) × Moments w (events_of beats ++ e ∷ []) (outcomes_of beats ++ os) d h.store.disk) → Parted w d beats h.store.disk
+    with : (x : HostFault) → Stopped mid h v e x → (HoldsSheet w d → (os : List Outcome) × Moments w (events_of entries ++ e ∷ []) (outcomes_of entries ++ os) d h.store.disk) → Parted w d entries h.store.disk
     with x s m = record { leads = v; mid = mid; course = course; events = e ∷ []; ended = ends x s; moments = m }
 
-    none : Moments w (events_of beats ++ e ∷ []) (outcomes_of beats) d h.store.disk → (os : List Outcome) × Moments w (events_of beats ++ e ∷ []) (outcomes_of beats ++ os) d h.store.disk
-    none m = ([], subst (λ (os : List Outcome). Moments w (events_of beats ++ e ∷ []) os d h.store.disk) (sym (append-nil (outcomes_of beats))) m)
+    none : Moments w (events_of entries ++ e ∷ []) (outcomes_of entries) d h.store.disk → (os : List Outcome) × Moments w (events_of entries ++ e ∷ []) (outcomes_of entries ++ os) d h.store.disk
+    none m = ([], subst (λ (os : List Outcome). Moments w (events_of entries ++ e ∷ []) os d h.store.disk) (sym (append-nil (outcomes_of entries))) m)
 
-    go : (x : HostFault) → Stopped mid h v e x → (HoldsSheet w d → MomentsBefore w (events_of beats ++ e ∷ []) (outcomes_of beats) x d h.store.disk) → Parted w d beats h.store.disk
+    go : (x : HostFault) → Stopped mid h v e x → (HoldsSheet w d → MomentsBefore w (events_of entries ++ e ∷ []) (outcomes_of entries) x d h.store.disk) → Parted w d entries h.store.disk
     go faults.Closed s m = absurd s.cause
     go faults.Disk s m = with faults.Disk s (λ held. let n = m held in (n.0 ∷ [], n.1))
     go faults.OutOfMemory s m = with faults.OutOfMemory s (λ held. none (m held))
@@ -73,36 +73,36 @@ at_loss w d events h l = record {
   mid = d;
   course = no_step w d;
   events = l.taken ++ l.dropped;
-  ended = in_group l.taken l.dropped l.untold l.leads h.store.disk l.runs l.same l.moments;
+  ended = in_group l.taken l.dropped l.withheld l.leads h.store.disk l.runs l.same l.moments;
   moments = λ held. (
-    l.untold ++ [],
-    λ model. weakens (LeftAmong w l.taken l.untold) (LeftAmong w (l.taken ++ l.dropped) (l.untold ++ [])) d.history h.store.disk.history
-        (λ i x. left_within w l.taken l.dropped l.untold [] i x) (either_moments w l.taken l.untold l.leads d h.store.disk l.runs l.moments model),
+    l.withheld ++ [],
+    λ model. weakens (LeftAmong w l.taken l.withheld) (LeftAmong w (l.taken ++ l.dropped) (l.withheld ++ [])) d.history h.store.disk.history
+        (λ i x. left_within w l.taken l.dropped l.withheld [] i x) (either_moments w l.taken l.withheld l.leads d h.store.disk l.runs l.moments model),
   );
 }
 
-fails_parted : {A C K : Type 0} (R : Rules A C K) (p q : RunPlace A C K) (i : Item) (beats : List Beat) (why : RunFault) → Fails R p i beats why q → Parted p.world p.disk beats q.disk
-fails_parted R p q i beats why (unsaid now w a clock says) = ended_well p.world p.disk q.disk refl
-fails_parted R p q i beats why (uncounted many) = ended_well p.world p.disk q.disk refl
-fails_parted R p q i beats why (unwatched x c wakes) = ended_well p.world p.disk q.disk refl
-fails_parted R p q i beats why (unheard seat most) = ended_well p.world p.disk q.disk refl
-fails_parted R p q i beats why (too_many from events many) = ended_well p.world p.disk q.disk refl
-fails_parted R p q i beats why (untaken from events) = ended_well p.world p.disk q.disk refl
-fails_parted R p q i beats why (lost from events h l) = at_loss p.world p.disk events h l
-fails_parted R p q i beats why (broken from events bs e f w c d h t stopped) = at_fault p.world p.disk beats w d e f h (up_to_course R.sources.after (run_at p) events beats e (at w c d) t) stopped
-fails_parted R p q i beats why (too_many_heard events many) = ended_well p.world p.disk q.disk refl
-fails_parted R p q i beats why (unjoined events) = ended_well p.world p.disk q.disk refl
-fails_parted R p q i beats why (lost_joined events all a h all_are l) = at_loss p.world p.disk all h l
-fails_parted R p q i beats why (broken_joined events all a bs e f w c d h all_are t stopped) = at_fault p.world p.disk beats w d e f h (up_to_course R.sources.after (run_at p) all beats e (at w c d) t) stopped
-fails_parted R p q i beats why (untaken_whole first events bs w x fails) = fails_parted R p q (take (Some first) events) beats why fails
-fails_parted R p q i beats why (unwritten line f h stopped) = at_fault p.world p.disk [] p.world p.disk (event.Command command.Checkpoint) f h (no_step p.world p.disk) stopped
-fails_parted R p q i beats why (unnumbered line many) = ended_well p.world p.disk q.disk refl
-fails_parted R p q i beats why unstalled = ended_well p.world p.disk q.disk refl
-fails_parted R p q i beats why (uncounted_line first outcomes many) = ended_well p.world p.disk q.disk refl
-fails_parted R p q i beats why (unprinted s w k is tries) = ended_well p.world p.disk q.disk refl
+fails_parted : {A C K : Type 0} (R : Rules A C K) (p q : RunPlace A C K) (i : Item) (entries : List Entry) (why : RunFault) → Fails R p i entries why q → Parted p.world p.disk entries q.disk
+fails_parted R p q i entries why (unsaid now w a clock says) = ended_well p.world p.disk q.disk refl
+fails_parted R p q i entries why (uncounted many) = ended_well p.world p.disk q.disk refl
+fails_parted R p q i entries why (unwatched x c wakes) = ended_well p.world p.disk q.disk refl
+fails_parted R p q i entries why (unheard seat most) = ended_well p.world p.disk q.disk refl
+fails_parted R p q i entries why (too_many from events many) = ended_well p.world p.disk q.disk refl
+fails_parted R p q i entries why (untaken from events) = ended_well p.world p.disk q.disk refl
+fails_parted R p q i entries why (lost from events h l) = at_loss p.world p.disk events h l
+fails_parted R p q i entries why (broken from events bs e f w c d h t stopped) = at_fault p.world p.disk entries w d e f h (up_to_course R.sources.after (run_at p) events entries e (at w c d) t) stopped
+fails_parted R p q i entries why (too_many_heard events many) = ended_well p.world p.disk q.disk refl
+fails_parted R p q i entries why (unjoined events) = ended_well p.world p.disk q.disk refl
+fails_parted R p q i entries why (lost_joined events all a h all_are l) = at_loss p.world p.disk all h l
+fails_parted R p q i entries why (broken_joined events all a bs e f w c d h all_are t stopped) = at_fault p.world p.disk entries w d e f h (up_to_course R.sources.after (run_at p) all entries e (at w c d) t) stopped
+fails_parted R p q i entries why (untaken_whole first events bs w x fails) = fails_parted R p q (take (Some first) events) entries why fails
+fails_parted R p q i entries why (unwritten line f h stopped) = at_fault p.world p.disk [] p.world p.disk (event.Command command.Checkpoint) f h (no_step p.world p.disk) stopped
+fails_parted R p q i entries why (unnumbered line many) = ended_well p.world p.disk q.disk refl
+fails_parted R p q i entries why unstalled = ended_well p.world p.disk q.disk refl
+fails_parted R p q i entries why (uncounted_line first outcomes many) = ended_well p.world p.disk q.disk refl
+fails_parted R p q i entries why (unprinted s w k is tries) = ended_well p.world p.disk q.disk refl
 
 -- a course, and then more
-abbrev pub parted_after : (w : World) (d : DiskView) (bs : List Beat) (m : World) (e : DiskView) (cs : List Beat) (back : DiskView) → Course w d bs m e → Parted m e cs back → Parted w d (bs ++ cs) back
+abbrev pub parted_after : (w : World) (d : DiskView) (bs : List Entry) (m : World) (e : DiskView) (cs : List Entry) (back : DiskView) → Course w d bs m e → Parted m e cs back → Parted w d (bs ++ cs) back
 parted_after w d bs m e cs back course it = record {
   leads = it.leads;
   mid = it.mid;
@@ -116,20 +116,20 @@ pub parted : {A C K : Type 0} (R : Rules A C K) (p q : RunPlace A C K) (todo lef
 parted R p q todo left [] r = ended_well p.world p.disk q.disk (ap (λ (x : RunPlace _ _ _). x.disk) r.1)
 parted R p q todo left (s ∷ steps) (next, mid, goes, more) = by (parted R mid q next left steps more) (step_course R p mid todo next s goes)
   where
-    by : Parted mid.world mid.disk (trace steps) q.disk → (Course p.world p.disk (beats_of s) mid.world mid.disk ⊎ Broke R p s next mid) → Parted p.world p.disk (trace (s ∷ steps)) q.disk
-    by on (inl c) = parted_after p.world p.disk (beats_of s) mid.world mid.disk (trace steps) q.disk c on
+    by : Parted mid.world mid.disk (trace steps) q.disk → (Course p.world p.disk (entries_of s) mid.world mid.disk ⊎ Broke R p s next mid) → Parted p.world p.disk (trace (s ∷ steps)) q.disk
+    by on (inl c) = parted_after p.world p.disk (entries_of s) mid.world mid.disk (trace steps) q.disk c on
     by on (inr b) =
         let so = fault_stays R mid q b.why next left steps b.left more in
-        subst (λ (l : List Beat). Parted p.world p.disk l q.disk) (sym (append-nil b.beats) ∙ ap (λ (l : List Beat). b.beats ++ l) (sym so.none) ∙ ap (λ (x : RunStep). beats_of x ++ trace steps) (sym b.step))
-        (subst (λ (x : DiskView). Parted p.world p.disk b.beats x) (sym so.disk) (fails_parted R p mid b.item b.beats b.why b.fails))
+        subst (λ (l : List Entry). Parted p.world p.disk l q.disk) (sym (append-nil b.entries) ∙ ap (λ (l : List Entry). b.entries ++ l) (sym so.none) ∙ ap (λ (x : RunStep). entries_of x ++ trace steps) (sym b.step))
+        (subst (λ (x : DiskView). Parted p.world p.disk b.entries x) (sym so.disk) (fails_parted R p mid b.item b.entries b.why b.fails))
 
 -- of entries that are the same
-abbrev pub parted_as : (w : World) (d : DiskView) (bs cs : List Beat) (back : DiskView) → bs ≡ cs → Parted w d cs back → Parted w d bs back
+abbrev pub parted_as : (w : World) (d : DiskView) (bs cs : List Entry) (back : DiskView) → bs ≡ cs → Parted w d cs back → Parted w d bs back
 parted_as w d bs cs back same it = record {
   leads = it.leads;
   mid = it.mid;
-  course = subst (λ (l : List Beat). Course w d l it.leads it.mid) (sym same) it.course;
+  course = subst (λ (l : List Entry). Course w d l it.leads it.mid) (sym same) it.course;
   events = it.events;
   ended = it.ended;
-  moments = subst (λ (l : List Beat). HoldsSheet w d → (outcomes : List Outcome) × Moments w (events_of l ++ it.events) (outcomes_of l ++ outcomes) d back) (sym same) it.moments;
+  moments = subst (λ (l : List Entry). HoldsSheet w d → (outcomes : List Outcome) × Moments w (events_of l ++ it.events) (outcomes_of l ++ outcomes) d back) (sym same) it.moments;
 }

@@ -9,12 +9,12 @@ use Rattle.host_events.specs.declared.outcome.Outcome.{Outcome}
 use Rattle.session_engine.specs.World.{World, world_at_opening}
 use Rattle.session_engine.specs.Does.{Runs}
 use Rattle.session_engine.specs.Crash.{LeftAmong}
-use Rattle.child_edge.specs.Faithful.{Beat}
+use Rattle.child_edge.specs.Faithful.{Entry}
 use Rattle.child_edge.specs.Moments.{events_of, outcomes_of}
 use Rattle.offline_programs.specs.declared.fault.RunFault.{RunFault}
-use Rattle.theorem.specs.Programs.{HasTold, Visit}
+use Rattle.theorem.specs.Programs.{HasReported, Visit}
 use Rattle.driver.specs.Reports.{Report}
-use Rattle.driver.specs.Items.{RunStep, ask, beats_of, printed}
+use Rattle.driver.specs.Items.{RunStep, ask, entries_of, printed}
 use Rattle.driver.specs.Place.{RunPlace, Rules}
 use Rattle.driver.specs.Steps.{Run}
 use Rattle.driver.specs.Laws.{trace}
@@ -60,13 +60,13 @@ module _ {A C K : Type 0} (R : Rules A C K) (first last : ProgramParts A C K) (a
       record { unreported = p.events; visit = visit_by p }
 
   -- an image after events of the steps before, and some of those that came then
-  has_all : (bs cs : List Beat) (v : World) (es : List Event) (os : List Outcome) (i : Image) → Runs start (events_of bs) (outcomes_of bs) v → LeftAmong v (events_of cs ++ es) os i
-      → HasTold start (events_of (bs ++ cs) ++ es) (outcomes_of bs) i
+  has_all : (bs cs : List Entry) (v : World) (es : List Event) (os : List Outcome) (i : Image) → Runs start (events_of bs) (outcomes_of bs) v → LeftAmong v (events_of cs ++ es) os i
+      → HasReported start (events_of (bs ++ cs) ++ es) (outcomes_of bs) i
   has_all bs cs v es os i runs l = record {
     taken = events_of bs ++ l.done;
     lost = l.more;
     split = ap (λ (x : List Event). x ++ es) (events_append bs cs) ∙ append_assoc (events_of bs) (events_of cs) es ∙ ap (λ (x : List Event). events_of bs ++ x) l.split ∙ sym (append_assoc (events_of bs) l.done l.more);
-    untold = l.outcomes;
+    withheld = l.outcomes;
     leads = l.leads;
     runs = runs_on start (events_of bs) (outcomes_of bs) v l.done l.outcomes l.leads runs l.runs;
     image = l.image;
@@ -78,7 +78,7 @@ module _ {A C K : Type 0} (R : Rules A C K) (first last : ProgramParts A C K) (a
       (subst (λ (x : List RunStep). Run R (first_place first it.opened) (ask ∷ []) x (left_at_end answer) at_end) is it.ran) in
       let there = so.there in
       let tail = parted R (record there { sink = so.sink }) at_end so.then_to_do (left_at_end answer) after so.goes_on in
-      let same : trace it.steps ≡ trace before ++ trace after = ap trace is ∙ flat_map-append beats_of before (printed r ∷ after) in
+      let same : trace it.steps ≡ trace before ++ trace after = ap trace is ∙ flat_map-append entries_of before (printed r ∷ after) in
       let m = tail.moments (so.course.holds it.opened.holds) in
       let kept : IsTrue there.disk.keeps_model = subst IsTrue (sym so.course.same.keeps_model) (subst IsTrue (sym it.opened.same.keeps_model) model) in record {
         unreported = tail.events;
@@ -87,7 +87,7 @@ module _ {A C K : Type 0} (R : Rules A C K) (first last : ProgramParts A C K) (a
         there = there;
         sink = so.sink;
         tries = so.tries;
-        since = subst (λ (l : List Beat). LeavesOnly (HasTold start (events_of l ++ tail.events) (outcomes_of (trace before))) there.disk.history last.disk.history) (sym same)
-            (weakens (LeftAmong there.world (events_of (trace after) ++ tail.events) (outcomes_of (trace after) ++ m.0)) (HasTold start (events_of (trace before ++ trace after) ++ tail.events) (outcomes_of (trace before)))
+        since = subst (λ (l : List Entry). LeavesOnly (HasReported start (events_of l ++ tail.events) (outcomes_of (trace before))) there.disk.history last.disk.history) (sym same)
+            (weakens (LeftAmong there.world (events_of (trace after) ++ tail.events) (outcomes_of (trace after) ++ m.0)) (HasReported start (events_of (trace before ++ trace after) ++ tail.events) (outcomes_of (trace before)))
             there.disk.history last.disk.history (λ i l. has_all (trace before) (trace after) there.world tail.events (outcomes_of (trace after) ++ m.0) i so.course.runs l) (m.1 kept));
       }

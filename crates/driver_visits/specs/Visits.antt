@@ -6,7 +6,7 @@ use Rattle.host_events.specs.declared.event.Event.{Event}
 use Rattle.session_engine.specs.World.{world_at_opening}
 use Rattle.host_laws.specs.Turns.{HostTurn}
 use Rattle.child_edge.specs.Moments.{events_of, outcomes_of}
-use Rattle.theorem.specs.Programs.{HasTold, Visit}
+use Rattle.theorem.specs.Programs.{HasReported, Visit}
 use Rattle.offline_programs.specs.declared.fault.RunFault.{RunFault}
 use Rattle.driver.specs.Reports.{Report, printed_text}
 use Rattle.driver.specs.Items.{RunStep, printed}
@@ -16,7 +16,7 @@ use Rattle.driver.specs.Over.{ProgramParts, RanOver}
 
 -- the events of a run's trace, and these, of which nothing was reported
 abbrev pub turn_of : List RunStep → List Event → HostTurn
-turn_of steps unreported = record { events = events_of (trace steps) ++ unreported; told = outcomes_of (trace steps) }
+turn_of steps unreported = record { events = events_of (trace steps) ++ unreported; reported = outcomes_of (trace steps) }
 
 -- It is a visit: at its end all that is in its trace is durable, and of these last events nothing was reported.
 pub record EndsAsVisit {A C K : Type 0} (R : Rules A C K) (first last : ProgramParts A C K) (answer : Result (Unit {0}) RunFault) (it : RanOver R first last answer) : Type 0 where
@@ -35,7 +35,7 @@ pub record DurableAt {A C K : Type 0} (R : Rules A C K) (first last : ProgramPar
   pub there : RunPlace A C K
   pub sink : K
   pub tries : Tries R.sink there.sink there.disk (printed_text R.sink.voice there.world r) true sink
-  pub since : LeavesOnly (HasTold (world_at_opening visit.ops first.disk.room visit.end) (events_of (trace it.steps) ++ unreported) (outcomes_of (trace before))) there.disk.history last.disk.history
+  pub since : LeavesOnly (HasReported (world_at_opening visit.ops first.disk.room visit.end) (events_of (trace it.steps) ++ unreported) (outcomes_of (trace before))) there.disk.history last.disk.history
 
 abbrev pub PrintedIsDurable : {A C K : Type 0} → Rules A C K → Type 0
 PrintedIsDurable {A = A} {C = C} {K = K} R = (first last : ProgramParts A C K) (answer : Result (Unit {0}) RunFault) (it : RanOver R first last answer) (before after : List RunStep) (r : Report)

@@ -228,8 +228,8 @@ head-at : (p : Placed) (ps : List Placed) (n : ℕ) → AreFrom p.round ps → p
 head-at p ps n from h (inl e) less =
     let others = filter (λ (q : Placed). q.round == n) ps in
     let before : in_rounds (p ∷ ps) n ≡ [] = later-round p ps n (omega (arith, e.1)) ∙ none-before ps p.round n (omega (arith, e.1)) from in
-    let behind : in_rounds ps n ≡ [] = none-before ps p.round n (omega (arith, e.1)) from in
-    ap (λ (b : Bool). in_rounds (p ∷ ps) n ++ map (λ (q : Placed). q.id) (cond b (p ∷ others) others)) e.0 ∙ ap (λ (x : List ℕ). x ++ p.id ∷ in_round ps n) before ∙ ap (λ (x : List ℕ). p.id ∷ (x ++ in_round ps n)) (sym behind)
+    let following : in_rounds ps n ≡ [] = none-before ps p.round n (omega (arith, e.1)) from in
+    ap (λ (b : Bool). in_rounds (p ∷ ps) n ++ map (λ (q : Placed). q.id) (cond b (p ∷ others) others)) e.0 ∙ ap (λ (x : List ℕ). x ++ p.id ∷ in_round ps n) before ∙ ap (λ (x : List ℕ). p.id ∷ (x ++ in_round ps n)) (sym following)
 head-at p ps n from h (inr e) less =
     let others = filter (λ (q : Placed). q.round == n) ps in
     ap (λ (b : Bool). in_rounds (p ∷ ps) n ++ map (λ (q : Placed). q.id) (cond b (p ∷ others) others)) e.0 ∙ ap (λ (x : List ℕ). x ++ in_round ps n) (less (omega (arith, h, e.1)))

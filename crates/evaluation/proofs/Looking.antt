@@ -16,7 +16,7 @@ module _ (finds : Finds) (fields : List Field) (ids : List ℕ) (all rest : List
 
   pub looked_next : (session : Session) (more : List Session) → rest ≡ session ∷ more → HasItsProgram finds fields ids session → Looked finds fields ids all rest → Looked finds fields ids all more
   looked_next session more e is so = record {
-    lacking = λ name h. so.lacking name (subst (λ ss. IsFirstLacking finds fields ids ss name) (sym e) (needs.behind session more name is h));
+    lacking = λ name h. so.lacking name (subst (λ ss. IsFirstLacking finds fields ids ss name) (sym e) (needs.following session more name is h));
     ready = λ h. so.ready (subst (HaveAll finds fields ids) (sym e) (is, h));
   }
 

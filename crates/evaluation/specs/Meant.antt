@@ -65,9 +65,9 @@ is_lost fields None = false
 is_lost fields (Some id) = is_unanswered fields id
 
 -- the field that was asked last of this one's session shows no answer
-abbrev pub is_behind_lost : List Field → List Last → Option Field → Bool
-is_behind_lost fields lasts None = false
-is_behind_lost fields lasts (Some field) = is_lost fields (last_asked lasts field.session)
+abbrev pub is_after_lost : List Field → List Last → Option Field → Bool
+is_after_lost fields lasts None = false
+is_after_lost fields lasts (Some field) = is_lost fields (last_asked lasts field.session)
 
 -- whether fields are passed over
 abbrev pub is_passing : Plan → Bool
@@ -79,15 +79,15 @@ field_at fields (Some id) = field_in fields id
 
 -- The field at this place of those that are to be evaluated is passed over where the one that was asked last of its session shows no answer.
 abbrev pub is_passed : Plan → List Field → List Last → List ℕ → ℕ → Bool
-is_passed plan fields lasts meant k = is_passing plan && is_behind_lost fields lasts (field_at fields (slice_get meant k))
+is_passed plan fields lasts meant k = is_passing plan && is_after_lost fields lasts (field_at fields (slice_get meant k))
 
 -- This place is after that one, or the same, and the fields from that one up to it are passed over.
 abbrev pub IsNext : Plan → List Field → List Last → List ℕ → ℕ → ℕ → Type 0
 IsNext plan fields lasts meant from at = (from ≤ at) × ((k : ℕ) → from ≤ k → k < at → is_passed plan fields lasts meant k ≡ true)
 
 -- The number of the line that asks for the last of so many fields; that of its wait is the next one.
-abbrev pub line_behind : ℕ → ℕ
-line_behind taken = 2 * taken - 1
+abbrev pub line_after : ℕ → ℕ
+line_after taken = 2 * taken - 1
 
 -- Whether a field went wrong: it shows no answer, or one that is an error where that is wrong too.
 abbrev pub is_wrong_answer : Bool → Option Answer → Bool
@@ -103,7 +103,7 @@ abbrev pub wrong_line : Bool → List Field → Stand → Option ℕ
 wrong_line at_errors fields stand = wrong_by stand.at_once (is_wrong_field at_errors (field_in fields stand.field)) stand.taken
   where
     wrong_by : Bool → Bool → ℕ → Option ℕ
-    wrong_by true lost taken = Some (line_behind taken)
+    wrong_by true lost taken = Some (line_after taken)
     wrong_by false true taken = Some (2 * taken)
     wrong_by false false taken = None
 

@@ -31,5 +31,5 @@ HaveAll finds fields ids sessions = AllByRecursion (HasItsProgram finds fields i
 pub data IsFirstLacking (finds : Finds) (fields : List Field) (ids : List ℕ) : List Session → List ℕ → Type 0 where
   here : (session : Session) (others : List Session) → is_needed fields ids session.name ≡ true → finds (program_of session.words) false
       → IsFirstLacking finds fields ids (session ∷ others) session.name
-  behind : (session : Session) (others : List Session) (name : List ℕ) → HasItsProgram finds fields ids session → IsFirstLacking finds fields ids others name
+  following : (session : Session) (others : List Session) (name : List ℕ) → HasItsProgram finds fields ids session → IsFirstLacking finds fields ids others name
       → IsFirstLacking finds fields ids (session ∷ others) name

@@ -44,8 +44,8 @@ fn is_lost(sheet: &Sheet, id: Option<u32>) -> bool
 }
 
 /// Whether the field that was asked last of this one's session shows no answer.
-pub fn is_behind_lost(sheet: &Sheet, lasts: &[Last], field: Option<&Field>) -> bool
-    ensures { result ≡ meant.is_behind_lost sheet.now.contents.fields lasts.now (option_copied field.entry) }
+pub fn is_after_lost(sheet: &Sheet, lasts: &[Last], field: Option<&Field>) -> bool
+    ensures { result ≡ meant.is_after_lost sheet.now.contents.fields lasts.now (option_copied field.entry) }
 {
     match field {
         None => false,
@@ -61,7 +61,7 @@ fn is_passed(plan: &Plan, sheet: &Sheet, lasts: &[Last], ids: &[u32], at: usize)
     if plan.limit.is_none() || plan.keep_going {
         return false;
     }
-    is_behind_lost(sheet, lasts, sheet.field(ids[at]))
+    is_after_lost(sheet, lasts, sheet.field(ids[at]))
 }
 
 /// The next place, from this one on, whose field isn't passed over, or their number where there is none.
@@ -81,9 +81,9 @@ pub fn next_of(plan: &Plan, sheet: &Sheet, lasts: &[Last], ids: &[u32], from: us
 }
 
 /// The number of the line that asks for the last of so many fields.
-pub(crate) fn line_behind(taken: usize) -> u64
+pub(crate) fn line_after(taken: usize) -> u64
     requires { taken < 2 ^ 32 }
-    ensures { result ≡ meant.line_behind taken }
+    ensures { result ≡ meant.line_after taken }
 {
     (taken as u64 * 2).saturating_sub(1)
 }
@@ -94,7 +94,7 @@ fn wrong_line(at_errors: bool, sheet: &Sheet, stand: &Stand) -> Option<u64>
     ensures { result ≡ meant.wrong_line at_errors sheet.now.contents.fields stand.now }
 {
     if stand.at_once {
-        Some(line_behind(stand.taken))
+        Some(line_after(stand.taken))
     } else if is_wrong_field(at_errors, sheet.field(stand.field)) {
         Some(stand.taken as u64 * 2)
     } else {

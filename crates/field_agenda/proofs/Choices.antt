@@ -20,7 +20,7 @@ use Rattle.evaluation.specs.declared.plan.Stand.{Stand}
 use Rattle.field_agenda.specs.declared.by_fields.ByFields.{ByFields}
 use Rattle.field_agenda.specs.declared.stage.FieldDoing.TheVariants as doing
 use Rattle.field_agenda.specs.Says.{GoesUnheard, IsUncounted, NoneLate, asks_field, stalls, watches}
-use Rattle.field_agenda.specs.Standing.{asked_together, does_now, lasts_behind}
+use Rattle.field_agenda.specs.Standing.{asked_together, does_now, lasts_after}
 use Rattle.field_agenda.specs.Together.{group_at}
 
 -- the number at a place of what a slice shows

@@ -16,8 +16,8 @@ use Rattle.driver.specs.Items as item
 use Rattle.driver.specs.Reports.{Report, TurnCame, came, interrupt_came, lines, lives, shown}
 use Rattle.driver.specs.Reports.{followed as followed_of}
 use Rattle.child_edge.specs.Seats.{waits}
-use Rattle.child_edge.specs.Together.{beats_behind}
-use Rattle.child_edge.specs.Told.{told}
+use Rattle.child_edge.specs.Together.{entries_after}
+use Rattle.child_edge.specs.Reported.{reported}
 use Rattle.driver.specs.Place.{RunPlace, SinkRules, SourceRules, rules}
 use Rattle.driver.specs.Steps.{Goes, Run}
 use Rattle.driver.specs.Steps as step
@@ -59,9 +59,9 @@ AsksLast (i ∷ j ∷ rest) = AsksLast (j ∷ rest)
 abbrev Open : List Item → Stage → Type 0
 Open todo how = AsksLast todo ⊎ ((todo ≡ []) × IsEnded how)
 
-behind : (i : Item) (rest : List Item) → (IsLastItem i → ⊥) → AsksLast (i ∷ rest) → AsksLast rest
-behind i [] other last = other last
-behind i (j ∷ rest) other last = last
+following : (i : Item) (rest : List Item) → (IsLastItem i → ⊥) → AsksLast (i ∷ rest) → AsksLast rest
+following i [] other last = other last
+following i (j ∷ rest) other last = last
 
 before : (i : Item) (rest : List Item) → AsksLast rest → AsksLast (i ∷ rest)
 before i [] last = absurd last
@@ -155,23 +155,23 @@ module _ {P : Type 0} where
 module _ {P C K : Type 0} (finds : P → Finds) (sources : SourceRules C) (sink : SinkRules K) where
   stays_open : (p q : RunPlace (ByFields P) C K) (todo next : List Item) (s : RunStep) → AsksLast todo → Goes (rules (fields_rules finds) sources sink) p todo s next q → Open next q.agenda.stage
   stays_open p q todo next s last (step.asks now t a clock said) = open_by finds p.agenda p.world now t a said
-  stays_open p q todo next s last (step.watches x w c a rest wakes turned) = inl (behind (item.watch x) rest (λ no. no) last)
-  stays_open p q todo next s last (step.hears seat most events c rest h) = inl (before (item.join events) rest (behind (item.hear seat most) rest (λ no. no) last))
+  stays_open p q todo next s last (step.watches x w c a rest wakes turned) = inl (following (item.watch x) rest (λ no. no) last)
+  stays_open p q todo next s last (step.hears seat most events c rest h) = inl (before (item.join events) rest (following (item.hear seat most) rest (λ no. no) last))
   stays_open p q todo next s last (step.takes from events outcomes followed w c d rest t) =
-      inl (thrice (group_of from outcomes) (followed_of (told (beats_behind followed))) (came outcomes (told (beats_behind followed))) rest (behind (item.take from events) rest (λ no. no) last))
+      inl (thrice (group_of from outcomes) (followed_of (reported (entries_after followed))) (came outcomes (reported (entries_after followed))) rest (following (item.take from events) rest (λ no. no) last))
   stays_open p q todo next s last (step.joins events outcomes first more later followed a w c d rest j t) =
-      inl (joined first outcomes later (told (beats_behind followed)) rest (behind (item.join events) rest (λ no. no) last))
+      inl (joined first outcomes later (reported (entries_after followed)) rest (following (item.join events) rest (λ no. no) last))
   stays_open p q todo next s last (step.takes_whole first events outcomes followed w c d rest t accepted) =
-      inl (thrice (group_of (Some first) outcomes) (followed_of (told (beats_behind followed))) (came outcomes (told (beats_behind followed))) rest (behind (item.take_whole first events) rest (λ no. no) last))
+      inl (thrice (group_of (Some first) outcomes) (followed_of (reported (entries_after followed))) (came outcomes (reported (entries_after followed))) rest (following (item.take_whole first events) rest (λ no. no) last))
   stays_open p q todo next s last (step.refuses_whole first events outcomes one rest r) =
-      inl (thrice (group_of (Some (first + length outcomes)) (one ∷ [])) (followed_of []) (came (one ∷ []) []) rest (behind (item.take_whole first events) rest (λ no. no) last))
+      inl (thrice (group_of (Some (first + length outcomes)) (one ∷ [])) (followed_of []) (came (one ∷ []) []) rest (following (item.take_whole first events) rest (λ no. no) last))
   stays_open p q todo next s last (step.rewrites line o w d rest gives kept) =
-      inl (thrice (group_of (Some line) (o ∷ [])) (followed_of []) (came (o ∷ []) []) rest (behind (item.rewrite line) rest (λ no. no) last))
-  stays_open p q todo next s last (step.stalls_all rest) = inl (before (item.take None (map stalls_now (waits p.world))) rest (behind item.stall rest (λ no. no) last))
-  stays_open p q todo next s last (step.interrupts name came_so c rest i) = inl (before (item.heed (interrupt_came came_so)) rest (behind (item.interrupt name) rest (λ no. no) last))
-  stays_open p q todo next s last (step.prints t k rest went) = inl (behind (item.print t) rest (λ no. no) last)
-  stays_open p q todo next s last (step.heeds c now n a rest clock h) = inl (noted n rest (behind (item.heed c) rest (λ no. no) last))
-  stays_open p q todo next s last (step.breaks i beats why there rest fails) = inl (fault_last why)
+      inl (thrice (group_of (Some line) (o ∷ [])) (followed_of []) (came (o ∷ []) []) rest (following (item.rewrite line) rest (λ no. no) last))
+  stays_open p q todo next s last (step.stalls_all rest) = inl (before (item.take None (map stalls_now (waits p.world))) rest (following item.stall rest (λ no. no) last))
+  stays_open p q todo next s last (step.interrupts name came_so c rest i) = inl (before (item.heed (interrupt_came came_so)) rest (following (item.interrupt name) rest (λ no. no) last))
+  stays_open p q todo next s last (step.prints t k rest went) = inl (following (item.print t) rest (λ no. no) last)
+  stays_open p q todo next s last (step.heeds c now n a rest clock h) = inl (noted n rest (following (item.heed c) rest (λ no. no) last))
+  stays_open p q todo next s last (step.breaks i entries why there rest fails) = inl (fault_last why)
   stays_open p q todo next s last (step.prints_fault why whole k went) = inl tt
 
   pub none_to_do : (p q : RunPlace (ByFields P) C K) (next : List Item) (s : RunStep) → Goes (rules (fields_rules finds) sources sink) p [] s next q → ⊥

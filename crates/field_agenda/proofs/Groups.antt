@@ -7,7 +7,7 @@ use Rattle.worksheet.specs.Checks.{field_in}
 use Rattle.worksheet.specs.declared.field.Field.{Field}
 use Rattle.evaluation.specs.Lasts.{after_asking}
 use Rattle.evaluation.specs.declared.lasts.Last.{Last}
-use Rattle.field_agenda.specs.Standing.{lasts_behind}
+use Rattle.field_agenda.specs.Standing.{lasts_after}
 use Rattle.field_agenda.specs.Together.{with_those_that_go}
 
 -- what is left from this place on begins with the number there
@@ -37,7 +37,7 @@ pub none_left : (goes : List ℕ → ℕ → Bool) (group ids : List ℕ) (at : 
 none_left goes group ids at long = sym (ap (with_those_that_go goes group) (drop_all ids at long))
 
 -- which were asked last, one field later
-lasts_on : (lasts : List Last) (fields : List Field) (front : List ℕ) (id : ℕ) → lasts_behind lasts fields (front ++ id ∷ []) ≡ after_asking (lasts_behind lasts fields front) (field_in fields id)
+lasts_on : (lasts : List Last) (fields : List Field) (front : List ℕ) (id : ℕ) → lasts_after lasts fields (front ++ id ∷ []) ≡ after_asking (lasts_after lasts fields front) (field_in fields id)
 lasts_on lasts fields [] id = refl
 lasts_on lasts fields (x ∷ front) id = lasts_on (after_asking lasts (field_in fields x)) fields front id
 
@@ -49,10 +49,10 @@ taken xs k x h = rw add-one (go xs k h)
     go (y ∷ xs) zero h = let e : y ≡ x = cc in ap (λ (z : ℕ). z ∷ []) e
     go (y ∷ xs) (suc k) h = ap (λ (l : List ℕ). y ∷ l) (go xs k h)
 
-pub lasts_next : (lasts : List Last) (fields : List Field) (ids : List ℕ) (at id : ℕ) (asked more : List Last) → slice_get ids at ≡ Some id → asked ≡ lasts_behind lasts fields (take at ids)
-    → more ≡ after_asking asked (field_in fields id) → more ≡ lasts_behind lasts fields (take (at + 1) ids)
+pub lasts_next : (lasts : List Last) (fields : List Field) (ids : List ℕ) (at id : ℕ) (asked more : List Last) → slice_get ids at ≡ Some id → asked ≡ lasts_after lasts fields (take at ids)
+    → more ≡ after_asking asked (field_in fields id) → more ≡ lasts_after lasts fields (take (at + 1) ids)
 lasts_next lasts fields ids at id asked more there so is =
-    is ∙ ap (λ (l : List Last). after_asking l (field_in fields id)) so ∙ sym (lasts_on lasts fields (take at ids) id) ∙ ap (lasts_behind lasts fields) (sym (taken ids at id there))
+    is ∙ ap (λ (l : List Last). after_asking l (field_in fields id)) so ∙ sym (lasts_on lasts fields (take at ids) id) ∙ ap (lasts_after lasts fields) (sym (taken ids at id there))
 
 -- the group begins with the first of them
 pub begins : (goes : List ℕ → ℕ → Bool) (ids group : List ℕ) (from x id : ℕ) → group ≡ x ∷ [] → slice_get ids from ≡ Some x → slice_get ids from ≡ Some id

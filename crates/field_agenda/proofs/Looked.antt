@@ -4,12 +4,12 @@ use Rattle.std.specs.Prelude.{◌⊎◌, Option, None, Some, Result}
 use Rattle.host_events.specs.declared.event.Event.{Event}
 use Rattle.session_engine.specs.World.{World, sheet_in}
 use Rattle.session_engine.specs.Joining.{ToBeTaken, alone, asking, with_more}
-use Rattle.child_edge.specs.Faithful.{Beat}
+use Rattle.child_edge.specs.Faithful.{Entry}
 use Rattle.offline_programs.specs.declared.fault.RunFault.{RunFault}
 use Rattle.offline_programs.specs.declared.fault.RunFault.TheVariants as fault
 use Rattle.driver.specs.declared.turn.Turn.{Turn}
 use Rattle.driver.specs.declared.turn.Turn.TheVariants as turn
-use Rattle.driver.specs.Items.{Item, RunStep, after_fault, ask, beats_of, broke, chose, halt, items_by, print_fault, take}
+use Rattle.driver.specs.Items.{Item, RunStep, after_fault, ask, entries_of, broke, chose, halt, items_by, print_fault, take}
 use Rattle.driver.specs.Laws.{trace}
 use Rattle.driver.specs.Place.{RunPlace, Rules, SinkRules, SourceRules, rules}
 use Rattle.driver.specs.Steps.{Fails, Goes, Run}
@@ -65,7 +65,7 @@ module _ {P : Type 0} where
 
   all_on : (a b : ByFields P) (w : World) (events all : List Event) → IsUnderWay a.stage → ToBeTaken (asking FieldsJoin a b) w events all → IsUnderWay b.stage
   all_on a b w events all under (alone same) = moved b a same under
-  all_on a b w events all under (with_more told first more j) = joins_on a j.world first more b under j.answered
+  all_on a b w events all under (with_more reported first more j) = joins_on a j.world first more b under j.answered
 
 module _ {P C K : Type 0} (finds : P → Finds) (sources : SourceRules C) (sink : SinkRules K) where
   abbrev Place : Type 0
@@ -74,29 +74,29 @@ module _ {P C K : Type 0} (finds : P → Finds) (sources : SourceRules C) (sink 
   abbrev given : Rules (ByFields P) C K
   given = rules (fields_rules finds) sources sink
 
-  fails_on : (p q : Place) (i : Item) (beats : List Beat) (why : RunFault) → IsUnderWay p.agenda.stage → Fails given p i beats why q → IsUnderWay q.agenda.stage
-  fails_on p q i beats why under (step.unsaid now w a clock said) = says_on p.agenda.stage (finds p.agenda.programs) p.agenda p.world now (Err w) a refl under said
-  fails_on p q i beats why under (step.uncounted many) = under
-  fails_on p q i beats why under (step.unwatched x c wakes) = under
-  fails_on p q i beats why under (step.unheard seat most) = under
-  fails_on p q i beats why under (step.too_many from events many) = under
-  fails_on p q i beats why under (step.untaken from events) = under
-  fails_on p q i beats why under (step.lost from events h l) = under
-  fails_on p q i beats why under (step.broken from events bs e x w c d h t failed) = under
-  fails_on p q i beats why under (step.too_many_heard events many) = under
-  fails_on p q i beats why under (step.unjoined events) = under
-  fails_on p q i beats why under (step.lost_joined events all a h all_are l) = all_on p.agenda a p.world events all under all_are
-  fails_on p q i beats why under (step.broken_joined events all a bs e x w c d h all_are t failed) = all_on p.agenda a p.world events all under all_are
-  fails_on p q i beats why under (step.untaken_whole first events bs x y fails) = fails_on p q (take (Some first) events) beats why under fails
-  fails_on p q i beats why under (step.unwritten line x h failed) = under
-  fails_on p q i beats why under (step.unnumbered line many) = under
-  fails_on p q i beats why under step.unstalled = under
-  fails_on p q i beats why under (step.uncounted_line first outcomes many) = under
-  fails_on p q i beats why under (step.unprinted s w k is t) = under
+  fails_on : (p q : Place) (i : Item) (entries : List Entry) (why : RunFault) → IsUnderWay p.agenda.stage → Fails given p i entries why q → IsUnderWay q.agenda.stage
+  fails_on p q i entries why under (step.unsaid now w a clock said) = says_on p.agenda.stage (finds p.agenda.programs) p.agenda p.world now (Err w) a refl under said
+  fails_on p q i entries why under (step.uncounted many) = under
+  fails_on p q i entries why under (step.unwatched x c wakes) = under
+  fails_on p q i entries why under (step.unheard seat most) = under
+  fails_on p q i entries why under (step.too_many from events many) = under
+  fails_on p q i entries why under (step.untaken from events) = under
+  fails_on p q i entries why under (step.lost from events h l) = under
+  fails_on p q i entries why under (step.broken from events bs e x w c d h t failed) = under
+  fails_on p q i entries why under (step.too_many_heard events many) = under
+  fails_on p q i entries why under (step.unjoined events) = under
+  fails_on p q i entries why under (step.lost_joined events all a h all_are l) = all_on p.agenda a p.world events all under all_are
+  fails_on p q i entries why under (step.broken_joined events all a bs e x w c d h all_are t failed) = all_on p.agenda a p.world events all under all_are
+  fails_on p q i entries why under (step.untaken_whole first events bs x y fails) = fails_on p q (take (Some first) events) entries why under fails
+  fails_on p q i entries why under (step.unwritten line x h failed) = under
+  fails_on p q i entries why under (step.unnumbered line many) = under
+  fails_on p q i entries why under step.unstalled = under
+  fails_on p q i entries why under (step.uncounted_line first outcomes many) = under
+  fails_on p q i entries why under (step.unprinted s w k is t) = under
 
   step_on : (p q : Place) (todo next : List Item) (s : RunStep) → IsUnderWay p.agenda.stage → Goes given p todo s next q → IsUnderWay q.agenda.stage
   step_on p q todo next s under (step.asks now t a clock said) = says_on p.agenda.stage (finds p.agenda.programs) p.agenda p.world now (Ok t) a refl under said
-  step_on p q todo next s under (step.watches x w c a rest wakes told) = moved a _ told under
+  step_on p q todo next s under (step.watches x w c a rest wakes reported) = moved a _ reported under
   step_on p q todo next s under (step.hears seat most events c rest h) = under
   step_on p q todo next s under (step.takes from events outcomes followed w c d rest t) = under
   step_on p q todo next s under (step.joins events outcomes first more later followed a w c d rest j t) = joins_on p.agenda j.world first more a under j.answered
@@ -104,10 +104,10 @@ module _ {P C K : Type 0} (finds : P → Finds) (sources : SourceRules C) (sink 
   step_on p q todo next s under (step.refuses_whole first events outcomes one rest r) = under
   step_on p q todo next s under (step.rewrites line o w d rest gives kept) = under
   step_on p q todo next s under (step.stalls_all rest) = under
-  step_on p q todo next s under (step.interrupts name told c rest i) = under
+  step_on p q todo next s under (step.interrupts name reported c rest i) = under
   step_on p q todo next s under (step.prints t k rest went) = under
   step_on p q todo next s under (step.heeds c now n a rest clock (held, wait, noted, same)) = moved a _ same under
-  step_on p q todo next s under (step.breaks i beats why there rest fails) = fails_on p there i beats why under fails
+  step_on p q todo next s under (step.breaks i entries why there rest fails) = fails_on p there i entries why under fails
   step_on p q todo next s under (step.prints_fault why out k went) = under
 
   run_on : (p q : Place) (todo left : List Item) (steps : List RunStep) → IsUnderWay p.agenda.stage → Run given p todo steps left q → IsUnderWay q.agenda.stage
@@ -131,11 +131,11 @@ module _ {P C K : Type 0} (finds : P → Finds) (sources : SourceRules C) (sink 
   }
 
   -- the same after a step that takes no event and leaves all but the agenda
-  rests_after : (p mid q : Place) (s : RunStep) (steps : List RunStep) (left : List Item) → beats_of s ≡ [] → mid.sources ≡ p.sources → mid.disk ≡ p.disk → (left ≡ [] → mid.sink ≡ p.sink)
+  rests_after : (p mid q : Place) (s : RunStep) (steps : List RunStep) (left : List Item) → entries_of s ≡ [] → mid.sources ≡ p.sources → mid.disk ≡ p.disk → (left ≡ [] → mid.sink ≡ p.sink)
       → mid.agenda.stage ≡ p.agenda.stage → Rests mid q steps left → Rests p q (s ∷ steps) left
   rests_after p mid q s steps left none sources_same disk_same sink_same stage_same r = record {
     did_not = record {
-      none = ap (λ (l : List Beat). l ++ trace steps) none ∙ r.did_not.none;
+      none = ap (λ (l : List Entry). l ++ trace steps) none ∙ r.did_not.none;
       sources = r.did_not.sources ∙ sources_same;
       disk = r.did_not.disk ∙ disk_same;
       sink = λ e. r.did_not.sink e ∙ sink_same e;
@@ -156,14 +156,14 @@ module _ {P C K : Type 0} (finds : P → Finds) (sources : SourceRules C) (sink 
   line_left : (p q : Place) (why : RunFault) (left : List Item) (steps : List RunStep) → Run given p (print_fault why ∷ []) steps left q → left ≡ [] → ⊥
   line_left p q why left [] ran none = let wrong : print_fault why ∷ [] ≡ [] = sym ran.0 ∙ none in absurd cc
   line_left p q why left (s ∷ steps) (next, mid, step.prints_fault w whole k tries, more) none = halted_left mid q why left steps more none
-  line_left p q why left (s ∷ steps) (next, mid, step.breaks i beats w x rest fails, more) none = absurd (elim fails [ ])
+  line_left p q why left (s ∷ steps) (next, mid, step.breaks i entries w x rest fails, more) none = absurd (elim fails [ ])
 
   line_rests : (p q : Place) (why : RunFault) (left : List Item) (steps : List RunStep) → Run given p (print_fault why ∷ []) steps left q → Rests p q steps left
   line_rests p q why left [] ran = rests_at p q left ran.1
   line_rests p q why left (s ∷ steps) (next, mid, step.prints_fault w whole k tries, more) =
       let last = halted_left mid q why left steps more in
       rests_after p mid q _ steps left refl refl refl (λ e. absurd (last e)) refl (halt_rests mid q why left steps more)
-  line_rests p q why left (s ∷ steps) (next, mid, step.breaks i beats w x rest fails, more) = absurd (elim fails [ ])
+  line_rests p q why left (s ∷ steps) (next, mid, step.breaks i entries w x rest fails, more) = absurd (elim fails [ ])
 
   -- nothing was done after it, and something is left
   record Rested (p q : Place) (steps : List RunStep) (left : List Item) : Type 0 where
@@ -220,10 +220,10 @@ module _ {P C K : Type 0} (finds : P → Finds) (sources : SourceRules C) (sink 
       let v = vain_says p.agenda.stage (finds p.agenda.programs) p.agenda p.world now (Ok t) a vain said in
       rests_after p mid q (chose t) steps left refl refl refl (λ e. refl) (ap (λ (x : ByFields P). x.stage) v.1)
       (nothing_rests mid q left steps (subst (λ (u : Turn). Run given mid (items_by u) steps left q) (turn_is t turn.End v.0) more))
-  vain_rests p q left (s ∷ steps) vain (next, mid, step.breaks i beats why there rest (step.unsaid now w a clock said), more) =
+  vain_rests p q left (s ∷ steps) vain (next, mid, step.breaks i entries why there rest (step.unsaid now w a clock said), more) =
       let v = vain_says p.agenda.stage (finds p.agenda.programs) p.agenda p.world now (Err w) a vain said in
       let wrong : Err w ≡ Ok turn.End = v.0 in absurd cc
-  vain_rests p q left (s ∷ steps) vain (next, mid, step.breaks i beats why there rest (step.uncounted many), more) =
+  vain_rests p q left (s ∷ steps) vain (next, mid, step.breaks i entries why there rest (step.uncounted many), more) =
       broke_rests p p q fault.InputTooLong left steps refl refl refl more
 
   -- what a run does after it looked
@@ -270,10 +270,10 @@ module _ {P C K : Type 0} (finds : P → Finds) (sources : SourceRules C) (sink 
       let r = rests_at p q left ran.1 in not_looked (r.same ∙ new) r.did_not
   looked_first p q left (s ∷ steps) new (next, mid, step.asks now t a clock said, more) =
       looked_run p mid q t left steps refl refl refl (at_new (finds p.agenda.programs) p.agenda p.world now (Ok t) a new said) more
-  looked_first p q left (s ∷ steps) new (next, mid, step.breaks i beats why there rest (step.unsaid now w a clock said), more) =
+  looked_first p q left (s ∷ steps) new (next, mid, step.breaks i entries why there rest (step.unsaid now w a clock said), more) =
       let still = unlooked_same (finds p.agenda.programs) p.agenda p.world w a (at_new (finds p.agenda.programs) p.agenda p.world now (Err w) a new said) in
       let r = broke_rests p mid q w left steps refl refl still more in
       not_looked (r.same ∙ new) r.did_not
-  looked_first p q left (s ∷ steps) new (next, mid, step.breaks i beats why there rest (step.uncounted many), more) =
+  looked_first p q left (s ∷ steps) new (next, mid, step.breaks i entries why there rest (step.uncounted many), more) =
       let r = broke_rests p p q fault.InputTooLong left steps refl refl refl more in
       not_looked (r.same ∙ new) r.did_not

@@ -6,7 +6,7 @@ use Rattle.tellings.specs.declared.note.Note.TheVariants as note
 use Rattle.live.specs.declared.holding.Hold.{Hold}
 use Rattle.live.specs.declared.holding.Hold.TheVariants as hold
 use Rattle.live.specs.Arrivals.{respite}
-use Rattle.live.specs.Saying.{WaitGoesOn, is_held, seconds_behind}
+use Rattle.live.specs.Saying.{WaitGoesOn, is_held, seconds_from}
 use Rattle.driver.specs.Reports.{TurnCame}
 use Rattle.agendas.specs.Heeds.{interrupt_note}
 use Rattle.field_agenda.specs.declared.by_fields.ByFields.{ByFields}
@@ -16,20 +16,20 @@ use Rattle.field_agenda.specs.Standing.{does_at, limit_begun, waiting_so}
 
 -- The wait that goes on, by what was done: for the fields that were asked one begins, which is over where no item waits; after an interrupt there are two
 -- seconds more; and where those are over none goes on.
-abbrev pub WaitBehind : FieldDoing → Option ℕ → World → ℕ → Hold → Hold → Type 0
-WaitBehind doing.Nothing limit w now held behind = behind ≡ held
-WaitBehind doing.Ask limit w now held behind = WaitGoesOn (limit_begun limit now) w behind
-WaitBehind doing.Life limit w now held behind = WaitGoesOn held w behind
-WaitBehind (doing.Over id) limit w now held behind = behind ≡ hold.Until (seconds_behind now respite)
-WaitBehind doing.Stall limit w now held behind = behind ≡ hold.Free
+abbrev pub WaitAfter : FieldDoing → Option ℕ → World → ℕ → Hold → Hold → Type 0
+WaitAfter doing.Nothing limit w now held following = following ≡ held
+WaitAfter doing.Ask limit w now held following = WaitGoesOn (limit_begun limit now) w following
+WaitAfter doing.Life limit w now held following = WaitGoesOn held w following
+WaitAfter (doing.Over id) limit w now held following = following ≡ hold.Until (seconds_from now respite)
+WaitAfter doing.Stall limit w now held following = following ≡ hold.Free
 
 -- whether no item waited right after the last fields were asked
-abbrev pub at_once_behind : FieldDoing → Bool → Hold → Bool
-at_once_behind doing.Nothing before held = before
-at_once_behind doing.Ask before held = not (is_held held)
-at_once_behind doing.Life before held = before
-at_once_behind (doing.Over id) before held = before
-at_once_behind doing.Stall before held = before
+abbrev pub at_once_after : FieldDoing → Bool → Hold → Bool
+at_once_after doing.Nothing before held = before
+at_once_after doing.Ask before held = not (is_held held)
+at_once_after doing.Life before held = before
+at_once_after (doing.Over id) before held = before
+at_once_after doing.Stall before held = before
 
 -- what is noted: what came of the interrupt for a field whose time is over
 abbrev pub noted_of : FieldDoing → TurnCame → Option Note
@@ -41,5 +41,5 @@ noted_of doing.Stall c = None
 
 -- It heeds what came.
 abbrev pub FieldsHeed : {P : Type 0} → ByFields P → World → ℕ → TurnCame → Option Note → ByFields P → Type 0
-FieldsHeed a w now c n b = (held : Hold) × WaitBehind a.doing a.plan.limit w now a.stand.held held × (n ≡ noted_of a.doing c)
-    × (b ≡ does_at a doing.Nothing (waiting_so a.stand held (at_once_behind a.doing a.stand.at_once held)))
+FieldsHeed a w now c n b = (held : Hold) × WaitAfter a.doing a.plan.limit w now a.stand.held held × (n ≡ noted_of a.doing c)
+    × (b ≡ does_at a doing.Nothing (waiting_so a.stand held (at_once_after a.doing a.stand.at_once held)))

@@ -14,10 +14,10 @@ abbrev pub goes_on : {P : Type 0} → ByFields P → Hold → ByFields P
 goes_on a held = record a { stand = waiting_so a.stand held a.stand.at_once }
 
 -- The field at this place, with this number, is asked, and so are those that go with it: as where it would be asked next.
-pub record JoinsFrom {P : Type 0} (a : ByFields P) (w : World) (k id : ℕ) (told : Option ℕ × List Event) (b : ByFields P) : Type 0 where
+pub record JoinsFrom {P : Type 0} (a : ByFields P) (w : World) (k id : ℕ) (reported : Option ℕ × List Event) (b : ByFields P) : Type 0 where
   pub may : MayBeAsked a w k id
-  pub first : told.0 ≡ Some (k + 1)
-  pub asked : told.1 ≡ map asks_field (asked_with a w k id)
+  pub first : reported.0 ≡ Some (k + 1)
+  pub asked : reported.1 ≡ map asks_field (asked_with a w k id)
   pub stands : b ≡ does_at a doing.Ask (asked_together a.stand k (sheet_in w).fields (asked_with a w k id))
 
 -- What joins the events of lives that led to this world: what it would say is next there if they were heeded and it says that fields are asked, while no

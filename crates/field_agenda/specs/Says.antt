@@ -110,4 +110,4 @@ FieldsSay finds a w now r b = SaysAt a.stage (finds a.programs) a w now r b
 
 -- Whose turn it is was returned.
 abbrev pub FieldsWoken : {P : Type 0} → ByFields P → Woken → ByFields P → Type 0
-FieldsWoken a told b = b ≡ record a { due = Some told }
+FieldsWoken a reported b = b ≡ record a { due = Some reported }

@@ -6,7 +6,7 @@ use Rattle.child_calls.specs.declared.seat.Seat.{Seat}
 use Rattle.arrivals.specs.declared.sources.Woken.{Woken}
 use Rattle.arrivals.specs.declared.sources.Woken.TheVariants as woken
 use Rattle.live.specs.declared.holding.Hold.{Hold}
-use Rattle.live.specs.Saying.{is_held, seconds_behind}
+use Rattle.live.specs.Saying.{is_held, seconds_from}
 use Rattle.live.specs.declared.holding.Hold.TheVariants as hold
 use Rattle.evaluation.specs.Beside.{first_by}
 use Rattle.evaluation.specs.Evaluation.{not_begun}
@@ -34,12 +34,12 @@ life_due (Some woken.TimeOver) = None
 -- The wait for fields that were asked where the clock reads this.
 abbrev pub limit_begun : Option ℕ → ℕ → Hold
 limit_begun None now = hold.Wait
-limit_begun (Some seconds) now = hold.Until (seconds_behind now seconds)
+limit_begun (Some seconds) now = hold.Until (seconds_from now seconds)
 
 -- which field of each session was asked last, where these were asked after those
-abbrev pub lasts_behind : List Last → List Field → List ℕ → List Last
-lasts_behind lasts fields [] = lasts
-lasts_behind lasts fields (id ∷ ids) = lasts_behind (after_asking lasts (field_in fields id)) fields ids
+abbrev pub lasts_after : List Last → List Field → List ℕ → List Last
+lasts_after lasts fields [] = lasts
+lasts_after lasts fields (id ∷ ids) = lasts_after (after_asking lasts (field_in fields id)) fields ids
 
 -- the last of these numbers, or this one where there is none
 abbrev pub last_of_group : List ℕ → ℕ → ℕ
@@ -56,7 +56,7 @@ asked_together s k fields group = record {
   at_once = s.at_once;
   asked = s.asked + length group;
   overs = s.overs;
-  lasts = lasts_behind s.lasts fields group;
+  lasts = lasts_after s.lasts fields group;
 }
 
 -- the interpreter is interrupted of the field that is the nth of those that are to be evaluated

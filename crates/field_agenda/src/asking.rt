@@ -16,7 +16,7 @@ use block_tree::Sequence;
 use child_edge::MOST_TOGETHER;
 use disk_model::Disk;
 use evaluation::Plan;
-use evaluation::asking::{is_behind_lost, next_of, stop_line};
+use evaluation::asking::{is_after_lost, next_of, stop_line};
 use evaluation::beside::{is_session_busy, wait_in_fewer};
 use evaluation::lasts::{Last, after_asking};
 use evaluation::plan::Stand;
@@ -62,7 +62,7 @@ fn is_passed_over(plan: &Plan, sheet: &Sheet, lasts: &[Last], id: u32) -> bool
     if plan.limit.is_none() || plan.keep_going {
         return false;
     }
-    is_behind_lost(sheet, lasts, sheet.field(id))
+    is_after_lost(sheet, lasts, sheet.field(id))
 }
 
 /// Whether the field with this number may be asked with these, as far as its session goes.
@@ -148,13 +148,13 @@ pub(crate) fn evals(alloc: Global, group: &[u32]) -> Result<Vec<Event>, AllocErr
 }
 
 /// Which field of each session was asked last, where these were asked after those.
-pub(crate) fn lasts_behind(
+pub(crate) fn lasts_after(
     alloc: Global,
     lasts: &[Last],
     sheet: &Sheet,
     group: &[u32],
 ) -> Result<Vec<Last>, AllocError>
-    ensures { IfOk result (λ asked. asked.items ≡ standing.lasts_behind lasts.now sheet.now.contents.fields group.now) }
+    ensures { IfOk result (λ asked. asked.items ≡ standing.lasts_after lasts.now sheet.now.contents.fields group.now) }
 {
     let mut asked = lasts.to_vec(alloc)?;
     for id in group {
@@ -185,7 +185,7 @@ fn first_at(held: Hold, first: usize, at: usize) -> usize
 pub(crate) fn asked_together(stand: &Stand, at: usize, group: &[u32], lasts: Vec<Last>) -> Stand
     requires few { at + length group.now < 2 ^ 64 }
     requires counted { stand.now.asked + length group.now < 2 ^ 64 }
-    ensures { (fields : List Field) → lasts.items ≡ standing.lasts_behind stand.now.lasts fields group.now
+    ensures { (fields : List Field) → lasts.items ≡ standing.lasts_after stand.now.lasts fields group.now
         → result ≡ standing.asked_together stand.now at fields group.now }
 {
     Stand {

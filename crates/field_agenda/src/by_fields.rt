@@ -16,8 +16,8 @@ ghost use Rattle.field_agenda.specs.Says as says;
 ghost use Rattle.field_agenda.specs.Says.{asks_field};
 ghost use Rattle.field_agenda.specs.Standing as standing;
 
-use crate::asking::{asked_together, evals, group_from, lasts_behind, next_asked};
-use crate::heeding::{at_once_behind, noted_of, wait_behind};
+use crate::asking::{asked_together, evals, group_from, lasts_after, next_asked};
+use crate::heeding::{at_once_after, noted_of, wait_after};
 use crate::looking::{Found, look_for};
 use crate::stage::{FieldDoing, Stage};
 use crate::times::{late_now, life_due};
@@ -192,7 +192,7 @@ impl<P: Programs> ByFields<P> {
         let ids = self.ids.as_slice();
         let group = group_from(alloc, host, &self.plan, lasts, ids, at)?;
         let events = evals(alloc, group.as_slice())?;
-        let asked = lasts_behind(alloc, lasts, host.sheet(), group.as_slice())?;
+        let asked = lasts_after(alloc, lasts, host.sheet(), group.as_slice())?;
         let stand = asked_together(&self.stand, at, group.as_slice(), asked);
         Ok(Asking { events, stand })
     }
@@ -421,8 +421,8 @@ impl<P: Programs> Agenda for ByFields<P> {
 
     fn heed<D: Disk>(&mut self, host: &Host<D>, now: u64, came: &Came) -> Option<Note> {
         let doing = mem::replace(&mut self.doing, FieldDoing::Nothing);
-        let held = wait_behind(host, self.plan.limit, now, doing, self.stand.held);
-        self.stand.at_once = at_once_behind(doing, self.stand.at_once, held);
+        let held = wait_after(host, self.plan.limit, now, doing, self.stand.held);
+        self.stand.at_once = at_once_after(doing, self.stand.at_once, held);
         self.stand.held = held;
         noted_of(doing, came)
     }

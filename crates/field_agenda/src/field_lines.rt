@@ -3,7 +3,7 @@
 ghost use Rattle.std.specs.Prelude.{◌≡◌, ◌+◌, ◌<◌, ◌^◌, IfErr, OnOk, length};
 ghost use Rattle.std.specs.Io.KnownBytes.{Appends};
 ghost use Rattle.worksheet.specs.Contents.{Contents};
-ghost use Rattle.tellings.specs.Voice.{IsUntold, numbered_text};
+ghost use Rattle.tellings.specs.Voice.{IsWithheld, numbered_text};
 ghost use Rattle.field_agenda.specs.FieldLines as lines;
 
 use disk_model::Disk;
@@ -39,7 +39,7 @@ fn tell_one<T: Tells, W: Write>(
 ) -> Result<(), RunFault>
     ensures ok { OnOk result (Appends (W.contents writer.old) (W.contents writer.new)
         (T.voice.reply (lines.line_of_field field) sheet.now.contents outcome.now.reply)) }
-    ensures err { IfErr result (IsUntold T.voice) }
+    ensures err { IfErr result (IsWithheld T.voice) }
 {
     tells.outcomes(line_of(field), sheet, slice::from_ref(outcome), writer)
 }
@@ -55,7 +55,7 @@ fn tell_each<T: Tells, W: Write>(
     requires { first + length outcomes.now < 2 ^ 64 }
     ensures ok { OnOk result (Appends (W.contents writer.old) (W.contents writer.new)
         (numbered_text (lines.by_field_lines T.voice) first sheet.now.contents outcomes.now)) }
-    ensures err { IfErr result (IsUntold T.voice) }
+    ensures err { IfErr result (IsWithheld T.voice) }
 {
     let mut field = first;
     for outcome in outcomes {

@@ -18,11 +18,11 @@ use session_engine::Host;
 use tellings::Note;
 
 /// What came of the interrupt for this field is noted.
-fn note_over(id: u32, told: Option<Interrupted>) -> Option<Note>
-    ensures { result ≡ interrupt_note (Note.Over id) told }
+fn note_over(id: u32, reported: Option<Interrupted>) -> Option<Note>
+    ensures { result ≡ interrupt_note (Note.Over id) reported }
 {
-    match told {
-        Some(told) => Some(Note::Over(id, told)),
+    match reported {
+        Some(reported) => Some(Note::Over(id, reported)),
         None => None,
     }
 }
@@ -41,14 +41,14 @@ pub(crate) fn noted_of(doing: FieldDoing, came: &Came) -> Option<Note>
 }
 
 /// The wait that goes on, where this was done.
-pub(crate) fn wait_behind<D: Disk>(
+pub(crate) fn wait_after<D: Disk>(
     host: &Host<D>,
     limit: Option<u32>,
     now: u64,
     doing: FieldDoing,
     held: Hold,
 ) -> Hold
-    ensures { (w : World) → IsHost host.now w → heeds.WaitBehind doing limit w now held result }
+    ensures { (w : World) → IsHost host.now w → heeds.WaitAfter doing limit w now held result }
 {
     match doing {
         FieldDoing::Nothing => held,
@@ -60,8 +60,8 @@ pub(crate) fn wait_behind<D: Disk>(
 }
 
 /// Whether no item waited right after the last fields were asked, where this was done and this wait goes on.
-pub(crate) fn at_once_behind(doing: FieldDoing, before: bool, held: Hold) -> bool
-    ensures { result ≡ heeds.at_once_behind doing before held }
+pub(crate) fn at_once_after(doing: FieldDoing, before: bool, held: Hold) -> bool
+    ensures { result ≡ heeds.at_once_after doing before held }
 {
     match doing {
         FieldDoing::Ask => !is_held(held),

@@ -93,7 +93,7 @@ several_left_out_text = codes "error: --leave-out goes with one PATH alone\n\nFo
 
 -- the words are refused with this text
 abbrev pub RefusesWith : {E : Type 0} → List ℕ → Saying E → Ending → Type 0
-RefusesWith text errors ending = (ending.status ≡ 2) × IsSaid errors text ending.told
+RefusesWith text errors ending = (ending.status ≡ 2) × IsSaid errors text ending.reported
 
 -- A message of `clap` was tried on a stream, and whether it went out. No contract of `clap` knows its text.
 abbrev pub IsTried : {E : Type 0} → Saying E → Bool → Type 0
@@ -102,7 +102,7 @@ IsTried stream went = stream.tried stream.old None went stream.new
 -- Help, or the version, was said on the output, or that failed, which is the fault.
 abbrev pub ShowsHelp : {W E : Type 0} → Saying W → Saying E → Ending → Type 0
 ShowsHelp output errors ending = (IsTried output true × (ending.status ≡ 0) × (errors.new ≡ errors.old))
-    ⊎ (IsTried output false × (ending.status ≡ 1) × TellsFault errors ending.told (Err fault.Output))
+    ⊎ (IsTried output false × (ending.status ≡ 1) × TellsFault errors ending.reported (Err fault.Output))
 
 -- Why the words are refused was said on the stream of errors, whatever became of it.
 abbrev pub RefusesWords : {E : Type 0} → Saying E → Ending → Type 0
@@ -115,7 +115,7 @@ RefusesPlan plans.Id errors ending = RefusesWith no_id_text errors ending
 RefusesPlan plans.Both errors ending = RefusesWith no_both_text errors ending
 RefusesPlan plans.Jobs errors ending = RefusesWith no_jobs_text errors ending
 RefusesPlan plans.Strict errors ending = RefusesWith strict_jobs_text errors ending
-RefusesPlan plans.OutOfMemory errors ending = (ending.status ≡ 1) × TellsFault errors ending.told (Err fault.OutOfMemory)
+RefusesPlan plans.OutOfMemory errors ending = (ending.status ≡ 1) × TellsFault errors ending.reported (Err fault.OutOfMemory)
 
 -- how the program ends where the words of `check` ask for none, or where there was no memory for them
 abbrev pub RefusesRequest : {E : Type 0} → RequestFault → Saying E → Ending → Type 0
@@ -125,7 +125,7 @@ RefusesRequest request.Ids errors ending = RefusesWith no_ids_text errors ending
 RefusesRequest request.Accepting errors ending = RefusesWith no_acceptance_text errors ending
 RefusesRequest request.Whole errors ending = RefusesWith no_whole_text errors ending
 RefusesRequest request.Both errors ending = RefusesWith two_formats_text errors ending
-RefusesRequest request.OutOfMemory errors ending = (ending.status ≡ 1) × TellsFault errors ending.told (Err fault.OutOfMemory)
+RefusesRequest request.OutOfMemory errors ending = (ending.status ≡ 1) × TellsFault errors ending.reported (Err fault.OutOfMemory)
 
 -- how the program ends where they name no number of sessions
 abbrev pub RefusesJobs : {E : Type 0} → JobsFault → Saying E → Ending → Type 0

@@ -41,7 +41,7 @@ use Rattle.past.specs.declared.fault.PastFault.{PastFault}
 use Rattle.program_endings.specs.Faults.{no_place}
 use Rattle.program_endings.specs.Programs.{CreateEnds, EndsUnopened, ShowEnds, TellsMake}
 use Rattle.program_endings.specs.Records.{Calling, Streams, calling, given_disk, streams, writing}
-use Rattle.program_endings.specs.LiveProgram.{LastTold, LiveEnded, LiveUnopened, live_setting}
+use Rattle.program_endings.specs.LiveProgram.{LastReported, LiveEnded, LiveUnopened, live_setting}
 use Rattle.tellings.specs.Json.{in_json}
 use Rattle.tellings.specs.Voice.{Voice}
 use Rattle.tellings.specs.Words.{in_words}
@@ -134,13 +134,13 @@ module _ {Y D P S I W E Q : Type 0} (o : OutsideView D P S I W E) where
   -- `blocks --json`, which has a fault of its own last
   abbrev pub DoesBlocksInJson : Outside Y D P S I W E Q → Outside Y D P S I W E Q → Ending → Type 0
   DoesBlocksInJson old new ending = (answer : ProgramAnswer) × (mid : W) × ObjectsAnswer (o.streams.stream old.input) o.streams.written old.output mid answer
-      × LastTold in_json o.streams.written mid new.output ending.told answer × EndsWith old new ending answer
+      × LastReported in_json o.streams.written mid new.output ending.reported answer × EndsWith old new ending answer
 
   -- `create` of what the places make at a path, or of why they don't
   abbrev pub DoesCreate : Outside Y D P S I W E Q → Outside Y D P S I W E Q → Ending → Text → Type 0
   DoesCreate old new ending path =
       HeldFirst old new (λ why. EndsWith old new ending (Err why)) (λ held. (files : Result D MakeFault) × o.places.creates held path files new.places
-      × IfErr files (λ why. (ending.status ≡ 1) × TellsMake (errors_of old new) ending.told why)
+      × IfErr files (λ why. (ending.status ≡ 1) × TellsMake (errors_of old new) ending.reported why)
       × IfOk files (λ disk. CreateEnds (given_disk o.disks disk) (errors_of old new) ending))
 
   -- `show` of what they open to read at a path

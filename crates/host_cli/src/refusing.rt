@@ -18,10 +18,13 @@ use std::io;
 use std::io::Write;
 
 /// The end of a program whose words are refused.
-fn refused(told: bool) -> Ending
-    ensures { result ≡ record { status = 2; told = told } }
+fn refused(reported: bool) -> Ending
+    ensures { result ≡ record { status = 2; reported = reported } }
 {
-    Ending { status: 2, told }
+    Ending {
+        status: 2,
+        reported,
+    }
 }
 
 /// Why `clap` gave no task, or the help that was asked for.
@@ -59,7 +62,7 @@ impl Message for Text<'_> {
 pub fn refuse_words<W: Says, E: Says>(error: &clap::Error, output: &mut W, errors: &mut E) -> Ending
     ensures memory { kind_of error.now ≡ kind.OutOfMemory
         → (output.new ≡ output.old) × (result.status ≡ 1)
-        × TellsFault (saying E.contents E.tried errors.old errors.new) result.told (Err fault.OutOfMemory) }
+        × TellsFault (saying E.contents E.tried errors.old errors.new) result.reported (Err fault.OutOfMemory) }
     ensures shown { ShowsText (kind_of error.now)
         → ShowsHelp (saying W.contents W.tried output.old output.new) (saying E.contents E.tried errors.old errors.new) result }
     ensures refused { kind_of error.now ≢ kind.OutOfMemory → (ShowsText (kind_of error.now) → ⊥)
@@ -71,7 +74,7 @@ pub fn refuse_words<W: Says, E: Says>(error: &clap::Error, output: &mut W, error
             if output.say(&FromClap { error }) {
                 Ending {
                     status: 0,
-                    told: true,
+                    reported: true,
                 }
             } else {
                 end_program(Err(RunFault::Output), errors)
@@ -86,7 +89,7 @@ pub fn refuse_words<W: Says, E: Says>(error: &clap::Error, output: &mut W, error
 pub fn refuse_unread_words<E: Says>(kind: io::ErrorKind, errors: &mut E) -> Ending
     ensures memory { kind ≡ io_kind.OutOfMemory
         → (result.status ≡ 1)
-        × TellsFault (saying E.contents E.tried errors.old errors.new) result.told (Err fault.OutOfMemory) }
+        × TellsFault (saying E.contents E.tried errors.old errors.new) result.reported (Err fault.OutOfMemory) }
     ensures refused { kind ≢ io_kind.OutOfMemory
         → (errors.new ≡ errors.old) × (result.status ≡ 2) }
 {

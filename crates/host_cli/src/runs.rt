@@ -18,7 +18,7 @@ use std::alloc::Global;
 use tellings::{InJson, InWords, Tells};
 
 /// The lines of the input over the worksheet at a path, taken in this manner and printed in this voice.
-fn live_told<Y: System, T: Tells + Copy>(
+fn live_reported<Y: System, T: Tells + Copy>(
     alloc: Global,
     mut outside: Outside<Y>,
     manner: Manner,
@@ -75,7 +75,7 @@ pub(crate) fn live_at<Y: System>(alloc: Global, outside: Outside<Y>, path: &str)
         (streams_seen Y.Input.Read Y.Output.Write Y.Output.brought Y.Output.tried Y.Errors.Write Y.Errors.tried)) in_words outside result.outside result.ending path.now }
     ensures leaves { result.outside.progress ≡ outside.progress }
 {
-    live_told(
+    live_reported(
         alloc,
         outside,
         Manner {
@@ -98,7 +98,7 @@ pub(crate) fn live_json_at<Y: System>(
         (streams_seen Y.Input.Read Y.Output.Write Y.Output.brought Y.Output.tried Y.Errors.Write Y.Errors.tried)) in_json outside result.outside result.ending path.now }
     ensures leaves { result.outside.progress ≡ outside.progress }
 {
-    live_told(
+    live_reported(
         alloc,
         outside,
         Manner {
@@ -126,7 +126,7 @@ pub(crate) fn live_partial_at<Y: System>(
 }
 
 /// `run` of the script on the input, in words and without a limit of time.
-fn run_told<Y: System>(
+fn run_reported<Y: System>(
     alloc: Global,
     mut outside: Outside<Y>,
     strict: bool,
@@ -196,10 +196,10 @@ pub(crate) fn run_at<Y: System>(
         strict: words.strict,
     };
     if words.json {
-        return live_told(alloc, outside, manner, InJson { alloc }, path);
+        return live_reported(alloc, outside, manner, InJson { alloc }, path);
     }
     if limit.is_some() {
-        return live_told(alloc, outside, manner, InWords, path);
+        return live_reported(alloc, outside, manner, InWords, path);
     }
-    run_told(alloc, outside, words.strict, path)
+    run_reported(alloc, outside, words.strict, path)
 }

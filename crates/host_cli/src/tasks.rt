@@ -115,7 +115,7 @@ fn eval_as<Y: System, T: Tells + Copy>(
 }
 
 /// `eval` of the fields of the worksheet at a path, by a plan, in words or in lines of JSON.
-fn eval_told<Y: System>(
+fn eval_reported<Y: System>(
     alloc: Global,
     outside: Outside<Y>,
     plan: Plan,
@@ -145,7 +145,7 @@ fn eval_at<Y: System>(
     ensures leaves { LeavesAlone outside result.outside (asked.eval path.now (eval_view words.entry)) }
 {
     match read_plan(alloc, &words) {
-        Ok(plan) => eval_told(alloc, outside, plan, words.json, path),
+        Ok(plan) => eval_reported(alloc, outside, plan, words.json, path),
         Err(why) => {
             let ending = refuse_plan(why, &mut outside.errors);
             Performed { ending, outside }
@@ -281,7 +281,7 @@ pub fn do_task<Y: System>(alloc: Global, task: Task<'_>, mut outside: Outside<Y>
 fn end_unsent<E: Says>(alone: Ending, errors: &mut E) -> Ending
     ensures same { alone.status ≡ 1 → (result ≡ alone) × (errors.new ≡ errors.old) }
     ensures unsent { alone.status ≢ 1 → (result.status ≡ 1)
-        × TellsFault (saying E.contents E.tried errors.old errors.new) result.told (Err fault.Output) }
+        × TellsFault (saying E.contents E.tried errors.old errors.new) result.reported (Err fault.Output) }
 {
     if alone.status == 1 {
         alone

@@ -9,7 +9,7 @@ use Rattle.worksheet.specs.Checks.{Allowed, field_in}
 use Rattle.host_events.specs.declared.event.Event.{Event}
 use Rattle.host_events.specs.declared.outcome.Outcome.{Outcome}
 use Rattle.session_engine.specs.World.{World, sheet_in}
-use Rattle.host_laws.specs.Turns.{AnsweredIn, EvaluatedAnewInTurn, HandedOn, Has, HostStep, HostTurn, KeepField, StepsOf, WentOn, host_first, no_host, no_step, step_first}
+use Rattle.host_laws.specs.Turns.{AnsweredIn, EvaluatedAgainInTurn, HandedOn, Has, HostStep, HostTurn, KeepField, StepsOf, WentOn, host_first, no_host, no_step, step_first}
 use Rattle.host_laws.proofs.FieldLaws.{cleared}
 use Rattle.host_laws.proofs.Going.{sound}
 use Rattle.host_laws.proofs.Living.{Sound}
@@ -18,7 +18,7 @@ use Rattle.host_laws.proofs.Showing.{stepped}
 -- Worlds of allowed ops.
 
 abbrev IsAllowed : HostStep → Type 0
-IsAllowed s = Allowed s.behind.ops
+IsAllowed s = Allowed s.following.ops
 
 both_allowed : (steps more : List HostStep) → AllByRecursion IsAllowed steps → AllByRecursion IsAllowed more → AllByRecursion IsAllowed (steps ++ more)
 both_allowed [] more h k = k
@@ -47,24 +47,24 @@ head_is x y xs ys same = cc
 tail_is : (x y : HostStep) (xs ys : List HostStep) → x ∷ xs ≡ y ∷ ys → xs ≡ ys
 tail_is x y xs ys same = cc
 
-kept_at : (f : Field) (earlier : List HostStep) (s : HostStep) (later : List HostStep) → KeepField f (earlier ++ s ∷ later) → Has (sheet_in s.behind) f
+kept_at : (f : Field) (earlier : List HostStep) (s : HostStep) (later : List HostStep) → KeepField f (earlier ++ s ∷ later) → Has (sheet_in s.following) f
 kept_at f [] s later h = h.0
 kept_at f (x ∷ earlier) s later h = kept_at f earlier s later h.1
 
 -- the step y stands after the step x, or what stays from y on stays at x
 after_or_at : (f : Field) (xs : List HostStep) (x : HostStep) (more : List HostStep) (ys : List HostStep) (y : HostStep) (rest : List HostStep) → xs ++ x ∷ more ≡ ys ++ y ∷ rest
-    → ((mid : List HostStep) × (more ≡ mid ++ y ∷ rest)) ⊎ (KeepField f (y ∷ rest) → Has (sheet_in x.behind) f)
-after_or_at f [] x more [] y rest same = inr (λ stays. subst (λ (s : HostStep). Has (sheet_in s.behind) f) (sym (head_is x y more rest same)) stays.0)
+    → ((mid : List HostStep) × (more ≡ mid ++ y ∷ rest)) ⊎ (KeepField f (y ∷ rest) → Has (sheet_in x.following) f)
+after_or_at f [] x more [] y rest same = inr (λ stays. subst (λ (s : HostStep). Has (sheet_in s.following) f) (sym (head_is x y more rest same)) stays.0)
 after_or_at f [] x more (z ∷ ys) y rest same = inl (ys, tail_is x z more (ys ++ y ∷ rest) same)
 after_or_at f (z ∷ xs) x more [] y rest same =
     inr (λ stays. kept_at f xs x more (subst (KeepField f) (sym (tail_is z y (xs ++ x ∷ more) rest same)) stays.1))
 after_or_at f (z ∷ xs) x more (u ∷ ys) y rest same = after_or_at f xs x more ys y rest (tail_is z u (xs ++ x ∷ more) (ys ++ y ∷ rest) same)
 
-pub evaluated_anew_in_turn : EvaluatedAnewInTurn
-evaluated_anew_in_turn room first before after turns left allowed earlier later s id split asks clears f answer number has some =
+pub evaluated_again_in_turn : EvaluatedAgainInTurn
+evaluated_again_in_turn room first before after turns left allowed earlier later s id split asks clears f answer number has some =
     let all = subst (AllByRecursion IsAllowed) split (went_allowed room left.went) in
     let here = allowed_at earlier s later all in
-    let no : Has (sheet_in s.behind) f → AnsweredIn later f = λ there.
+    let no : Has (sheet_in s.following) f → AnsweredIn later f = λ there.
     let now : field_in (sheet_of (s.before.ops ++ op.Clear id ∷ [])).fields id ≡ Some f =
     ap (λ (n : ℕ). field_in (sheet_of (s.before.ops ++ op.Clear id ∷ [])).fields n) (sym number)
     ∙ subst (λ (ops : List Op). Has (sheet_of ops) f) clears there in

@@ -37,7 +37,7 @@ use Rattle.host_laws.specs.inside.Given.{Childed, Commanded, Ended_by, GivesByPa
 use Rattle.host_laws.proofs.ApartOps.{drop_length}
 use Rattle.host_laws.proofs.ApartOwners.{opened_owned}
 use Rattle.host_laws.proofs.InFlight.{Waits, lines_of}
-use Rattle.host_laws.proofs.LinesAmong.{behind_piece, one_of}
+use Rattle.host_laws.proofs.LinesAmong.{after_piece, one_of}
 use Rattle.host_laws.proofs.Living.{SoundLife, the_life}
 use Rattle.session_engine.proofs.Losing.{if_ended, if_pieced, if_stopped}
 use Rattle.host_laws.proofs.Numbers.{its_own, with_its_number}
@@ -95,7 +95,7 @@ pieced w (Some l) piece o v h own g =
     (if_pieced (λ p. Adds w (with_op_if p (goes_on m s.ended w))) w.room w.end s.answered s.ended (Adds.nothing kept)
     (λ id prompt out e. Adds.an_op (op.Answer id prompt out) refl (ap (λ (os : List Op). os ++ op.Answer id prompt out ∷ []) kept))
     (λ x id e f none.
-    let b = behind_piece id l.past l.blocks g.0 piece g.1 life.reads g.2.0 in
+    let b = after_piece id l.past l.blocks g.0 piece g.1 life.reads g.2.0 in
     let c = first_counts id x.lost f in
     let d = ap (λ (is : List Item). lines_among id is) (lost_is l piece g.0 g.1 x e) in
     Adds.a_reason id x.reason (shows_none w l id h (own l refl) (omega (arith, b, c, d))) (ap (λ (os : List Op). os ++ op.Lost id x.reason ∷ []) kept)))

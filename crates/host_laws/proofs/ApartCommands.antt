@@ -30,7 +30,7 @@ use Rattle.host_laws.specs.Apart.{AreAlike, named, commanded, concerns, begins, 
 use Rattle.host_laws.proofs.ApartLives.{same_name, is_itself, replaced_other, without_other, named-push, first_has}
 use Rattle.session_engine.proofs.Losing.{if_stopped, op_if_lives}
 use Rattle.host_laws.proofs.ApartOps.{commanded-push, next_alike, sessions_alike, session_of_alike, input_of_alike}
-use Rattle.host_laws.proofs.ApartSteps.{alike_back, alike_on, life_alike, push_alike, own_gone, own_put, none_told, reason_told, nothing_added, one_added}
+use Rattle.host_laws.proofs.ApartSteps.{alike_back, alike_on, life_alike, push_alike, own_gone, own_put, none_reported, reason_reported, nothing_added, one_added}
 
 -- An accepted command leads to worlds that are alike, and says the same where it concerns the session.
 pub record Same (n : List ℕ) (w x : World) (e : Event) (o p : Outcome) (v u : World) : Type 0 where
@@ -131,7 +131,7 @@ halts : (m : List ℕ) (w : World) → Halts m w
 halts m w = record {
   ops = if_stopped (λ p. commanded (with_op_if p (without_life m w)).ops ≡ commanded w.ops) w reason.Stopped (life_of w m) refl (λ l id e f. commanded-push w.ops (op.Lost id reason.Stopped) ∙ append-nil (commanded w.ops));
   lives = op_if_lives (kept_at_end w reason.Stopped (life_of w m)) (without_life m w);
-  adds = if_stopped (λ p. added w (with_op_if p (without_life m w)) ≡ []) w reason.Stopped (life_of w m) (none_told w (without_life m w) refl) (λ l id e f. reason_told w (without_life m w) id reason.Stopped refl);
+  adds = if_stopped (λ p. added w (with_op_if p (without_life m w)) ≡ []) w reason.Stopped (life_of w m) (none_reported w (without_life m w) refl) (λ l id e f. reason_reported w (without_life m w) id reason.Stopped refl);
 }
 
 stopped : (n m : List ℕ) (w x : World) → AreAlike n w x → Same n w x (event.Command (command.Stop m)) (stops (life_of w m)) (stops (life_of x m)) (halted m w) (halted m x)

@@ -11,7 +11,7 @@ use Rattle.worksheet.specs.declared.op.Op.{Op}
 use Rattle.worksheet.specs.declared.op.Op.TheVariants as op
 use Rattle.worksheet.specs.declared.field.Field.{Field}
 use Rattle.worksheet.specs.declared.field.Answer.{Answer}
-use Rattle.worksheet.specs.Ops.{next_of, next_after, order_after, is_about, field_of, placed, put_behind}
+use Rattle.worksheet.specs.Ops.{next_of, next_after, order_after, is_about, field_of, placed, put_after}
 use Rattle.worksheet.specs.inside.Words.{order_of, without}
 use Rattle.worksheet.specs.Edits.{AllBelow}
 use Rattle.worksheet.specs.Checks.{numbers}
@@ -180,20 +180,20 @@ found_owner os bound id (j ∷ ids) below h = go (j == id) refl h (found_owner o
     go true e h rest = let same : j ≡ id = grind (arith, nat_tests, e) in (subst (λ (k : ℕ). k < bound) same below.0, ap (λ (k : ℕ). (field_of os k).session) same)
     go false e h rest = rest h
 
-below_behind : (bound x : ℕ) (test : ℕ → Bool) (ids : List ℕ) → AllBelow bound ids → x < bound → AllBelow bound (put_behind test x ids)
-below_behind bound x test [] below h = tt
-below_behind bound x test (j ∷ ids) below h = go (test j) (below_behind bound x test ids below.1 h)
+below_after : (bound x : ℕ) (test : ℕ → Bool) (ids : List ℕ) → AllBelow bound ids → x < bound → AllBelow bound (put_after test x ids)
+below_after bound x test [] below h = tt
+below_after bound x test (j ∷ ids) below h = go (test j) (below_after bound x test ids below.1 h)
   where
-    go : (c : Bool) → AllBelow bound (put_behind test x ids) → AllBelow bound (if c then j ∷ x ∷ ids else j ∷ put_behind test x ids)
+    go : (c : Bool) → AllBelow bound (put_after test x ids) → AllBelow bound (if c then j ∷ x ∷ ids else j ∷ put_after test x ids)
     go true rest = (below.0, (h, below.1))
     go false rest = (below.0, rest)
 
 below_placed : (bound after x : ℕ) (ids : List ℕ) → AllBelow bound ids → x < bound → AllBelow bound (placed after x ids)
 below_placed bound after x ids below h = go (after == 0)
   where
-    go : (c : Bool) → AllBelow bound (if c then x ∷ ids else put_behind (λ other. other == after) x ids)
+    go : (c : Bool) → AllBelow bound (if c then x ∷ ids else put_after (λ other. other == after) x ids)
     go true = (h, below)
-    go false = below_behind bound x (λ other. other == after) ids below h
+    go false = below_after bound x (λ other. other == after) ids below h
 
 below_without : (bound x : ℕ) (ids : List ℕ) → AllBelow bound ids → AllBelow bound (without x ids)
 below_without bound x [] below = tt

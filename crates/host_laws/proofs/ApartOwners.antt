@@ -26,7 +26,7 @@ use Rattle.plugin_core.specs.declared.step.Answered.{Answered}
 use Rattle.plugin_core.specs.declared.step.Answered.TheVariants as answered
 use Rattle.plugin_core.specs.Past.{received, items_of}
 use Rattle.plugin_core.specs.Answers.{answers_of}
-use Rattle.plugin_core.specs.Items.{answer_behind, answer_to, prompt_of}
+use Rattle.plugin_core.specs.Items.{answer_following, answer_to, prompt_of}
 use Rattle.plugin_core.specs.Steps.{step_of}
 use Rattle.plugin_core.specs.inside.Words.{answered_with}
 use Rattle.plugin_core.specs.Steps.{closed_by as closed_in}
@@ -201,7 +201,7 @@ answer_owned os l b own = go (answers_of l.past l.blocks)
     line (Some (item.Line id text)) has = (has (item.Line id text) refl).1
     line (Some (item.Complete id text cursor)) has = tt
 
-    go : (answers : List Outer) → AnswerOwned os l.name (answer_behind answers (items_of l.past) (prompt_of l.past l.blocks) b.block)
+    go : (answers : List Outer) → AnswerOwned os l.name (answer_following answers (items_of l.past) (prompt_of l.past l.blocks) b.block)
     go [] = tt
     go (a ∷ answers) = line (slice_get (items_of l.past) (length answers)) (λ i e. item_at (HasOwner os l.name) (length answers) (items_of l.past) i e own)
 

@@ -8,7 +8,7 @@ use Rattle.host_events.specs.declared.event.Event.TheVariants as event
 use Rattle.host_events.specs.declared.outcome.Outcome.{Outcome}
 use Rattle.session_engine.specs.World.{World}
 use Rattle.session_engine.specs.Does.{Gives, Runs}
-use Rattle.host_laws.specs.Apart.{AreAlike, SessionsAreIndependent, Told, told_to, session_tells, life_numbers, NoneRefused, kept, is_kept, concerns, begins, is_refusal_reply, added}
+use Rattle.host_laws.specs.Apart.{AreAlike, SessionsAreIndependent, Reported, reported_to, session_tells, life_numbers, NoneRefused, kept, is_kept, concerns, begins, is_refusal_reply, added}
 use Rattle.host_laws.proofs.ByParts.{by_parts}
 use Rattle.host_laws.proofs.ApartLives.{same_name}
 use Rattle.host_laws.proofs.ApartSteps.{alike_back, alike_on, other_child, own_child}
@@ -34,8 +34,8 @@ both one n w x (event.Child m number c) o p v u k a g h q r b =
     let r = own_child one n w x number c o p v u a (by_parts w (event.Child n number c) o v g2) (by_parts x (event.Child n number c) p u h2) in
     record { alike = r.alike; about = refl; says = λ t. r.says; adds = r.adds }
 
-told_alike : (n : List ℕ) (w x : World) (e : Event) (o p : Outcome) (v u : World) → Same n w x e o p v u → told_to n w e o v ≡ told_to n x e p u
-told_alike n w x e o p v u s =
+reported_alike : (n : List ℕ) (w x : World) (e : Event) (o p : Outcome) (v u : World) → Same n w x e o p v u → reported_to n w e o v ≡ reported_to n x e p u
+reported_alike n w x e o p v u s =
     ap (λ (k : Option Outcome). record { event = e; outcome = k; ops = added w v }) (go (concerns n w e) s.says ∙ ap (λ (b : Bool). if b then Some p else None) s.about)
     ∙ ap (λ (os : List Op). record { event = e; outcome = if concerns n x e then Some p else None; ops = os }) s.adds
   where
@@ -55,7 +55,7 @@ none_left n x (f ∷ fs) [] u other h = absurd other
 none_left n x (f ∷ fs) (p ∷ ps) u other h = go (is_kept n f) refl h (none_left n other.0 fs ps u other.2)
   where
     go : (b : Bool) → is_kept n f ≡ b → (if b then f ∷ kept n fs else kept n fs) ≡ [] → (kept n fs ≡ [] → (session_tells n other.0 fs ps u other.2 ≡ []) × AreAlike n other.0 u)
-        → ((if b then told_to n x f p other.0 ∷ session_tells n other.0 fs ps u other.2 else session_tells n other.0 fs ps u other.2) ≡ []) × AreAlike n x u
+        → ((if b then reported_to n x f p other.0 ∷ session_tells n other.0 fs ps u other.2 else session_tells n other.0 fs ps u other.2) ≡ []) × AreAlike n x u
     go true k h ih = cc
     go false k h ih = let g = ih h in (g.0, alike_on n x other.0 u (other_gives n x f p other.0 k other.1) g.1)
 
@@ -66,7 +66,7 @@ skip_right n w x es fs f os ps p v u k law a run other q r h m =
     let b = other_gives n x f p other.0 k other.1 in
     let g = law other.0 (alike_on n w x other.0 a b) run other.2 q r.1 (h ∙ ap (λ (b : Bool). if b then f ∷ kept n fs else kept n fs) k)
     (m ∙ ap (λ (ks : List ℕ). ks ++ life_numbers n other.0 fs ps u other.2) (begins_not n x f k)) in
-    (g.0 ∙ sym (ap (λ (b : Bool). if b then told_to n x f p other.0 ∷ session_tells n other.0 fs ps u other.2 else session_tells n other.0 fs ps u other.2) k), g.1)
+    (g.0 ∙ sym (ap (λ (b : Bool). if b then reported_to n x f p other.0 ∷ session_tells n other.0 fs ps u other.2 else session_tells n other.0 fs ps u other.2) k), g.1)
 
 -- an event of others on the left
 skip_left : (n : List ℕ) (w x : World) (es fs : List Event) (e : Event) (os ps : List Outcome) (o : Outcome) (v u : World) → is_kept n e ≡ false
@@ -75,7 +75,7 @@ skip_left n w x es fs e os ps o v u k law a run other q r h m =
     let b = other_gives n w e o run.0 k run.1 in
     let g = law run.0 (alike_on n run.0 w x (alike_back n w run.0 b) a) run.2 other q.1 r (sym (ap (λ (b : Bool). if b then e ∷ kept n es else kept n es) k) ∙ h)
     (sym (ap (λ (ks : List ℕ). ks ++ life_numbers n run.0 es os v run.2) (begins_not n w e k)) ∙ m) in
-    (ap (λ (b : Bool). if b then told_to n w e o run.0 ∷ session_tells n run.0 es os v run.2 else session_tells n run.0 es os v run.2) k ∙ g.0, g.1)
+    (ap (λ (b : Bool). if b then reported_to n w e o run.0 ∷ session_tells n run.0 es os v run.2 else session_tells n run.0 es os v run.2) k ∙ g.0, g.1)
 
 tail_is : (e f : Event) (xs ys : List Event) → e ∷ xs ≡ f ∷ ys → (e ≡ f) × (xs ≡ ys)
 tail_is e f xs ys h = (cc, cc)
@@ -88,11 +88,11 @@ take_both one n w x es fs e os ps o p v u k law a run other q r h m =
     let s = both one n w x e o p run.0 other.0 k a run.1 other.1 q.0 r.0 b.0 in
     let j : e ∷ kept n es ≡ e ∷ kept n fs = sym (ap (λ (b : Bool). if b then e ∷ kept n es else kept n es) k) ∙ h ∙ ap (λ (b : Bool). if b then e ∷ kept n fs else kept n fs) k in
     let g = law run.0 other.0 s.alike run.2 other.2 q.1 r.1 (tail_is e e (kept n es) (kept n fs) j).1 b.1 in
-    let t = told_alike n w x e o p run.0 other.0 s in (
-      ap (λ (b : Bool). if b then told_to n w e o run.0 ∷ session_tells n run.0 es os v run.2 else session_tells n run.0 es os v run.2) k
-          ∙ ap (λ (d : Told). d ∷ session_tells n run.0 es os v run.2) t
-          ∙ ap (λ (ds : List Told). told_to n x e p other.0 ∷ ds) g.0
-          ∙ sym (ap (λ (b : Bool). if b then told_to n x e p other.0 ∷ session_tells n other.0 fs ps u other.2 else session_tells n other.0 fs ps u other.2) k),
+    let t = reported_alike n w x e o p run.0 other.0 s in (
+      ap (λ (b : Bool). if b then reported_to n w e o run.0 ∷ session_tells n run.0 es os v run.2 else session_tells n run.0 es os v run.2) k
+          ∙ ap (λ (d : Reported). d ∷ session_tells n run.0 es os v run.2) t
+          ∙ ap (λ (ds : List Reported). reported_to n x e p other.0 ∷ ds) g.0
+          ∙ sym (ap (λ (b : Bool). if b then reported_to n x e p other.0 ∷ session_tells n other.0 fs ps u other.2 else session_tells n other.0 fs ps u other.2) k),
       g.1,
     )
 

@@ -23,16 +23,16 @@ use Rattle.host_events.specs.declared.outcome.Effect.TheVariants as effect
 use Rattle.host_events.specs.declared.reply.Closed.{Closed}
 use Rattle.host_events.specs.declared.reply.Reply.TheVariants as reply
 use Rattle.session_engine.specs.World.{World, Going, life_of, with_number, session_of_field}
-use Rattle.session_engine.specs.inside.Words.{line_of_field, request_of_field, told_of}
-use Rattle.session_engine.specs.Does.{ends, replies, refused, told_with, sends_or_kills, closed_told}
+use Rattle.session_engine.specs.inside.Words.{line_of_field, request_of_field, reported_of}
+use Rattle.session_engine.specs.Does.{ends, replies, refused, reported_with, sends_or_kills, closed_reported}
 use Rattle.host_laws.specs.inside.Given.{Commanded, Childed, stops, outcome_of, GivesByParts}
 use Rattle.session_engine.specs.inside.Parts.{asks}
 use Rattle.session_engine.specs.Refused.{command_refusals}
-use Rattle.host_laws.specs.Apart.{OthersAreSilent, concerns, is_told, is_on}
+use Rattle.host_laws.specs.Apart.{OthersAreSilent, concerns, is_reported, is_on}
 use Rattle.host_laws.proofs.ApartLives.{first_has}
 
 abbrev Silent : List ℕ → Outcome → Type 0
-Silent n o = (is_told n o.reply ≡ false) × (is_on n o.effect ≡ false)
+Silent n o = (is_reported n o.reply ≡ false) × (is_on n o.effect ≡ false)
 
 said : (n : List ℕ) (o p : Outcome) → o ≡ p → Silent n p → Silent n o
 said n o p e s = subst (Silent n) (sym e) s
@@ -46,16 +46,16 @@ sent_silent n m number None None h = refl
 sent_silent n m number (Some bytes) None h = h
 sent_silent n m number send (Some e) h = h
 
-told_silent : (n m : List ℕ) (number : ℕ) (c : Option Closed) (default send : Option (List ℕ)) (e : Option Ended) → bytes_eq m n ≡ false → Silent n (told_with m number c default send e)
-told_silent n m number None default send None h = (refl, refl)
-told_silent n m number (Some a) default send e h = (h, sent_silent n m number send e h)
-told_silent n m number None default send (Some e) h = (h, h)
+reported_silent : (n m : List ℕ) (number : ℕ) (c : Option Closed) (default send : Option (List ℕ)) (e : Option Ended) → bytes_eq m n ≡ false → Silent n (reported_with m number c default send e)
+reported_silent n m number None default send None h = (refl, refl)
+reported_silent n m number (Some a) default send e h = (h, sent_silent n m number send e h)
+reported_silent n m number None default send (Some e) h = (h, h)
 
 life_silent : (n : List ℕ) (w : World) (l : Going) (c : ChildEvent) (o : Outcome) (v : World) → bytes_eq l.name n ≡ false → Childed w (Some l) c o v → Silent n o
 life_silent n w l child.StartRefused o v h g = said n o (ends l reason.StartRefused false) g.0 (end_silent n l reason.StartRefused false h)
 life_silent n w l (child.Piece piece) o v h g =
     let s : Step = step_of l.past l.blocks piece g.0 g.1 in
-    said n o (told_of l s) g.2.1 (told_silent n l.name l.number (closed_told s.answered) s.default_input s.send s.ended h)
+    said n o (reported_of l s) g.2.1 (reported_silent n l.name l.number (closed_reported s.answered) s.default_input s.send s.ended h)
 life_silent n w l child.End o v h g = said n o (ends l reason.Ended true) g.0 (end_silent n l reason.Ended true h)
 life_silent n w l child.ReadFault o v h g = said n o (ends l reason.ReadFault true) g.0 (end_silent n l reason.ReadFault true h)
 life_silent n w l child.SendFault o v h g = said n o (ends l reason.SendFault true) g.0 (end_silent n l reason.SendFault true h)

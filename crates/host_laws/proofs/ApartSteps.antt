@@ -23,7 +23,7 @@ use Rattle.host_events.specs.declared.outcome.Outcome.{Outcome}
 use Rattle.host_events.specs.declared.reply.Reply.TheVariants as reply
 use Rattle.session_engine.specs.Named.{without_named, replace_named}
 use Rattle.session_engine.specs.World.{World, Going, kept_at_end, life_of, waiting_in, with_number, with_op_if}
-use Rattle.session_engine.specs.inside.Words.{with_op, with_piece, told_of}
+use Rattle.session_engine.specs.inside.Words.{with_op, with_piece, reported_of}
 use Rattle.session_engine.specs.Does.{op_by, ends, replies}
 use Rattle.host_laws.specs.inside.Given.{Childed, Ended_by, Pieced, Ignored, GivesByParts}
 use Rattle.session_engine.specs.inside.Parts.{without_life, goes_on}
@@ -72,14 +72,14 @@ pub one_added : (w x : World) (o : Op) → but_reasons (drop (length w.ops) (w.o
 one_added w x o = ap but_reasons (drop_length w.ops (o ∷ []) ∙ sym (drop_length x.ops (o ∷ [])))
 
 -- a reason isn't reported, and is no op that was commanded
-pub none_told : (w u : World) → u.ops ≡ w.ops → added w u ≡ []
-none_told w u e = ap but_reasons (ap (λ (l : List Op). drop (length w.ops) l) e ∙ drop_itself w.ops)
+pub none_reported : (w u : World) → u.ops ≡ w.ops → added w u ≡ []
+none_reported w u e = ap but_reasons (ap (λ (l : List Op). drop (length w.ops) l) e ∙ drop_itself w.ops)
 
-pub reason_told : (w u : World) (id : ℕ) (why : Reason) → u.ops ≡ w.ops → added w (with_op (op.Lost id why) u) ≡ []
-reason_told w u id why e = ap but_reasons (ap (λ (l : List Op). drop (length w.ops) (l ++ op.Lost id why ∷ [])) e ∙ drop_length w.ops (op.Lost id why ∷ []))
+pub reason_reported : (w u : World) (id : ℕ) (why : Reason) → u.ops ≡ w.ops → added w (with_op (op.Lost id why) u) ≡ []
+reason_reported w u id why e = ap but_reasons (ap (λ (l : List Op). drop (length w.ops) (l ++ op.Lost id why ∷ [])) e ∙ drop_length w.ops (op.Lost id why ∷ []))
 
-pub kept_told : (room end : ℕ) (why : Reason) (line : Option ℕ) (w u : World) → u.ops ≡ w.ops → added w (with_op_if (kept_for room end why line) u) ≡ []
-kept_told room end why line w u e = if_lost (λ p. added w (with_op_if p u) ≡ []) room end why line (none_told w u e) (λ id f. reason_told w u id why e)
+pub kept_reported : (room end : ℕ) (why : Reason) (line : Option ℕ) (w u : World) → u.ops ≡ w.ops → added w (with_op_if (kept_for room end why line) u) ≡ []
+kept_reported room end why line w u e = if_lost (λ p. added w (with_op_if p u) ≡ []) room end why line (none_reported w u e) (λ id f. reason_reported w u id why e)
 
 pub kept_commanded : (room end : ℕ) (why : Reason) (line : Option ℕ) (u : World) → commanded (with_op_if (kept_for room end why line) u).ops ≡ commanded u.ops
 kept_commanded room end why line u = if_lost (λ p. commanded (with_op_if p u).ops ≡ commanded u.ops) room end why line refl (λ id f. commanded-push u.ops (op.Lost id why) ∙ append-nil (commanded u.ops))
@@ -108,7 +108,7 @@ own_end w x l why killed a =
     record {
       alike = lost_alike l.name w x (without_life l.name w) (without_life l.name x) why line (record { ops = a.ops; lives = own_gone l.name w x a });
       says = refl;
-      adds = kept_told w.room w.end why line w (without_life l.name w) refl ∙ sym (kept_told x.room x.end why line x (without_life l.name x) refl);
+      adds = kept_reported w.room w.end why line w (without_life l.name w) refl ∙ sym (kept_reported x.room x.end why line x (without_life l.name x) refl);
     }
 
 own_on : (w x : World) (l y : Going) (e : Option Ended) → y.name ≡ l.name → AreAlike l.name w x → AreAlike l.name (goes_on y e w) (goes_on y e x)
@@ -142,7 +142,7 @@ module _ (w x : World) (l y : Going) (o : Outcome) (e : Option Ended) (s : y.nam
   an_end why line = record {
     alike = lost_alike l.name w x (goes_on y e w) (goes_on y e x) why line (own_on w x l y e s a);
     says = refl;
-    adds = kept_told w.room w.end why line w (goes_on y e w) (ops_kept y e w) ∙ sym (kept_told x.room x.end why line x (goes_on y e x) (ops_kept y e x));
+    adds = kept_reported w.room w.end why line w (goes_on y e w) (ops_kept y e w) ∙ sym (kept_reported x.room x.end why line x (goes_on y e x) (ops_kept y e x));
   }
 
 own_step : (w x : World) (l y : Going) (o : Outcome) (p : Option Answered) (e : Option Ended) → y.name ≡ l.name → AreAlike l.name w x
@@ -159,12 +159,12 @@ own_piece one w x l piece o p v u a g h =
     let r = one (stream_of (l.past ++ received piece ∷ [])) g.0 h.0 g.1 h.1 g.2.0 h.2.0 in
     let s : step_of l.past l.blocks piece g.0 g.1 ≡ step_of l.past l.blocks piece h.0 h.1 = ap (λ (bs : List Outer). step_of l.past l.blocks piece bs g.1) r.0 ∙ ap (λ (k : Option Kind). step_of l.past l.blocks piece h.0 k) r.1 in
     let mine : Step = step_of l.past l.blocks piece g.0 g.1 in
-    moved l.name w x o p v u (told_of l mine) (told_of l mine) (with_op_if (op_by w.room w.end mine.answered mine.ended) (goes_on (with_piece l piece g.0) mine.ended w))
+    moved l.name w x o p v u (reported_of l mine) (reported_of l mine) (with_op_if (op_by w.room w.end mine.answered mine.ended) (goes_on (with_piece l piece g.0) mine.ended w))
     (with_op_if (op_by x.room x.end mine.answered mine.ended) (goes_on (with_piece l piece g.0) mine.ended x))
-    g.2.1 (h.2.1 ∙ ap (λ (t : Step). told_of l t) (sym s)) g.2.2
+    g.2.1 (h.2.1 ∙ ap (λ (t : Step). reported_of l t) (sym s)) g.2.2
     (h.2.2 ∙ ap (λ (t : Step). with_op_if (op_by x.room x.end t.answered t.ended) (goes_on (with_piece l piece h.0) t.ended x)) (sym s)
     ∙ ap (λ (bs : List Outer). with_op_if (op_by x.room x.end mine.answered mine.ended) (goes_on (with_piece l piece bs) mine.ended x)) (sym r.0))
-    (own_step w x l (with_piece l piece g.0) (told_of l mine) mine.answered mine.ended refl a)
+    (own_step w x l (with_piece l piece g.0) (reported_of l mine) mine.answered mine.ended refl a)
 
 ignored : (n : List ℕ) (w x : World) (o p : Outcome) (v u : World) → AreAlike n w x → Ignored w o v → Ignored x p u → Gives_alike n w x o p v u
 ignored n w x o p v u a g h = moved n w x o p v u (replies reply.Nothing) (replies reply.Nothing) w x g.0 h.0 g.1 h.1 (record { alike = a; says = refl; adds = nothing_added w x w.ops x.ops refl refl })

@@ -51,17 +51,17 @@ stands_without w old new edits is (Err lacks.Disk) m none = absurd none
 
 module _ (room : ℕ) (before : Image) (found : List Op) (opened : HostView) (begun : JustOpened room before found opened) where
   -- the host stands for the world that the events lead to
-  stands_after : (events : List Event) (told : List Outcome) (old : HostView) → TookByCalls opened events told old
-      → (w : World) × Runs (world_at_opening found room opened.store.end) events told w × IsHost old w
-  stands_after events told old no_call = (world_at_opening found room opened.store.end, refl, begun.stands)
-  stands_after events told old (and_step {mid = mid} {e = e} {o = o} {events = es} {told = os} calls meets) =
+  stands_after : (events : List Event) (reported : List Outcome) (old : HostView) → TookByCalls opened events reported old
+      → (w : World) × Runs (world_at_opening found room opened.store.end) events reported w × IsHost old w
+  stands_after events reported old no_call = (world_at_opening found room opened.store.end, refl, begun.stands)
+  stands_after events reported old (and_step {mid = mid} {e = e} {o = o} {events = es} {reported = os} calls meets) =
       let at = stands_after es os mid calls in
       let met = meets at.0 at.2 in
       (steps_are_turns room opened.store.end before found begun.allowed begun.image begun.ends es os at.0 at.1 e mid old (Ok o) at.2 met.0 met.1).1.0
-  stands_after events told old (and_group {mid = mid} {group = group} {outcomes = outcomes} {events = es} {told = os} calls meets) =
+  stands_after events reported old (and_group {mid = mid} {group = group} {outcomes = outcomes} {events = es} {reported = os} calls meets) =
       let at = stands_after es os mid calls in
       (groups_are_turns room opened.store.end before found begun.allowed begun.image begun.ends es os at.0 at.1 group mid old (Ok outcomes) at.2 meets).2
-  stands_after events told old (and_group_up_to {mid = mid} {group = group} {outcomes = outcomes} {events = es} {told = os} calls meets) =
+  stands_after events reported old (and_group_up_to {mid = mid} {group = group} {outcomes = outcomes} {events = es} {reported = os} calls meets) =
       let at = stands_after es os mid calls in
       let played = (meets.took at.0 at.2).played in
       let taken : take (length outcomes.items) group ≡ played.done =
@@ -71,48 +71,48 @@ module _ (room : ℕ) (before : Image) (found : List Op) (opened : HostView) (be
             (runs_on (world_at_opening found room opened.store.end) es os at.0 played.done outcomes.items played.leads at.1 played.runs),
         played.stands,
       )
-  stands_after events told old (and_given_back {mid = mid} {group = group} {answer = answer} calls meets gave) =
-      let at = stands_after events told mid calls in
+  stands_after events reported old (and_given_back {mid = mid} {group = group} {answer = answer} calls meets gave) =
+      let at = stands_after events reported mid calls in
       (at.0, at.1, ⊎_elim (λ m. stands_given_back at.0 mid old group at.2 answer m gave) (λ m. stands_given_back_up_to at.0 mid old group at.2 answer m gave) meets)
-  stands_after events told old (and_whole {mid = mid} {edits = edits} {outcomes = outcomes} {events = es} {told = os} calls meets) =
+  stands_after events reported old (and_whole {mid = mid} {edits = edits} {outcomes = outcomes} {events = es} {reported = os} calls meets) =
       let at = stands_after es os mid calls in
       (groups_are_turns room opened.store.end before found begun.allowed begun.image begun.ends es os at.0 at.1 edits mid old (Ok outcomes) at.2 (as_group edits outcomes mid old meets)).2
-  stands_after events told old (and_none {mid = mid} {edits = edits} {answer = answer} calls meets none) =
-      let at = stands_after events told mid calls in
+  stands_after events reported old (and_none {mid = mid} {edits = edits} {answer = answer} calls meets none) =
+      let at = stands_after events reported mid calls in
       (at.0, at.1, stands_without at.0 mid old edits at.2 answer meets none)
 
   -- a crash within commands more that are taken as a whole, and one after them
-  within_whole : (events : List Event) (told : List Outcome) (old : HostView) (w : World) → Runs (world_at_opening found room opened.store.end) events told w → IsHost old w
+  within_whole : (events : List Event) (reported : List Outcome) (old : HostView) (w : World) → Runs (world_at_opening found room opened.store.end) events reported w → IsHost old w
       → (edits : List Event) (answer : Result Whole WholeFault) (new : HostView) → WholeMeets edits old answer new
-      → CrashesAreTurns room before found (record { events = events ++ edits; told = told }) old.store.disk new.store.disk
-      × CrashesAreTurns room before found (record { events = events ++ edits; told = told ++ whole_returned answer }) new.store.disk new.store.disk
-  within_whole events told old w run is edits answer new meets =
-      wholes_are_turns room opened.store.end before found begun.allowed begun.image begun.ends events told w run edits old new answer is meets
+      → CrashesAreTurns room before found (record { events = events ++ edits; reported = reported }) old.store.disk new.store.disk
+      × CrashesAreTurns room before found (record { events = events ++ edits; reported = reported ++ whole_returned answer }) new.store.disk new.store.disk
+  within_whole events reported old w run is edits answer new meets =
+      wholes_are_turns room opened.store.end before found begun.allowed begun.image begun.ends events reported w run edits old new answer is meets
 
   -- a crash within one group more that stops at a refusal, and one after it
-  within_up_to : (events : List Event) (told : List Outcome) (old : HostView) (w : World) → Runs (world_at_opening found room opened.store.end) events told w → IsHost old w
+  within_up_to : (events : List Event) (reported : List Outcome) (old : HostView) (w : World) → Runs (world_at_opening found room opened.store.end) events reported w → IsHost old w
       → (group : List Event) (answer : Result (Vec Outcome Global) GroupFault) (new : HostView) → UpToMeets group old answer new
-      → CrashesAreTurns room before found (record { events = events ++ group; told = told }) old.store.disk new.store.disk
-      × CrashesAreTurns room before found (record { events = events ++ group; told = told ++ returned answer }) new.store.disk new.store.disk
-  within_up_to events told old w run is group answer new meets =
-      let left = groups_up_to_are_turns room opened.store.end before found begun.allowed begun.image begun.ends events told w run group old new answer is meets in
+      → CrashesAreTurns room before found (record { events = events ++ group; reported = reported }) old.store.disk new.store.disk
+      × CrashesAreTurns room before found (record { events = events ++ group; reported = reported ++ returned answer }) new.store.disk new.store.disk
+  within_up_to events reported old w run is group answer new meets =
+      let left = groups_up_to_are_turns room opened.store.end before found begun.allowed begun.image begun.ends events reported w run group old new answer is meets in
       (left.0, left.1)
 
   -- a crash within one group more, and one after it
-  within_group : (events : List Event) (told : List Outcome) (old : HostView) (w : World) → Runs (world_at_opening found room opened.store.end) events told w → IsHost old w
+  within_group : (events : List Event) (reported : List Outcome) (old : HostView) (w : World) → Runs (world_at_opening found room opened.store.end) events reported w → IsHost old w
       → (group : List Event) (answer : Result (Vec Outcome Global) GroupFault) (new : HostView) → GroupMeets group old answer new
-      → CrashesAreTurns room before found (record { events = events ++ group; told = told }) old.store.disk new.store.disk
-      × CrashesAreTurns room before found (record { events = events ++ group; told = told ++ returned answer }) new.store.disk new.store.disk
-  within_group events told old w run is group answer new meets =
-      let left = groups_are_turns room opened.store.end before found begun.allowed begun.image begun.ends events told w run group old new answer is meets in
+      → CrashesAreTurns room before found (record { events = events ++ group; reported = reported }) old.store.disk new.store.disk
+      × CrashesAreTurns room before found (record { events = events ++ group; reported = reported ++ returned answer }) new.store.disk new.store.disk
+  within_group events reported old w run is group answer new meets =
+      let left = groups_are_turns room opened.store.end before found begun.allowed begun.image begun.ends events reported w run group old new answer is meets in
       (left.0, left.1)
 
 pub calls_leave_prefixes : CallsLeavePrefixes
-calls_leave_prefixes room before found opened begun events told old calls =
-    let at = stands_after room before found opened begun events told old calls in (
-      after room before found opened begun events told old at.0 at.1 at.2,
-      within room before found opened begun events told old at.0 at.1 at.2,
-      within_group room before found opened begun events told old at.0 at.1 at.2,
-      within_up_to room before found opened begun events told old at.0 at.1 at.2,
-      within_whole room before found opened begun events told old at.0 at.1 at.2,
+calls_leave_prefixes room before found opened begun events reported old calls =
+    let at = stands_after room before found opened begun events reported old calls in (
+      after room before found opened begun events reported old at.0 at.1 at.2,
+      within room before found opened begun events reported old at.0 at.1 at.2,
+      within_group room before found opened begun events reported old at.0 at.1 at.2,
+      within_up_to room before found opened begun events reported old at.0 at.1 at.2,
+      within_whole room before found opened begun events reported old at.0 at.1 at.2,
     )

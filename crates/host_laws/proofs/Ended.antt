@@ -93,7 +93,7 @@ of_no_life w child.Stalled d is = is
 of_no_life w child.StopFault d is = is
 
 pub nothing_of_an_ended_life : NothingOfAnEndedLife
-nothing_of_an_ended_life ops room end es os w run name number le ended later told v more e d may =
+nothing_of_an_ended_life ops room end es os w run name number le ended later reported v more e d may =
     let nil = none_left name number w (numbered_run (world_at_opening ops room end) es os w (numbered_first ops room end) run) ended in
-    let none = not_on name number v.lives (ended_run name number w later told v more le nil) in
+    let none = not_on name number v.lives (ended_run name number w later reported v more le nil) in
     of_no_life v e d (subst (λ (o : Option Going). ChildDoes v o e d) none may)

@@ -16,7 +16,7 @@ use Rattle.host_events.specs.declared.reply.Reply.TheVariants as reply
 use Rattle.session_engine.specs.World.{World, world_at_opening, life_of, waiting_in}
 use Rattle.session_engine.specs.inside.Words.{request_of_field, begun_with}
 use Rattle.session_engine.specs.Refused.{command_refusals}
-use Rattle.session_engine.specs.Does.{behind, does, ends_life, replies, MayDo}
+use Rattle.session_engine.specs.Does.{following, does, ends_life, replies, MayDo}
 
 -- session a with the word p, and its fields 1 (x) and 2 (y)
 
@@ -40,17 +40,17 @@ start = world_at_opening ops 1000 53
 
 -- field 1 was evaluated
 abbrev asked : World
-asked = behind start (does start (command.Eval 1))
+asked = following start (does start (command.Eval 1))
 
 -- and then field 2
 abbrev asked_twice : World
-asked_twice = behind asked (does asked (command.Eval 2))
+asked_twice = following asked (does asked (command.Eval 2))
 
 -- the first evaluation begins life 1 with the session's words, and the second joins it
-begins_a_life : (does start (command.Eval 1)).told ≡ record { reply = reply.Asked 1; effect = Some (effect.Start a 1 (p ∷ [])) }
+begins_a_life : (does start (command.Eval 1)).reported ≡ record { reply = reply.Asked 1; effect = Some (effect.Start a 1 (p ∷ [])) }
 begins_a_life = refl
 
-joins_the_life : (does asked (command.Eval 2)).told ≡ replies (reply.Asked 1)
+joins_the_life : (does asked (command.Eval 2)).reported ≡ replies (reply.Asked 1)
 joins_the_life = refl
 
 -- a field in flight isn't set, removed, cleared or evaluated, and may be moved
@@ -70,7 +70,7 @@ not_moved : first_of (command_refusals asked (command.Move 1 0)) ≡ Some refusa
 not_moved = refl
 
 -- at the end of the life both lines are lost, in order, and the child is killed
-end_loses_both : (ends_life asked_twice reason.Ended true (life_of asked_twice a) reply.Nothing).told
+end_loses_both : (ends_life asked_twice reason.Ended true (life_of asked_twice a) reply.Nothing).reported
     ≡ record {
       reply = reply.Child (record { name = a; life = 1; closed = None; default_input = None; ended = Some (record { reason = reason.Ended; lost = item.Line 1 x ∷ item.Line 2 y ∷ [] }) });
       effect = Some (effect.Kill a 1);
@@ -79,13 +79,13 @@ end_loses_both = refl
 
 -- the start of life 1 is refused, and the next life has number 2
 abbrev refused_start : World
-refused_start = behind asked (ends_life asked reason.StartRefused false (life_of asked a) reply.Nothing)
+refused_start = following asked (ends_life asked reason.StartRefused false (life_of asked a) reply.Nothing)
 
-next_life : (does refused_start (command.Eval 1)).told ≡ record { reply = reply.Asked 2; effect = Some (effect.Start a 2 (p ∷ [])) }
+next_life : (does refused_start (command.Eval 1)).reported ≡ record { reply = reply.Asked 2; effect = Some (effect.Start a 2 (p ∷ [])) }
 next_life = refl
 
 -- an event of a life that doesn't go on does nothing
-stale : MayDo refused_start (event.Child a 1 child.End) (record { told = replies reply.Nothing; op = None; anew = false; begun = 1; lives = [] })
+stale : MayDo refused_start (event.Child a 1 child.End) (record { reported = replies reply.Nothing; op = None; again = false; begun = 1; lives = [] })
 stale = refl
 
 -- where the record of the Clear ends past the room, an evaluation is refused
@@ -106,7 +106,7 @@ no_session : first_of (command_refusals start (command.Stop p)) ≡ Some refusal
 no_session = refl
 
 -- a session that isn't running is stopped already
-already_down : (does start (command.Stop a)).told ≡ replies reply.Done
+already_down : (does start (command.Stop a)).reported ≡ replies reply.Done
 already_down = refl
 
 -- Completions: the session, but one whose interpreter answers requests, and field 1 with the character of the bytes 195 and 169.
@@ -132,13 +132,13 @@ at_the_end : first_of (command_refusals with_tab (command.Complete 1 2)) ≡ Non
 at_the_end = refl
 
 -- a request begins a life like a line, gives no op, and leaves its field free
-asks_for_completions : (does with_tab (command.Complete 1 2)).told ≡ record { reply = reply.Asked 1; effect = Some (effect.Start a 1 (p ∷ [])) }
+asks_for_completions : (does with_tab (command.Complete 1 2)).reported ≡ record { reply = reply.Asked 1; effect = Some (effect.Start a 1 (p ∷ [])) }
 asks_for_completions = refl
 
 no_op : (does with_tab (command.Complete 1 2)).op ≡ None
 no_op = refl
 
-still_free : first_of (command_refusals (behind with_tab (does with_tab (command.Complete 1 2))) (command.Remove 1)) ≡ None
+still_free : first_of (command_refusals (following with_tab (does with_tab (command.Complete 1 2))) (command.Remove 1)) ≡ None
 still_free = refl
 
 -- it keeps the field's input
@@ -149,9 +149,9 @@ keeps_its_text = refl
 text_in_its_place : (does with_tab (command.CompleteText 1 1 x)).lives ≡ begun_with with_tab a (item.Complete 1 x 1) ∷ []
 text_in_its_place = refl
 
-behind_its_text : first_of (command_refusals with_tab (command.CompleteText 1 1 x)) ≡ None
+after_its_text : first_of (command_refusals with_tab (command.CompleteText 1 1 x)) ≡ None
 unfolding is_utf8 chars encode
-behind_its_text = refl
+after_its_text = refl
 
 past_its_text : first_of (command_refusals with_tab (command.CompleteText 1 2 x)) ≡ Some refusal.BadCursor
 unfolding is_utf8 chars encode
@@ -170,18 +170,18 @@ ops_with_removed = op.Session a false (p ∷ []) ∷ op.New 0 a (120 ∷ []) ∷
 abbrev with_removed : ℕ → World
 with_removed room = world_at_opening ops_with_removed room 63
 
-is_done : (does (with_removed 64) command.Checkpoint).told ≡ replies reply.Done
+is_done : (does (with_removed 64) command.Checkpoint).reported ≡ replies reply.Done
 is_done = refl
 
-the_ops_stay : (behind (with_removed 64) (does (with_removed 64) command.Checkpoint)).ops ≡ ops_with_removed
+the_ops_stay : (following (with_removed 64) (does (with_removed 64) command.Checkpoint)).ops ≡ ops_with_removed
 the_ops_stay = refl
 
-the_end_moves : (behind (with_removed 64) (does (with_removed 64) command.Checkpoint)).end ≡ 48
+the_end_moves : (following (with_removed 64) (does (with_removed 64) command.Checkpoint)).end ≡ 48
 the_end_moves = refl
 
 -- the gate after the records needs room too
-no_room_anew : first_of (command_refusals (with_removed 48) command.Checkpoint) ≡ Some refusal.JournalFull
-no_room_anew = refl
+no_room_again : first_of (command_refusals (with_removed 48) command.Checkpoint) ≡ Some refusal.JournalFull
+no_room_again = refl
 
-room_anew : first_of (command_refusals (with_removed 49) command.Checkpoint) ≡ None
-room_anew = refl
+room_again : first_of (command_refusals (with_removed 49) command.Checkpoint) ≡ None
+room_again = refl

@@ -19,10 +19,10 @@ use Rattle.host_events.specs.declared.outcome.HostFault.{HostFault}
 use Rattle.host_events.specs.declared.outcome.HostFault.TheVariants as faults
 use Rattle.host_events.specs.declared.outcome.Outcome.{Outcome}
 use Rattle.session_engine.specs.World.{World, world_at_opening, sheet_in}
-use Rattle.session_engine.specs.Does.{Does, MayDo, Runs, behind}
+use Rattle.session_engine.specs.Does.{Does, MayDo, Runs, following}
 use Rattle.session_engine.specs.Host.{EndsAt, HostView}
 use Rattle.session_engine.specs.Crash.{HasPlayed, LeftAmong, StoppedAt}
-use Rattle.host_laws.specs.Turns.{Has, HostStep, StepsOf, no_step, step_first, KeepField, AnsweredIn, HostTurn, Turned, EachTurned, no_host, host_first, LeftInTurn, HostsInTurn, EvaluatedAnew, LeftByTurn, PlaysAreTurns}
+use Rattle.host_laws.specs.Turns.{Has, HostStep, StepsOf, no_step, step_first, KeepField, AnsweredIn, HostTurn, Turned, EachTurned, no_host, host_first, LeftInTurn, HostsInTurn, EvaluatedAgain, LeftByTurn, PlaysAreTurns}
 use Rattle.host_laws.proofs.FieldLaws.{cleared}
 use Rattle.session_engine.proofs.Playing.{EitherSheet, either_sheet, run_on}
 use Rattle.host_laws.proofs.ApartOwners.{Owned, opened_owned, owned_step}
@@ -38,7 +38,7 @@ steps_of w [] (o ∷ os) v run = absurd run
 steps_of w (e ∷ es) [] v run = absurd run
 steps_of w (e ∷ es) (o ∷ os) v run =
     let more = steps_of run.0 es os v run.2 in
-    (record { before = w; event = e; behind = run.0 } ∷ more.0, step_first run.1 more.1)
+    (record { before = w; event = e; following = run.0 } ∷ more.0, step_first run.1 more.1)
 
 -- a field that stays through these steps and those
 keeps_both : (f : Field) (steps more : List HostStep) → KeepField f steps → KeepField f more → KeepField f (steps ++ more)
@@ -46,8 +46,8 @@ keeps_both f [] more h k = k
 keeps_both f (s ∷ steps) more h k = (h.0, keeps_both f steps more h.1 k)
 
 -- an answer that one of the first steps closed, and that stayed through the others
-behind_more : (f : Field) (steps more : List HostStep) → AnsweredIn steps f → KeepField f more → AnsweredIn (steps ++ more) f
-behind_more f steps more a stays = record {
+after_more : (f : Field) (steps more : List HostStep) → AnsweredIn steps f → KeepField f more → AnsweredIn (steps ++ more) f
+after_more f steps more a stays = record {
   earlier = a.earlier;
   step = a.step;
   later = a.later ++ more;
@@ -80,9 +80,9 @@ shown (step_first {w} {mid} {v} {e} {o} {es} {os} {steps} gives more) h own f a 
     ⊎_elim
     (λ stays. ⊎_elim
     (λ before. inl (before, stays))
-    (λ closes. inr (record { earlier = []; step = record { before = w; event = e; behind = mid }; later = steps; split = refl; closes = closes; stays = stays }))
+    (λ closes. inr (record { earlier = []; step = record { before = w; event = e; following = mid }; later = steps; split = refl; closes = closes; stays = stays }))
     (s.shown own f a some stays.0))
-    (λ later. inr (in_later f (record { before = w; event = e; behind = mid } ∷ []) steps later))
+    (λ later. inr (in_later f (record { before = w; event = e; following = mid } ∷ []) steps later))
     (shown more s.sound (owned_step w e o mid own (by_parts w e o mid gives)) f a some has)
 
 pub sound : (ops : List Op) (room end : ℕ) → Allowed ops → Sound (world_at_opening ops room end)
@@ -105,7 +105,7 @@ go_on one room first before (turn ∷ turns) after allowed image each =
     let found = each.1.0 in
     let t = each.1.2 in
     let same : sheet_of found ≡ sheet_of first = one (sheet_of found) (sheet_of first) before t.opens image in
-    let outcomes = turn.told ++ t.untold in
+    let outcomes = turn.reported ++ t.withheld in
     let r = runs (world_at_opening found room t.end) first t.taken outcomes t.leads (sound found room t.end t.allowed) allowed same t.run in
     let leaves : IsSheetImage (sheet_of r.ops) mid = subst (λ (s : Contents). IsSheetImage s mid) (ap sheet_of t.ops ∙ r.same) t.leaves in
     let now : Turned room before first turn mid r.ops = record {
@@ -116,7 +116,7 @@ go_on one room first before (turn ∷ turns) after allowed image each =
       taken = t.taken;
       lost = t.lost;
       split = t.split;
-      untold = t.untold;
+      withheld = t.withheld;
       leads = by_ops r.ops t.leads;
       run = r.run;
       ops = refl;
@@ -132,7 +132,7 @@ go_on one room first before (turn ∷ turns) after allowed image each =
       shows = λ f a has some. ⊎_elim
           (λ stays. ⊎_elim
           (λ before. inl (before.0, keeps_both f did.0 more.steps before.1 stays.1))
-          (λ answered. inr (behind_more f did.0 more.steps answered stays.1))
+          (λ answered. inr (after_more f did.0 more.steps answered stays.1))
           (shown did.1 (sound first room t.end allowed) (owned first room t.end allowed) f a some stays.0))
           (λ later. inr (in_later f did.0 more.steps later))
           (more.shows f a has some);
@@ -153,8 +153,8 @@ owners w [] (o ∷ os) v h run = absurd run
 owners w (e ∷ es) [] v h run = absurd run
 owners w (e ∷ es) (o ∷ os) v h run = owners run.0 es os v (owned_step w e o run.0 h (by_parts w e o run.0 run.1)) run.2
 
-pub evaluated_anew : EvaluatedAnew
-evaluated_anew found room end es os w allowed run id o mid given clears later told steps v more f a number has some =
+pub evaluated_again : EvaluatedAgain
+evaluated_again found room end es os w allowed run id o mid given clears later reported steps v more f a number has some =
     let before = sounds (world_at_opening found room end) es os w (sound found room end allowed) run in
     let after = (stepped w (event.Command (command.Eval id)) o mid before given).sound in
     let own = owned_step w (event.Command (command.Eval id)) o mid (owners (world_at_opening found room end) es os w (owned found room end allowed) run) (by_parts w (event.Command (command.Eval id)) o mid given) in
@@ -177,19 +177,19 @@ runs_on w (e ∷ es) [] v fs ps u p q = absurd p
 runs_on w (e ∷ es) (o ∷ os) v fs ps u p q = (p.0, p.1, runs_on p.0 es os v fs ps u p.2 q)
 
 module _ (room end : ℕ) (before : Image) (found : List Op) (allowed : Allowed found) (opens : IsSheetImage (sheet_of found) before) (ends : EndsAt before end)
-    (earlier : List Event) (said : List Outcome) (w : World) (so_far : Runs (world_at_opening found room end) earlier said w) (events : List Event) (told : List Outcome) where
+    (earlier : List Event) (said : List Outcome) (w : World) (so_far : Runs (world_at_opening found room end) earlier said w) (events : List Event) (reported : List Outcome) where
   abbrev first : World
   first = world_at_opening found room end
 
   -- a turn of the events before the play and of those in it, which returned these outcomes
   abbrev IsTurn : List Outcome → Image → Type 0
-  IsTurn outcomes = LeftByTurn room before found (record { events = earlier ++ events; told = outcomes })
+  IsTurn outcomes = LeftByTurn room before found (record { events = earlier ++ events; reported = outcomes })
 
   -- The first of the play's events were taken; the outcomes of those before the play were returned, and
   -- some of these.
-  turn_of : (done rest : List Event) → events ≡ done ++ rest → (outcomes untold : List Outcome) (v : World) → Runs first (earlier ++ done) (outcomes ++ untold) v
+  turn_of : (done rest : List Event) → events ≡ done ++ rest → (outcomes withheld : List Outcome) (v : World) → Runs first (earlier ++ done) (outcomes ++ withheld) v
       → (i : Image) → IsSheetImage (sheet_in v) i → IsTurn outcomes i
-  turn_of done rest split outcomes untold v run i image = (
+  turn_of done rest split outcomes withheld v run i image = (
     v.ops,
     record {
       allowed = allowed;
@@ -199,7 +199,7 @@ module _ (room end : ℕ) (before : Image) (found : List Op) (allowed : Allowed 
       taken = earlier ++ done;
       lost = rest;
       split = ap (λ (es : List Event). earlier ++ es) split ∙ sym (append_assoc earlier done rest);
-      untold = untold;
+      withheld = withheld;
       leads = v;
       run = run;
       ops = refl;
@@ -208,25 +208,25 @@ module _ (room end : ℕ) (before : Image) (found : List Op) (allowed : Allowed 
   )
 
   -- a crash inside it
-  within : (i : Image) → LeftAmong w events told i → IsTurn said i
+  within : (i : Image) → LeftAmong w events reported i → IsTurn said i
   within i left = turn_of left.done left.more left.split said left.outcomes left.leads (runs_on first earlier said w left.done left.outcomes left.leads so_far left.runs) i left.image
 
   -- one that leaves the worksheet after the events with an outcome
-  without_it : (rest : List Event) (host : HostView) (p : HasPlayed w events rest told host) (i : Image) → IsSheetImage (sheet_in p.leads) i → IsTurn (said ++ told) i
-  without_it rest host p = turn_of p.done rest p.split (said ++ told) [] p.leads
-      (subst (λ (os : List Outcome). Runs first (earlier ++ p.done) os p.leads) (sym (append-nil (said ++ told))) (runs_on first earlier said w p.done told p.leads so_far p.runs))
+  without_it : (rest : List Event) (host : HostView) (p : HasPlayed w events rest reported host) (i : Image) → IsSheetImage (sheet_in p.leads) i → IsTurn (said ++ reported) i
+  without_it rest host p = turn_of p.done rest p.split (said ++ reported) [] p.leads
+      (subst (λ (os : List Outcome). Runs first (earlier ++ p.done) os p.leads) (sym (append-nil (said ++ reported))) (runs_on first earlier said w p.done reported p.leads so_far p.runs))
 
   -- one that leaves the worksheet after the event that follows them
-  with_it : (e : Event) (rest : List Event) (host : HostView) (p : HasPlayed w events (e ∷ rest) told host) (d : Does) (i : Image) → MayDo p.leads e d
-      → IsSheetImage (sheet_in (behind p.leads d)) i → IsTurn (said ++ told) i
+  with_it : (e : Event) (rest : List Event) (host : HostView) (p : HasPlayed w events (e ∷ rest) reported host) (d : Does) (i : Image) → MayDo p.leads e d
+      → IsSheetImage (sheet_in (following p.leads d)) i → IsTurn (said ++ reported) i
   with_it e rest host p d i may image =
-      let more = run_on w p.done told p.leads e d d.told p.runs may refl in
-      turn_of (p.done ++ e ∷ []) rest (p.split ∙ sym (append_assoc p.done (e ∷ []) rest)) (said ++ told) (d.told ∷ []) (behind p.leads d)
-      (subst (λ (os : List Outcome). Runs first (earlier ++ (p.done ++ e ∷ [])) os (behind p.leads d)) (sym (append_assoc said told (d.told ∷ [])))
-      (runs_on first earlier said w (p.done ++ e ∷ []) (told ++ d.told ∷ []) (behind p.leads d) so_far more))
+      let more = run_on w p.done reported p.leads e d d.reported p.runs may refl in
+      turn_of (p.done ++ e ∷ []) rest (p.split ∙ sym (append_assoc p.done (e ∷ []) rest)) (said ++ reported) (d.reported ∷ []) (following p.leads d)
+      (subst (λ (os : List Outcome). Runs first (earlier ++ (p.done ++ e ∷ [])) os (following p.leads d)) (sym (append_assoc said reported (d.reported ∷ [])))
+      (runs_on first earlier said w (p.done ++ e ∷ []) (reported ++ d.reported ∷ []) (following p.leads d) so_far more))
       i image
 
-  stopped : (old new : HostView) (fault : HostFault) → StoppedAt w events old new told fault → InModel old.store.disk (Leaves (IsTurn (said ++ told)) new.store.disk.history.now)
+  stopped : (old new : HostView) (fault : HostFault) → StoppedAt w events old new reported fault → InModel old.store.disk (Leaves (IsTurn (said ++ reported)) new.store.disk.history.now)
   stopped old new faults.Closed s = absurd s.failed.cause
   stopped old new faults.Disk s = λ model i image.
       let write = s.failed.cause.1.0 in
@@ -239,8 +239,8 @@ module _ (room end : ℕ) (before : Image) (found : List Op) (allowed : Allowed 
       (s.played.stands.stands.images (subst IsTrue (sym s.same.keeps_model) model) i (subst (λ (d : DiskView). IsImage d.history.now i) s.failed.cause.0 image))
 
 pub plays_are_turns : PlaysAreTurns
-plays_are_turns room end before found allowed opens ends earlier said w so_far events told after = (
-  λ left. within room end before found allowed opens ends earlier said w so_far events told after left,
-  λ rest host played image. without_it room end before found allowed opens ends earlier said w so_far events told rest host played after image,
-  λ old new fault s. stopped room end before found allowed opens ends earlier said w so_far events told old new fault s,
+plays_are_turns room end before found allowed opens ends earlier said w so_far events reported after = (
+  λ left. within room end before found allowed opens ends earlier said w so_far events reported after left,
+  λ rest host played image. without_it room end before found allowed opens ends earlier said w so_far events reported rest host played after image,
+  λ old new fault s. stopped room end before found allowed opens ends earlier said w so_far events reported old new fault s,
 )

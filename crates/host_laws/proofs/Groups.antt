@@ -47,26 +47,26 @@ as_group edits outcomes old new m = record {
   same = m.same;
 }
 
-module _ (room end : ℕ) (before : Image) (found : List Op) (allowed : Allowed found) (opens : IsSheetImage (sheet_of found) before) (ends : EndsAt before end) (events : List Event) (told : List Outcome)
-    (w : World) (run : Runs (world_at_opening found room end) events told w) (group : List Event) where
+module _ (room end : ℕ) (before : Image) (found : List Op) (allowed : Allowed found) (opens : IsSheetImage (sheet_of found) before) (ends : EndsAt before end) (events : List Event) (reported : List Outcome)
+    (w : World) (run : Runs (world_at_opening found room end) events reported w) (group : List Event) where
   -- a turn of the events with the group, which returned these outcomes
   abbrev IsTurn : List Outcome → Image → Type 0
-  IsTurn outcomes i = LeftByTurn room before found (record { events = events ++ group; told = outcomes }) i
+  IsTurn outcomes i = LeftByTurn room before found (record { events = events ++ group; reported = outcomes }) i
 
   -- a crash that leaves the worksheet before the group
-  without : (i : Image) → IsSheetImage (sheet_in w) i → IsTurn told i
-  without i image = (plays_are_turns room end before found allowed opens ends events told w run group [] i).0
+  without : (i : Image) → IsSheetImage (sheet_in w) i → IsTurn reported i
+  without i image = (plays_are_turns room end before found allowed opens ends events reported w run group [] i).0
       (record { done = []; more = group; split = refl; outcomes = []; later = []; first = refl; leads = w; runs = refl; image = image })
 
   module _ (rest : List Event) (outcomes : List Outcome) (host : HostView) (played : HasPlayed w group rest outcomes host) where
     -- one that leaves the worksheet after those of its events that were taken, whose outcomes weren't returned
-    with_some : (i : Image) → IsSheetImage (sheet_in played.leads) i → IsTurn told i
-    with_some i image = (plays_are_turns room end before found allowed opens ends events told w run group outcomes i).0
+    with_some : (i : Image) → IsSheetImage (sheet_in played.leads) i → IsTurn reported i
+    with_some i image = (plays_are_turns room end before found allowed opens ends events reported w run group outcomes i).0
         (record { done = played.done; more = rest; split = played.split; outcomes = outcomes; later = []; first = sym (append-nil outcomes); leads = played.leads; runs = played.runs; image = image })
 
     -- one that leaves it where they were returned
-    returned_some : (i : Image) → IsSheetImage (sheet_in played.leads) i → IsTurn (told ++ outcomes) i
-    returned_some i image = (plays_are_turns room end before found allowed opens ends events told w run group outcomes i).1 rest host played image
+    returned_some : (i : Image) → IsSheetImage (sheet_in played.leads) i → IsTurn (reported ++ outcomes) i
+    returned_some i image = (plays_are_turns room end before found allowed opens ends events reported w run group outcomes i).1 rest host played image
 
   module _ (old new : HostView) (stands : IsHost old w) (real : old.store.real ≡ old.store.disk) (after : new.store.real ≡ new.store.disk) where
     -- what is known of the disk as it stands, of the disk
@@ -78,48 +78,48 @@ module _ (room end : ℕ) (before : Image) (found : List Op) (allowed : Allowed 
 
     -- at every moment of the call
     during : (rest : List Event) (outcomes : List Outcome) (host : HostView) (played : HasPlayed w group rest outcomes host) → FlushesTo (sheet_in played.leads) old.store new.store
-        → CrashesAreTurns room before found (record { events = events ++ group; told = told }) old.store.disk new.store.disk
+        → CrashesAreTurns room before found (record { events = events ++ group; reported = reported }) old.store.disk new.store.disk
     during rest outcomes host played flushes = λ model.
-        weakens (IsSheetOf (sheet_in w) (sheet_in played.leads)) (IsTurn told) old.store.disk.history new.store.disk.history
+        weakens (IsSheetOf (sheet_in w) (sheet_in played.leads)) (IsTurn reported) old.store.disk.history new.store.disk.history
         (λ i either. ⊎_elim (without i) (with_some rest outcomes host played i) either)
         (plain played.leads flushes model)
 
     -- no event was taken
-    unmoved : FlushesTo (sheet_in w) old.store new.store → CrashesAreTurns room before found (record { events = events ++ group; told = told }) old.store.disk new.store.disk
+    unmoved : FlushesTo (sheet_in w) old.store new.store → CrashesAreTurns room before found (record { events = events ++ group; reported = reported }) old.store.disk new.store.disk
     unmoved flushes = λ model.
-        weakens (IsSheetOf (sheet_in w) (sheet_in w)) (IsTurn told) old.store.disk.history new.store.disk.history
+        weakens (IsSheetOf (sheet_in w) (sheet_in w)) (IsTurn reported) old.store.disk.history new.store.disk.history
         (λ i either. ⊎_elim (without i) (without i) either) (plain w flushes model)
 
-    untouched : new.store.disk ≡ old.store.disk → CrashesAreTurns room before found (record { events = events ++ group; told = told }) old.store.disk new.store.disk
-    untouched same = subst (λ (d : DiskView). InModel old.store.disk (LeavesOnly (IsTurn told) old.store.disk.history d.history)) (sym same)
-        (λ model. started (IsTurn told) old.store.disk.history (λ i image. without i (stands.stands.images model i image)))
+    untouched : new.store.disk ≡ old.store.disk → CrashesAreTurns room before found (record { events = events ++ group; reported = reported }) old.store.disk new.store.disk
+    untouched same = subst (λ (d : DiskView). InModel old.store.disk (LeavesOnly (IsTurn reported) old.store.disk.history d.history)) (sym same)
+        (λ model. started (IsTurn reported) old.store.disk.history (λ i image. without i (stands.stands.images model i image)))
 
-    stays : new ≡ old → CrashesAreTurns room before found (record { events = events ++ group; told = told }) old.store.disk new.store.disk
+    stays : new ≡ old → CrashesAreTurns room before found (record { events = events ++ group; reported = reported }) old.store.disk new.store.disk
     stays same = untouched (ap (λ (h : HostView). h.store.disk) same)
 
     -- a crash after a call that returned no outcome
-    silent : SameDisk old.store.disk new.store.disk → CrashesAreTurns room before found (record { events = events ++ group; told = told }) old.store.disk new.store.disk
-        → CrashesAreTurns room before found (record { events = events ++ group; told = told ++ [] }) new.store.disk new.store.disk
-    silent same crashes = λ model. started (IsTurn (told ++ [])) new.store.disk.history
-        (λ i image. subst (λ (os : List Outcome). IsTurn os i) (sym (append-nil told))
-        (at_end (IsTurn told) old.store.disk.history new.store.disk.history (crashes (subst IsTrue same.keeps_model model)) i image))
+    silent : SameDisk old.store.disk new.store.disk → CrashesAreTurns room before found (record { events = events ++ group; reported = reported }) old.store.disk new.store.disk
+        → CrashesAreTurns room before found (record { events = events ++ group; reported = reported ++ [] }) new.store.disk new.store.disk
+    silent same crashes = λ model. started (IsTurn (reported ++ [])) new.store.disk.history
+        (λ i image. subst (λ (os : List Outcome). IsTurn os i) (sym (append-nil reported))
+        (at_end (IsTurn reported) old.store.disk.history new.store.disk.history (crashes (subst IsTrue same.keeps_model model)) i image))
 
     -- a crash after one that returned these outcomes
     spoken : (rest : List Event) (outcomes : List Outcome) (host : HostView) (played : HasPlayed w group rest outcomes host) → InModel new.store.disk (Leaves (IsSheetImage (sheet_in played.leads)) new.store.disk.history.now)
-        → CrashesAreTurns room before found (record { events = events ++ group; told = told ++ outcomes }) new.store.disk new.store.disk
-    spoken rest outcomes host played images = λ model. started (IsTurn (told ++ outcomes)) new.store.disk.history
+        → CrashesAreTurns room before found (record { events = events ++ group; reported = reported ++ outcomes }) new.store.disk new.store.disk
+    spoken rest outcomes host played images = λ model. started (IsTurn (reported ++ outcomes)) new.store.disk.history
         (λ i image. returned_some rest outcomes host played i (images model i image))
 
     -- where all were taken, their outcomes lead on
-    leads_on : (outcomes : List Outcome) (played : HasPlayed w group [] outcomes new) → Runs (world_at_opening found room end) (events ++ group) (told ++ outcomes) played.leads
-    leads_on outcomes played = subst (λ (es : List Event). Runs (world_at_opening found room end) (events ++ es) (told ++ outcomes) played.leads) (sym (played.split ∙ append-nil played.done))
-        (runs_on (world_at_opening found room end) events told w played.done outcomes played.leads run played.runs)
+    leads_on : (outcomes : List Outcome) (played : HasPlayed w group [] outcomes new) → Runs (world_at_opening found room end) (events ++ group) (reported ++ outcomes) played.leads
+    leads_on outcomes played = subst (λ (es : List Event). Runs (world_at_opening found room end) (events ++ es) (reported ++ outcomes) played.leads) (sym (played.split ∙ append-nil played.done))
+        (runs_on (world_at_opening found room end) events reported w played.done outcomes played.leads run played.runs)
 
     -- what the call left, by its answer
     abbrev Left : Result (Vec Outcome Global) GroupFault → Type 0
-    Left answer = CrashesAreTurns room before found (record { events = events ++ group; told = told }) old.store.disk new.store.disk
-        × CrashesAreTurns room before found (record { events = events ++ group; told = told ++ returned answer }) new.store.disk new.store.disk
-        × IfOk answer (λ outcomes. (v : World) × Runs (world_at_opening found room end) (events ++ group) (told ++ outcomes.items) v × IsHost new v)
+    Left answer = CrashesAreTurns room before found (record { events = events ++ group; reported = reported }) old.store.disk new.store.disk
+        × CrashesAreTurns room before found (record { events = events ++ group; reported = reported ++ returned answer }) new.store.disk new.store.disk
+        × IfOk answer (λ outcomes. (v : World) × Runs (world_at_opening found room end) (events ++ group) (reported ++ outcomes.items) v × IsHost new v)
 
     left : (answer : Result (Vec Outcome Global) GroupFault) → GroupMeets group old answer new → Left answer
     left (Ok outcomes) m =
@@ -132,7 +132,7 @@ module _ (room end : ℕ) (before : Image) (found : List Op) (allowed : Allowed 
         (during (s.at ∷ s.dropped) outcomes.items s.before s.played s.moments, spoken (s.at ∷ s.dropped) outcomes.items s.before s.played images, tt)
     left (Err halt.Disk) m =
         let s = m.halts w stands in
-        let crashes = during s.rest s.untold s.before s.played s.moments in
+        let crashes = during s.rest s.withheld s.before s.played s.moments in
         (crashes, silent m.same crashes, tt)
     left (Err (halt.NoRoom back)) m =
         let crashes = unmoved (m.halts w stands).moments in
@@ -143,8 +143,8 @@ module _ (room end : ℕ) (before : Image) (found : List Op) (allowed : Allowed 
 
     -- the same of commands that are taken as a whole
     abbrev LeftWhole : Result Whole WholeFault → Type 0
-    LeftWhole answer = CrashesAreTurns room before found (record { events = events ++ group; told = told }) old.store.disk new.store.disk
-        × CrashesAreTurns room before found (record { events = events ++ group; told = told ++ whole_returned answer }) new.store.disk new.store.disk
+    LeftWhole answer = CrashesAreTurns room before found (record { events = events ++ group; reported = reported }) old.store.disk new.store.disk
+        × CrashesAreTurns room before found (record { events = events ++ group; reported = reported ++ whole_returned answer }) new.store.disk new.store.disk
 
     left_whole : (answer : Result Whole WholeFault) → WholeMeets group old answer new → LeftWhole answer
     left_whole (Ok (whole.Taken outcomes)) m = let so = left (Ok outcomes) (as_group group outcomes old new m) in (so.0, so.1)
@@ -157,14 +157,14 @@ module _ (room end : ℕ) (before : Image) (found : List Op) (allowed : Allowed 
     left_whole (Err lacks.Closed) m = absurd (m.halts w stands)
     left_whole (Err lacks.Disk) m =
         let s = (m.halts w stands).failed in
-        let crashes = during s.rest s.untold s.before s.played s.moments in
+        let crashes = during s.rest s.withheld s.before s.played s.moments in
         (crashes, silent m.same crashes)
 
     -- the same of one that stops at a refusal
     abbrev LeftUpTo : Result (Vec Outcome Global) GroupFault → Type 0
-    LeftUpTo answer = CrashesAreTurns room before found (record { events = events ++ group; told = told }) old.store.disk new.store.disk
-        × CrashesAreTurns room before found (record { events = events ++ group; told = told ++ returned answer }) new.store.disk new.store.disk
-        × IfOk answer (λ outcomes. length outcomes.items ≡ length group → (v : World) × Runs (world_at_opening found room end) (events ++ group) (told ++ outcomes.items) v × IsHost new v)
+    LeftUpTo answer = CrashesAreTurns room before found (record { events = events ++ group; reported = reported }) old.store.disk new.store.disk
+        × CrashesAreTurns room before found (record { events = events ++ group; reported = reported ++ returned answer }) new.store.disk new.store.disk
+        × IfOk answer (λ outcomes. length outcomes.items ≡ length group → (v : World) × Runs (world_at_opening found room end) (events ++ group) (reported ++ outcomes.items) v × IsHost new v)
 
     all_taken : (rest : List Event) (outcomes : List Outcome) (played : HasPlayed w group rest outcomes new) → length outcomes ≡ length group → HasPlayed w group [] outcomes new
     all_taken rest outcomes played many = record {
@@ -189,7 +189,7 @@ module _ (room end : ℕ) (before : Image) (found : List Op) (allowed : Allowed 
         (during (s.at ∷ s.dropped) outcomes.items s.before s.played s.moments, spoken (s.at ∷ s.dropped) outcomes.items s.before s.played images, tt)
     left_up_to (Err halt.Disk) m =
         let s = (m.halts w stands).0 in
-        let crashes = during s.rest s.untold s.before s.played s.moments in
+        let crashes = during s.rest s.withheld s.before s.played s.moments in
         (crashes, silent m.same crashes, tt)
     left_up_to (Err (halt.NoRoom back)) m =
         let crashes = unmoved (m.halts w stands).moments in
@@ -199,16 +199,16 @@ module _ (room end : ℕ) (before : Image) (found : List Op) (allowed : Allowed 
         (crashes, silent m.same crashes, tt)
 
 pub groups_up_to_are_turns : GroupsUpToAreTurns
-groups_up_to_are_turns room end before found allowed opens ends events told w run group old new answer stands m =
-    left_up_to room end before found allowed opens ends events told w run group old new stands m.before m.after answer m
+groups_up_to_are_turns room end before found allowed opens ends events reported w run group old new answer stands m =
+    left_up_to room end before found allowed opens ends events reported w run group old new stands m.before m.after answer m
 
 pub groups_are_turns : GroupsAreTurns
-groups_are_turns room end before found allowed opens ends events told w run group old new answer stands m =
-    left room end before found allowed opens ends events told w run group old new stands m.before m.after answer m
+groups_are_turns room end before found allowed opens ends events reported w run group old new answer stands m =
+    left room end before found allowed opens ends events reported w run group old new stands m.before m.after answer m
 
-pub wholes_are_turns : (room end : ℕ) (before : Image) (found : List Op) → Allowed found → IsSheetImage (sheet_of found) before → EndsAt before end → (events : List Event) (told : List Outcome) (w : World)
-    → Runs (world_at_opening found room end) events told w → (edits : List Event) (old new : HostView) (answer : Result Whole WholeFault) → IsHost old w → WholeMeets edits old answer new
-    → CrashesAreTurns room before found (record { events = events ++ edits; told = told }) old.store.disk new.store.disk
-    × CrashesAreTurns room before found (record { events = events ++ edits; told = told ++ whole_returned answer }) new.store.disk new.store.disk
-wholes_are_turns room end before found allowed opens ends events told w run edits old new answer stands m =
-    left_whole room end before found allowed opens ends events told w run edits old new stands m.before m.after answer m
+pub wholes_are_turns : (room end : ℕ) (before : Image) (found : List Op) → Allowed found → IsSheetImage (sheet_of found) before → EndsAt before end → (events : List Event) (reported : List Outcome) (w : World)
+    → Runs (world_at_opening found room end) events reported w → (edits : List Event) (old new : HostView) (answer : Result Whole WholeFault) → IsHost old w → WholeMeets edits old answer new
+    → CrashesAreTurns room before found (record { events = events ++ edits; reported = reported }) old.store.disk new.store.disk
+    × CrashesAreTurns room before found (record { events = events ++ edits; reported = reported ++ whole_returned answer }) new.store.disk new.store.disk
+wholes_are_turns room end before found allowed opens ends events reported w run edits old new answer stands m =
+    left_whole room end before found allowed opens ends events reported w run edits old new stands m.before m.after answer m

@@ -19,7 +19,7 @@ use Rattle.plugin_core.specs.inside.Changes.{closed_among}
 use Rattle.plugin_core.specs.Steps.{Reads}
 use Rattle.plugin_core.specs.AskPoints.{length_after, ClosesIn}
 use Rattle.plugin_core.proofs.Readings.{one_of_streams}
-use Rattle.plugin_core.proofs.Spans.{LieWithin, LieWithin-behind, LieWithin-closed}
+use Rattle.plugin_core.proofs.Spans.{LieWithin, LieWithin-following, LieWithin-closed}
 use Rattle.plugin_core.proofs.ByAskPoints.{reads_lie}
 use Rattle.plugin_core.proofs.Pasts.{stream_of-received}
 use Rattle.plugin_core.proofs.Asks.{found-stop}
@@ -105,7 +105,7 @@ one_answer past piece before after fault old new =
     let a = added s piece before after fault old now in
     let size : length (s ++ piece) ≡ length s + length piece = length-append s piece in
     let lies : LieWithin 0 (length (s ++ piece)) (before ++ a.fresh) = subst (λ (l : List Outer). LieWithin 0 (length (s ++ piece)) l) a.is (reads_lie (s ++ piece) after fault now) in
-    let fresh : LieWithin (length s) (length (s ++ piece)) a.fresh = LieWithin-closed (length s) (length (s ++ piece)) (length (s ++ piece)) a.fresh (LieWithin-behind 0 (length (s ++ piece)) before a.fresh lies) a.closes in
+    let fresh : LieWithin (length s) (length (s ++ piece)) a.fresh = LieWithin-closed (length s) (length (s ++ piece)) (length (s ++ piece)) a.fresh (LieWithin-following 0 (length (s ++ piece)) before a.fresh lies) a.closes in
     let adds : Adds past before piece a.fresh = record { old = reads_lie s before None old; fresh = subst (λ (n : ℕ). LieWithin (length s) n a.fresh) size fresh } in
     record {
       closed = closed_among (ask_of past before) a.fresh;

@@ -55,7 +55,7 @@ use Rattle.host_laws.proofs.Showing.{stepped}
 use Rattle.host_laws.proofs.Going.{sound}
 use Rattle.host_laws.proofs.Totals.{total, total-put, total-out, total-push}
 use Rattle.host_laws.proofs.Numbers.{its_own, with_its_number}
-use Rattle.host_laws.proofs.LinesAmong.{answers_one, behind_piece, first_one, lines-push, none_among, one_of}
+use Rattle.host_laws.proofs.LinesAmong.{answers_one, after_piece, first_one, lines-push, none_among, one_of}
 
 -- A field in flight shows no answer and no reason, and one of its lines waits.
 
@@ -279,7 +279,7 @@ module _ (id : ℕ) where
   pieced_so w (Some l) piece o v s own done h =
       let t : Step = step_of l.past l.blocks piece done.0 done.1 in
       let m : Going = with_piece l piece done.0 in
-      let less = behind_piece id l.past l.blocks done.0 piece done.1 (the_life l.name l w s (own l refl)).reads done.2.0 in
+      let less = after_piece id l.past l.blocks done.0 piece done.1 (the_life l.name l w s (own l refl)).reads done.2.0 in
       same (with_op_if (op_by w.room w.end t.answered t.ended) (goes_on m t.ended w)) v done.2.2
       (answered_so w (goes_on m t.ended w) w.room w.end t.answered t.ended (piece_ops m t.ended w) (on_piece w l m t.ended (answers_one id t.answered) refl (own l refl) less)
       (more_lost w l m done.1 (answers_one id t.answered) refl (own l refl) less) h)

@@ -13,8 +13,8 @@ use Rattle.plugin_core.specs.declared.step.Answered.TheVariants as answered
 use Rattle.plugin_core.specs.Past.{received, stream_of, items_of}
 use Rattle.plugin_core.specs.Past.{Event as LifeEvent}
 use Rattle.plugin_core.specs.Answers.{answers_of}
-use Rattle.plugin_core.specs.Items.{answer_behind, answer_to, first_line_of, is_line_of, prompt_of, unanswered, waiting_of}
-use Rattle.plugin_core.specs.inside.Words.{next_behind, answered_with}
+use Rattle.plugin_core.specs.Items.{answer_following, answer_to, first_line_of, is_line_of, prompt_of, unanswered, waiting_of}
+use Rattle.plugin_core.specs.inside.Words.{next_beyond, answered_with}
 use Rattle.plugin_core.specs.Steps.{Reads, step_of}
 use Rattle.plugin_core.specs.Steps.{closed_by as closed_in}
 use Rattle.plugin_core.proofs.Pasts.{items_of-received}
@@ -54,7 +54,7 @@ module _ (id : ℕ) (prompt : List ℕ) (out : Tree) where
 
 -- what waits after an answer, and before it
 left_waiting : (id : ℕ) (answers : List Outer) (o : Option Outer) (items : List Item) (prompt : List ℕ)
-    → lines_among id (unanswered (answers ++ option_to_list o) items) + answers_one id (option_and_then (λ b. answer_behind answers items prompt b.block) o) ≡ lines_among id (unanswered answers items)
+    → lines_among id (unanswered (answers ++ option_to_list o) items) + answers_one id (option_and_then (λ b. answer_following answers items prompt b.block) o) ≡ lines_among id (unanswered answers items)
 left_waiting id [] None items prompt = omega arith
 left_waiting id [] (Some b) items prompt = omega arith
 left_waiting id (a ∷ answers) None items prompt = rw (append-nil answers) (omega arith)
@@ -63,20 +63,20 @@ left_waiting id (a ∷ answers) (Some b) items prompt =
     rw e (one_less id prompt (output b.block) (length answers) items)
 
 module _ (id : ℕ) (past : List LifeEvent) (before after : List Outer) (piece : List ℕ) (fault : Option Kind) where
-  last_is : (xs : List Outer) (o : Option Outer) → next_behind xs (xs ++ option_to_list o) ≡ o
+  last_is : (xs : List Outer) (o : Option Outer) → next_beyond xs (xs ++ option_to_list o) ≡ o
   last_is [] None = refl
   last_is [] (Some b) = refl
   last_is (x ∷ xs) o = last_is xs o
 
-  pub behind_piece : Reads (stream_of past) before None → Reads (stream_of (past ++ received piece ∷ [])) after fault
+  pub after_piece : Reads (stream_of past) before None → Reads (stream_of (past ++ received piece ∷ [])) after fault
       → lines_among id (waiting_of (past ++ received piece ∷ []) after) + answers_one id (step_of past before piece after fault).answered ≡ lines_among id (waiting_of past before)
-  behind_piece old new =
+  after_piece old new =
       let a = one_answer past piece before after fault old new in
-      let c : closed_in past before (received piece) after ≡ a.closed = ap (λ (bs : List Outer). next_behind (answers_of past before) bs) a.answers ∙ last_is (answers_of past before) a.closed in
+      let c : closed_in past before (received piece) after ≡ a.closed = ap (λ (bs : List Outer). next_beyond (answers_of past before) bs) a.answers ∙ last_is (answers_of past before) a.closed in
       let w : lines_among id (waiting_of (past ++ received piece ∷ []) after) ≡ lines_among id (unanswered (answers_of past before ++ option_to_list a.closed) (items_of past)) =
       ap (λ (bs : List Outer). lines_among id (unanswered bs (items_of (past ++ received piece ∷ [])))) a.answers
       ∙ ap (λ (is : List Item). lines_among id (unanswered (answers_of past before ++ option_to_list a.closed) is)) (items_of-received past piece) in
-      let s : answers_one id (step_of past before piece after fault).answered ≡ answers_one id (option_and_then (λ b. answer_behind (answers_of past before) (items_of past) (prompt_of past before) b.block) a.closed) =
+      let s : answers_one id (step_of past before piece after fault).answered ≡ answers_one id (option_and_then (λ b. answer_following (answers_of past before) (items_of past) (prompt_of past before) b.block) a.closed) =
       ap (λ (o : Option Outer). answers_one id (option_and_then (answered_with past before) o)) c in
       let t = left_waiting id (answers_of past before) a.closed (items_of past) (prompt_of past before) in
       omega (arith, w, s, t)

@@ -28,9 +28,9 @@ use Rattle.host_events.specs.declared.reply.Reply.{Reply}
 use Rattle.host_events.specs.declared.reply.Reply.TheVariants as reply
 use Rattle.session_engine.specs.Named.{first_named, without_named, replace_named}
 use Rattle.session_engine.specs.World.{World, Going, world_at_opening, life_of, session_of_field, with_number, with_op_if, renewed_if}
-use Rattle.session_engine.specs.inside.Words.{line_of_field, request_of_field, begun_with, joined_by, told_of, with_piece}
+use Rattle.session_engine.specs.inside.Words.{line_of_field, request_of_field, begun_with, joined_by, reported_of, with_piece}
 use Rattle.session_engine.specs.Refused.{command_refusals}
-use Rattle.session_engine.specs.Does.{Does, MayDo, ChildDoes, CommandDoes, Gives, Runs, behind, closed_told, does, ends_life, asks_item, sends_or_kills, steps, tells, told_with}
+use Rattle.session_engine.specs.Does.{Does, MayDo, ChildDoes, CommandDoes, Gives, Runs, following, closed_reported, does, ends_life, asks_item, sends_or_kills, steps, tells, reported_with}
 use Rattle.host_laws.specs.Apart.{named}
 use Rattle.host_laws.specs.Laws.{AreNumbered, NumbersAreGivenOnce, all_started, lives_numbered, numbers_to, started_by}
 use Rattle.session_engine.proofs.Tables.{first_has_name}
@@ -40,11 +40,11 @@ use Rattle.host_laws.proofs.Totals.{total, total-put, total-out, total-push}
 -- What becomes of the lives: all stay as they are; one changes, which keeps its name and its number; one ends; or one begins, of
 -- a session that has none, and is started by with the next number.
 pub data Becomes (w : World) (d : Does) : Type 0 where
-  all_stay : d.lives ≡ w.lives → d.begun ≡ w.begun → started_by d.told.effect ≡ [] → Becomes w d
+  all_stay : d.lives ≡ w.lives → d.begun ≡ w.begun → started_by d.reported.effect ≡ [] → Becomes w d
   one_changes : (l m : Going) → life_of w l.name ≡ Some l → m.name ≡ l.name → m.number ≡ l.number → d.lives ≡ replace_named (λ g. g.name) l.name m w.lives
-      → d.begun ≡ w.begun → started_by d.told.effect ≡ [] → Becomes w d
-  one_ends : (l : Going) → life_of w l.name ≡ Some l → d.lives ≡ without_named (λ g. g.name) l.name w.lives → d.begun ≡ w.begun → started_by d.told.effect ≡ [] → Becomes w d
-  one_begins : (m : Going) → life_of w m.name ≡ None → m.number ≡ w.begun + 1 → d.lives ≡ w.lives ++ m ∷ [] → d.begun ≡ w.begun + 1 → started_by d.told.effect ≡ (w.begun + 1) ∷ []
+      → d.begun ≡ w.begun → started_by d.reported.effect ≡ [] → Becomes w d
+  one_ends : (l : Going) → life_of w l.name ≡ Some l → d.lives ≡ without_named (λ g. g.name) l.name w.lives → d.begun ≡ w.begun → started_by d.reported.effect ≡ [] → Becomes w d
+  one_begins : (m : Going) → life_of w m.name ≡ None → m.number ≡ w.begun + 1 → d.lives ≡ w.lives ++ m ∷ [] → d.begun ≡ w.begun + 1 → started_by d.reported.effect ≡ (w.begun + 1) ∷ []
       → Becomes w d
 
 pub its_own : (w : World) (name : List ℕ) (l : Going) → life_of w name ≡ Some l → life_of w l.name ≡ Some l
@@ -63,10 +63,10 @@ starts_none name number None None = refl
 starts_none name number (Some bytes) None = refl
 starts_none name number send (Some e) = refl
 
-told_none : (name : List ℕ) (number : ℕ) (c : Option Closed) (default send : Option (List ℕ)) (e : Option Ended) → started_by (told_with name number c default send e).effect ≡ []
-told_none name number None default send None = refl
-told_none name number (Some a) default send e = starts_none name number send e
-told_none name number None default send (Some e) = refl
+reported_none : (name : List ℕ) (number : ℕ) (c : Option Closed) (default send : Option (List ℕ)) (e : Option Ended) → started_by (reported_with name number c default send e).effect ≡ []
+reported_none name number None default send None = refl
+reported_none name number (Some a) default send e = starts_none name number send e
+reported_none name number None default send (Some e) = refl
 
 module _ (w : World) where
   by_row : (d row : Does) → d ≡ row → Becomes w row → Becomes w d
@@ -83,8 +83,8 @@ module _ (w : World) where
   steps_so : (l : Going) (piece : List ℕ) (blocks : List _) (s : Step) → life_of w l.name ≡ Some l → Becomes w (steps w l piece blocks s)
   steps_so l piece blocks s own = go s.ended refl
     where
-      none : started_by (told_of l s).effect ≡ []
-      none = told_none l.name l.number (closed_told s.answered) s.default_input s.send s.ended
+      none : started_by (reported_of l s).effect ≡ []
+      none = reported_none l.name l.number (closed_reported s.answered) s.default_input s.send s.ended
 
       go : (e : Option Ended) → s.ended ≡ e → Becomes w (steps w l piece blocks s)
       go None is = Becomes.one_changes l (with_piece l piece blocks) own refl refl (rw is refl) refl none
@@ -132,8 +132,8 @@ module _ (w : World) where
       child_so (with_number number (life_of w name)) e d (λ l h. its_own w name l (with_its_number number (life_of w name) l h)) may
 
 -- the lives and the count of a world after an event are those of the row
-behind_lives : (w : World) (d : Does) → ((behind w d).lives ≡ d.lives) × ((behind w d).begun ≡ d.begun)
-behind_lives w d = go d.anew d.op
+after_lives : (w : World) (d : Does) → ((following w d).lives ≡ d.lives) × ((following w d).begun ≡ d.begun)
+after_lives w d = go d.again d.op
   where
     left : Bool → Option Op → World
     left b o = renewed_if b (with_op_if o (record w { begun = d.begun; lives = d.lives }))
@@ -194,10 +194,10 @@ counts f by w e o v g = record {
     row = counts_row f by w g.0 (becomes w e g.0 g.1)
 
     lives : total f v.lives ≡ total f g.0.lives
-    lives = ap (λ (u : World). total f u.lives) g.3 ∙ ap (total f) (behind_lives w g.0).0
+    lives = ap (λ (u : World). total f u.lives) g.3 ∙ ap (total f) (after_lives w g.0).0
 
     begun : v.begun ≡ g.0.begun
-    begun = ap (λ (u : World). u.begun) g.3 ∙ (behind_lives w g.0).1
+    begun = ap (λ (u : World). u.begun) g.3 ∙ (after_lives w g.0).1
 
 named_by : (name : List ℕ) → ByIdentity (is_named name)
 named_by name l m s t = ap (λ (n : List ℕ). if bytes_eq n name then 1 else 0) s
@@ -318,7 +318,7 @@ are_numbered w h = record {
 
 -- Starts get one number after another.
 
-starts_row : (w : World) (d : Does) → Becomes w d → numbers_to w.begun ++ started_by d.told.effect ≡ numbers_to d.begun
+starts_row : (w : World) (d : Does) → Becomes w d → numbers_to w.begun ++ started_by d.reported.effect ≡ numbers_to d.begun
 starts_row w d (Becomes.all_stay lives begun none) = ap (λ (ns : List ℕ). numbers_to w.begun ++ ns) none ∙ append-nil (numbers_to w.begun) ∙ ap numbers_to (sym begun)
 starts_row w d (Becomes.one_changes l m own name number lives begun none) = ap (λ (ns : List ℕ). numbers_to w.begun ++ ns) none ∙ append-nil (numbers_to w.begun) ∙ ap numbers_to (sym begun)
 starts_row w d (Becomes.one_ends l own lives begun none) = ap (λ (ns : List ℕ). numbers_to w.begun ++ ns) none ∙ append-nil (numbers_to w.begun) ∙ ap numbers_to (sym begun)
@@ -331,7 +331,7 @@ starts_step : (w : World) (e : Event) (o : Outcome) (v : World) → Gives w e o 
 starts_step w e o v g =
     ap (λ (p : Outcome). numbers_to w.begun ++ started_by p.effect) g.2
     ∙ starts_row w g.0 (becomes w e g.0 g.1)
-    ∙ ap numbers_to (sym (ap (λ (u : World). u.begun) g.3 ∙ (behind_lives w g.0).1))
+    ∙ ap numbers_to (sym (ap (λ (u : World). u.begun) g.3 ∙ (after_lives w g.0).1))
 
 starts_run : (w : World) (es : List Event) (os : List Outcome) (v : World) → Runs w es os v → numbers_to w.begun ++ all_started os ≡ numbers_to v.begun
 starts_run w [] [] v run = append-nil (numbers_to w.begun) ∙ ap (λ (u : World). numbers_to u.begun) (sym run)

@@ -26,7 +26,7 @@ use Rattle.block_tree.specs.declared.reason.Reason.TheVariants as reason
 use Rattle.session_engine.specs.World.{World, Going, life_of, session_of_field, with_number}
 use Rattle.session_engine.specs.inside.Words.{line_of_field, request_of_field}
 use Rattle.session_engine.specs.Refused.{command_refusals, command_takes_memory}
-use Rattle.session_engine.specs.Does.{Does, MayDo, ChildDoes, CommandDoes, Gives, Runs, behind, does, ends_life, asks_item, steps, tells}
+use Rattle.session_engine.specs.Does.{Does, MayDo, ChildDoes, CommandDoes, Gives, Runs, following, does, ends_life, asks_item, steps, tells}
 use Rattle.host_laws.specs.Apart.{is_refusal_reply}
 use Rattle.host_laws.specs.Laws.{EachEventHasAnOutcome, AnEventDoesOneThing, OutcomesLeadToOneWorld, lacks_memory, may_want}
 
@@ -60,7 +60,7 @@ module _ (w : World) where
   may_do (event.Child name number e) = child_does (with_number number (life_of w name)) e
 
 pub each_event_has_an_outcome : EachEventHasAnOutcome
-each_event_has_an_outcome w e = let d = may_do w e in (d.0.told, behind w d.0, (d.0, d.1, refl, refl))
+each_event_has_an_outcome w e = let d = may_do w e in (d.0.reported, following w d.0, (d.0, d.1, refl, refl))
 
 -- It does one thing.
 
@@ -97,12 +97,12 @@ an_event_does_one_thing one w e d f a b = one_does one w e d f a b
 -- Where it leads is settled by what it returned.
 
 module _ (one : OneReading) (w : World) where
-  asking_accepts : (i : Item) (name : List ℕ) (l : Option Going) → is_refusal_reply (asks_item w i None name l).told.reply ≡ false
+  asking_accepts : (i : Item) (name : List ℕ) (l : Option Going) → is_refusal_reply (asks_item w i None name l).reported.reply ≡ false
   asking_accepts i name None = refl
   asking_accepts i name (Some l) = refl
 
   -- what is accepted isn't reported as refused
-  accepts : (c : Command) → is_refusal_reply (does w c).told.reply ≡ false
+  accepts : (c : Command) → is_refusal_reply (does w c).reported.reply ≡ false
   accepts (command.Session name tab words) = refl
   accepts (command.New after session input) = refl
   accepts (command.Set id input) = refl
@@ -111,37 +111,37 @@ module _ (one : OneReading) (w : World) where
   accepts (command.Clear id) = refl
   accepts (command.Eval id) = go (life_of w (session_of_field w id))
     where
-      go : (l : Option Going) → is_refusal_reply (asks_item w (line_of_field w id) (Some (op.Clear id)) (session_of_field w id) l).told.reply ≡ false
+      go : (l : Option Going) → is_refusal_reply (asks_item w (line_of_field w id) (Some (op.Clear id)) (session_of_field w id) l).reported.reply ≡ false
       go None = refl
       go (Some l) = refl
   accepts (command.Complete id cursor) = asking_accepts (request_of_field w id cursor) (session_of_field w id) (life_of w (session_of_field w id))
   accepts (command.CompleteText id cursor text) = asking_accepts (item.Complete id text cursor) (session_of_field w id) (life_of w (session_of_field w id))
   accepts (command.Stop name) = go (life_of w name)
     where
-      go : (l : Option Going) → is_refusal_reply (ends_life w reason.Stopped true l reply.Done).told.reply ≡ false
+      go : (l : Option Going) → is_refusal_reply (ends_life w reason.Stopped true l reply.Done).reported.reply ≡ false
       go None = refl
       go (Some l) = refl
   accepts command.Checkpoint = refl
 
-  differs : (c : Command) (d f : Does) → d ≡ does w c → f ≡ lacks_memory w → d.told ≡ f.told → ⊥
+  differs : (c : Command) (d f : Does) → d ≡ does w c → f ≡ lacks_memory w → d.reported ≡ f.reported → ⊥
   differs c d f a b same =
-      let t : (does w c).told ≡ (lacks_memory w).told = ap (λ (x : Does). x.told) (sym a) ∙ same ∙ ap (λ (x : Does). x.told) b in
+      let t : (does w c).reported ≡ (lacks_memory w).reported = ap (λ (x : Does). x.reported) (sym a) ∙ same ∙ ap (λ (x : Does). x.reported) b in
       let no : false ≡ true = sym (accepts c) ∙ ap (λ (o : Outcome). is_refusal_reply o.reply) t in
       cc
 
-  told_apart : (c : Command) (r : Option Refusal) (d f : Does) → CommandDoes w c r d → CommandDoes w c r f → d.told ≡ f.told → d ≡ f
-  told_apart c (Some r) d f a b same = a ∙ sym b
-  told_apart c None d f (inl a) (inl b) same = a ∙ sym b
-  told_apart c None d f (inl a) (inr b) same = absurd (differs c d f a b.1 same)
-  told_apart c None d f (inr a) (inl b) same = absurd (differs c f d b a.1 (sym same))
-  told_apart c None d f (inr a) (inr b) same = a.1 ∙ sym b.1
+  reported_apart : (c : Command) (r : Option Refusal) (d f : Does) → CommandDoes w c r d → CommandDoes w c r f → d.reported ≡ f.reported → d ≡ f
+  reported_apart c (Some r) d f a b same = a ∙ sym b
+  reported_apart c None d f (inl a) (inl b) same = a ∙ sym b
+  reported_apart c None d f (inl a) (inr b) same = absurd (differs c d f a b.1 same)
+  reported_apart c None d f (inr a) (inl b) same = absurd (differs c f d b a.1 (sym same))
+  reported_apart c None d f (inr a) (inr b) same = a.1 ∙ sym b.1
 
-  by_told : (e : Event) (d f : Does) → MayDo w e d → MayDo w e f → d.told ≡ f.told → d ≡ f
-  by_told (event.Command c) d f a b same = told_apart c (first_of (command_refusals w c)) d f a b same
-  by_told (event.Child name number e) d f a b same = one_of_child one w (with_number number (life_of w name)) e d f a b
+  by_reported : (e : Event) (d f : Does) → MayDo w e d → MayDo w e f → d.reported ≡ f.reported → d ≡ f
+  by_reported (event.Command c) d f a b same = reported_apart c (first_of (command_refusals w c)) d f a b same
+  by_reported (event.Child name number e) d f a b same = one_of_child one w (with_number number (life_of w name)) e d f a b
 
   one_world : (e : Event) (o : Outcome) (v u : World) → Gives w e o v → Gives w e o u → v ≡ u
-  one_world e o v u a b = a.3 ∙ ap (behind w) (by_told e a.0 b.0 a.1 b.1 (sym a.2 ∙ b.2)) ∙ sym b.3
+  one_world e o v u a b = a.3 ∙ ap (following w) (by_reported e a.0 b.0 a.1 b.1 (sym a.2 ∙ b.2)) ∙ sym b.3
 
 pub outcomes_lead_to_one_world : OneReading → OutcomesLeadToOneWorld
 outcomes_lead_to_one_world one w [] [] v u a b = a ∙ sym b

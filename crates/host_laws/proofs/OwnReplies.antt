@@ -14,15 +14,15 @@ use Rattle.session_engine.specs.Refused.{command_refusals}
 use Rattle.session_engine.specs.Does.{Does, CommandDoes, asks_item, does, ends_life}
 use Rattle.host_laws.specs.Laws.{EachCommandHasAReply, IsOwnReply}
 
-asked : (w : World) (i : Item) (given : Option Op) (name : List ℕ) (l : Option Going) → IsOwnReply (asks_item w i given name l).told.reply
+asked : (w : World) (i : Item) (given : Option Op) (name : List ℕ) (l : Option Going) → IsOwnReply (asks_item w i given name l).reported.reply
 asked w i given name None = tt
 asked w i given name (Some l) = tt
 
-stopped : (w : World) (l : Option Going) → IsOwnReply (ends_life w reason.Stopped true l reply.Done).told.reply
+stopped : (w : World) (l : Option Going) → IsOwnReply (ends_life w reason.Stopped true l reply.Done).reported.reply
 stopped w None = tt
 stopped w (Some l) = (refl, (_, refl, refl))
 
-done : (w : World) (c : Command) → IsOwnReply (does w c).told.reply
+done : (w : World) (c : Command) → IsOwnReply (does w c).reported.reply
 done w (command.Session name tab words) = tt
 done w (command.New after session input) = tt
 done w (command.Set id input) = tt
@@ -35,10 +35,10 @@ done w (command.CompleteText id cursor text) = asked w _ _ (session_of_field w i
 done w (command.Stop name) = stopped w (life_of w name)
 done w command.Checkpoint = tt
 
-by : (w : World) (c : Command) (r : Option Refusal) (d : Does) → CommandDoes w c r d → IsOwnReply d.told.reply
-by w c (Some r) d is = subst (λ (x : Does). IsOwnReply x.told.reply) (sym is) tt
-by w c None d (inl is) = subst (λ (x : Does). IsOwnReply x.told.reply) (sym is) (done w c)
-by w c None d (inr p) = subst (λ (x : Does). IsOwnReply x.told.reply) (sym p.1) tt
+by : (w : World) (c : Command) (r : Option Refusal) (d : Does) → CommandDoes w c r d → IsOwnReply d.reported.reply
+by w c (Some r) d is = subst (λ (x : Does). IsOwnReply x.reported.reply) (sym is) tt
+by w c None d (inl is) = subst (λ (x : Does). IsOwnReply x.reported.reply) (sym is) (done w c)
+by w c None d (inr p) = subst (λ (x : Does). IsOwnReply x.reported.reply) (sym p.1) tt
 
 pub each_command_has_a_reply : EachCommandHasAReply
 each_command_has_a_reply w c o v gives =

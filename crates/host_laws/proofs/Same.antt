@@ -29,7 +29,7 @@ use Rattle.host_events.specs.declared.reply.Reply.TheVariants as reply
 use Rattle.host_events.specs.Commands.{op_of}
 use Rattle.session_engine.specs.inside.Commits.{AllowedIf}
 use Rattle.session_engine.specs.World.{World, Going, kept_at_end, sheet_in, life_of, session_of_field, in_flight, with_number, with_op_if}
-use Rattle.session_engine.specs.inside.Words.{by_field, line_of_field, with_op, request_of_field, codes_anew, fits_anew_in, with_piece, starting_words, full, takes_tab}
+use Rattle.session_engine.specs.inside.Words.{by_field, line_of_field, with_op, request_of_field, codes_again, fits_again_in, with_piece, starting_words, full, takes_tab}
 use Rattle.session_engine.specs.inside.Parts.{with_item, without_life, goes_on, asks}
 use Rattle.session_engine.specs.Does.{op_by, replies, Runs}
 use Rattle.session_engine.specs.Refused.{command_refusals, is_cursor, second, refusals_but_room, op_refusals, queue_refusals}
@@ -99,7 +99,7 @@ module _ (w : World) (b : List Op) (same : sheet_of w.ops ≡ sheet_of b) where
       ∷ (refusal.BadCursor, not (is_cursor text cursor))
       ∷ queue_refusals w (life_of w (by_field (field_in s.fields id) [] (λ f. f.session)))) same
   refusals_same (command.Stop name) = ap (λ (s : Contents). (refusal.NoSession, not (has_session s name)) ∷ []) same
-  refusals_same command.Checkpoint = ap (λ (s : Contents). (refusal.JournalFull, not (fits_anew_in w.room s)) ∷ []) same
+  refusals_same command.Checkpoint = ap (λ (s : Contents). (refusal.JournalFull, not (fits_again_in w.room s)) ∷ []) same
 
   asks_same : (name : List ℕ) (i : Item) (l : Option Going) → asks w name i l ≡ asks (by_ops b w) name i l
   asks_same name i None = ap (λ (s : Contents). record { reply = reply.Asked (w.begun + 1); effect = Some (effect.Start name (w.begun + 1) (starting_words (session_named s.sessions name))) }) same
@@ -228,7 +228,7 @@ module _ (w : World) (b : List Op) (h : Sound w) (allowed : Allowed b) (same : s
       record { ops = with_if b p; is = if_same b p u; same = sheet_if w b h allowed same p u refl next; allowed = allowed_if w b h allowed same p next }
   leads_on command.Checkpoint first = record {
     ops = b;
-    is = ap (λ (s : Contents). record w { ops = b; end = end_of (codes_anew s) }) (sym same);
+    is = ap (λ (s : Contents). record w { ops = b; end = end_of (codes_again s) }) (sym same);
     same = same;
     allowed = allowed;
   }

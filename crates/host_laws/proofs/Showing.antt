@@ -24,7 +24,7 @@ use Rattle.block_tree.specs.declared.reason.Reason.TheVariants as reason
 use Rattle.plugin_core.specs.Past.{received, stream_of, items_of}
 use Rattle.plugin_core.specs.Past.{Event as LifeEvent}
 use Rattle.plugin_core.specs.Answers.{answers_of}
-use Rattle.plugin_core.specs.Items.{first_line_of, unanswered, waiting_of, prompt_of, answer_behind, answer_to}
+use Rattle.plugin_core.specs.Items.{first_line_of, unanswered, waiting_of, prompt_of, answer_following, answer_to}
 use Rattle.plugin_core.specs.Steps.{Reads, step_of}
 use Rattle.plugin_core.specs.inside.Words.{answered_with}
 use Rattle.plugin_core.specs.Steps.{closed_by as closed_in}
@@ -122,7 +122,7 @@ module _ (os : List Op) (past : List LifeEvent) (before after : List Outer) (pie
   by_item a ys b (Some (item.Complete other text cursor)) e f g h = cc
 
   by_answers : (ys : List Outer) (b : Outer) → answers_of past before ≡ ys → slice_get (answers_of (past ++ received piece ∷ []) after) (length ys) ≡ Some b
-      → answer_behind ys (items_of past) (prompt_of past before) b.block ≡ Some (answered.Line id prompt out) → IsClosing os past before after piece id prompt out
+      → answer_following ys (items_of past) (prompt_of past before) b.block ≡ Some (answered.Line id prompt out) → IsClosing os past before after piece id prompt out
   by_answers [] b e f h = cc
   by_answers (a ∷ ys) b e f h = by_item a ys b (slice_get (items_of past) (length ys)) e f refl h
 

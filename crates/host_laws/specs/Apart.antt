@@ -84,7 +84,7 @@ abbrev pub NoneRefused : List Outcome → Type 0
 NoneRefused os = AllByRecursion (λ o. is_refusal_reply o.reply ≡ false) os
 
 -- What is reported of an event: what it gave, where it is of the session, and the ops that it added.
-pub record Told : Type 0 where
+pub record Reported : Type 0 where
   pub event : Event
   pub outcome : Option Outcome
   pub ops : List Op
@@ -109,14 +109,14 @@ but_reasons (o ∷ os) = if is_no_reason o then o ∷ but_reasons os else but_re
 abbrev pub added : World → World → List Op
 added w v = but_reasons (drop (length w.ops) v.ops)
 
-abbrev pub told_to : List ℕ → World → Event → Outcome → World → Told
-told_to name w e o v = record { event = e; outcome = if concerns name w e then Some o else None; ops = added w v }
+abbrev pub reported_to : List ℕ → World → Event → Outcome → World → Reported
+reported_to name w e o v = record { event = e; outcome = if concerns name w e then Some o else None; ops = added w v }
 
 -- What a history tells of its commands and of this session's child events, one by one. The ops of the child events are the
 -- session's answers. Nothing is said of reasons: whether a field keeps one hangs on the room of the journal.
-abbrev pub session_tells : List ℕ → (w : World) (es : List Event) (os : List Outcome) (v : World) → Runs w es os v → List Told
+abbrev pub session_tells : List ℕ → (w : World) (es : List Event) (os : List Outcome) (v : World) → Runs w es os v → List Reported
 session_tells name w [] [] v run = []
-session_tells name w (e ∷ es) (o ∷ os) v run = if is_kept name e then told_to name w e o run.0 ∷ session_tells name run.0 es os v run.2 else session_tells name run.0 es os v run.2
+session_tells name w (e ∷ es) (o ∷ os) v run = if is_kept name e then reported_to name w e o run.0 ∷ session_tells name run.0 es os v run.2 else session_tells name run.0 es os v run.2
 session_tells name w [] (o ∷ os) v run = []
 session_tells name w (e ∷ es) [] v run = []
 
@@ -177,13 +177,13 @@ SessionsSeeTheirOwn = (name : List ℕ) (w x : World) (es fs : List Event) (os p
     → (session_tells name w es os v run ≡ session_tells name x fs ps u other) × LookAlike name (sheet_in v) (sheet_in u)
 
 -- a reply tells of a life of this session
-abbrev pub is_told : List ℕ → Reply → Bool
-is_told name reply.Done = false
-is_told name (reply.Field id) = false
-is_told name (reply.Asked number) = false
-is_told name (reply.Refused r) = false
-is_told name (reply.Child c) = bytes_eq c.name name
-is_told name reply.Nothing = false
+abbrev pub is_reported : List ℕ → Reply → Bool
+is_reported name reply.Done = false
+is_reported name (reply.Field id) = false
+is_reported name (reply.Asked number) = false
+is_reported name (reply.Refused r) = false
+is_reported name (reply.Child c) = bytes_eq c.name name
+is_reported name reply.Nothing = false
 
 -- an effect is on a child of this session
 abbrev pub is_on : List ℕ → Option Effect → Bool
@@ -195,4 +195,4 @@ is_on name (Some (effect.Kill other number)) = bytes_eq other name
 -- An event that isn't of the session tells nothing of its lives, and has no effect on its child.
 abbrev pub OthersAreSilent : Type 0
 OthersAreSilent = (name : List ℕ) (w : World) (e : Event) (o : Outcome) (v : World) → Gives w e o v → concerns name w e ≡ false
-    → (is_told name o.reply ≡ false) × (is_on name o.effect ≡ false)
+    → (is_reported name o.reply ≡ false) × (is_on name o.effect ≡ false)

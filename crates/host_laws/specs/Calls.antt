@@ -37,21 +37,21 @@ TookNone (Err lacks.Disk) = ⊥
 -- The host took these events, each by a step or in a group, and they returned these outcomes.
 pub data TookByCalls : HostView → List Event → List Outcome → HostView → Type 0 where
   no_call : {h : HostView} → TookByCalls h [] [] h
-  and_step : {h mid new : HostView} {e : Event} {o : Outcome} {events : List Event} {told : List Outcome}
-      → TookByCalls h events told mid → StepMeets e mid (Ok o) new → TookByCalls h (events ++ e ∷ []) (told ++ o ∷ []) new
-  and_group : {h mid new : HostView} {group : List Event} {outcomes : Vec Outcome Global} {events : List Event} {told : List Outcome}
-      → TookByCalls h events told mid → GroupMeets group mid (Ok outcomes) new → TookByCalls h (events ++ group) (told ++ outcomes.items) new
+  and_step : {h mid new : HostView} {e : Event} {o : Outcome} {events : List Event} {reported : List Outcome}
+      → TookByCalls h events reported mid → StepMeets e mid (Ok o) new → TookByCalls h (events ++ e ∷ []) (reported ++ o ∷ []) new
+  and_group : {h mid new : HostView} {group : List Event} {outcomes : Vec Outcome Global} {events : List Event} {reported : List Outcome}
+      → TookByCalls h events reported mid → GroupMeets group mid (Ok outcomes) new → TookByCalls h (events ++ group) (reported ++ outcomes.items) new
   -- of one that stops at a refusal those that have outcomes
-  and_group_up_to : {h mid new : HostView} {group : List Event} {outcomes : Vec Outcome Global} {events : List Event} {told : List Outcome}
-      → TookByCalls h events told mid → UpToMeets group mid (Ok outcomes) new → TookByCalls h (events ++ take (length outcomes.items) group) (told ++ outcomes.items) new
+  and_group_up_to : {h mid new : HostView} {group : List Event} {outcomes : Vec Outcome Global} {events : List Event} {reported : List Outcome}
+      → TookByCalls h events reported mid → UpToMeets group mid (Ok outcomes) new → TookByCalls h (events ++ take (length outcomes.items) group) (reported ++ outcomes.items) new
   -- none of a group that was given back
-  and_given_back : {h mid new : HostView} {group : List Event} {answer : Result (Vec Outcome Global) GroupFault} {events : List Event} {told : List Outcome}
-      → TookByCalls h events told mid → GroupMeets group mid answer new ⊎ UpToMeets group mid answer new → GaveBack answer → TookByCalls h events told new
+  and_given_back : {h mid new : HostView} {group : List Event} {answer : Result (Vec Outcome Global) GroupFault} {events : List Event} {reported : List Outcome}
+      → TookByCalls h events reported mid → GroupMeets group mid answer new ⊎ UpToMeets group mid answer new → GaveBack answer → TookByCalls h events reported new
   -- commands that were taken as a whole, and none of those that weren't
-  and_whole : {h mid new : HostView} {edits : List Event} {outcomes : Vec Outcome Global} {events : List Event} {told : List Outcome}
-      → TookByCalls h events told mid → WholeMeets edits mid (Ok (whole.Taken outcomes)) new → TookByCalls h (events ++ edits) (told ++ outcomes.items) new
-  and_none : {h mid new : HostView} {edits : List Event} {answer : Result Whole WholeFault} {events : List Event} {told : List Outcome}
-      → TookByCalls h events told mid → WholeMeets edits mid answer new → TookNone answer → TookByCalls h events told new
+  and_whole : {h mid new : HostView} {edits : List Event} {outcomes : Vec Outcome Global} {events : List Event} {reported : List Outcome}
+      → TookByCalls h events reported mid → WholeMeets edits mid (Ok (whole.Taken outcomes)) new → TookByCalls h (events ++ edits) (reported ++ outcomes.items) new
+  and_none : {h mid new : HostView} {edits : List Event} {answer : Result Whole WholeFault} {events : List Event} {reported : List Outcome}
+      → TookByCalls h events reported mid → WholeMeets edits mid answer new → TookNone answer → TookByCalls h events reported new
 
 -- A host was opened, and given events by steps and groups. A crash after the last call leaves the worksheet after a prefix of the events that
 -- has each of them, since each was acknowledged; and so does a crash at any moment of one step or one group more, whatever that answers. One after a
@@ -59,16 +59,16 @@ pub data TookByCalls : HostView → List Event → List Outcome → HostView →
 -- whole are such a group.
 abbrev pub CallsLeavePrefixes : Type 0
 CallsLeavePrefixes = (room : ℕ) (before : Image) (found : List Op) (opened : HostView) → JustOpened room before found opened
-    → (events : List Event) (told : List Outcome) (old : HostView) → TookByCalls opened events told old
-    → CrashesAreTurns room before found (record { events = events; told = told }) old.store.disk old.store.disk
+    → (events : List Event) (reported : List Outcome) (old : HostView) → TookByCalls opened events reported old
+    → CrashesAreTurns room before found (record { events = events; reported = reported }) old.store.disk old.store.disk
     × ((e : Event) (answer : Result Outcome HostFault) (new : HostView) → StepMeets e old answer new
-    → CrashesAreTurns room before found (record { events = events ++ e ∷ []; told = told }) old.store.disk new.store.disk)
+    → CrashesAreTurns room before found (record { events = events ++ e ∷ []; reported = reported }) old.store.disk new.store.disk)
     × ((group : List Event) (answer : Result (Vec Outcome Global) GroupFault) (new : HostView) → GroupMeets group old answer new
-    → CrashesAreTurns room before found (record { events = events ++ group; told = told }) old.store.disk new.store.disk
-    × CrashesAreTurns room before found (record { events = events ++ group; told = told ++ returned answer }) new.store.disk new.store.disk)
+    → CrashesAreTurns room before found (record { events = events ++ group; reported = reported }) old.store.disk new.store.disk
+    × CrashesAreTurns room before found (record { events = events ++ group; reported = reported ++ returned answer }) new.store.disk new.store.disk)
     × ((group : List Event) (answer : Result (Vec Outcome Global) GroupFault) (new : HostView) → UpToMeets group old answer new
-    → CrashesAreTurns room before found (record { events = events ++ group; told = told }) old.store.disk new.store.disk
-    × CrashesAreTurns room before found (record { events = events ++ group; told = told ++ returned answer }) new.store.disk new.store.disk)
+    → CrashesAreTurns room before found (record { events = events ++ group; reported = reported }) old.store.disk new.store.disk
+    × CrashesAreTurns room before found (record { events = events ++ group; reported = reported ++ returned answer }) new.store.disk new.store.disk)
     × ((edits : List Event) (answer : Result Whole WholeFault) (new : HostView) → WholeMeets edits old answer new
-    → CrashesAreTurns room before found (record { events = events ++ edits; told = told }) old.store.disk new.store.disk
-    × CrashesAreTurns room before found (record { events = events ++ edits; told = told ++ whole_returned answer }) new.store.disk new.store.disk)
+    → CrashesAreTurns room before found (record { events = events ++ edits; reported = reported }) old.store.disk new.store.disk
+    × CrashesAreTurns room before found (record { events = events ++ edits; reported = reported ++ whole_returned answer }) new.store.disk new.store.disk)

@@ -57,7 +57,7 @@ IsOwnReply reply.Done = Unit {0}
 IsOwnReply (reply.Field id) = Unit {0}
 IsOwnReply (reply.Asked life) = Unit {0}
 IsOwnReply (reply.Refused why) = Unit {0}
-IsOwnReply (reply.Child told) = (told.closed ≡ None) × ((ended : Ended) × (told.ended ≡ Some ended) × (ended.reason ≡ reason.Stopped))
+IsOwnReply (reply.Child reported) = (reported.closed ≡ None) × ((ended : Ended) × (reported.ended ≡ Some ended) × (ended.reason ≡ reason.Stopped))
 IsOwnReply reply.Nothing = ⊥
 
 -- Each command has a reply of its own. So of what is returned for a command and for all that comes of it, the first reply is the command's.
@@ -104,7 +104,7 @@ NumbersAreGivenOnce = (ops : List Op) (room end : ℕ) (es : List Event) (os : L
 abbrev pub NothingOfAnEndedLife : Type 0
 NothingOfAnEndedLife = (ops : List Op) (room end : ℕ) (es : List Event) (os : List Outcome) (w : World) → Runs (world_at_opening ops room end) es os w
     → (name : List ℕ) (number : ℕ) → number ≤ w.begun → with_number number (life_of w name) ≡ None
-    → (later : List Event) (told : List Outcome) (v : World) → Runs w later told v
+    → (later : List Event) (reported : List Outcome) (v : World) → Runs w later reported v
     → (e : ChildEvent) (d : Does) → MayDo v (event.Child name number e) d → d ≡ tells v reply.Nothing
 
 -- Fields in flight.

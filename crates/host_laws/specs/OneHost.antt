@@ -20,8 +20,8 @@ StepMeets e old answer new = (w : World) → IsHost old w → IfOk answer (Took 
 -- The host was given these events by one step each, and they returned these outcomes.
 pub data TookOneByOne : HostView → List Event → List Outcome → HostView → Type 0 where
   no_event : {h : HostView} → TookOneByOne h [] [] h
-  one_more : {h mid new : HostView} {e : Event} {o : Outcome} {events : List Event} {told : List Outcome}
-      → TookOneByOne h events told mid → StepMeets e mid (Ok o) new → TookOneByOne h (events ++ e ∷ []) (told ++ o ∷ []) new
+  one_more : {h mid new : HostView} {e : Event} {o : Outcome} {events : List Event} {reported : List Outcome}
+      → TookOneByOne h events reported mid → StepMeets e mid (Ok o) new → TookOneByOne h (events ++ e ∷ []) (reported ++ o ∷ []) new
 
 -- A host as `open` returns it: it stands for a worksheet of which the disk had an image.
 pub record JustOpened (room : ℕ) (before : Image) (found : List Op) (host : HostView) : Type 0 where
@@ -34,7 +34,7 @@ pub record JustOpened (room : ℕ) (before : Image) (found : List Op) (host : Ho
 -- has each of them, since each was acknowledged; and so does a crash at any moment of one step more, whatever that answers.
 abbrev pub StepsLeavePrefixes : Type 0
 StepsLeavePrefixes = (room : ℕ) (before : Image) (found : List Op) (opened : HostView) → JustOpened room before found opened
-    → (events : List Event) (told : List Outcome) (old : HostView) → TookOneByOne opened events told old
-    → CrashesAreTurns room before found (record { events = events; told = told }) old.store.disk old.store.disk
+    → (events : List Event) (reported : List Outcome) (old : HostView) → TookOneByOne opened events reported old
+    → CrashesAreTurns room before found (record { events = events; reported = reported }) old.store.disk old.store.disk
     × ((e : Event) (answer : Result Outcome HostFault) (new : HostView) → StepMeets e old answer new
-    → CrashesAreTurns room before found (record { events = events ++ e ∷ []; told = told }) old.store.disk new.store.disk)
+    → CrashesAreTurns room before found (record { events = events ++ e ∷ []; reported = reported }) old.store.disk new.store.disk)

@@ -67,23 +67,23 @@ whole_returned (Err why) = []
 abbrev pub GroupsAreTurns : Type 0
 GroupsAreTurns = (room end : ℕ) (before : Image) (found : List Op)
     → Allowed found → IsSheetImage (sheet_of found) before → EndsAt before end
-    → (events : List Event) (told : List Outcome) (w : World)
-    → Runs (world_at_opening found room end) events told w
+    → (events : List Event) (reported : List Outcome) (w : World)
+    → Runs (world_at_opening found room end) events reported w
     → (group : List Event) (old new : HostView) (answer : Result (Vec Outcome Global) GroupFault)
     → IsHost old w → GroupMeets group old answer new
-    → CrashesAreTurns room before found (record { events = events ++ group; told = told }) old.store.disk new.store.disk
-    × CrashesAreTurns room before found (record { events = events ++ group; told = told ++ returned answer }) new.store.disk new.store.disk
-    × IfOk answer (λ outcomes. (v : World) × Runs (world_at_opening found room end) (events ++ group) (told ++ outcomes.items) v × IsHost new v)
+    → CrashesAreTurns room before found (record { events = events ++ group; reported = reported }) old.store.disk new.store.disk
+    × CrashesAreTurns room before found (record { events = events ++ group; reported = reported ++ returned answer }) new.store.disk new.store.disk
+    × IfOk answer (λ outcomes. (v : World) × Runs (world_at_opening found room end) (events ++ group) (reported ++ outcomes.items) v × IsHost new v)
 
 -- So is one that stops at a refusal. The events after that are of those that were lost. Where it answers Ok, and as many outcomes as there are
 -- events, the host stands for the world that the events with the group lead to.
 abbrev pub GroupsUpToAreTurns : Type 0
 GroupsUpToAreTurns = (room end : ℕ) (before : Image) (found : List Op)
     → Allowed found → IsSheetImage (sheet_of found) before → EndsAt before end
-    → (events : List Event) (told : List Outcome) (w : World)
-    → Runs (world_at_opening found room end) events told w
+    → (events : List Event) (reported : List Outcome) (w : World)
+    → Runs (world_at_opening found room end) events reported w
     → (group : List Event) (old new : HostView) (answer : Result (Vec Outcome Global) GroupFault)
     → IsHost old w → UpToMeets group old answer new
-    → CrashesAreTurns room before found (record { events = events ++ group; told = told }) old.store.disk new.store.disk
-    × CrashesAreTurns room before found (record { events = events ++ group; told = told ++ returned answer }) new.store.disk new.store.disk
-    × IfOk answer (λ outcomes. length outcomes.items ≡ length group → (v : World) × Runs (world_at_opening found room end) (events ++ group) (told ++ outcomes.items) v × IsHost new v)
+    → CrashesAreTurns room before found (record { events = events ++ group; reported = reported }) old.store.disk new.store.disk
+    × CrashesAreTurns room before found (record { events = events ++ group; reported = reported ++ returned answer }) new.store.disk new.store.disk
+    × IfOk answer (λ outcomes. length outcomes.items ≡ length group → (v : World) × Runs (world_at_opening found room end) (events ++ group) (reported ++ outcomes.items) v × IsHost new v)

@@ -65,18 +65,18 @@ pub record ClosesAnswer (w : World) (e : Event) (f : Field) : Type 0 where
 pub record HostStep : Type 0 where
   pub before : World
   pub event : Event
-  pub behind : World
+  pub following : World
 
 -- These are the steps of these events, with these outcomes, one after another from this world to that one.
 pub data StepsOf : World → List Event → List Outcome → List HostStep → World → Type 0 where
   no_step : {w : World} → StepsOf w [] [] [] w
   step_first : {w mid v : World} {e : Event} {o : Outcome} {es : List Event} {os : List Outcome} {steps : List HostStep}
       → Gives w e o mid → StepsOf mid es os steps v
-      → StepsOf w (e ∷ es) (o ∷ os) (record { before = w; event = e; behind = mid } ∷ steps) v
+      → StepsOf w (e ∷ es) (o ∷ os) (record { before = w; event = e; following = mid } ∷ steps) v
 
 -- after each of these steps the worksheet has exactly this field
 abbrev pub KeepField : Field → List HostStep → Type 0
-KeepField f steps = AllByRecursion (λ s. Has (sheet_in s.behind) f) steps
+KeepField f steps = AllByRecursion (λ s. Has (sheet_in s.following) f) steps
 
 -- One of these steps closed the answer that the field shows, and after it and after each later one the worksheet has the field so.
 pub record AnsweredIn (steps : List HostStep) (f : Field) : Type 0 where
@@ -92,7 +92,7 @@ pub record AnsweredIn (steps : List HostStep) (f : Field) : Type 0 where
 -- What a caller saw of one host: the events that it gave it, in order, and the outcomes that were returned to it, of the first of them.
 pub record HostTurn : Type 0 where
   pub events : List Event
-  pub told : List Outcome
+  pub reported : List Outcome
 
 -- A host was opened on an image of the worksheet of these ops. It took a prefix of the events that it was given, which has all those whose
 -- outcome it returned. A crash left an image of the worksheet of those ops.
@@ -107,9 +107,9 @@ pub record Turned (room : ℕ) (before : Image) (found : List Op) (turn : HostTu
   pub lost : List Event
   pub split : turn.events ≡ taken ++ lost
   -- the outcomes of those that it took: what it returned, and then what it didn't come to return
-  pub untold : List Outcome
+  pub withheld : List Outcome
   pub leads : World
-  pub run : Runs (world_at_opening found room end) taken (turn.told ++ untold) leads
+  pub run : Runs (world_at_opening found room end) taken (turn.reported ++ withheld) leads
   pub ops : kept ≡ leads.ops
   pub leaves : IsSheetImage (sheet_of kept) after
 
@@ -126,15 +126,15 @@ PlaysAreTurns = (room end : ℕ) (before : Image) (found : List Op)
     → Allowed found → IsSheetImage (sheet_of found) before → EndsAt before end
     → (earlier : List Event) (said : List Outcome) (w : World)
     → Runs (world_at_opening found room end) earlier said w
-    → (events : List Event) (told : List Outcome) (after : Image)
-    → (LeftAmong w events told after
-    → LeftByTurn room before found (record { events = earlier ++ events; told = said }) after)
-    × ((rest : List Event) (host : HostView) (played : HasPlayed w events rest told host)
+    → (events : List Event) (reported : List Outcome) (after : Image)
+    → (LeftAmong w events reported after
+    → LeftByTurn room before found (record { events = earlier ++ events; reported = said }) after)
+    × ((rest : List Event) (host : HostView) (played : HasPlayed w events rest reported host)
     → IsSheetImage (sheet_in played.leads) after
-    → LeftByTurn room before found (record { events = earlier ++ events; told = said ++ told }) after)
-    × ((old new : HostView) (fault : HostFault) → StoppedAt w events old new told fault
+    → LeftByTurn room before found (record { events = earlier ++ events; reported = said ++ reported }) after)
+    × ((old new : HostView) (fault : HostFault) → StoppedAt w events old new reported fault
     → InModel old.store.disk
-    (Leaves (LeftByTurn room before found (record { events = earlier ++ events; told = said ++ told }))
+    (Leaves (LeftByTurn room before found (record { events = earlier ++ events; reported = said ++ reported }))
     new.store.disk.history.now))
 
 -- Each image that a crash leaves of a disk, at every moment from this state of it to that one, makes
@@ -151,13 +151,13 @@ CrashesAreTurns room before found turn old new = InModel old
 abbrev pub StepsAreTurns : Type 0
 StepsAreTurns = (room end : ℕ) (before : Image) (found : List Op)
     → Allowed found → IsSheetImage (sheet_of found) before → EndsAt before end
-    → (events : List Event) (told : List Outcome) (w : World)
-    → Runs (world_at_opening found room end) events told w
+    → (events : List Event) (reported : List Outcome) (w : World)
+    → Runs (world_at_opening found room end) events reported w
     → (e : Event) (old new : HostView) (answer : Result Outcome HostFault)
     → IsHost old w → IfOk answer (Took w e old new) → IfErr answer (Failed w e old new)
-    → CrashesAreTurns room before found (record { events = events ++ e ∷ []; told = told }) old.store.disk new.store.disk
-    × IfOk answer (λ o. ((v : World) × Runs (world_at_opening found room end) (events ++ e ∷ []) (told ++ o ∷ []) v × IsHost new v)
-    × CrashesAreTurns room before found (record { events = events ++ e ∷ []; told = told ++ o ∷ [] }) new.store.disk new.store.disk)
+    → CrashesAreTurns room before found (record { events = events ++ e ∷ []; reported = reported }) old.store.disk new.store.disk
+    × IfOk answer (λ o. ((v : World) × Runs (world_at_opening found room end) (events ++ e ∷ []) (reported ++ o ∷ []) v × IsHost new v)
+    × CrashesAreTurns room before found (record { events = events ++ e ∷ []; reported = reported ++ o ∷ [] }) new.store.disk new.store.disk)
 
 -- Each of these hosts was opened on the image that the one before it left, as an image of the worksheet of some ops.
 abbrev pub EachTurned : ℕ → Image → List HostTurn → Image → Type 0
@@ -179,7 +179,7 @@ pub data WentOn (room : ℕ) : HandedOn → List HostTurn → List HostStep → 
   no_host : {at : HandedOn} → WentOn room at [] [] at
   host_first : {before mid after : HandedOn} {turn : HostTurn} {turns : List HostTurn} {steps more : List HostStep}
       → (t : Turned room before.image before.ops turn mid.image mid.ops)
-      → StepsOf (world_at_opening before.ops room t.end) t.taken (turn.told ++ t.untold) steps t.leads
+      → StepsOf (world_at_opening before.ops room t.end) t.taken (turn.reported ++ t.withheld) steps t.leads
       → WentOn room mid turns more after
       → WentOn room before (turn ∷ turns) (steps ++ more) after
 
@@ -202,17 +202,17 @@ HostsInTurn = (room : ℕ) (first : List Op) (before after : Image) (turns : Lis
 
 -- Where an evaluation was accepted, what its field shows from there on, while this host runs, is what a whole block answered to a line
 -- after it, or nothing, also where it was Stopped or its interpreter ended first.
-abbrev pub EvaluatedAnew : Type 0
-EvaluatedAnew = (found : List Op) (room end : ℕ) (es : List Event) (os : List Outcome) (w : World)
+abbrev pub EvaluatedAgain : Type 0
+EvaluatedAgain = (found : List Op) (room end : ℕ) (es : List Event) (os : List Outcome) (w : World)
     → Allowed found → Runs (world_at_opening found room end) es os w
     → (id : ℕ) (o : Outcome) (mid : World) → Gives w (event.Command (command.Eval id)) o mid → mid.ops ≡ w.ops ++ op.Clear id ∷ []
-    → (later : List Event) (told : List Outcome) (steps : List HostStep) (v : World) → StepsOf mid later told steps v
+    → (later : List Event) (reported : List Outcome) (steps : List HostStep) (v : World) → StepsOf mid later reported steps v
     → (f : Field) (answer : Answer) → f.id ≡ id → Has (sheet_in v) f → f.answer ≡ Some answer → AnsweredIn steps f
 
 -- The same of hosts one after another: where one of their steps was an accepted evaluation, what its field shows in the end is what a whole
 -- block answered in a later step, be it of that host or of one after it, or nothing.
-abbrev pub EvaluatedAnewInTurn : Type 0
-EvaluatedAnewInTurn = (room : ℕ) (first : List Op) (before after : Image) (turns : List HostTurn) (left : LeftInTurn room first before after turns) → Allowed first
+abbrev pub EvaluatedAgainInTurn : Type 0
+EvaluatedAgainInTurn = (room : ℕ) (first : List Op) (before after : Image) (turns : List HostTurn) (left : LeftInTurn room first before after turns) → Allowed first
     → (earlier later : List HostStep) (s : HostStep) (id : ℕ) → left.steps ≡ earlier ++ s ∷ later
-    → s.event ≡ event.Command (command.Eval id) → s.behind.ops ≡ s.before.ops ++ op.Clear id ∷ []
+    → s.event ≡ event.Command (command.Eval id) → s.following.ops ≡ s.before.ops ++ op.Clear id ∷ []
     → (f : Field) (answer : Answer) → f.id ≡ id → Has (sheet_of left.kept) f → f.answer ≡ Some answer → AnsweredIn later f

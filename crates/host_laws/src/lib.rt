@@ -6,7 +6,7 @@ ghost use Rattle.host_laws.specs.Apart.{OthersAreSilent, SessionsAreIndependent,
 ghost use Rattle.host_laws.specs.Calls.{CallsLeavePrefixes};
 ghost use Rattle.host_laws.specs.OneHost.{StepsLeavePrefixes};
 ghost use Rattle.host_laws.specs.Together.{GroupsAreTurns, GroupsUpToAreTurns};
-ghost use Rattle.host_laws.specs.Turns.{EvaluatedAnew, EvaluatedAnewInTurn, HostsInTurn, PlaysAreTurns, StepsAreTurns};
+ghost use Rattle.host_laws.specs.Turns.{EvaluatedAgain, EvaluatedAgainInTurn, HostsInTurn, PlaysAreTurns, StepsAreTurns};
 ghost use Rattle.host_laws.specs.Laws.{AnEventDoesOneThing, EachCommandHasAReply, EachEventHasAnOutcome, NothingIsShownInFlight, NothingOfAnEndedLife, NumbersAreGivenOnce, OutcomesLeadToOneWorld};
 
 mod made;
@@ -80,13 +80,13 @@ pub fn calls_leave_prefixes()
 
 /// What a field shows after an accepted evaluation of it is what a whole block answered after it, or
 /// nothing.
-pub fn evaluated_anew()
-    ensures { EvaluatedAnew }
+pub fn evaluated_again()
+    ensures { EvaluatedAgain }
 {}
 
 /// The same of hosts one after another: what is shown in the end came after the evaluation, in whichever host.
-pub fn evaluated_anew_in_turn()
-    ensures { EvaluatedAnewInTurn }
+pub fn evaluated_again_in_turn()
+    ensures { EvaluatedAgainInTurn }
 {}
 
 /// Every event has an outcome in every world.

@@ -24,14 +24,14 @@ at_other area i named = ap (λ (a : Area). area_of (other_area a) i) named
 
 -- what stands in front of the first gate has the selector
 same_selector : (a b : List ℕ) (at : ℕ) → first_gate ≤ at → take at a ≡ take at b → get_or a selector_at 0 ≡ get_or b selector_at 0
-same_selector a b at behind same =
-    sym (get_or-take at a selector_at 0 (omega (arith, behind))) ∙ ap (λ (l : List ℕ). get_or l selector_at 0) same ∙ get_or-take at b selector_at 0 (omega (arith, behind))
+same_selector a b at following same =
+    sym (get_or-take at a selector_at 0 (omega (arith, following))) ∙ ap (λ (l : List ℕ). get_or l selector_at 0) same ∙ get_or-take at b selector_at 0 (omega (arith, following))
 
 -- a header stays where something is written after it
 pub header_stays : (a b : List ℕ) (at n : ℕ) → first_gate ≤ at → HasHeader a → Torn at n a b → HasHeader b
-header_stays a b at n behind has torn =
+header_stays a b at n following has torn =
     let front : take first_gate b ≡ header has.1.selector =
-    sym (take-take first_gate at b behind) ∙ ap (λ (l : List ℕ). take first_gate l) torn.before ∙ take-take first_gate at a behind
+    sym (take-take first_gate at b following) ∙ ap (λ (l : List ℕ). take first_gate l) torn.before ∙ take-take first_gate at a following
     ∙ ap (λ (l : List ℕ). take first_gate l) has.1.is in (
       drop first_gate b,
       record { selector = has.1.selector; is = sym (take-append-drop first_gate b) ∙ ap (λ (l : List ℕ). l ++ drop first_gate b) front },
@@ -71,12 +71,12 @@ works_as area old i named headed same = record {
 }
 
 pub works_on : (area : Area) (old a b : Image) (at n : ℕ) → first_gate ≤ at → Works area old a → ChangesArea area (Torn at n) a b → Works area old b
-works_on First old a b at n behind works change = record {
-  named = ap named_by (same_selector b.first a.first at behind change.0.before) ∙ works.named;
-  headed = header_stays a.first b.first at n behind works.headed change.0;
+works_on First old a b at n following works change = record {
+  named = ap named_by (same_selector b.first a.first at following change.0.before) ∙ works.named;
+  headed = header_stays a.first b.first at n following works.headed change.0;
   first = tt;
 }
-works_on Second old a b at n behind works change = record {
+works_on Second old a b at n following works change = record {
   named = same_named b a change.0 ∙ works.named;
   headed = subst HasHeader (sym change.0) works.headed;
   first = change.0 ∙ works.first;
@@ -102,11 +102,11 @@ pub active_as : (area : Area) (a b : Image) → b ≡ a → IsActive area a → 
 active_as area a b same active = subst (λ (i : Image). IsActive area i) (sym same) active
 
 pub active_on : (area : Area) (a b : Image) (at n : ℕ) → first_gate ≤ at → IsActive area a → ChangesArea area (Torn at n) a b → IsActive area b
-active_on First a b at n behind active change = record {
-  named = ap named_by (same_selector b.first a.first at behind change.0.before) ∙ active.named;
+active_on First a b at n following active change = record {
+  named = ap named_by (same_selector b.first a.first at following change.0.before) ∙ active.named;
   headed = omega (arith, change.0.no_shorter, active.headed);
 }
-active_on Second a b at n behind active change = record {
+active_on Second a b at n following active change = record {
   named = same_named b a change.0 ∙ active.named;
   headed = subst (λ (l : List ℕ). first_gate < length l) (sym change.0) active.headed;
 }
@@ -117,7 +117,7 @@ pub others_at_write : {T E : Type 0} (area : Area) (at : ℕ) (bytes : List ℕ)
 others_at_write area at bytes r h0 h1 w = kept area (Torn at (length bytes)) (content_of h0) (content_of h1) w.touched
 
 pub active_at_write : {T E : Type 0} (area : Area) (at : ℕ) (bytes : List ℕ) (r : Result T E) (h0 h1 : History) → first_gate ≤ at → IsActive area (content_of h0) → Writes area at bytes r h0 h1 → IsActive area (content_of h1)
-active_at_write area at bytes r h0 h1 behind active w = active_on area (content_of h0) (content_of h1) at (length bytes) behind active w.touched
+active_at_write area at bytes r h0 h1 following active w = active_on area (content_of h0) (content_of h1) at (length bytes) following active w.touched
 
 pub same_at_sync : {T E : Type 0} (area any : Area) (r : Result T E) (h0 h1 : History) → Syncs area r h0 h1 → area_of any (content_of h1) ≡ area_of any (content_of h0)
 same_at_sync area any r h0 h1 s = ap (λ (i : Image). area_of any i) s.content

@@ -28,8 +28,8 @@ pub holds_more : (c d : ℕ) (payloads : List (List ℕ)) → HoldsEach c payloa
 holds_more c d payloads holds more = λ i some. omega (arith, holds i some, more)
 
 -- the end after a batch, which is at most that of all
-pub end_behind : (payloads : List (List ℕ)) (from next : ℕ) (bytes : List ℕ) → IsBatch payloads from next bytes → end_of (take next payloads) ≡ end_of (take from payloads) + length bytes
-end_behind payloads from next bytes batch =
+pub end_after : (payloads : List (List ℕ)) (from next : ℕ) (bytes : List ℕ) → IsBatch payloads from next bytes → end_of (take next payloads) ≡ end_of (take from payloads) + length bytes
+end_after payloads from next bytes batch =
     omega (arith, ap end_of batch.split, end-append (take from payloads) batch.those, ap length batch.are)
 
 -- a batch in place of the closed gate

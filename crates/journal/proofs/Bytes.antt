@@ -61,8 +61,8 @@ module _ (limit selector : ℕ) (content : List ℕ) (payloads : List (List ℕ)
   }
 
   -- the first write leaves the closed gate
-  pub torn_behind : (n : ℕ) (c : List ℕ) → Torn (end + 1) n content c → Laid limit selector c payloads
-  torn_behind n c torn =
+  pub torn_after : (n : ℕ) (c : List ℕ) → Torn (end + 1) n content c → Laid limit selector c payloads
+  torn_after n c torn =
       let base : take (end + 1) content ≡ front ++ lays.gate ∷ [] =
       ap (λ (l : List ℕ). take (end + 1) l) (split ∙ sym (append_assoc front (lays.gate ∷ []) lays.rest))
       ∙ take_at (front ++ lays.gate ∷ []) lays.rest (end + 1) (omega (arith, length-front, length-append front (lays.gate ∷ []))) in

@@ -88,12 +88,12 @@ next_left area gate end given [] has far = absurd (omega (arith, far, has.gate_i
 next_left area gate end given (p ∷ others) has far =
     let rest = records others ++ has.rest in
     let head = header has.walked.header_is.selector in
-    let behind : records (given ++ p ∷ others) ++ has.rest ≡ records given ++ (record_of p ++ rest) =
+    let following : records (given ++ p ∷ others) ++ has.rest ≡ records given ++ (record_of p ++ rest) =
     ap (λ (l : List ℕ). l ++ has.rest) (records-append given (p ∷ others))
     ∙ append_assoc (records given) (record_of p ++ records others) has.rest
     ∙ ap (λ (l : List ℕ). records given ++ l) (append_assoc (record_of p) (records others) has.rest) in
     let whole : area ≡ (head ++ records given) ++ (record_of p ++ rest) =
-    has.walked.header_is.is ∙ ap (λ (l : List ℕ). head ++ l) behind ∙ sym (append_assoc head (records given) (record_of p ++ rest)) in
+    has.walked.header_is.is ∙ ap (λ (l : List ℕ). head ++ l) following ∙ sym (append_assoc head (records given) (record_of p ++ rest)) in
     record {
       payload = p;
       others = others;

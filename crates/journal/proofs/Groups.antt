@@ -15,12 +15,12 @@ read_back [] zero each fuel = refl
 read_back [] (suc n) each fuel = refl
 read_back (p ∷ ps) zero each fuel = absurd (omega (arith, fuel, length-append (record_of p) (records ps)))
 read_back (p ∷ ps) (suc n) each fuel =
-    let told : from_be_bytes w32 (to_be_bytes w32 (length p)) ≡ length p = from_be_bytes-to_be_bytes_4 (length p) (omega (arith, each.0.1)) in
+    let reported : from_be_bytes w32 (to_be_bytes w32 (length p)) ≡ length p = from_be_bytes-to_be_bytes_4 (length p) (omega (arith, each.0.1)) in
     let rest = records ps ++ closed_gate ∷ [] in
-    let behind : (p ++ records ps) ++ closed_gate ∷ [] ≡ p ++ rest = append_assoc p (records ps) (closed_gate ∷ []) in
+    let following : (p ++ records ps) ++ closed_gate ∷ [] ≡ p ++ rest = append_assoc p (records ps) (closed_gate ∷ []) in
     let first : take (length p) (p ++ rest) ≡ p = take_at p rest (length p) refl in
     let others : drop (length p) (p ++ rest) ≡ rest = drop_at p rest (length p) refl in
-    ap₂ (λ (k : ℕ) (l : List ℕ). take k l ∷ payloads_by n (drop k l)) told behind
+    ap₂ (λ (k : ℕ) (l : List ℕ). take k l ∷ payloads_by n (drop k l)) reported following
     ∙ ap₂ (λ (l : List ℕ) (m : List ℕ). l ∷ payloads_by n m) first others
     ∙ ap (λ (qs : List (List ℕ)). p ∷ qs) (read_back ps n each.1 (omega (arith, fuel, length-append (record_of p) (records ps))))
 

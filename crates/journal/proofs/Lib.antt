@@ -8,7 +8,7 @@ pub mod Unique
 pub mod Walks
 pub mod Windows
 pub mod Creating
-pub mod Anew
+pub mod Again
 pub mod Batches
 pub mod Groups
 pub mod Owing

@@ -86,8 +86,8 @@ module _ (area : Area) (h0 : History) (sound : Sound h0) (end : ℕ) (payloads :
   s2 : Syncs area done h3 h4
   s2 = synced tt area h3 h4 (write_sound area end (open_gate ∷ []) h2 sound2) refl
 
-  behind : first_gate ≤ end
-  behind = omega (arith, keeps.end_is)
+  following : first_gate ≤ end
+  following = omega (arith, keeps.end_is)
 
   are : open_gate ∷ bytes ≡ records (p ∷ []) ++ closed_gate ∷ []
   are = one_group p bytes refl
@@ -106,9 +106,9 @@ module _ (area : Area) (h0 : History) (sound : Sound h0) (end : ℕ) (payloads :
   is_active : IsActive area (content_of h4)
   is_active =
       let a0 : IsActive area (content_of h0) = record { named = named; headed = has_room (content_of h0).first keeps.stands.headed } in
-      let a1 = active_at_write area (end + 1) bytes done h0 h1 (omega (arith, behind)) a0 w1 in
+      let a1 = active_at_write area (end + 1) bytes done h0 h1 (omega (arith, following)) a0 w1 in
       let a2 = active_at_sync area done h1 h2 a1 s1 in
-      let a3 = active_at_write area end (open_gate ∷ []) done h2 h3 behind a2 w2 in
+      let a3 = active_at_write area end (open_gate ∷ []) done h2 h3 following a2 w2 in
       active_at_sync area done h3 h4 a3 s2
 
   appended_other : other_of (content_of h4) ≡ other_of (content_of h0)

@@ -8,7 +8,7 @@ use Rattle.journal.specs.Limits.{longest_payload}
 use Rattle.journal.specs.Kept.{Keeps, BeforeOrAll, OtherUntouched, active_area}
 use Rattle.journal.specs.inside.Standing.{at_active}
 use Rattle.journal.proofs.Actives.{Works, at_other, changed, first_of_both, kept, stands_there, works_as, works_on}
-use Rattle.journal.proofs.Bytes.{Laid, torn_behind, staged, after_stage, torn_gate, after_gate, end-append}
+use Rattle.journal.proofs.Bytes.{Laid, torn_after, staged, after_stage, torn_gate, after_gate, end-append}
 
 module _ (h0 : History) (end : ℕ) (payloads : List (List ℕ)) (keeps : Keeps h0 end payloads) (more : List (List ℕ)) (each : ArePayloads longest_payload more) (bytes : List ℕ) (are : open_gate ∷ bytes ≡ records more ++ closed_gate ∷ []) (area : Area) (named : active_area (content_of h0) ≡ area) where
   abbrev pub limit : ℕ
@@ -32,8 +32,8 @@ module _ (h0 : History) (end : ℕ) (payloads : List (List ℕ)) (keeps : Keeps 
     each = standing.lays.each;
   }
 
-  behind : first_gate ≤ end
-  behind = omega (arith, keeps.end_is)
+  following : first_gate ≤ end
+  following = omega (arith, keeps.end_is)
 
   -- what a crash leaves before the first call
   before : (i : Image) → IsImage h0.now i → Works area old i × (area_of area i ≡ area_of area old)
@@ -67,10 +67,10 @@ module _ (h0 : History) (end : ℕ) (payloads : List (List ℕ)) (keeps : Keeps 
       let d = reaches.0 in
       let here = before d reaches.1 in
       let torn = subst (λ (l : List ℕ). Torn (end + 1) (length bytes) l (area_of area c)) here.1 (changed area (Torn (end + 1) (length bytes)) d c reaches.2) in
-      let works = works_on area old d c (end + 1) (length bytes) (omega (arith, behind)) here.0 reaches.2 in
+      let works = works_on area old d c (end + 1) (length bytes) (omega (arith, following)) here.0 reaches.2 in
       record {
         either = (
-          inl (stands_there area old c selector payloads works (torn_behind limit selector (area_of area old) payloads laid end keeps.end_is (length bytes) (area_of area c) torn)),
+          inl (stands_there area old c selector payloads works (torn_after limit selector (area_of area old) payloads laid end keeps.end_is (length bytes) (area_of area c) torn)),
           untouched c d reaches.1 works here.0 (kept area (Torn (end + 1) (length bytes)) d c reaches.2),
         );
         works = works;
@@ -87,7 +87,7 @@ module _ (h0 : History) (end : ℕ) (payloads : List (List ℕ)) (keeps : Keeps 
       let d = reaches.0 in
       let here = at_end Q h0 h2 run d reaches.1 in
       let torn = subst (λ (l : List ℕ). Torn end 1 l (area_of area c)) (durable d reaches.1) (changed area (Torn end 1) d c reaches.2) in
-      let works = works_on area old d c end 1 behind here.works reaches.2 in
+      let works = works_on area old d c end 1 following here.works reaches.2 in
       let second = here.either.1 in
       let same = kept area (Torn end 1) d c reaches.2 in
       record {
@@ -130,9 +130,9 @@ module _ (h0 : History) (end : ℕ) (payloads : List (List ℕ)) (keeps : Keeps 
         module _ (h3 h4 : History) (w2 : Writes area end (open_gate ∷ []) good h2 h3) (s2 : Syncs area good h3 h4) where
           at_last : Works area old (content_of h4)
           at_last =
-              let one = works_on area old old (content_of h1) (end + 1) (length bytes) (omega (arith, behind)) (works_as area old old named keeps.stands.headed refl) w1.touched in
+              let one = works_on area old old (content_of h1) (end + 1) (length bytes) (omega (arith, following)) (works_as area old old named keeps.stands.headed refl) w1.touched in
               let two = subst (λ (i : Image). Works area old i) (sym s1.content) one in
-              let three = works_on area old (content_of h2) (content_of h3) end 1 behind two w2.touched in
+              let three = works_on area old (content_of h2) (content_of h3) end 1 following two w2.touched in
               subst (λ (i : Image). Works area old i) (sym s2.content) three
 
           there : (i : Image) → IsImage h4.now i → area_of area i ≡ area_of area (content_of h4)

@@ -117,11 +117,11 @@ header_there front area rest begins is some = (
 )
 
 -- at a whole record the step names its length
-pub told_here : (payload rest : List ℕ) (step : Step) → IsPayload longest_payload payload → 0 < length rest → IsStep longest_payload (record_of payload ++ rest) step → step ≡ steps.Record (length payload)
-told_here payload rest steps.End is some step = absurd (step.3 (sym (ap (λ (l : List ℕ). get_or l 0 0) step.2)))
-told_here payload rest steps.Broken is some step =
+pub reported_here : (payload rest : List ℕ) (step : Step) → IsPayload longest_payload payload → 0 < length rest → IsStep longest_payload (record_of payload ++ rest) step → step ≡ steps.Record (length payload)
+reported_here payload rest steps.End is some step = absurd (step.3 (sym (ap (λ (l : List ℕ). get_or l 0 0) step.2)))
+reported_here payload rest steps.Broken is some step =
     absurd (whole_record longest_payload (omega arith) payload rest is some (subst (λ (l : List ℕ). IsBroken longest_payload l) (sym (ap (λ (l : List ℕ). drop 1 l) step.1)) step.2))
-told_here payload rest (steps.Record n) is some step =
+reported_here payload rest (steps.Record n) is some step =
     let four : from_be_bytes w32 (to_be_bytes w32 (length payload)) ≡ from_be_bytes w32 (to_be_bytes w32 n) = ap (λ (l : List ℕ). from_be_bytes w32 (take 4 (drop 1 l))) step.1 in
     let same : length payload ≡ n = sym (from_be_bytes-to_be_bytes_4 (length payload) (omega (arith, is.1))) ∙ four ∙ from_be_bytes-to_be_bytes_4 n (omega (arith, step.3)) in
     ap (λ (k : ℕ). steps.Record k) (sym same)

@@ -24,15 +24,15 @@ begins_less front bytes n begins = (
   begins.1 ∙ ap (λ (l : List ℕ). l ++ begins.0) (sym (take-append-drop n front)) ∙ append_assoc (take n front) (drop n front) begins.0,
 )
 
-begins_behind : (front bytes : List ℕ) (n : ℕ) → n ≤ length front → Begins front bytes → Begins (drop n front) (drop n bytes)
-begins_behind front bytes n le begins = (begins.0, ap (λ (l : List ℕ). drop n l) begins.1 ∙ drop-append-le n front begins.0 le)
+begins_after : (front bytes : List ℕ) (n : ℕ) → n ≤ length front → Begins front bytes → Begins (drop n front) (drop n bytes)
+begins_after front bytes n le begins = (begins.0, ap (λ (l : List ℕ). drop n l) begins.1 ∙ drop-append-le n front begins.0 le)
 
 -- what begins the rest of an area, and what begins the rest after that
 pub begins_on : (area front next : List ℕ) (at : ℕ) → Begins front (drop at area) → Begins next (drop (at + length front) area) → Begins (front ++ next) (drop at area)
 begins_on area front next at first second =
-    let behind : drop (at + length front) area ≡ first.0 =
+    let following : drop (at + length front) area ≡ first.0 =
     sym (drop-drop (length front) at area) ∙ ap (λ (l : List ℕ). drop (length front) l) first.1 ∙ drop_at front first.0 (length front) refl in
-    (second.0, first.1 ∙ ap (λ (l : List ℕ). front ++ l) (sym behind ∙ second.1) ∙ sym (append_assoc front next second.0))
+    (second.0, first.1 ∙ ap (λ (l : List ℕ). front ++ l) (sym following ∙ second.1) ∙ sym (append_assoc front next second.0))
 
 -- a part of what is shown there, put after them
 pub more_read : (area items shown part new : List ℕ) (at n k : ℕ) → n ≡ length items → part ≡ take k shown → new ≡ items ++ part → Begins items (drop at area) → Begins shown (drop (at + n) area) → Begins new (drop at area)
@@ -50,11 +50,11 @@ pub more_is_read : (items shown part new : List ℕ) (n len : ℕ) → n ≡ len
 more_is_read items shown part new n len size below some taken is =
     omega (arith, ap length is, length-append items part, ap length taken, length-take (len - n) shown)
 
-pub shown_behind : (w : Window) (area : List ℕ) (at : ℕ) → w.start ≤ at → at ≤ w.start + length w.bytes.items → Shows w area → Begins (drop (at - w.start) w.bytes.items) (drop at area)
-shown_behind w area at from to shows =
+pub shown_after : (w : Window) (area : List ℕ) (at : ℕ) → w.start ≤ at → at ≤ w.start + length w.bytes.items → Shows w area → Begins (drop (at - w.start) w.bytes.items) (drop at area)
+shown_after w area at from to shows =
     let here : drop (at - w.start) (drop w.start area) ≡ drop at area = drop-drop (at - w.start) w.start area ∙ ap (λ (n : ℕ). drop n area) (omega arith) in
     subst (λ (l : List ℕ). Begins (drop (at - w.start) w.bytes.items) l) here
-    (begins_behind w.bytes.items (drop w.start area) (at - w.start) (omega arith) shows.bytes)
+    (begins_after w.bytes.items (drop w.start area) (at - w.start) (omega arith) shows.bytes)
 
 -- five bytes at an open gate tell a length
 pub length_field : (front rest : List ℕ) (n : ℕ) → 5 ≤ length front → get_or front 0 0 ≡ open_gate → ((i : ℕ) → get_or front i 0 < 256)
@@ -67,9 +67,9 @@ length_field (g ∷ a ∷ b ∷ []) rest n some gate byte is begins = absurd (om
 length_field (g ∷ a ∷ b ∷ c ∷ []) rest n some gate byte is begins = absurd (omega (arith, some))
 length_field (g ∷ a ∷ b ∷ c ∷ d ∷ more) rest n some gate byte is begins =
     let four = a ∷ b ∷ c ∷ d ∷ [] in
-    let told : to_be_bytes w32 n ≡ four = be_bytes_4 four n refl (each a b c d (byte 1) (byte 2) (byte 3) (byte 4)) is in
+    let reported : to_be_bytes w32 n ≡ four = be_bytes_4 four n refl (each a b c d (byte 1) (byte 2) (byte 3) (byte 4)) is in
     let laid : rest ≡ open_gate ∷ (to_be_bytes w32 n ++ (more ++ begins.0)) =
-    begins.1 ∙ ap (λ (x : ℕ). x ∷ (four ++ (more ++ begins.0))) gate ∙ ap (λ (l : List ℕ). open_gate ∷ (l ++ (more ++ begins.0))) (sym told) in
+    begins.1 ∙ ap (λ (x : ℕ). x ∷ (four ++ (more ++ begins.0))) gate ∙ ap (λ (l : List ℕ). open_gate ∷ (l ++ (more ++ begins.0))) (sym reported) in
     (more ++ begins.0, laid, omega (arith, ap length begins.1, length-append more begins.0))
   where
     each : (a b c d : ℕ) → a < 256 → b < 256 → c < 256 → d < 256 → (i : ℕ) → get_or (a ∷ b ∷ c ∷ d ∷ []) i 0 < 256

@@ -62,5 +62,5 @@ abbrev pub EitherStands : List (List ℕ) → List (List ℕ) → Image → Type
 EitherStands before payloads i = ImageStandsFor i before ⊎ ImageStandsFor i payloads
 
 -- these payloads fit in an area: the header, their records, and the gate after them
-abbrev pub FitsAnew : ℕ → List (List ℕ) → Type 0
-FitsAnew room payloads = end_of payloads + 1 ≤ room
+abbrev pub FitsAgain : ℕ → List (List ℕ) → Type 0
+FitsAgain room payloads = end_of payloads + 1 ≤ room

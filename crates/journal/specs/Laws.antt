@@ -38,8 +38,8 @@ StandingOpens = (i : Image) (payloads : List (List ℕ)) (cause : OpenCause)
 
 -- Where there is no payload, the gate is at 10, after the header. Each payload moves it on by 5 bytes and the payload's length: a
 -- gate of one byte and a length of four bytes stand in front of the payload.
-abbrev pub GateBehind : Type 0
-GateBehind = (end_of [] ≡ 10)
+abbrev pub GateAfter : Type 0
+GateAfter = (end_of [] ≡ 10)
     × ((payloads : List (List ℕ)) (payload : List ℕ) → end_of (payloads ++ payload ∷ []) ≡ end_of payloads + 5 + length payload)
 
 -- A disk to which payloads are owed keeps them after its own. One more that is owed is an append by itself. At every moment of it each

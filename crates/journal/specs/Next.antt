@@ -22,10 +22,10 @@ BeginsPayloads payloads (Ok opening) = HasGiven opening [] payloads
 BeginsPayloads payloads (Err fault) = IsPassing fault.cause
 
 -- the disk that the next payload, or the end, leaves
-abbrev pub disk_behind : {D : Type 0} → (D → DiskView) → Result (Next D) (OpenFault D) → DiskView
-disk_behind view (Ok (next.Payload opening payload)) = opening.disk
-disk_behind view (Ok (next.End journal)) = journal.disk
-disk_behind view (Err fault) = view fault.disk
+abbrev pub opening_disk : {D : Type 0} → (D → DiskView) → Result (Next D) (OpenFault D) → DiskView
+opening_disk view (Ok (next.Payload opening payload)) = opening.disk
+opening_disk view (Ok (next.End journal)) = journal.disk
+opening_disk view (Err fault) = view fault.disk
 
 -- of the payloads that were left, the first one, which is then given; or that none was left, and a
 -- journal of all that were given

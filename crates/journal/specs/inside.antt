@@ -3,7 +3,7 @@ pub mod Frame
 pub mod Group
 pub mod Reads
 pub mod Standing
-pub mod Anew
+pub mod Again
 pub mod Walk
 pub mod Window
 pub mod Batches

@@ -22,7 +22,7 @@ impl<D: Disk> Journal<D> {
 
     /// Whether a payload of so many bytes fits after those of a group, were they appended. It takes no
     /// memory.
-    pub fn fits_behind(&self, group: &Group, payload_len: u64) -> bool
+    pub fn fits_after(&self, group: &Group, payload_len: u64) -> bool
         ensures { IsTrue result ↔ Fits self.now.disk.room
             (self.now.end + length (records group.now.payloads)) payload_len }
     {
@@ -85,7 +85,7 @@ impl<D: Disk> Journal<D> {
             active,
             end,
         } = self;
-        let records = group.behind_gate();
+        let records = group.past_gate();
         if let Err(DiskFault) = add(&mut disk, active, end, records) {
             return Err(AppendFault::Disk(disk));
         }

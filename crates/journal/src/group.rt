@@ -89,12 +89,12 @@ impl Group {
     }
 
     // What is written after the closed gate: the bytes without their first one.
-    pub(crate) fn behind_gate(&self) -> &[u8]
+    pub(crate) fn past_gate(&self) -> &[u8]
         requires { self.now.payloads ≢ [] }
         ensures bytes { open_gate ∷ result.now ≡ records self.now.payloads ++ closed_gate ∷ [] }
         ensures payloads { ArePayloads longest_payload self.now.payloads }
     {
-        let (_, behind) = self.bytes.split_at(1);
-        behind
+        let (_, following) = self.bytes.split_at(1);
+        following
     }
 }

@@ -3,7 +3,7 @@ ghost use Rattle.std.specs.Prelude.{◌≡◌, ◌<◌, ◌≤◌, ◌+◌, ◌+
 ghost use Rattle.disk_model.specs.Disk.{ChangesArea, InModel, IsImage, LeavesOnly, Looks, Reaches, SameDisk, Torn, Rises, bytes_on, greatest_room, other_area};
 ghost use Rattle.journal.specs.Payloads.{payloads_in, AreGates};
 ghost use Rattle.journal.specs.Open.{AreEmpty, Tells};
-ghost use Rattle.journal.specs.Kept.{BeforeOrAfter, EitherStands, Fits, FitsAnew, Keeps, ImageStandsFor, active_area, active_of, other_of};
+ghost use Rattle.journal.specs.Kept.{BeforeOrAfter, EitherStands, Fits, FitsAgain, Keeps, ImageStandsFor, active_area, active_of, other_of};
 ghost use Rattle.journal.specs.Area.{added_at, end_of, first_gate, records};
 ghost use Rattle.journal.specs.Sources.{HoldsEach};
 ghost use Rattle.journal.specs.inside.Active.{HasEnd};
@@ -11,7 +11,7 @@ ghost use Rattle.journal.specs.inside.Active.{HasEnd};
 use crate::append::add_one;
 use crate::layout::FIRST_GATE;
 use crate::renewal::write_from;
-use crate::rewrite::{end_of_frames, other, write_anew};
+use crate::rewrite::{end_of_frames, other, write_again};
 use crate::{
     CreateCause, CreateFault, Frame, LONGEST_PAYLOAD, Next, OpenCause, Opening, Payload, Source,
     create,
@@ -103,12 +103,12 @@ impl<D: Disk> Journal<D> {
         let mut payloads = Vec::new(alloc);
         loop {
             match opening.next() {
-                Ok(Next::Payload(behind, payload)) => {
+                Ok(Next::Payload(following, payload)) => {
                     if let Err(_) = payloads.push(payload) {
-                        let (cause, disk) = (OpenCause::OutOfMemory, behind.into_disk());
+                        let (cause, disk) = (OpenCause::OutOfMemory, following.into_disk());
                         return Err(OpenFault { cause, disk });
                     }
-                    opening = behind;
+                    opening = following;
                 }
                 Ok(Next::End(journal)) => return Ok((journal, payloads)),
                 Err(fault) => return Err(fault),
@@ -160,7 +160,7 @@ impl<D: Disk> Journal<D> {
 
     // The journal of this disk, whose closed gate is there.
     pub(crate) fn ending_at(disk: D, active: Area, end: u64) -> Journal<D>
-        requires behind { first_gate ≤ end }
+        requires following { first_gate ≤ end }
         requires small { end ≤ greatest_room }
         requires inside { InModel (D.view disk) (HasEnd active end (bytes_on (D.view disk))) }
         ensures { result ≡ record { disk = D.view disk; end = end } }
@@ -269,7 +269,7 @@ impl<D: Disk> Journal<D> {
         ensures ends { IfOk result (λ journal. journal.end ≡ end_of frames.now) }
 
         ensures unchanged { HandsBack result self }
-        ensures full { IsFull result ↔ (FitsAnew self.disk.room frames.now → ⊥) }
+        ensures full { IsFull result ↔ (FitsAgain self.disk.room frames.now → ⊥) }
         ensures faulty { IsFaulty result
             → Rises self.disk.faults (disk_after D.view result).faults }
         ensures steady { (IsFaulty result → ⊥)
@@ -284,7 +284,7 @@ impl<D: Disk> Journal<D> {
             end: _,
         } = self;
         let area = other(active);
-        if let Err(DiskFault) = write_anew(&mut disk, area, frames) {
+        if let Err(DiskFault) = write_again(&mut disk, area, frames) {
             return Err(AppendFault::Disk(disk));
         }
         Ok(Journal {
@@ -301,7 +301,7 @@ impl<D: Disk> Journal<D> {
         source: &S,
         batch: &mut Vec<u8>,
     ) -> Result<Journal<D>, AppendFault<D>>
-        requires room { FitsAnew self.disk.room (S.payloads source.now) }
+        requires room { FitsAgain self.disk.room (S.payloads source.now) }
         requires memory { HoldsEach (vec_capacity batch.old) (S.payloads source.now) }
 
         ensures same { SameDisk self.disk (disk_after D.view result) }

@@ -1,6 +1,6 @@
 //! Laws of the definitions that the contracts cite. Each function does nothing: its contract is the
 //! law.
-ghost use Rattle.journal.specs.Laws.{GateBehind, OwesMore, NoDamage, OneDamage, OneFront, OneList, StandingOpens};
+ghost use Rattle.journal.specs.Laws.{GateAfter, OwesMore, NoDamage, OneDamage, OneFront, OneList, StandingOpens};
 
 /// An area stands for at most one list of payloads.
 pub fn one_list()
@@ -29,8 +29,8 @@ pub fn standing_opens()
 {}
 
 /// The gate after payloads follows their records.
-pub fn gate_behind()
-    ensures { GateBehind }
+pub fn gate_after()
+    ensures { GateAfter }
 {}
 
 /// Payloads that are owed to a disk are kept by it as it would be, and one more that is owed is an append.

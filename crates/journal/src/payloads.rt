@@ -58,7 +58,7 @@ pub enum Next<D: Disk> {
 }
 
 impl<D: Disk> Opening<D> {
-    ghost use Rattle.journal.specs.Next.{disk_begun, disk_behind, BeginsPayloads, GivesNext, StepsOn};
+    ghost use Rattle.journal.specs.Next.{disk_begun, opening_disk, BeginsPayloads, GivesNext, StepsOn};
 
     /// Begins to open a disk that a crash may have left: it makes area First and the active one
     /// durable, and walks over the gates by their length fields alone. It writes nothing. A disk that stands for no payloads
@@ -111,7 +111,7 @@ impl<D: Disk> Opening<D> {
     /// A disk outside the model may give other bytes than it gave to `begin`. What it gives now is
     /// returned as payloads, and no record of it reaches past the end.
     pub fn next(self) -> Result<Next<D>, OpenFault<D>>
-        ensures same { SameDisk self.disk (disk_behind D.view result) }
+        ensures same { SameDisk self.disk (opening_disk D.view result) }
 
         ensures given { InModel self.disk
             ((given left : List (List ℕ)) → HasGiven self given left
@@ -121,13 +121,13 @@ impl<D: Disk> Opening<D> {
 
         // It changes no byte, and at every moment each image is one that a crash could leave before.
         ensures looks { InModel self.disk
-            (Looks self.disk.history (disk_behind D.view result).history) }
+            (Looks self.disk.history (opening_disk D.view result).history) }
 
         // A failure of the disk is reported as one, and nothing else is.
         ensures faulty { IfErr result
             (λ e. e.cause ≡ OpenCause.Disk → Rises self.disk.faults (D.view e.disk).faults) }
         ensures steady { MatchResult result
-            (λ next. (disk_behind D.view result).faults ≡ self.disk.faults)
+            (λ next. (opening_disk D.view result).faults ≡ self.disk.faults)
             (λ e. (e.cause ≡ OpenCause.Disk → ⊥) → (D.view e.disk).faults ≡ self.disk.faults) }
     {
         let Opening {

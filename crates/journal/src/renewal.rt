@@ -2,11 +2,11 @@
 ghost use Rattle.std.specs.Prelude.{◌≡◌, ◌<◌, ◌≤◌, ◌+◌, ◌++◌, ◌∷◌, [], List, ℕ, get_or, length, IfOk, OnOk, vec_capacity, vec_len};
 ghost use Rattle.disk_model.specs.Disk.{InModel, Called, Leaves, LeavesOnly, area_of, bytes_on, greatest_room, other_area};
 ghost use Rattle.journal.specs.Area.{ArePayloads, HasHeader, IsPayload, StandsFor, closed_gate, end_of, first_gate, record_of, records};
-ghost use Rattle.journal.specs.Kept.{EitherStands, FitsAnew, Keeps, active_area};
+ghost use Rattle.journal.specs.Kept.{EitherStands, FitsAgain, Keeps, active_area};
 ghost use Rattle.journal.specs.Limits.{longest_payload};
 ghost use Rattle.journal.specs.Sources.{HoldsEach};
 ghost use Rattle.journal.specs.inside.Active.{HasEnd, IsActive};
-ghost use Rattle.journal.specs.inside.Anew.{SparedBy, Spares};
+ghost use Rattle.journal.specs.inside.Again.{SparedBy, Spares};
 ghost use Rattle.journal.specs.inside.Batches.{IsBatch};
 
 use crate::layout::FIRST_GATE;
@@ -100,7 +100,7 @@ fn lay_from<D: Disk, S: Source>(
     requires small { end_of (S.payloads source.now) + 1 ≤ greatest_room }
     requires memory { HoldsEach (vec_capacity batch.old) (S.payloads source.now) }
     requires room { InModel (D.view disk.old)
-        (FitsAnew (D.view disk.old).room (S.payloads source.now)) }
+        (FitsAgain (D.view disk.old).room (S.payloads source.now)) }
     requires headed { InModel (D.view disk.old) (first_gate < length (bytes_on (D.view disk.old)).first) }
     ensures called { Called result (D.view disk.old) (D.view disk.new) }
     ensures spared { InModel (D.view disk.old)
@@ -127,11 +127,11 @@ fn lay_from<D: Disk, S: Source>(
     let mut end = FIRST_GATE;
     let mut next = 0;
     while next < count {
-        let behind = fill(source, next, batch);
+        let following = fill(source, next, batch);
         let bytes = batch.as_slice();
         lay_batch(disk, area, end, bytes)?;
         end += bytes.len() as u64 - 1;
-        next = behind;
+        next = following;
     }
     disk.sync(area)?;
     Ok(end)
@@ -148,7 +148,7 @@ pub(crate) fn write_from<D: Disk, S: Source>(
     requires small { end_of (S.payloads source.now) + 1 ≤ greatest_room }
     requires memory { HoldsEach (vec_capacity batch.old) (S.payloads source.now) }
     requires room { InModel (D.view disk.old)
-        (FitsAnew (D.view disk.old).room (S.payloads source.now)) }
+        (FitsAgain (D.view disk.old).room (S.payloads source.now)) }
     requires active { InModel (D.view disk.old)
         (IsActive (other_area area) (bytes_on (D.view disk.old))) }
     ensures called { Called result (D.view disk.old) (D.view disk.new) }

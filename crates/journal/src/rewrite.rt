@@ -2,10 +2,10 @@
 ghost use Rattle.std.specs.Prelude.{◌≡◌, ◌<◌, ◌≤◌, ◌+◌, ◌++◌, ◌∷◌, [], List, ℕ, length, IfNone, IfSome, OnOk};
 ghost use Rattle.disk_model.specs.Disk.{InModel, Called, Leaves, LeavesOnly, area_of, bytes_on, greatest_room, other_area};
 ghost use Rattle.journal.specs.Area.{HasHeader, IsPayload, StandsFor, body_of, closed_gate, end_of, first_gate};
-ghost use Rattle.journal.specs.Kept.{EitherStands, FitsAnew, Keeps, active_area};
+ghost use Rattle.journal.specs.Kept.{EitherStands, FitsAgain, Keeps, active_area};
 ghost use Rattle.journal.specs.Limits.{longest_payload};
 ghost use Rattle.journal.specs.inside.Active.{HasEnd, IsActive};
-ghost use Rattle.journal.specs.inside.Anew.{IsReadyToTurn, SparedBy, Spares, naming};
+ghost use Rattle.journal.specs.inside.Again.{IsReadyToTurn, SparedBy, Spares, naming};
 
 use crate::Frame;
 use crate::layout::{EMPTY_LEN, FIRST_GATE, NAMES_SECOND, OPEN_GATE, SELECTOR};
@@ -25,7 +25,7 @@ pub(crate) fn other(area: Area) -> Area
 pub(crate) fn end_of_frames(room: u64, frames: &[Frame]) -> Option<u64>
     requires { room ≤ greatest_room }
     ensures some { IfSome result (λ end. (end ≡ end_of frames.now) × (end + 1 ≤ room)) }
-    ensures none { IfNone result (FitsAnew room frames.now → ⊥) }
+    ensures none { IfNone result (FitsAgain room frames.now → ⊥) }
 {
     if room < EMPTY_LEN {
         return None;
@@ -96,7 +96,7 @@ fn lay_record<D: Disk>(disk: &mut D, area: Area, end: u64, bytes: &[u8]) -> Resu
 // Lays these frames into an area that isn't active, which is durable then.
 fn lay_all<D: Disk>(disk: &mut D, area: Area, frames: &[Frame]) -> Result<(), DiskFault>
     requires small { end_of frames.now + 1 ≤ greatest_room }
-    requires room { InModel (D.view disk.old) (FitsAnew (D.view disk.old).room frames.now) }
+    requires room { InModel (D.view disk.old) (FitsAgain (D.view disk.old).room frames.now) }
     requires headed { InModel (D.view disk.old) (first_gate < length (bytes_on (D.view disk.old)).first) }
     ensures called { Called result (D.view disk.old) (D.view disk.new) }
     ensures spared { InModel (D.view disk.old)
@@ -163,13 +163,13 @@ pub(crate) fn turn<D: Disk>(disk: &mut D, area: Area) -> Result<(), DiskFault>
 }
 
 /// Writes these frames into an area that isn't active, and makes it the active one.
-pub(crate) fn write_anew<D: Disk>(
+pub(crate) fn write_again<D: Disk>(
     disk: &mut D,
     area: Area,
     frames: &[Frame],
 ) -> Result<(), DiskFault>
     requires small { end_of frames.now + 1 ≤ greatest_room }
-    requires room { InModel (D.view disk.old) (FitsAnew (D.view disk.old).room frames.now) }
+    requires room { InModel (D.view disk.old) (FitsAgain (D.view disk.old).room frames.now) }
     requires active { InModel (D.view disk.old)
         (IsActive (other_area area) (bytes_on (D.view disk.old))) }
     ensures called { Called result (D.view disk.old) (D.view disk.new) }

@@ -63,7 +63,7 @@ fn step_at(front: &[u8], left: u64) -> Step
 }
 
 // The selector of a header, and what follows it.
-fn behind_header(bytes: &[u8]) -> Option<(u8, &[u8])>
+fn after_header(bytes: &[u8]) -> Option<(u8, &[u8])>
     ensures some { IfSome result
         (λ found. (bytes.now ≡ header found.0 ++ found.1.now) × (0 < length found.1.now)) }
     ensures none { IfNone result (HasHeader bytes.now → ⊥) }
@@ -103,7 +103,7 @@ pub(crate) fn walk_gates<D: Disk>(window: &mut Window, disk: &mut D) -> Result<S
         if let Err(cause) = window.fill(disk, gate, left.min(5)) {
             return Err(cause);
         }
-        match step_at(window.behind(gate), left) {
+        match step_at(window.following(gate), left) {
             Step::End => return Ok(Stop {
                 gate,
                 damaged: false,
@@ -137,7 +137,7 @@ pub(crate) fn selector_of<D: Disk>(window: &mut Window, disk: &mut D) -> Result<
     if let Err(cause) = window.fill(disk, 0, window.limit.min(EMPTY_LEN)) {
         return Err(cause);
     }
-    match behind_header(window.behind(0)) {
+    match after_header(window.following(0)) {
         Some((selector, _)) => Ok(selector),
         None => Err(OpenCause::NotASheet),
     }
@@ -150,7 +150,7 @@ fn payload_len_at(front: &[u8], left: u64, most: u64) -> u64
     requires front { min left 5 ≤ length front.now }
     requires most { 1 ≤ most }
     ensures len { (1 ≤ result) × (result ≤ most) × (result ≤ longest_payload) }
-    ensures told { (payload rest : List ℕ) → IsPayload longest_payload payload → length payload ≤ most
+    ensures reported { (payload rest : List ℕ) → IsPayload longest_payload payload → length payload ≤ most
         → 0 < length rest → left ≡ length (record_of payload ++ rest)
         → Begins front.now (record_of payload ++ rest) → result ≡ length payload }
 {
@@ -189,6 +189,6 @@ pub(crate) fn payload_at<D: Disk>(
     if let Err(cause) = window.fill(disk, gate, 5) {
         return Err(cause);
     }
-    let len = payload_len_at(window.behind(gate), left, end - gate - 5);
+    let len = payload_len_at(window.following(gate), left, end - gate - 5);
     window.copy(disk, gate + 5, len)
 }

@@ -150,14 +150,14 @@ impl Window {
     }
 
     /// The bytes that the window shows from `at` on.
-    pub(crate) fn behind(&self, at: u64) -> &[u8]
+    pub(crate) fn following(&self, at: u64) -> &[u8]
         requires from { self.now.start ≤ at }
         requires to { at ≤ self.now.start + vec_len self.now.bytes }
         ensures len { at + length result.now ≡ self.now.start + vec_len self.now.bytes }
         ensures shows { (area : List ℕ) → Shows self.now area → Begins result.now (drop at area) }
     {
-        let (_, behind) = self.bytes.split_at((at - self.start) as usize);
-        behind
+        let (_, following) = self.bytes.split_at((at - self.start) as usize);
+        following
     }
 
     // A vector without bytes that has memory for so many: the spare one, where that has.
@@ -215,7 +215,7 @@ impl Window {
             if let Err(cause) = self.fill(disk, here, 1) {
                 return Err(cause);
             }
-            let part = front_of(self.behind(here), len - bytes.len() as u64);
+            let part = front_of(self.following(here), len - bytes.len() as u64);
             if let Err(AllocError) = bytes.extend_from_slice(part) {
                 return Err(OpenCause::OutOfMemory);
             }

@@ -1,7 +1,7 @@
 //! What bytes of a spelling stand for, put after the bytes of a room.
 ghost use Rattle.std.specs.Prelude.{◌≡◌, ◌≤◌, ◌+◌, ◌*◌, ◌++◌, length, take, true};
 ghost use Rattle.meta_format.specs.Spelling.{is_special};
-ghost use Rattle.sheet_text.specs.inside.Spelled.{behind_escape, spelled_byte};
+ghost use Rattle.sheet_text.specs.inside.Spelled.{after_escape, spelled_byte};
 ghost use Rattle.line_room.specs.inside.Puts.{size_of};
 
 use crate::table::{MOST_PRINTED, SPELLED};
@@ -41,7 +41,7 @@ pub(crate) fn put_spelled(byte: u8, room: &mut [u8], used: usize) -> usize
 #[inline(always)]
 fn special(byte: u8) -> [u8; MOST_PRINTED]
     requires { is_special byte ≡ true }
-    ensures { result ≡ behind_escape byte }
+    ensures { result ≡ after_escape byte }
 {
     match byte {
         2 => *b"\\x02",
@@ -56,7 +56,7 @@ pub(crate) fn put_escaped(byte: u8, room: &mut [u8], used: usize) -> usize
     requires { used + 2 * MOST_PRINTED ≤ length room.old }
     ensures size { length room.new ≡ length room.old }
     ensures within { result ≤ used + 2 * MOST_PRINTED }
-    ensures text { take result room.new ≡ take used room.old ++ behind_escape byte }
+    ensures text { take result room.new ≡ take used room.old ++ after_escape byte }
 {
     if byte == 2 || byte == 5 || byte == 27 {
         put_four(&special(byte), room, used);

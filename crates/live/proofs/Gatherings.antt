@@ -35,8 +35,8 @@ grouped-more (x ∷ xs) l all edit = (all.0, grouped-more xs l all.1 edit)
 
 -- Gathering.
 
-pub gathers_one : (h k : Held) (r : NextLine) (l : List ℕ) (before behind : List Event) → IsNextLine h l → SaysGrouped l × (behind ≡ before ++ line_events (line_of l)) → GivesLine h r k → GathersOne h k before behind
-gathers_one h k r l before behind comes said gives =
+pub gathers_one : (h k : Held) (r : NextLine) (l : List ℕ) (before following : List Event) → IsNextLine h l → SaysGrouped l × (following ≡ before ++ line_events (line_of l)) → GivesLine h r k → GathersOne h k before following
+gathers_one h k r l before following comes said gives =
     let is = peeked_is_given h k r l comes gives in
     let given : (more : List ℕ) → left_with h more ≡ whole k.line ∷ left_with k more = subst (λ (x : NextLine). GivesLine h x k) is.0 gives in
     (l, said.0, said.1, inr comes.0, λ more. subst (λ (x : List ℕ). left_with h more ≡ whole x ∷ left_with k more) is.1 (given more))

@@ -5,7 +5,7 @@ use Rattle.live.specs.LiveLines.{live_line_of, script_or_form}
 use Rattle.sheet_text.specs.Script.{line_of, wants_memory}
 use Rattle.sheet_text.specs.declared.script.ScriptLine.{ScriptLine}
 use Rattle.sheet_text.specs.declared.script.ScriptLine.TheVariants as line
-use Rattle.child_edge.specs.Told.{told}
+use Rattle.child_edge.specs.Reported.{reported}
 use Rattle.live.specs.Saying.{IsCommand}
 
 -- memory is wanted for a line that says a command
@@ -15,6 +15,6 @@ wants_command bytes wants = go (line_of bytes) wants
     go : (l : Option ScriptLine) → wants_memory l ≡ true → IsCommand (script_or_form l bytes)
     go None e = absurd (true≢false (sym e))
     go (Some line.Skip) e = absurd (true≢false (sym e))
-    go (Some (line.Command told)) e = (told, refl)
+    go (Some (line.Command reported)) e = (reported, refl)
     go (Some line.Wait) e = absurd (true≢false (sym e))
     go (Some line.Print) e = absurd (true≢false (sym e))

@@ -10,8 +10,8 @@ use Rattle.live.specs.Saying.{SaysGrouped}
 
 -- The next line was there and was given. It says a command that may be in a group, and its event was put after the others.
 abbrev pub GathersOne : Held → Held → List Event → List Event → Type 0
-GathersOne old new before behind =
-    (l : List ℕ) × SaysGrouped l × (behind ≡ before ++ line_events (line_of l)) × Readiness old true × ((more : List ℕ) → left_with old more ≡ whole l ∷ left_with new more)
+GathersOne old new before following =
+    (l : List ℕ) × SaysGrouped l × (following ≡ before ++ line_events (line_of l)) × Readiness old true × ((more : List ℕ) → left_with old more ≡ whole l ∷ left_with new more)
 
 -- These lines were there and were given, one after another. Each says such a command, and these are their events.
 pub record Gathered (old new : Held) (events : List Event) : Type 0 where

@@ -3,7 +3,7 @@ use Rattle.std.specs.Prelude.{ℕ, ◌&&◌, List, Option, Some, None, nat_le, c
 use Rattle.std.specs.Option.{option_map}
 use Rattle.std.specs.Str.{bytes_eq}
 use Rattle.worksheet.specs.Names.{is_name}
-use Rattle.sheet_text.specs.Script.{before_space, behind_space, line_of, number_written}
+use Rattle.sheet_text.specs.Script.{before_space, after_space, line_of, number_written}
 use Rattle.live.specs.declared.live_line.LiveLine.{LiveLine}
 use Rattle.live.specs.declared.live_line.LiveLine.TheVariants as live
 use Rattle.sheet_text.specs.declared.script.ScriptLine.{ScriptLine}
@@ -44,7 +44,7 @@ form_of name (Some rest) = form_named name rest
 
 abbrev pub script_or_form : Option ScriptLine → List ℕ → Option LiveLine
 script_or_form (Some said) bytes = Some (live.Script said)
-script_or_form None bytes = form_of (before_space bytes) (behind_space bytes)
+script_or_form None bytes = form_of (before_space bytes) (after_space bytes)
 
 -- what the line says, and nothing where it has no such form
 abbrev pub live_line_of : List ℕ → Option LiveLine

@@ -59,12 +59,12 @@ abbrev pub IsLimited : Hold → Type 0
 IsLimited held = (end : ℕ) × (held ≡ hold.Limited end)
 
 -- the moment so many seconds after this one, or the last one that a clock can read
-abbrev pub seconds_behind : ℕ → ℕ → ℕ
-seconds_behind now seconds = min (now + seconds * 1000) (2 ^ 64 - 1)
+abbrev pub seconds_from : ℕ → ℕ → ℕ
+seconds_from now seconds = min (now + seconds * 1000) (2 ^ 64 - 1)
 
 -- a wait goes on as long as an item waits for an answer
 abbrev pub WaitGoesOn : Hold → World → Hold → Type 0
-WaitGoesOn held w behind = ((waits w ≡ []) × (behind ≡ hold.Free)) ⊎ ((waits w ≢ []) × (behind ≡ held))
+WaitGoesOn held w following = ((waits w ≡ []) × (following ≡ hold.Free)) ⊎ ((waits w ≢ []) × (following ≡ held))
 
 -- whether lines are held back
 abbrev pub is_held : Hold → Bool

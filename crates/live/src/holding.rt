@@ -2,7 +2,7 @@
 ghost use Rattle.std.specs.Prelude.{◌≡◌};
 ghost use Rattle.session_engine.specs.World.{World};
 ghost use Rattle.session_engine.specs.Host.{IsHost};
-ghost use Rattle.live.specs.Saying.{WaitGoesOn, seconds_behind};
+ghost use Rattle.live.specs.Saying.{WaitGoesOn, seconds_from};
 
 use child_edge::is_idle;
 use disk_model::Disk;
@@ -31,14 +31,14 @@ pub enum Hold {
 
 /// The moment so many seconds after this one.
 fn seconds_after(now: u64, seconds: u32) -> u64
-    ensures { result ≡ seconds_behind now seconds }
+    ensures { result ≡ seconds_from now seconds }
 {
     now.saturating_add(u64::from(seconds) * 1_000)
 }
 
 /// The wait until so many seconds after this moment.
 pub fn wait_for(now: u64, seconds: u32) -> Hold
-    ensures { result ≡ Hold.Until (seconds_behind now seconds) }
+    ensures { result ≡ Hold.Until (seconds_from now seconds) }
 {
     Hold::Until(seconds_after(now, seconds))
 }

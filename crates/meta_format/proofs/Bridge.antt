@@ -2,7 +2,7 @@
 use Rattle.std.proofs.Common.{◌≡◌, ℕ, zero, suc, ◌+◌, ◌-◌, ◌<◌, ◌≤◌, Bool, true, not, ◌&&◌, nat_le, List, [], ◌∷◌, ◌++◌, length, map, refl, sym, ap, ◌∙◌, subst, arith, append_assoc, append-nil}
 use Rattle.std.proofs.lemmas.Bool.{and_parts, and_from, le-leb, leb-true}
 use Rattle.block_tree.specs.Tree.{Items, Tree, end, text, block}
-use Rattle.block_tree.specs.inside.Growing.{text_behind, block_behind}
+use Rattle.block_tree.specs.inside.Growing.{text_after, block_after}
 use Rattle.block_tree.specs.Shape.{is_proper, is_tag_name, begins_with_text, is_block_within, levels, depth}
 use Rattle.block_tree.specs.inside.Marks.{Mark, open_mark, letter, close_mark, marks_of, marks}
 use Rattle.meta_format.specs.Limits.{Limits}
@@ -105,7 +105,7 @@ open_text most {n} {t} {u} (one_more b outer body o h p) q some =
     let w = within most.tag (most.levels - n) b h in
     let few = w.few in
     let same = levels_text b.items t in
-    let c : Tree = record { channel = b.channel; name = b.name; items = text_behind b.items t } in
+    let c : Tree = record { channel = b.channel; name = b.name; items = text_after b.items t } in
     subst (λ z. OpenLevels most (suc n) z) (level_more outer b.name body u (separator b.channel))
     (one_more c outer (body ++ u) o (from_within most.tag (most.levels - n) c w.name (proper_text most.tag b.items t w.proper some) (omega arith)) (spelled_text p q))
 
@@ -122,7 +122,7 @@ open_close most {n} (one_more a _ inner (one_more b outer body o h p) k q) =
     let few = w.few in
     let fewer = v.few in
     let same = levels_block b.items a in
-    let c : Tree = record { channel = b.channel; name = b.name; items = block_behind b.items a } in
+    let c : Tree = record { channel = b.channel; name = b.name; items = block_after b.items a } in
     let made = one_more c outer (body ++ with_body a.channel a.name inner) o
     (from_within most.tag (most.levels - n) c w.name (proper_block most.tag b.items a w.proper v.name v.proper) (omega arith)) (spelled_block p a inner q) in
     subst (λ z. OpenLevels most (suc n) z)

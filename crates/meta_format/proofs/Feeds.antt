@@ -13,7 +13,7 @@ use Rattle.meta_format.specs.declared.scan.Place.{Place}
 use Rattle.meta_format.specs.declared.scan.Place.TheVariants as place
 use Rattle.meta_format.specs.declared.level.Level.{Level}
 use Rattle.meta_format.proofs.Spelled.{run-append}
-use Rattle.meta_format.proofs.Unique.{behind, run-behind}
+use Rattle.meta_format.proofs.Unique.{following, run-following}
 use Rattle.meta_format.proofs.Tails.{StartsAt}
 use Rattle.meta_format.proofs.Reaching.{Reached, at_noise, at_tail, at_fault, reach, going_open}
 use Rattle.meta_format.proofs.Sound.{alive_sound, broken_stopped}
@@ -40,13 +40,13 @@ alive_at most fit s alive = let r = reach most fit s in by_reach r.0 r.1
 
 -- the whole run
 fed : (most : Limits) (k : ReaderView) (s piece : List ℕ) (blocks : List Outer) (q : State) → ReaderHasRead most k s blocks → run most record { at = k.offset; out = []; mode = k.mode } piece ≡ q
-    → run most start_state (s ++ piece) ≡ behind blocks q
+    → run most start_state (s ++ piece) ≡ following blocks q
 fed most k s piece blocks q h e =
     run-append most start_state s piece
     ∙ ap (λ p. run most p piece) h.state
     ∙ ap (λ o. run most record { at = k.offset; out = o; mode = k.mode } piece) (sym (append-nil blocks))
-    ∙ run-behind most blocks record { at = k.offset; out = []; mode = k.mode } piece
-    ∙ ap (behind blocks) e
+    ∙ run-following most blocks record { at = k.offset; out = []; mode = k.mode } piece
+    ∙ ap (following blocks) e
 
 open_start : (mode : Mode) (a : ℕ) → StartsAt a mode → begun mode ≡ Some a
 open_start outside a h = absurd h

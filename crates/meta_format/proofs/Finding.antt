@@ -16,7 +16,7 @@ use Rattle.meta_format.specs.inside.Finding.{IsLimit, Finds}
 use Rattle.meta_format.specs.declared.ahead.Seen.{Seen}
 use Rattle.meta_format.specs.declared.ahead.Seen.TheVariants as seen
 use Rattle.meta_format.proofs.Spelled.{run-append}
-use Rattle.meta_format.proofs.Unique.{behind, run-behind, run_broken, block_at}
+use Rattle.meta_format.proofs.Unique.{following, run-following, run_broken, block_at}
 use Rattle.meta_format.proofs.Tails.{StartsAt}
 use Rattle.meta_format.proofs.Letters.{noise_run}
 use Rattle.meta_format.proofs.Reaching.{Going, After, goes_on, ends_there, breaks, going_step, first_byte, Left, clear, going, fallen, left}
@@ -99,7 +99,7 @@ going_ends most a tail (c ∷ t) q b stop g ran size =
         absurd (subst (λ x. IsAlive x.mode) (sym stays) tt)
     by_after onward p (ends_there x outer shut right e) r =
         let end = a + length (tail ++ c ∷ []) in
-        let found = sym (run-behind most (block_at a end x ∷ []) (outside_at end) t) ∙ ap (λ z. run most z t) (sym e) ∙ r in
+        let found = sym (run-following most (block_at a end x ∷ []) (outside_at end) t) ∙ ap (λ z. run most z t) (sym e) ∙ r in
         let outs = ap (λ z. z.out) found in
         let same : block_at a end x ≡ block_at a stop b = cc in
         let stops : end ≡ stop = ap (λ z. z.stop) same in
@@ -158,21 +158,21 @@ noise_passed most s from n within few silent early =
 pub two_there : (s : List ℕ) (from n : ℕ) → (n < length (drop from s) → get_or (drop from s) n 0 ≡ 2) → from ≤ length s → from + n < length s → get_or s (from + n) 0 ≡ 2
 two_there s from n two within some = let rest = length-drop from s in sym (get_or-drop from s n 0) ∙ two (omega (arith, rest, within, some))
 
-pub behind_noise : (most : Limits) (s : List ℕ) (from start : ℕ) (r : Seen) → ComesTo most s from start outside → Finds most s start r → Finds most s from r
-behind_noise most s from start (seen.Outer begin stop) so (b, took, outer) =
+pub after_noise : (most : Limits) (s : List ℕ) (from start : ℕ) (r : Seen) → ComesTo most s from start outside → Finds most s start r → Finds most s from r
+after_noise most s from start (seen.Outer begin stop) so (b, took, outer) =
     (b, further most s from start (outside_at start) so stop (closed_at begin stop b) took.piece took.split took.ran, outer)
-behind_noise most s from start (seen.Open begin) so (mode, took, alive, is) =
+after_noise most s from start (seen.Open begin) so (mode, took, alive, is) =
     (mode, further most s from start (outside_at start) so (length s) record { at = length s; out = []; mode = mode } took.piece took.split took.ran, alive, is)
-behind_noise most s from start seen.End so took =
+after_noise most s from start seen.End so took =
     further most s from start (outside_at start) so (length s) (outside_at (length s)) took.piece took.split took.ran
-behind_noise most s from start (seen.BadTag at) so fault = over_all most s from start (outside_at start) so ∙ fault
-behind_noise most s from start (seen.TooDeep at) so fault = over_all most s from start (outside_at start) so ∙ fault
-behind_noise most s from start (seen.TooLong at) so fault = over_all most s from start (outside_at start) so ∙ fault
+after_noise most s from start (seen.BadTag at) so fault = over_all most s from start (outside_at start) so ∙ fault
+after_noise most s from start (seen.TooDeep at) so fault = over_all most s from start (outside_at start) so ∙ fault
+after_noise most s from start (seen.TooLong at) so fault = over_all most s from start (outside_at start) so ∙ fault
 
 -- the machine after a front that is read
 
-behind_front : (most : Limits) → IsRoomy most → (s : List ℕ) (from : ℕ) (blocks : List Outer) → IsReadTo most s from blocks → run most start_state (take from s) ≡ record { at = from; out = blocks; mode = outside }
-behind_front most fit s from blocks read =
+after_front : (most : Limits) → IsRoomy most → (s : List ℕ) (from : ℕ) (blocks : List Outer) → IsReadTo most s from blocks → run most start_state (take from s) ≡ record { at = from; out = blocks; mode = outside }
+after_front most fit s from blocks read =
     by_left alive (left most fit (take from s) blocks [] read.stream (alive_early most fit (take from s) alive))
   where
     alive : IsAlive (run most start_state (take from s)).mode
@@ -187,10 +187,10 @@ more_run : (most : Limits) → IsRoomy most → (s : List ℕ) (from : ℕ) (blo
     → run most (outside_at from) piece ≡ record { at = at; out = out; mode = mode } → run most start_state (take from s ++ piece) ≡ record { at = at; out = blocks ++ out; mode = mode }
 more_run most fit s from blocks read piece at out mode ran =
     run-append most start_state (take from s) piece
-    ∙ ap (λ q. run most q piece) (behind_front most fit s from blocks read)
+    ∙ ap (λ q. run most q piece) (after_front most fit s from blocks read)
     ∙ ap (λ o. run most record { at = from; out = o; mode = outside } piece) (sym (append-nil blocks))
-    ∙ run-behind most blocks (outside_at from) piece
-    ∙ ap (behind blocks) ran
+    ∙ run-following most blocks (outside_at from) piece
+    ∙ ap (following blocks) ran
 
 -- over the whole stream
 all_run : (most : Limits) → IsRoomy most → (s : List ℕ) (from : ℕ) (blocks : List Outer) → IsReadTo most s from blocks → (at : ℕ) (mode : Mode)

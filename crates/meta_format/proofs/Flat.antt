@@ -63,10 +63,10 @@ escape_any most s start at d some short early so = by_byte (is_special (get_or s
 -- bytes of a text
 pub body_text : (most : Limits) (s : List ℕ) (start at d : ℕ) (t rest : List ℕ) → drop at s ≡ t ++ rest → rest ≡ drop (at + length t) s → IsText t → at + length t < most.block + start → at + length t ≤ most.stream
     → InBody most s start at d → InBody most s start (at + length t) d
-body_text most s start at d t rest split behind plain short early so = (
+body_text most s start at d t rest split following plain short early so = (
   so.0 ++ map letter t,
   further most s start at record { at = at; out = []; mode = body_of start so.0 d } so.1 (at + length t) record { at = at + length t; out = []; mode = body_of start (so.0 ++ map letter t) d } t
-      (split ∙ ap (λ r. t ++ r) behind)
+      (split ∙ ap (λ r. t ++ r) following)
       (ap (run most record { at = at; out = []; mode = body_of start so.0 d }) (sym (append-nil t)) ∙ text_run most [] start d t at so.0 [] plain short early),
 )
 

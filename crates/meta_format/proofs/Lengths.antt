@@ -59,8 +59,8 @@ no_longer (block channel name inside rest) = go (is_aside channel name) (no_long
 
     go : (aside : Bool) → length (canonical_items (output_items inside)) ≤ length (canonical_items inside) → length (canonical_items (output_items rest)) ≤ length (canonical_items rest)
         → length (canonical_items (cond aside (output_items rest) (block channel name (output_items inside) (output_items rest)))) ≤ length (with_body channel name (canonical_items inside) ++ canonical_items rest)
-    go true in_it behind_it = omega (arith, all, behind_it)
-    go false in_it behind_it = omega (arith, all, length-append (with_body channel name (canonical_items (output_items inside))) (canonical_items (output_items rest)), body_length channel name (canonical_items (output_items inside)), in_it, behind_it)
+    go true in_it after_it = omega (arith, all, after_it)
+    go false in_it after_it = omega (arith, all, length-append (with_body channel name (canonical_items (output_items inside))) (canonical_items (output_items rest)), body_length channel name (canonical_items (output_items inside)), in_it, after_it)
 
 pub output_length : (b : Tree) → length (canonical (output b)) ≤ max 11 (length (canonical b))
 output_length b = go (is_aside b.channel b.name)

@@ -26,10 +26,10 @@ items_fit most (text t x) d rest e h l =
 items_fit most (block c n i x) d rest e h l =
     let less = l.0 in
     let inside = items_fit most i (suc d) (close_mark ∷ (marks_of x ++ rest)) e less (subst (λ ms. Leads most (suc (suc d)) ms e) (append_assoc (marks_of i) (close_mark ∷ marks_of x) rest) l.1) in
-    let behind = items_fit most x d rest e h inside.1 in
+    let following = items_fit most x d rest e h inside.1 in
     let high = inside.0 in
-    let higher = behind.0 in
-    (omega arith, behind.1)
+    let higher = following.0 in
+    (omega arith, following.1)
 
 depth_from_begins : (most : ℕ) (b : Tree) → Begins most (marks b) 0 → depth b ≤ most
 depth_from_begins most b o =

@@ -12,7 +12,7 @@ use Rattle.meta_format.specs.Faults.{OpenLevels, no_level, one_more, Kind, bad_t
 use Rattle.meta_format.specs.inside.Machine.{Mode, outside, tag_of, body_of, escape_of, broken, State, start_state, Change, halts, turns, ends, stays, apply, after, next, run, IsAlive}
 use Rattle.meta_format.proofs.Spelled.{run-append}
 use Rattle.meta_format.proofs.Tags.{list_all-push}
-use Rattle.meta_format.proofs.Unique.{run-behind, run_broken, block_at, block_run}
+use Rattle.meta_format.proofs.Unique.{run-following, run_broken, block_at, block_run}
 use Rattle.meta_format.proofs.Places.{HasPlace, place_run}
 use Rattle.meta_format.proofs.Tails.{Shape, StartsAt, Outcome, outcome}
 
@@ -83,7 +83,7 @@ front_seen most a out t front more b =
     let x = block_at a (a + length front) t in
     let e = run-append most (begin a out) front more ∙ ap (λ q. run most q more) (block_run most t front a out b)
     ∙ ap (λ o. run most record { at = a + length front; out = o; mode = outside } more) (sym (append-nil (out ++ x ∷ [])))
-    ∙ run-behind most (out ++ x ∷ []) (begin (a + length front) []) more in
+    ∙ run-following most (out ++ x ∷ []) (begin (a + length front) []) more in
     let f = ap (λ q. length q.out) e in
     let g = length-append (out ++ x ∷ []) (run most (begin (a + length front) []) more).out in
     let h = length-append out (x ∷ []) in

@@ -82,13 +82,13 @@ either m n = by_test (nat_le m n) refl
     by_test false e = inr (leb-false m n e)
 
 -- what a front of equal lists leaves
-behind_front : (xs ys us vs : List ℕ) → xs ++ ys ≡ us ++ vs → length xs ≤ length us → (ws : List ℕ) × (us ≡ xs ++ ws) × (ys ≡ ws ++ vs)
-behind_front [] ys us vs e h = (us, refl, e)
-behind_front (x ∷ xs) ys [] vs e h = absurd (omega arith)
-behind_front (x ∷ xs) ys (u ∷ us) vs e h =
+after_front : (xs ys us vs : List ℕ) → xs ++ ys ≡ us ++ vs → length xs ≤ length us → (ws : List ℕ) × (us ≡ xs ++ ws) × (ys ≡ ws ++ vs)
+after_front [] ys us vs e h = (us, refl, e)
+after_front (x ∷ xs) ys [] vs e h = absurd (omega arith)
+after_front (x ∷ xs) ys (u ∷ us) vs e h =
     let head : x ≡ u = cc in
     let tail : xs ++ ys ≡ us ++ vs = cc in
-    let rest = behind_front xs ys us vs tail (omega arith) in
+    let rest = after_front xs ys us vs tail (omega arith) in
     (rest.0, ap (λ z. z ∷ us) (sym head) ∙ ap (λ zs. x ∷ zs) rest.1, rest.2)
 
 noise_front : (xs ys : List ℕ) → IsNoise (xs ++ ys) → IsNoise xs
@@ -115,30 +115,30 @@ shortened most us vs blocks tail h st = by_noise (either (length st.noise) (leng
   where
     inside : (ws : List ℕ) × (us ≡ st.before ++ ws) × (st.noise ++ tail ≡ ws ++ vs)
     inside = let early = chain_early most blocks st.before st.chain in
-        behind_front st.before (st.noise ++ tail) us vs (sym (append_assoc st.before st.noise tail) ∙ sym st.is) (omega arith)
+        after_front st.before (st.noise ++ tail) us vs (sym (append_assoc st.before st.noise tail) ∙ sym st.is) (omega arith)
 
     by_noise : (length st.noise ≤ length inside.0) ⊎ (length inside.0 < length st.noise) → (rest : List ℕ) × Stream most us blocks rest
     by_noise (inl short) =
-        let behind = behind_front st.noise tail inside.0 vs inside.2 short in (
-          behind.0,
+        let following = after_front st.noise tail inside.0 vs inside.2 short in (
+          following.0,
           record {
             before = st.before;
             noise = st.noise;
-            is = inside.1 ∙ ap (λ z. st.before ++ z) behind.1 ∙ sym (append_assoc st.before st.noise behind.0);
+            is = inside.1 ∙ ap (λ z. st.before ++ z) following.1 ∙ sym (append_assoc st.before st.noise following.0);
             chain = st.chain;
             silent = st.silent;
-            rest = open_front most (length (st.before ++ st.noise)) tail behind.0 vs behind.2 st.rest;
+            rest = open_front most (length (st.before ++ st.noise)) tail following.0 vs following.2 st.rest;
           },
         )
     by_noise (inr long) =
-        let behind = behind_front inside.0 vs st.noise tail (sym inside.2) (omega arith) in (
+        let following = after_front inside.0 vs st.noise tail (sym inside.2) (omega arith) in (
           [],
           record {
             before = st.before;
             noise = inside.0;
             is = inside.1 ∙ sym (append-nil (st.before ++ inside.0));
             chain = st.chain;
-            silent = noise_front inside.0 behind.0 (subst IsNoise behind.1 st.silent);
+            silent = noise_front inside.0 following.0 (subst IsNoise following.1 st.silent);
             rest = inl refl;
           },
         )

@@ -7,7 +7,7 @@ use Rattle.meta_format.specs.Spelling.{Spells}
 use Rattle.meta_format.specs.Stream.{Outer, Chain, none, next as chain_next, Stream}
 use Rattle.meta_format.specs.Faults.{Kind}
 use Rattle.meta_format.specs.inside.Machine.{outside, broken, State, start_state, run, IsAlive}
-use Rattle.meta_format.specs.inside.Scan.{mode_of, scan_state, unbounded, last_behind, last_outer, filling, FindsBlocks}
+use Rattle.meta_format.specs.inside.Scan.{mode_of, scan_state, unbounded, last_after, last_outer, filling, FindsBlocks}
 use Rattle.meta_format.specs.Found.{outer_of, outers}
 use Rattle.meta_format.specs.declared.scan.Scanner.{Scanner}
 use Rattle.meta_format.specs.declared.scan.Found.{Found}
@@ -23,11 +23,11 @@ wide_enough = record { levels = omega arith; block = omega arith }
 
 last_pushed : (os : List Outer) (o : Outer) → last_outer (os ++ o ∷ []) ≡ Some o
 last_pushed [] o = refl
-last_pushed (p ∷ os) o = ap Some (behind p os)
+last_pushed (p ∷ os) o = ap Some (following p os)
   where
-    behind : (p : Outer) (os : List Outer) → last_behind p (os ++ o ∷ []) ≡ o
-    behind p [] = refl
-    behind p (q ∷ os) = behind q os
+    following : (p : Outer) (os : List Outer) → last_after p (os ++ o ∷ []) ≡ o
+    following p [] = refl
+    following p (q ∷ os) = following q os
 
 pub last_found : (fs : List Found) (f : Found) → last_outer (outers (fs ++ f ∷ [])) ≡ Some (outer_of f)
 last_found fs f = ap last_outer (outers_push fs f) ∙ last_pushed (outers fs) (outer_of f)
@@ -77,8 +77,8 @@ chain_whole _ _ more s o (chain_next {blocks} {before} noise spelling b chain si
     let front = no_bytes (before ++ noise) start in
     let size = ap length e in
     let longer = length-append (before ++ noise ++ spelling) more in
-    let behind = no_bytes more (omega arith) in
-    let whole : s ≡ spelling = e ∙ ap (λ m. (before ++ noise ++ spelling) ++ m) behind ∙ append-nil (before ++ noise ++ spelling) ∙ ap (λ f. f ++ spelling) front in
+    let following = no_bytes more (omega arith) in
+    let whole : s ≡ spelling = e ∙ ap (λ m. (before ++ noise ++ spelling) ++ m) following ∙ append-nil (before ++ noise ++ spelling) ∙ ap (λ f. f ++ spelling) front in
     subst (λ t. Spells unbounded t s) (ap (λ x. x.block) one) (subst (λ z. Spells unbounded b z) (sym whole) outer.spelled)
 
 filled : (size : ℕ) (o : Outer) (b : Tree) → filling size (Some o) ≡ Some b → (o.start ≡ 0) × (o.stop ≡ size) × (o.block ≡ b)

@@ -11,15 +11,15 @@ use Rattle.meta_format.specs.declared.scan.Scanner.{Scanner}
 use Rattle.meta_format.specs.declared.scan.Found.{Found}
 use Rattle.meta_format.specs.declared.scan.Stop.{Stop}
 use Rattle.meta_format.specs.declared.scan.Stop.TheVariants as stop
-use Rattle.meta_format.proofs.Unique.{behind, apply_behind, run_broken}
+use Rattle.meta_format.proofs.Unique.{following, apply_after, run_broken}
 
-next_behind : (most : Limits) (old : Scanner) (before : List Outer) (c : ℕ) → next most (scan_state old before) c ≡ behind before (next most (scan_state old []) c)
-next_behind most old before c =
-    ap (λ o. next most (scan_state old o) c) (sym (append-nil before)) ∙ apply_behind before (scan_state old []) (after most old.at (mode_of old) c)
+next_beyond : (most : Limits) (old : Scanner) (before : List Outer) (c : ℕ) → next most (scan_state old before) c ≡ following before (next most (scan_state old []) c)
+next_beyond most old before c =
+    ap (λ o. next most (scan_state old o) c) (sym (append-nil before)) ∙ apply_after before (scan_state old []) (after most old.at (mode_of old) c)
 
 pub scan_byte : (most : Limits) (old new : Scanner) (before : List Outer) (c : ℕ) (found : Option Found) (rest : List ℕ) → Steps most old c (Ok found) new
     → run most (scan_state old before) (c ∷ rest) ≡ run most (scan_state new (before ++ outers (option_to_list found))) rest
-scan_byte most old new before c found rest h = ap (λ q. run most q rest) (next_behind most old before c ∙ ap (behind before) h)
+scan_byte most old new before c found rest h = ap (λ q. run most q rest) (next_beyond most old before c ∙ ap (following before) h)
 
 pub scan_none : (most : Limits) (old new : Scanner) (before : List Outer) (c : ℕ) (rest : List ℕ) → Steps most old c (Ok None) new
     → run most (scan_state old before) (c ∷ rest) ≡ run most (scan_state new before) rest
@@ -37,7 +37,7 @@ halted : (most : Limits) (mid : Scanner) (out : List Outer) (c at : ℕ) (kind :
     → run most (scan_state mid out) (c ∷ rest) ≡ q → next most (scan_state mid []) c ≡ record { at = at; out = []; mode = broken kind at }
     → q ≡ record { at = at; out = out; mode = broken kind at }
 halted most mid out c at kind rest q h k =
-    sym h ∙ ap (λ p. run most p rest) (next_behind most mid out c ∙ ap (behind out) k) ∙ run_broken most at at (out ++ []) kind rest
+    sym h ∙ ap (λ p. run most p rest) (next_beyond most mid out c ∙ ap (following out) k) ∙ run_broken most at at (out ++ []) kind rest
     ∙ ap (λ o. record { at = at; out = o; mode = broken kind at }) (append-nil out)
 
 pub scan_stop : (most : Limits) (old mid new : Scanner) (before : List Found) (found : List Found) (s : List ℕ) (c : ℕ) (e : Stop) (rest : List ℕ)

@@ -17,18 +17,18 @@ use Rattle.meta_format.proofs.Bridge.{spelled_marks, whole_marks, begun_ended}
 use Rattle.block_tree.proofs.Rebuilt.{tree_from_marks}
 
 -- the same state with blocks found before
-abbrev pub behind : List Outer → State → State
-behind a q = record { at = q.at; out = a ++ q.out; mode = q.mode }
+abbrev pub following : List Outer → State → State
+following a q = record { at = q.at; out = a ++ q.out; mode = q.mode }
 
-pub apply_behind : (a : List Outer) (q : State) (w : Change) → apply (behind a q) w ≡ behind a (apply q w)
-apply_behind a q (halts kind) = refl
-apply_behind a q (turns mode) = refl
-apply_behind a q (ends start ms) = ap (λ o. record { at = suc q.at; out = o; mode = outside }) (append_assoc a q.out (record { start = start; stop = suc q.at; block = tree_from ms } ∷ []))
-apply_behind a q stays = refl
+pub apply_after : (a : List Outer) (q : State) (w : Change) → apply (following a q) w ≡ following a (apply q w)
+apply_after a q (halts kind) = refl
+apply_after a q (turns mode) = refl
+apply_after a q (ends start ms) = ap (λ o. record { at = suc q.at; out = o; mode = outside }) (append_assoc a q.out (record { start = start; stop = suc q.at; block = tree_from ms } ∷ []))
+apply_after a q stays = refl
 
-pub run-behind : (most : Limits) (a : List Outer) (q : State) (s : List ℕ) → run most (behind a q) s ≡ behind a (run most q s)
-run-behind most a q [] = refl
-run-behind most a q (c ∷ s) = ap (λ p. run most p s) (apply_behind a q (after most q.at q.mode c)) ∙ run-behind most a (next most q c) s
+pub run-following : (most : Limits) (a : List Outer) (q : State) (s : List ℕ) → run most (following a q) s ≡ following a (run most q s)
+run-following most a q [] = refl
+run-following most a q (c ∷ s) = ap (λ p. run most p s) (apply_after a q (after most q.at q.mode c)) ∙ run-following most a (next most q c) s
 
 pub run_broken : (most : Limits) (at f : ℕ) (out : List Outer) (kind : Kind) (s : List ℕ) → run most record { at = at; out = out; mode = broken kind f } s ≡ record { at = at; out = out; mode = broken kind f }
 run_broken most at f out kind [] = refl
@@ -102,7 +102,7 @@ no_front most b c s (x ∷ t) p q =
     let whole = length-append s (x ∷ t) in
     let n = length (s ++ x ∷ t) in
     let e = sym (alone most c (s ++ x ∷ t) q n (omega arith)) ∙ run-append (wide most n) starting s (x ∷ t) ∙ ap (λ state. run (wide most n) state (x ∷ t)) (alone most b s p n (omega arith))
-    ∙ run-behind (wide most n) (block_at 0 (length s) b ∷ []) record { at = length s; out = []; mode = outside } (x ∷ t) in
+    ∙ run-following (wide most n) (block_at 0 (length s) b ∷ []) record { at = length s; out = []; mode = outside } (x ∷ t) in
     let f = ap (λ state. state.out) e in
     let same : block_at 0 (length (s ++ x ∷ t)) c ≡ block_at 0 (length s) b = cc in
     let g = ap (λ o. o.stop) same in

@@ -33,14 +33,14 @@ pub record ReaderHasRead (most : Limits) (k : ReaderView) (s : List ℕ) (blocks
   pub alive : IsAlive k.mode
 
 -- The first of the blocks starts there, or later.
-abbrev pub StartBehind : ℕ → List Outer → Type 0
-StartBehind from [] = Unit {0}
-StartBehind from (o ∷ os) = from ≤ o.start
+abbrev pub StartAfter : ℕ → List Outer → Type 0
+StartAfter from [] = Unit {0}
+StartAfter from (o ∷ os) = from ≤ o.start
 
 -- The blocks close after the one offset and at the other or before, and each starts where the one before it has closed, or later.
 abbrev pub CloseWithin : ℕ → ℕ → List Outer → Type 0
 CloseWithin from to [] = Unit {0}
-CloseWithin from to (o ∷ os) = (from < o.stop) × (o.stop ≤ to) × StartBehind o.stop os × CloseWithin from to os
+CloseWithin from to (o ∷ os) = (from < o.stop) × (o.stop ≤ to) × StartAfter o.stop os × CloseWithin from to os
 
 -- The stream has its first fault there, and these are its blocks before.
 pub record Faults (most : Limits) (s : List ℕ) (at : ℕ) (kind : Kind) (blocks : List Outer) : Type 0 where

@@ -41,13 +41,13 @@ pub enum FeedFault {
 pub struct Reader {
     alloc: Global,
     failed: bool,
-    told: Told,
+    reported: Reported,
     scanner: Scanner,
 }
 
 /// What is reported of the stream up to the last piece without a fault.
 #[derive(Drop)]
-struct Told {
+struct Reported {
     offset: u64,
     pending: Option<u64>,
 }
@@ -60,9 +60,9 @@ impl Model for Reader {
 
     ghost Value = { ReaderView };
 
-    ghost view = { λ r. record { failed = r.failed; offset = r.told.offset; pending = r.told.pending; mode = mode_of r.scanner } };
+    ghost view = { λ r. record { failed = r.failed; offset = r.reported.offset; pending = r.reported.pending; mode = mode_of r.scanner } };
 
-    ghost invariant = { λ r. IsPlaced limits.block r.scanner × (held_bytes r.scanner ≤ limits.block) × (r.failed ≡ false → r.scanner.at ≡ r.told.offset) };
+    ghost invariant = { λ r. IsPlaced limits.block r.scanner × (held_bytes r.scanner ≤ limits.block) × (r.failed ≡ false → r.scanner.at ≡ r.reported.offset) };
 }
 
 impl Reader {
@@ -74,7 +74,7 @@ impl Reader {
         Reader {
             alloc,
             failed: false,
-            told: Told {
+            reported: Reported {
                 offset: 0,
                 pending: None,
             },
@@ -88,7 +88,7 @@ impl Reader {
         ensures length { (s : List ℕ) (blocks : List Outer) → ReaderHasRead limits self.now s blocks
             → result ≡ length s }
     {
-        self.told.offset
+        self.reported.offset
     }
 
     /// The offset of the 2 that begins the outer block that is open, if one is. After a fault it is what it
@@ -96,7 +96,7 @@ impl Reader {
     pub fn pending(&self) -> Option<u64>
         ensures { result ≡ self.now.pending }
     {
-        self.told.pending
+        self.reported.pending
     }
 
     /// Takes the next piece of the stream, and gives the outer blocks that it closes, in order.
@@ -133,7 +133,7 @@ impl Reader {
         let mut found = Vec::new(self.alloc);
         match scan_piece(self.alloc, BOUNDS, &mut self.scanner, &mut found, piece) {
             Ok(()) => {
-                self.told = Told {
+                self.reported = Reported {
                     offset: self.scanner.at,
                     pending: begin_of(self.scanner.place, self.scanner.start),
                 };

@@ -5,5 +5,5 @@ use Rattle.journal.specs.declared.opening.OpenCause.{OpenCause}
 use Rattle.offline_programs.specs.Rescue.{TellsRescue, headless}
 use Rattle.offline_programs.specs.declared.fault.RunFault.TheVariants as fault
 
-pub header_told : (disk : DiskView) (why : OpenCause) → InModel disk (TellsHeader (bytes_on disk) why) → TellsRescue disk (fault.Open why)
-header_told disk why tells = headless why tells
+pub header_reported : (disk : DiskView) (why : OpenCause) → InModel disk (TellsHeader (bytes_on disk) why) → TellsRescue disk (fault.Open why)
+header_reported disk why tells = headless why tells

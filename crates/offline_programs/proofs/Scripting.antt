@@ -59,7 +59,7 @@ unread_line number ops None h = let e : false ≡ true = h in absurd (false≢tr
 unread_line number ops (Some line.Skip) h = absurd (false≢true h)
 unread_line number ops (Some line.Wait) h = absurd (false≢true h)
 unread_line number ops (Some line.Print) h = absurd (false≢true h)
-unread_line number ops (Some (line.Command told)) h = unread told h
+unread_line number ops (Some (line.Command reported)) h = unread reported h
 
 -- Lines.
 

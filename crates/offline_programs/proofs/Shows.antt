@@ -8,5 +8,5 @@ use Rattle.offline_programs.specs.declared.fault.RunFault.TheVariants as fault
 pub untouched : (disk : DiskView) → Untouched disk disk
 untouched disk kept = record { content = refl; moments = record { start = λ c image. image; more = []; states = refl; each = tt } }
 
-pub output_told : (disk : DiskView) (nothing : Type 0) (why : RunFault) → why ≡ fault.Output → TellsShow disk nothing why
-output_told disk nothing why is = subst (TellsShow disk nothing) (sym is) unwritten
+pub output_reported : (disk : DiskView) (nothing : Type 0) (why : RunFault) → why ≡ fault.Output → TellsShow disk nothing why
+output_reported disk nothing why is = subst (TellsShow disk nothing) (sym is) unwritten

@@ -42,14 +42,14 @@ pub data LineRan (number : ℕ) (ops : List Op) : Option ScriptLine → List ℕ
   skipped : LineRan number ops (Some line.Skip) [] ops
   unknown : LineRan number ops None (bad_line number) ops
   printed : LineRan number ops (Some line.Print) (sheet_text (sheet_of ops)) ops
-  replied : (told : Command) (o : Op) (answer : Reply) (after : List Op) → op_of told ≡ Some o → OpRan ops o answer after
-      → LineRan number ops (Some (line.Command told)) (reply_text answer) after
+  replied : (reported : Command) (o : Op) (answer : Reply) (after : List Op) → op_of reported ≡ Some o → OpRan ops o answer after
+      → LineRan number ops (Some (line.Command reported)) (reply_text answer) after
   -- without interpreters there is nothing to wait for, to send to or to stop
   idle : LineRan number ops (Some line.Wait) (bad_line number) ops
-  no_op : (told : Command) → op_of told ≡ None → LineRan number ops (Some (line.Command told)) (bad_line number) ops
+  no_op : (reported : Command) → op_of reported ≡ None → LineRan number ops (Some (line.Command reported)) (bad_line number) ops
   -- there was no memory for the bytes of the command
-  unread : (told : Command) → keeps_bytes told ≡ true
-      → LineRan number ops (Some (line.Command told)) (reply_text (reply.Refused refusal.OutOfMemory)) ops
+  unread : (reported : Command) → keeps_bytes reported ≡ true
+      → LineRan number ops (Some (line.Command reported)) (reply_text (reply.Refused refusal.OutOfMemory)) ops
 
 -- The lines from this number on, one after another, and what is written of them.
 abbrev pub LinesRan : ℕ → List Op → List (List ℕ) → List ℕ → Type 0

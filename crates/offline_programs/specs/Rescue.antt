@@ -6,7 +6,7 @@ use Rattle.journal.specs.Front.{TellsHeader}
 use Rattle.journal.specs.Open.{AreEmpty}
 use Rattle.journal.specs.declared.opening.OpenCause.{OpenCause}
 use Rattle.journal.specs.declared.opening.OpenCause.TheVariants as opens
-use Rattle.recovery.specs.Checkpointed.{HasRoomAnew}
+use Rattle.recovery.specs.Checkpointed.{HasRoomAgain}
 use Rattle.recovery.specs.Rescued.{IsRescued}
 use Rattle.recovery.specs.Saved.{IsBeingSaved}
 use Rattle.recovery.specs.Sheets.{IsSheetImage, Makes}
@@ -83,9 +83,9 @@ pub record RescueIsSaved (old new : DiskView) (sheet : Contents)
   pub not_empty : InModel old (answer ≡ Err rescues.NotEmpty → AreEmpty (bytes_on old) → ⊥)
   -- that it doesn't fit is answered only where an area has no room for it, and then nothing was changed
   pub full : answer ≡ Err (rescues.Run (fault.Host host.JournalFull))
-      → (HasRoomAnew old.room sheet → ⊥) × (new ≡ old)
+      → (HasRoomAgain old.room sheet → ⊥) × (new ≡ old)
   -- where anything else is answered an area has room for it
-  pub fits : (answer ≡ Err (rescues.Run (fault.Host host.JournalFull)) → ⊥) → HasRoomAnew old.room sheet
+  pub fits : (answer ≡ Err (rescues.Run (fault.Host host.JournalFull)) → ⊥) → HasRoomAgain old.room sheet
   pub failed : answer ≡ Err (rescues.Run (fault.Open opens.Disk)) → Rises old.faults new.faults
   -- where anything else is answered, no call of the disk failed
   pub steady : (answer ≡ Err (rescues.Run (fault.Open opens.Disk)) → ⊥) → new.faults ≡ old.faults

@@ -14,5 +14,5 @@ saying contents tried old new = record { contents = contents; tried = tried; old
 
 -- This text, and nothing else, was tried there; that it went out is reported only where it did.
 abbrev pub IsSaid : {E : Type 0} → Saying E → List ℕ → Bool → Type 0
-IsSaid errors text told = (went : Bool) × errors.tried errors.old (Some text) went errors.new
-    × (told ≡ true → (went ≡ true) × Appends (errors.contents errors.old) (errors.contents errors.new) text)
+IsSaid errors text reported = (went : Bool) × errors.tried errors.old (Some text) went errors.new
+    × (reported ≡ true → (went ≡ true) × Appends (errors.contents errors.old) (errors.contents errors.new) text)

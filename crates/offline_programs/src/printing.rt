@@ -6,7 +6,7 @@ ghost use Rattle.worksheet.specs.Contents.{Contents};
 ghost use Rattle.recovery.specs.Sheets.{IsSheetImage};
 ghost use Rattle.sheet_text.specs.Texts as printed;
 ghost use Rattle.offline_programs.specs.Faults.{TellsShow};
-ghost use Rattle.offline_programs.specs.declared.fault.RunFault.TheVariants as told;
+ghost use Rattle.offline_programs.specs.declared.fault.RunFault.TheVariants as reported;
 ghost use Rattle.journal.specs.declared.opening.OpenCause.TheVariants as opens;
 
 use crate::RunFault;
@@ -45,11 +45,11 @@ pub fn show<D: Disk, W: Write>(alloc: Global, disk: D, writer: &mut W) -> Shown<
         (Looks (D.view disk).history (D.view result.disk).history) }
 
     // That the disk failed is reported only where it did.
-    ensures failed { IsErrOf result.answer (told.Open opens.Disk)
+    ensures failed { IsErrOf result.answer (reported.Open opens.Disk)
         → Rises (D.view disk).faults (D.view result.disk).faults }
 
     // Where anything else is answered, no call of the disk failed.
-    ensures steady { (IsErrOf result.answer (told.Open opens.Disk) → ⊥)
+    ensures steady { (IsErrOf result.answer (reported.Open opens.Disk) → ⊥)
         → (D.view result.disk).faults ≡ (D.view disk).faults }
 {
     match Store::open(alloc, disk) {

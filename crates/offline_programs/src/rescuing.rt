@@ -42,7 +42,7 @@ pub struct FrontFault<D: Disk> {
 /// What stands on a worksheet's disk before its first damage. It changes no byte of it.
 ///
 /// `Open` where the disk has no header, where it fails, or memory is refused. Damage is no fault here.
-#[tactic(auto, using(crate::proofs::Headers::header_told))]
+#[tactic(auto, using(crate::proofs::Headers::header_reported))]
 pub fn read_front<D: Disk>(alloc: Global, disk: D) -> Result<Rescued<D>, FrontFault<D>>
     ensures { FrontIsRead D.view disk (front_disk result) (front_answer result) }
 {
@@ -88,7 +88,7 @@ impl Message for Kept {
 
 /// Tells on a line how many ops were kept, and where the damage is.
 fn tell_kept<W: Says>(kept: u64, damage: Option<u64>, writer: &mut W) -> Result<(), RescueFault>
-    ensures told { OnOk result
+    ensures reported { OnOk result
         (Appends (W.contents writer.old) (W.contents writer.new) (printed.kept_text kept damage)) }
     ensures unsaid { IfErr result (λ e. (e ≡ rescues.Run fault.Output)
         × W.tried writer.old (Some (printed.kept_text kept damage)) false writer.new) }
@@ -121,10 +121,10 @@ pub fn save_rescued<D: Disk, N: Disk, W: Says>(
     requires made { (ops : List Op) × Makes ops found.now.sheet.contents }
     ensures saved { RescueIsSaved (N.view disk) (N.view result.disk)
         found.now.sheet.contents result.answer }
-    ensures told { OnOk result.answer
+    ensures reported { OnOk result.answer
         (Appends (W.contents writer.old) (W.contents writer.new)
         (printed.kept_text found.now.kept found.now.damage)) }
-    ensures untold { IfErr result.answer
+    ensures withheld { IfErr result.answer
         (λ e. (e ≡ rescues.Run fault.Output → ⊥) → writer.new ≡ writer.old) }
     ensures unsaid { result.answer ≡ Err (rescues.Run fault.Output)
         → W.tried writer.old (Some (printed.kept_text found.now.kept found.now.damage)) false writer.new }

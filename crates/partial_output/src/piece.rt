@@ -4,7 +4,7 @@ ghost use Rattle.std.specs.Io.KnownBytes.{Appends};
 ghost use Rattle.partial_output.specs.Pieces as piece;
 
 use child_calls::Seat;
-use sheet_json::{partial_value, told_bytes};
+use sheet_json::{partial_value, reported_bytes};
 use std::alloc::Global;
 use std::io::Write;
 use worksheet::Name;
@@ -32,7 +32,7 @@ fn partial_line(alloc: Global, name: Name, life: u32, bytes: &[u8]) -> Option<Ve
     let Ok(value) = partial_value(alloc, name.as_slice(), life, bytes) else {
         return None;
     };
-    match told_bytes(alloc, &value) {
+    match reported_bytes(alloc, &value) {
         Ok(line) => Some(line),
         Err(_) => None,
     }
@@ -84,7 +84,7 @@ impl<W: Write + Drop> Beside<W> {
     #[tactic(auto, using(crate::proofs::Nothing::nothing))]
     pub fn tell(&mut self, seat: Seat, bytes: &[u8])
         ensures wrote { self.new.tells ≡ true → Appends (W.contents self.old.writer) (W.contents self.new.writer)
-            (piece.told_text seat.name seat.life bytes.now) }
+            (piece.reported_text seat.name seat.life bytes.now) }
         ensures silent { self.old.tells ≡ false → self.new ≡ self.old }
     {
         if self.tells && !has_end(bytes) {

@@ -131,16 +131,16 @@ module _ {D : Type 0} (view : D → DiskView) (n : ℕ) (disk : D) (found : Resc
   }
 
 headed : (i : Image) (n : ℕ) (cause : OpenCause) → TellsHeader i cause → TellsOfLack i n cause
-headed i n (causes.Damaged gate) told = absurd told
-headed i n causes.NotASheet told = told
-headed i n causes.Disk told = tt
-headed i n causes.OutOfMemory told = tt
+headed i n (causes.Damaged gate) reported = absurd reported
+headed i n causes.NotASheet reported = reported
+headed i n causes.Disk reported = tt
+headed i n causes.OutOfMemory reported = tt
 
-pub passing_told : (i : Image) (cause : OpenCause) → IsPassing cause → TellsHeader i cause
-passing_told i (causes.Damaged gate) passing = absurd passing
-passing_told i causes.NotASheet passing = absurd passing
-passing_told i causes.Disk passing = tt
-passing_told i causes.OutOfMemory passing = tt
+pub passing_reported : (i : Image) (cause : OpenCause) → IsPassing cause → TellsHeader i cause
+passing_reported i (causes.Damaged gate) passing = absurd passing
+passing_reported i causes.NotASheet passing = absurd passing
+passing_reported i causes.Disk passing = tt
+passing_reported i causes.OutOfMemory passing = tt
 
 same_cause : {T : Type 0} (one two : OpenCause) → let why : Result T PastFault = Err (past.Run (fault.Open one)) in why ≡ Err (past.Run (fault.Open two)) → one ≡ two
 same_cause one two e = cc
@@ -149,14 +149,14 @@ same_cause one two e = cc
 pub read_none : {D : Type 0} (view : D → DiskView) (n : ℕ) (disk after : D) (cause : OpenCause) → SameDisk (view disk) (view after) → InModel (view disk) (Looks (view disk).history (view after).history)
     → InModel (view disk) (TellsHeader (bytes_on (view disk)) cause) → (cause ≡ causes.Disk → Rises (view disk).faults (view after).faults)
     → ((cause ≡ causes.Disk → ⊥) → (view after).faults ≡ (view disk).faults) → FirstAreRead view n disk after (Err (past.Run (fault.Open cause)))
-read_none view n disk after cause same looks told failed steady = record {
+read_none view n disk after cause same looks reported failed steady = record {
   same = same;
   looks = looks;
   disk_is = tt;
   made = tt;
   counted = tt;
   whole = λ model. tt;
-  after_them = λ model. headed (bytes_on (view disk)) n cause (told model);
+  after_them = λ model. headed (bytes_on (view disk)) n cause (reported model);
   of_all = λ model all damage rescued. tt;
   failed = λ e. failed (same_cause cause causes.Disk e);
   steady = λ none. steady (λ e. none (ap (λ (c : OpenCause). Err (past.Run (fault.Open c))) e));

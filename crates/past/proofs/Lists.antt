@@ -57,10 +57,10 @@ own_sheet ops sheet makes = record { typed = makes.typed; lengths = makes.length
 pub list_whole : (old now : FrontView) (sheet : Contents) (count : ℕ) (damage : Option ℕ) (payloads : List (List ℕ)) (written : List ℕ → Type 0) (nothing : Type 0) (reached : ReachedInFront old now sheet count)
     → HasGivenFront old [] payloads → (far : LeftInFront now reached.ops payloads) → far.left ≡ [] → damage ≡ damage_at now.damaged now.end → written (history_text reached.ops)
     → TellsList (bytes_on old.disk) written nothing (list_answer damage)
-list_whole old now sheet count None payloads written nothing reached has far none told text =
-    (reached.ops, rescued_whole old now reached.ops payloads (own_sheet reached.ops sheet reached.makes) reached.damaged has far None none told, text)
-list_whole old now sheet count (Some gate) payloads written nothing reached has far none told text =
-    (reached.ops, rescued_whole old now reached.ops payloads (own_sheet reached.ops sheet reached.makes) reached.damaged has far (Some gate) none told, text)
+list_whole old now sheet count None payloads written nothing reached has far none reported text =
+    (reached.ops, rescued_whole old now reached.ops payloads (own_sheet reached.ops sheet reached.makes) reached.damaged has far None none reported, text)
+list_whole old now sheet count (Some gate) payloads written nothing reached has far none reported text =
+    (reached.ops, rescued_whole old now reached.ops payloads (own_sheet reached.ops sheet reached.makes) reached.damaged has far (Some gate) none reported, text)
 
 -- a part of what was written
 list_first : (old now : FrontView) (sheet : Contents) (count : ℕ) (payloads : List (List ℕ)) (written : List ℕ → Type 0) (reached : ReachedInFront old now sheet count)
@@ -124,10 +124,10 @@ list_stopped old now sheet count payloads written nothing cause reached has far 
 
 -- and one for which no front was begun, before all
 pub list_none : (i : Image) (written : List ℕ → Type 0) (nothing : Type 0) (cause : OpenCause) → TellsHeader i cause → nothing → TellsList i written nothing (Err (fault.Open cause))
-list_none i written nothing (causes.Damaged gate) told still = absurd told
-list_none i written nothing causes.NotASheet told still = (told, still)
-list_none i written nothing causes.Disk told still = inl still
-list_none i written nothing causes.OutOfMemory told still = inl still
+list_none i written nothing (causes.Damaged gate) reported still = absurd reported
+list_none i written nothing causes.NotASheet reported still = (reported, still)
+list_none i written nothing causes.Disk reported still = inl still
+list_none i written nothing causes.OutOfMemory reported still = inl still
 
 -- the front and the text so far
 pub record ListedInFront (old now : FrontView) (sheet : Contents) (count : ℕ) (written : List ℕ → Type 0) : Type 0 where

@@ -8,7 +8,7 @@ ghost use Rattle.journal.specs.Open.{IsPassing};
 ghost use Rattle.past.specs.Earlier.{FirstAreRead, answer_read, disk_read};
 ghost use Rattle.past.specs.inside.First.{FindsFirst, lack};
 ghost use Rattle.past.specs.declared.fault.PastFault.TheVariants as past;
-ghost use Rattle.offline_programs.specs.declared.fault.RunFault.TheVariants as told;
+ghost use Rattle.offline_programs.specs.declared.fault.RunFault.TheVariants as reported;
 ghost use Rattle.recovery.specs.Rescued.{disk_rescued};
 ghost use Rattle.recovery.specs.Sheets.{Makes};
 ghost use Rattle.recovery.specs.inside.Rescuing.{Stops};
@@ -100,11 +100,11 @@ fn take_first<D: Disk>(
     let mut kept = 0;
     while kept < count {
         match front.next() {
-            Ok(InFront::Payload(behind, payload)) => {
+            Ok(InFront::Payload(following, payload)) => {
                 if let Err(cause) = take(alloc, &mut sheet, &payload) {
-                    return stop(behind.into_disk(), sheet, kept, cause);
+                    return stop(following.into_disk(), sheet, kept, cause);
                 }
-                front = behind;
+                front = following;
                 kept += 1;
             }
             Ok(InFront::End(disk, damage)) => {
@@ -140,7 +140,7 @@ fn lacking<D: Disk>(found: Rescued<D>, count: u64) -> Unread<D>
 
 /// The front of a disk that isn't read further.
 fn not_begun<D: Disk>(fault: OpenFault<D>) -> Unread<D>
-    ensures { result ≡ record { fault = past.Run (told.Open fault.cause); disk = fault.disk } }
+    ensures { result ≡ record { fault = past.Run (reported.Open fault.cause); disk = fault.disk } }
 {
     let OpenFault { cause, disk } = fault;
     Unread {

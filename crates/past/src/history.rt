@@ -6,7 +6,7 @@ ghost use Rattle.journal.specs.Area.{IsPayload, first_gate};
 ghost use Rattle.journal.specs.Front.{HasGivenFront};
 ghost use Rattle.journal.specs.Limits.{longest_payload};
 ghost use Rattle.journal.specs.declared.opening.OpenCause.TheVariants as opens;
-ghost use Rattle.offline_programs.specs.declared.fault.RunFault.TheVariants as told;
+ghost use Rattle.offline_programs.specs.declared.fault.RunFault.TheVariants as reported;
 ghost use Rattle.past.specs.History.{TellsList, change_line};
 ghost use Rattle.past.specs.inside.Listing.{RefusesToList, list_answer};
 ghost use Rattle.recovery.specs.Sheets.{Makes};
@@ -47,7 +47,7 @@ fn list_one<W: Write>(
         → IfErr result (RefusesToList ops payload.now (writer.new ≡ writer.old)
         (λ op. Appends (W.contents writer.old) (W.contents writer.new)
         (change_line number sheet.old.contents.next op))) }
-    ensures passing { IsErrOf result (told.Open opens.Disk) → ⊥ }
+    ensures passing { IsErrOf result (reported.Open opens.Disk) → ⊥ }
 {
     let op = match op_of(alloc, sheet, payload) {
         Ok(op) => op,
@@ -74,7 +74,7 @@ fn whole_or(damage: Option<u64>) -> Result<(), RunFault>
 
 /// How a list ends where the disk isn't read further.
 fn not_read<D: Disk>(fault: OpenFault<D>) -> Listed<D>
-    ensures { result ≡ record { disk = fault.disk; answer = Err (told.Open fault.cause) } }
+    ensures { result ≡ record { disk = fault.disk; answer = Err (reported.Open fault.cause) } }
 {
     let OpenFault { cause, disk } = fault;
     Listed {
@@ -93,9 +93,9 @@ fn list_front<D: Disk, W: Write>(alloc: Global, front: Front<D>, writer: &mut W)
         → TellsList (bytes_on front.disk) (Appends (W.contents writer.old) (W.contents writer.new))
         (writer.new ≡ writer.old) result.answer) }
     ensures looks { InModel front.disk (Looks front.disk.history (D.view result.disk).history) }
-    ensures failed { IsErrOf result.answer (told.Open opens.Disk)
+    ensures failed { IsErrOf result.answer (reported.Open opens.Disk)
         → Rises front.disk.faults (D.view result.disk).faults }
-    ensures steady { (IsErrOf result.answer (told.Open opens.Disk) → ⊥)
+    ensures steady { (IsErrOf result.answer (reported.Open opens.Disk) → ⊥)
         → (D.view result.disk).faults ≡ front.disk.faults }
 {
     let mut front = front;
@@ -103,14 +103,14 @@ fn list_front<D: Disk, W: Write>(alloc: Global, front: Front<D>, writer: &mut W)
     let mut count = 0;
     loop {
         match front.next() {
-            Ok(InFront::Payload(behind, payload)) => {
+            Ok(InFront::Payload(following, payload)) => {
                 if let Err(fault) = list_one(alloc, &mut sheet, count + 1, &payload, writer) {
                     return Listed {
-                        disk: behind.into_disk(),
+                        disk: following.into_disk(),
                         answer: Err(fault),
                     };
                 }
-                front = behind;
+                front = following;
                 count += 1;
             }
             Ok(InFront::End(disk, damage)) => {
@@ -139,11 +139,11 @@ pub fn list_changes<D: Disk, W: Write>(alloc: Global, disk: D, writer: &mut W) -
         (Looks (D.view disk).history (D.view result.disk).history) }
 
     // That the disk failed is reported only where it did.
-    ensures failed { IsErrOf result.answer (told.Open opens.Disk)
+    ensures failed { IsErrOf result.answer (reported.Open opens.Disk)
         → Rises (D.view disk).faults (D.view result.disk).faults }
 
     // Where anything else is answered, no call of the disk failed.
-    ensures steady { (IsErrOf result.answer (told.Open opens.Disk) → ⊥)
+    ensures steady { (IsErrOf result.answer (reported.Open opens.Disk) → ⊥)
         → (D.view result.disk).faults ≡ (D.view disk).faults }
 {
     match Front::begin(alloc, disk) {

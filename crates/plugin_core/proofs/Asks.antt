@@ -6,7 +6,7 @@ use Rattle.std.proofs.lemmas.Bool.Decides.{nat_tests}
 use Rattle.meta_format.specs.Stream.{Outer}
 use Rattle.meta_format.specs.Found.{outer_of, outers}
 use Rattle.meta_format.specs.declared.scan.Found.{Found}
-use Rattle.plugin_core.specs.Answers.{first_from, end_behind, answers_from, ask_from, if_found}
+use Rattle.plugin_core.specs.Answers.{first_from, end_after, answers_from, ask_from, if_found}
 use Rattle.plugin_core.proofs.Spans.{LieWithin, LieWithin-append}
 
 pub first_from-append : (p : ℕ) (bs fs : List Outer) → first_from p (bs ++ fs) ≡ if_found (first_from p bs) (first_from p fs) (λ b. Some b)
@@ -40,9 +40,9 @@ found-stop from to p (c ∷ bs) b l e = go (nat_le p c.start) e (found-stop from
 pub record Grows (ends more : List ℕ) (n m : ℕ) (bs fs : List Outer) : Type 0 where
   pub old : LieWithin 0 n bs
   pub fresh : LieWithin n m fs
-  pub known : (stop : ℕ) → 0 < stop → stop ≤ n → end_behind more stop ≡ end_behind ends stop
-  pub low : (stop : ℕ) → 0 < stop → stop ≤ n → end_behind ends stop ≤ n
-  pub last : (stop : ℕ) → n < stop → stop ≤ m → end_behind more stop ≡ m
+  pub known : (stop : ℕ) → 0 < stop → stop ≤ n → end_after more stop ≡ end_after ends stop
+  pub low : (stop : ℕ) → 0 < stop → stop ≤ n → end_after ends stop ≤ n
+  pub last : (stop : ℕ) → n < stop → stop ≤ m → end_after more stop ≡ m
 
 -- nothing is answered from the end of all blocks on
 pub answers-past : (ends : List ℕ) (from to q : ℕ) (bs : List Outer) (offs : List ℕ) → LieWithin from to bs → to ≤ q → answers_from ends bs q offs ≡ []
@@ -58,7 +58,7 @@ pub answers-grow : (ends more : List ℕ) (n m q : ℕ) (bs fs : List Outer) (of
 answers-grow ends more n m q bs fs [] h g = refl
 answers-grow ends more n m q bs fs (a ∷ later) h g = go (first_from (max q a) bs) refl (λ r. answers-grow ends more n m r bs fs later h g)
   where
-    late : (o : Option Outer) → first_from (max q a) fs ≡ o → if_found o [] (λ b. b ∷ answers_from more (bs ++ fs) (end_behind more b.stop) later) ≡ option_to_list o
+    late : (o : Option Outer) → first_from (max q a) fs ≡ o → if_found o [] (λ b. b ∷ answers_from more (bs ++ fs) (end_after more b.stop) later) ≡ option_to_list o
     late None e = refl
     late (Some b) e =
         let s = found-stop n m (max q a) fs b g.fresh e in
@@ -71,7 +71,7 @@ answers-grow ends more n m q bs fs (a ∷ later) h g = go (first_from (max q a) 
     go None e ih = rw (first_from-none (max q a) bs fs e, e) (late (first_from (max q a) fs) refl)
     go (Some b) e ih =
         let s = found-stop 0 n (max q a) bs b g.old e in
-        rw (first_from-some (max q a) bs fs b e, e, g.known b.stop s.0 s.1) (ap (λ bs. b ∷ bs) (ih (end_behind ends b.stop)))
+        rw (first_from-some (max q a) bs fs b e, e, g.known b.stop s.0 s.1) (ap (λ bs. b ∷ bs) (ih (end_after ends b.stop)))
 
 abbrev pub some_if_any : List ℕ → ℕ → Option ℕ
 some_if_any [] m = None
@@ -92,7 +92,7 @@ ask-grow ends more n m q bs fs (a ∷ later) rest h k g d = go (first_from (max 
     then_next [] k = refl
     then_next (c ∷ later) k = ask-past more 0 m m c (bs ++ fs) later (LieWithin-append 0 n m bs fs (omega arith) h g.old g.fresh) (omega arith) k.0
 
-    late : (o : Option Outer) → first_from (max q a) fs ≡ o → later ≡ rest → if_found o (Some (max q a)) (λ b. ask_from more (bs ++ fs) (end_behind more b.stop) later) ≡ if_found o (Some (max q a)) (λ b. some_if_any rest m)
+    late : (o : Option Outer) → first_from (max q a) fs ≡ o → later ≡ rest → if_found o (Some (max q a)) (λ b. ask_from more (bs ++ fs) (end_after more b.stop) later) ≡ if_found o (Some (max q a)) (λ b. some_if_any rest m)
     late None e f = refl
     late (Some b) e f =
         let s = found-stop n m (max q a) fs b g.fresh e in
@@ -104,7 +104,7 @@ ask-grow ends more n m q bs fs (a ∷ later) rest h k g d = go (first_from (max 
     go None e ih = rw (first_from-none (max q a) bs fs e, e) (late (first_from (max q a) fs) refl (rw e at d))
     go (Some b) e ih =
         let s = found-stop 0 n (max q a) bs b g.old e in
-        rw (first_from-some (max q a) bs fs b e, e, g.known b.stop s.0 s.1) (ih (end_behind ends b.stop) (rw e at d))
+        rw (first_from-some (max q a) bs fs b e, e, g.known b.stop s.0 s.1) (ih (end_after ends b.stop) (rw e at d))
 
 -- an item that is accepted at the stream's end has no answer yet
 pub answers-accept : (ends : List ℕ) (n q : ℕ) (bs : List Outer) (offs : List ℕ) → LieWithin 0 n bs → answers_from ends bs q (offs ++ n ∷ []) ≡ answers_from ends bs q offs
@@ -112,12 +112,12 @@ answers-accept ends n q bs [] l = rw (none_past 0 n (max q n) bs l (omega arith)
 answers-accept ends n q bs (a ∷ later) l = go (first_from (max q a) bs) (λ r. answers-accept ends n r bs later l)
   where
     go : (o : Option Outer) → ((r : ℕ) → answers_from ends bs r (later ++ n ∷ []) ≡ answers_from ends bs r later)
-        → if_found o [] (λ b. b ∷ answers_from ends bs (end_behind ends b.stop) (later ++ n ∷ [])) ≡ if_found o [] (λ b. b ∷ answers_from ends bs (end_behind ends b.stop) later)
+        → if_found o [] (λ b. b ∷ answers_from ends bs (end_after ends b.stop) (later ++ n ∷ [])) ≡ if_found o [] (λ b. b ∷ answers_from ends bs (end_after ends b.stop) later)
     go None ih = refl
-    go (Some b) ih = ap (λ fs. b ∷ fs) (ih (end_behind ends b.stop))
+    go (Some b) ih = ap (λ fs. b ∷ fs) (ih (end_after ends b.stop))
 
 -- it is asked now where nothing else waits
-pub ask-accept : (ends : List ℕ) (n q : ℕ) (bs : List Outer) (offs : List ℕ) → LieWithin 0 n bs → q ≤ n → ((stop : ℕ) → 0 < stop → stop ≤ n → end_behind ends stop ≤ n)
+pub ask-accept : (ends : List ℕ) (n q : ℕ) (bs : List Outer) (offs : List ℕ) → LieWithin 0 n bs → q ≤ n → ((stop : ℕ) → 0 < stop → stop ≤ n → end_after ends stop ≤ n)
     → ask_from ends bs q (offs ++ n ∷ []) ≡ elim (ask_from ends bs q offs) [ None ↦ Some n | Some p ↦ Some p ]
 ask-accept ends n q bs [] l h low = let e : max q n ≡ n = omega arith in rw (none_past 0 n (max q n) bs l (omega arith)) (ap (λ k. Some k) e)
 ask-accept ends n q bs (a ∷ later) l h low = go (first_from (max q a) bs) refl (λ r k. ask-accept ends n r bs later l k low)
@@ -125,7 +125,7 @@ ask-accept ends n q bs (a ∷ later) l h low = go (first_from (max q a) bs) refl
     go : (o : Option Outer) → first_from (max q a) bs ≡ o → ((r : ℕ) → r ≤ n → ask_from ends bs r (later ++ n ∷ []) ≡ elim (ask_from ends bs r later) [ None ↦ Some n | Some p ↦ Some p ])
         → ask_from ends bs q (a ∷ later ++ n ∷ []) ≡ elim (ask_from ends bs q (a ∷ later)) [ None ↦ Some n | Some p ↦ Some p ]
     go None e ih = rw e refl
-    go (Some b) e ih = let s = found-stop 0 n (max q a) bs b l e in rw e (ih (end_behind ends b.stop) (low b.stop s.0 s.1))
+    go (Some b) e ih = let s = found-stop 0 n (max q a) bs b l e in rw e (ih (end_after ends b.stop) (low b.stop s.0 s.1))
 
 -- all are answered where no ask point is open
 pub ask-none : (ends : List ℕ) (q : ℕ) (bs : List Outer) (offs : List ℕ) → ask_from ends bs q offs ≡ None → length (answers_from ends bs q offs) ≡ length offs
@@ -133,20 +133,20 @@ ask-none ends q bs [] e = refl
 ask-none ends q bs (a ∷ later) e = go (first_from (max q a) bs) (λ r. ask-none ends r bs later) e
   where
     go : (o : Option Outer) → ((r : ℕ) → ask_from ends bs r later ≡ None → length (answers_from ends bs r later) ≡ length later)
-        → if_found o (Some (max q a)) (λ b. ask_from ends bs (end_behind ends b.stop) later) ≡ None
-        → length (if_found o [] (λ b. b ∷ answers_from ends bs (end_behind ends b.stop) later)) ≡ suc (length later)
+        → if_found o (Some (max q a)) (λ b. ask_from ends bs (end_after ends b.stop) later) ≡ None
+        → length (if_found o [] (λ b. b ∷ answers_from ends bs (end_after ends b.stop) later)) ≡ suc (length later)
     go None ih e = cc
-    go (Some b) ih e = ap suc (ih (end_behind ends b.stop) e)
+    go (Some b) ih e = ap suc (ih (end_after ends b.stop) e)
 
 pub ask-some : (ends : List ℕ) (q p : ℕ) (bs : List Outer) (offs : List ℕ) → ask_from ends bs q offs ≡ Some p → length (answers_from ends bs q offs) < length offs
 ask-some ends q p bs [] e = cc
 ask-some ends q p bs (a ∷ later) e = go (first_from (max q a) bs) (λ r. ask-some ends r p bs later) e
   where
     go : (o : Option Outer) → ((r : ℕ) → ask_from ends bs r later ≡ Some p → length (answers_from ends bs r later) < length later)
-        → if_found o (Some (max q a)) (λ b. ask_from ends bs (end_behind ends b.stop) later) ≡ Some p
-        → length (if_found o [] (λ b. b ∷ answers_from ends bs (end_behind ends b.stop) later)) < suc (length later)
+        → if_found o (Some (max q a)) (λ b. ask_from ends bs (end_after ends b.stop) later) ≡ Some p
+        → length (if_found o [] (λ b. b ∷ answers_from ends bs (end_after ends b.stop) later)) < suc (length later)
     go None ih e = omega arith
-    go (Some b) ih e = let h = ih (end_behind ends b.stop) e in omega arith
+    go (Some b) ih e = let h = ih (end_after ends b.stop) e in omega arith
 
 -- the first of the blocks that a reader found
 pub first_found : (ask : ℕ) (xs : List Found) → option_map outer_of (find (λ f. nat_le ask f.start) xs) ≡ first_from ask (outers xs)

@@ -7,7 +7,7 @@ use Rattle.meta_format.specs.Stream.{Outer}
 use Rattle.meta_format.specs.Faults.{Kind}
 use Rattle.plugin_core.specs.declared.item.Item.{Item}
 use Rattle.plugin_core.specs.Past.{Event, accepted, received, stream_of, items_of, places_from, ends_from}
-use Rattle.plugin_core.specs.Answers.{first_from, end_behind, if_found, answers_from, asked_places, answers_of}
+use Rattle.plugin_core.specs.Answers.{first_from, end_after, if_found, answers_from, asked_places, answers_of}
 use Rattle.plugin_core.specs.Steps.{Reads}
 use Rattle.plugin_core.specs.AskPoints.{length_after, IsAnswer, AnswersByAskPoints}
 use Rattle.plugin_core.specs.AskPoints.IsAnswer.{banner, next}
@@ -41,7 +41,7 @@ after_later past e f = go (nat_le e f) refl
         rw m (omega arith)
 
 -- the end of the piece that closes a block
-end_is : (at : ℕ) (past : List Event) (stop e : ℕ) → at + length_after past e < stop → stop ≤ at + length_after past (suc e) → end_behind (ends_from at past) stop ≡ at + length_after past (suc e)
+end_is : (at : ℕ) (past : List Event) (stop e : ℕ) → at + length_after past e < stop → stop ≤ at + length_after past (suc e) → end_after (ends_from at past) stop ≡ at + length_after past (suc e)
 end_is at [] stop zero lo hi = absurd (omega arith)
 end_is at [] stop (suc e) lo hi = absurd (omega arith)
 end_is at (accepted i ∷ past) stop zero lo hi = absurd (omega arith)
@@ -83,59 +83,59 @@ accepted_in_some at (received q ∷ past) k place e = let r = accepted_in_some (
 -- Answers by their numbers.
 
 answer_next : (ends : List ℕ) (bs : List Outer) (closed : ℕ) (places : List ℕ) (k : ℕ) (a : Outer) (place : ℕ) (b : Outer) → slice_get (answers_from ends bs closed places) k ≡ Some a
-    → slice_get places (suc k) ≡ Some place → first_from (max (end_behind ends a.stop) place) bs ≡ Some b → slice_get (answers_from ends bs closed places) (suc k) ≡ Some b
+    → slice_get places (suc k) ≡ Some place → first_from (max (end_after ends a.stop) place) bs ≡ Some b → slice_get (answers_from ends bs closed places) (suc k) ≡ Some b
 answer_next ends bs closed [] k a place b e f g = cc
 answer_next ends bs closed (p ∷ places) k a place b e f g = go (first_from (max closed p) bs) k (λ r k e f. answer_next ends bs r places k a place b e f g) e f
   where
-    first : (places : List ℕ) → slice_get places 0 ≡ Some place → slice_get (answers_from ends bs (end_behind ends a.stop) places) 0 ≡ Some b
+    first : (places : List ℕ) → slice_get places 0 ≡ Some place → slice_get (answers_from ends bs (end_after ends a.stop) places) 0 ≡ Some b
     first [] f = cc
     first (q ∷ places) f = let s : q ≡ place = cc in rw (s, g) refl
 
     go : (o : Option Outer) (k : ℕ) → ((r k : ℕ) → slice_get (answers_from ends bs r places) k ≡ Some a → slice_get places (suc k) ≡ Some place → slice_get (answers_from ends bs r places) (suc k) ≡ Some b)
-        → slice_get (if_found o [] (λ c. c ∷ answers_from ends bs (end_behind ends c.stop) places)) k ≡ Some a → slice_get places k ≡ Some place
-        → slice_get (if_found o [] (λ c. c ∷ answers_from ends bs (end_behind ends c.stop) places)) (suc k) ≡ Some b
+        → slice_get (if_found o [] (λ c. c ∷ answers_from ends bs (end_after ends c.stop) places)) k ≡ Some a → slice_get places k ≡ Some place
+        → slice_get (if_found o [] (λ c. c ∷ answers_from ends bs (end_after ends c.stop) places)) (suc k) ≡ Some b
     go None k ih e f = cc
     go (Some c) zero ih e f = let s : c ≡ a = cc in rw s (first places f)
-    go (Some c) (suc k) ih e f = ih (end_behind ends c.stop) k e f
+    go (Some c) (suc k) ih e f = ih (end_after ends c.stop) k e f
 
 pub record Before (ends : List ℕ) (bs all : List Outer) (places : List ℕ) (k : ℕ) (b : Outer) : Type 0 where
   pub answer : Outer
   pub place : ℕ
   pub is : slice_get all k ≡ Some answer
   pub at : slice_get places (suc k) ≡ Some place
-  pub first : first_from (max (end_behind ends answer.stop) place) bs ≡ Some b
+  pub first : first_from (max (end_after ends answer.stop) place) bs ≡ Some b
 
 answer_last : (ends : List ℕ) (bs : List Outer) (closed : ℕ) (places : List ℕ) (k : ℕ) (b : Outer) → slice_get (answers_from ends bs closed places) (suc k) ≡ Some b
     → Before ends bs (answers_from ends bs closed places) places k b
 answer_last ends bs closed [] k b e = cc
 answer_last ends bs closed (p ∷ places) k b e = go (first_from (max closed p) bs) k (λ r k e. answer_last ends bs r places k b e) e
   where
-    second : (c : Outer) (q : ℕ) (places : List ℕ) (o : Option Outer) → first_from (max (end_behind ends c.stop) q) bs ≡ o
-        → slice_get (if_found o [] (λ d. d ∷ answers_from ends bs (end_behind ends d.stop) places)) 0 ≡ Some b → first_from (max (end_behind ends c.stop) q) bs ≡ Some b
+    second : (c : Outer) (q : ℕ) (places : List ℕ) (o : Option Outer) → first_from (max (end_after ends c.stop) q) bs ≡ o
+        → slice_get (if_found o [] (λ d. d ∷ answers_from ends bs (end_after ends d.stop) places)) 0 ≡ Some b → first_from (max (end_after ends c.stop) q) bs ≡ Some b
     second c q places None f e = cc
     second c q places (Some d) f e = let s : d ≡ b = cc in f ∙ ap (λ d. Some d) s
 
-    first : (c : Outer) (places : List ℕ) → slice_get (answers_from ends bs (end_behind ends c.stop) places) 0 ≡ Some b
-        → Before ends bs (c ∷ answers_from ends bs (end_behind ends c.stop) places) (p ∷ places) 0 b
+    first : (c : Outer) (places : List ℕ) → slice_get (answers_from ends bs (end_after ends c.stop) places) 0 ≡ Some b
+        → Before ends bs (c ∷ answers_from ends bs (end_after ends c.stop) places) (p ∷ places) 0 b
     first c [] e = cc
-    first c (q ∷ places) e = record { answer = c; place = q; is = refl; at = refl; first = second c q places (first_from (max (end_behind ends c.stop) q) bs) refl e }
+    first c (q ∷ places) e = record { answer = c; place = q; is = refl; at = refl; first = second c q places (first_from (max (end_after ends c.stop) q) bs) refl e }
 
     go : (o : Option Outer) (k : ℕ) → ((r k : ℕ) → slice_get (answers_from ends bs r places) (suc k) ≡ Some b → Before ends bs (answers_from ends bs r places) places k b)
-        → slice_get (if_found o [] (λ c. c ∷ answers_from ends bs (end_behind ends c.stop) places)) (suc k) ≡ Some b
-        → Before ends bs (if_found o [] (λ c. c ∷ answers_from ends bs (end_behind ends c.stop) places)) (p ∷ places) k b
+        → slice_get (if_found o [] (λ c. c ∷ answers_from ends bs (end_after ends c.stop) places)) (suc k) ≡ Some b
+        → Before ends bs (if_found o [] (λ c. c ∷ answers_from ends bs (end_after ends c.stop) places)) (p ∷ places) k b
     go None k ih e = cc
     go (Some c) zero ih e = first c places e
-    go (Some c) (suc k) ih e = let r = ih (end_behind ends c.stop) k e in record { answer = r.answer; place = r.place; is = r.is; at = r.at; first = r.first }
+    go (Some c) (suc k) ih e = let r = ih (end_after ends c.stop) k e in record { answer = r.answer; place = r.place; is = r.is; at = r.at; first = r.first }
 
 pub answer_lies : (ends : List ℕ) (bs : List Outer) (n closed : ℕ) (places : List ℕ) (k : ℕ) (a : Outer) → LieWithin 0 n bs → slice_get (answers_from ends bs closed places) k ≡ Some a → (0 < a.stop) × (a.stop ≤ n)
 answer_lies ends bs n closed [] k a l e = cc
 answer_lies ends bs n closed (p ∷ places) k a l e = go (first_from (max closed p) bs) refl k (λ r k e. answer_lies ends bs n r places k a l e) e
   where
     go : (o : Option Outer) → first_from (max closed p) bs ≡ o → (k : ℕ) → ((r k : ℕ) → slice_get (answers_from ends bs r places) k ≡ Some a → (0 < a.stop) × (a.stop ≤ n))
-        → slice_get (if_found o [] (λ c. c ∷ answers_from ends bs (end_behind ends c.stop) places)) k ≡ Some a → (0 < a.stop) × (a.stop ≤ n)
+        → slice_get (if_found o [] (λ c. c ∷ answers_from ends bs (end_after ends c.stop) places)) k ≡ Some a → (0 < a.stop) × (a.stop ≤ n)
     go None f k ih e = cc
     go (Some c) f zero ih e = let s : c ≡ a = cc in found-stop 0 n (max closed p) bs a l (f ∙ ap (λ c. Some c) s)
-    go (Some c) f (suc k) ih e = ih (end_behind ends c.stop) k e
+    go (Some c) f (suc k) ih e = ih (end_after ends c.stop) k e
 
 -- The law.
 
@@ -152,11 +152,11 @@ listed past blocks _ _ (next k e f a b before closes accepts first) =
     let p = place_is 0 past f accepts.0 accepts.1 in
     let n : length (items_of (take f past)) ≡ k = omega (arith, accepts.2) in
     let q : slice_get (asked_places past) (suc k) ≡ Some (length_after past (suc f)) = subst (λ (n : ℕ). slice_get (places_from 0 past) n ≡ Some (length_after past (suc f))) n (p ∙ (let z : 0 + length_after past (suc f) ≡ length_after past (suc f) = omega arith in ap (λ n. Some n) z)) in
-    let c : end_behind (ends_from 0 past) a.stop ≡ length_after past (suc e) = end_is 0 past a.stop e (omega (arith, closes.0)) (omega (arith, closes.1)) ∙ omega arith in
-    let m : max (end_behind (ends_from 0 past) a.stop) (length_after past (suc f)) ≡ length_after past (suc (max e f)) = ap (λ n. max n (length_after past (suc f))) c ∙ sym (after_later past e f) in
+    let c : end_after (ends_from 0 past) a.stop ≡ length_after past (suc e) = end_is 0 past a.stop e (omega (arith, closes.0)) (omega (arith, closes.1)) ∙ omega arith in
+    let m : max (end_after (ends_from 0 past) a.stop) (length_after past (suc f)) ≡ length_after past (suc (max e f)) = ap (λ n. max n (length_after past (suc f))) c ∙ sym (after_later past e f) in
     answer_next (ends_from 0 past) blocks 0 (asked_places past) k a (length_after past (suc f)) b (listed past blocks k a before) q (ap (λ n. first_from n blocks) m ∙ first)
 
-first_answer : (ends : List ℕ) (bs : List Outer) (places : List ℕ) (b : Outer) (o : Option Outer) → slice_get (if_found o [] (λ c. c ∷ answers_from ends bs (end_behind ends c.stop) places)) 0 ≡ Some b → o ≡ Some b
+first_answer : (ends : List ℕ) (bs : List Outer) (places : List ℕ) (b : Outer) (o : Option Outer) → slice_get (if_found o [] (λ c. c ∷ answers_from ends bs (end_after ends c.stop) places)) 0 ≡ Some b → o ≡ Some b
 first_answer ends bs places b None e = cc
 first_answer ends bs places b (Some c) e = e
 
@@ -172,8 +172,8 @@ by_events past blocks l (suc k) b e =
     let f = accepted_in_some 0 past k r.place r.at in
     let p : Some r.place ≡ Some (0 + length_after past (suc f.0)) = sym r.at ∙ subst (λ (n : ℕ). slice_get (places_from 0 past) n ≡ Some (0 + length_after past (suc f.0))) f.3 (place_is 0 past f.0 f.1 f.2) in
     let q : r.place ≡ 0 + length_after past (suc f.0) = cc in
-    let d : end_behind (ends_from 0 past) r.answer.stop ≡ 0 + length_after past (suc c.0) = end_is 0 past r.answer.stop c.0 c.1 c.2 in
-    let m : length_after past (suc (max c.0 f.0)) ≡ max (end_behind (ends_from 0 past) r.answer.stop) r.place = same_later (length_after past (suc (max c.0 f.0))) (length_after past (suc c.0)) (length_after past (suc f.0)) (end_behind (ends_from 0 past) r.answer.stop) r.place (after_later past c.0 f.0) d q in
+    let d : end_after (ends_from 0 past) r.answer.stop ≡ 0 + length_after past (suc c.0) = end_is 0 past r.answer.stop c.0 c.1 c.2 in
+    let m : length_after past (suc (max c.0 f.0)) ≡ max (end_after (ends_from 0 past) r.answer.stop) r.place = same_later (length_after past (suc (max c.0 f.0))) (length_after past (suc c.0)) (length_after past (suc f.0)) (end_after (ends_from 0 past) r.answer.stop) r.place (after_later past c.0 f.0) d q in
     next k c.0 f.0 r.answer b (by_events past blocks l k r.answer r.is) (omega (arith, c.1), omega (arith, c.2)) (f.1, f.2, ap suc f.3) (ap (λ n. first_from n blocks) m ∙ r.first)
 
 pub answers_by_ask_points : AnswersByAskPoints

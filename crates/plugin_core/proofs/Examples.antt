@@ -58,9 +58,9 @@ dropped_when_cut_inside : answers_of (both ++ received (bytes 17) ∷ received (
 dropped_when_cut_inside = refl
 
 -- a fault after A in its piece: A is returned, nothing is sent, y is lost
-fault_behind : step_of both (banner ∷ []) (bytes 14) (banner ∷ a ∷ []) (Some bad_tag)
+fault_after : step_of both (banner ∷ []) (bytes 14) (banner ∷ a ∷ []) (Some bad_tag)
     ≡ record { answered = Some (answered.Line 1 (codes "> ") (verbatim (codes "A"))); default_input = None; send = None; ended = Some (record { reason = reason.BadTag; lost = y ∷ [] }) }
-fault_behind = refl
+fault_after = refl
 
 sends_the_next : step_of both (banner ∷ []) (bytes 12) (banner ∷ a ∷ []) None
     ≡ record { answered = Some (answered.Line 1 (codes "> ") (verbatim (codes "A"))); default_input = None; send = Some (codes "y" ++ 10 ∷ []); ended = None }

@@ -2,7 +2,7 @@ pub mod Pasts
 pub mod Spans
 pub mod Asks
 pub mod OneMore
-pub mod Told
+pub mod Reported
 pub mod Pieces
 pub mod ByAskPoints
 pub mod Sends

@@ -5,13 +5,13 @@ use Rattle.std.proofs.lemmas.List.{append-nil, drop_all, drop-append-le, length-
 use Rattle.meta_format.specs.Stream.{Outer}
 use Rattle.plugin_core.specs.declared.item.Item.{Item}
 use Rattle.plugin_core.specs.Past.{Event, accepted, received, stream_of, items_of, places_from, ends_from}
-use Rattle.plugin_core.specs.Answers.{first_from, end_behind, if_found, answers_from, ask_from, asked_places, answers_of, ask_of}
+use Rattle.plugin_core.specs.Answers.{first_from, end_after, if_found, answers_from, ask_from, asked_places, answers_of, ask_of}
 use Rattle.plugin_core.specs.Items.{unanswered, waiting_of, bytes_of}
-use Rattle.plugin_core.specs.inside.Words.{next_behind}
+use Rattle.plugin_core.specs.inside.Words.{next_beyond}
 use Rattle.plugin_core.specs.Steps.{sent_by, closed_by}
 use Rattle.plugin_core.specs.Kept.{has_banner}
 use Rattle.plugin_core.specs.inside.Changes.{ask_now, ask_then, sent_for, closed_among}
-use Rattle.plugin_core.proofs.Pasts.{items_of-received, items_of-accepted, places_from-received, places_from-accepted, ends_from-received, ends_from-accepted, end_behind-known, end_behind-le, end_behind-new}
+use Rattle.plugin_core.proofs.Pasts.{items_of-received, items_of-accepted, places_from-received, places_from-accepted, ends_from-received, ends_from-accepted, end_after-known, end_after-le, end_after-new}
 use Rattle.plugin_core.proofs.Spans.{LieWithin}
 use Rattle.plugin_core.proofs.Asks.{Grows, answers-grow, ask-grow, answers-accept, ask-accept, ask-none, ask-some, AllLe, some_if_any}
 
@@ -29,8 +29,8 @@ AllLe-places_from at [] = tt
 AllLe-places_from at (accepted i ∷ ts) = (omega arith, AllLe-places_from at ts)
 AllLe-places_from at (received p ∷ ts) = AllLe-weaker (at + length p + length (stream_of ts)) (at + length (p ++ stream_of ts)) (places_from (at + length p) ts) (omega (arith, length-append p (stream_of ts))) (AllLe-places_from (at + length p) ts)
 
-low_ends : (ts : List Event) (stop : ℕ) → 0 < stop → stop ≤ length (stream_of ts) → end_behind (ends_from 0 ts) stop ≤ length (stream_of ts)
-low_ends ts stop lo hi = let h = end_behind-le 0 ts stop lo (omega arith) in omega arith
+low_ends : (ts : List Event) (stop : ℕ) → 0 < stop → stop ≤ length (stream_of ts) → end_after (ends_from 0 ts) stop ≤ length (stream_of ts)
+low_ends ts stop lo hi = let h = end_after-le 0 ts stop lo (omega arith) in omega arith
 
 -- an event changes the ends and the places of acceptance
 same_answers : (bs : List Outer) (ends ends' offs offs' : List ℕ) → ends ≡ ends' → offs ≡ offs' → answers_from ends bs 0 offs ≡ answers_from ends' bs 0 offs'
@@ -105,14 +105,14 @@ waiting_of-accepted ts bs i l =
     ∙ ap (λ is. unanswered (answers_of ts bs) is) (items_of-accepted ts i)
     ∙ unanswered-push (answers_of ts bs) (items_of ts) i (answered_most ts bs)
 
-next_taken : (k : ℕ) (is : List Item) (i : Item) → k ≤ length is → option_map bytes_of (next_behind (take (suc k) is) (take (suc k) (is ++ i ∷ []))) ≡ sent_for true (drop k is) i
+next_taken : (k : ℕ) (is : List Item) (i : Item) → k ≤ length is → option_map bytes_of (next_beyond (take (suc k) is) (take (suc k) (is ++ i ∷ []))) ≡ sent_for true (drop k is) i
 next_taken zero [] i h = refl
 next_taken zero (j ∷ is) i h = refl
 next_taken (suc k) [] i h = absurd (omega arith)
 next_taken (suc k) (j ∷ is) i h = next_taken k is i (omega arith)
 
 asked_accepted : (fs : List Outer) (is : List Item) (i : Item) → length fs ≤ suc (length is)
-    → option_map bytes_of (next_behind (take (length fs) is) (take (length fs) (is ++ i ∷ []))) ≡ sent_for (has_banner fs) (unanswered fs is) i
+    → option_map bytes_of (next_beyond (take (length fs) is) (take (length fs) (is ++ i ∷ []))) ≡ sent_for (has_banner fs) (unanswered fs is) i
 asked_accepted [] is i h = refl
 asked_accepted (f ∷ fs) is i h = next_taken (length fs) is i (omega arith)
 
@@ -120,8 +120,8 @@ pub sent_by-accepted : (ts : List Event) (bs : List Outer) (i : Item) → LieWit
     → sent_for (has_banner (answers_of ts bs)) (waiting_of ts bs) i ≡ sent_by ts bs (accepted i) bs
 sent_by-accepted ts bs i l =
     sym (asked_accepted (answers_of ts bs) (items_of ts) i (answered_most ts bs))
-    ∙ ap (λ (is : List Item). option_map bytes_of (next_behind (take (length (answers_of ts bs)) (items_of ts)) (take (length (answers_of ts bs)) is))) (sym (items_of-accepted ts i))
-    ∙ ap (λ (fs : List Outer). option_map bytes_of (next_behind (take (length (answers_of ts bs)) (items_of ts)) (take (length fs) (items_of (ts ++ accepted i ∷ []))))) (sym (answers_of-accepted ts bs i l))
+    ∙ ap (λ (is : List Item). option_map bytes_of (next_beyond (take (length (answers_of ts bs)) (items_of ts)) (take (length (answers_of ts bs)) is))) (sym (items_of-accepted ts i))
+    ∙ ap (λ (fs : List Outer). option_map bytes_of (next_beyond (take (length (answers_of ts bs)) (items_of ts)) (take (length fs) (items_of (ts ++ accepted i ∷ []))))) (sym (answers_of-accepted ts bs i l))
 
 -- One more piece.
 
@@ -135,9 +135,9 @@ grows : (ts : List Event) (bs : List Outer) (p : List ℕ) (fs : List Outer) →
 grows ts bs p fs a = record {
   old = a.old;
   fresh = a.fresh;
-  known = λ stop lo hi. end_behind-known 0 ts stop _ lo (omega arith);
+  known = λ stop lo hi. end_after-known 0 ts stop _ lo (omega arith);
   low = low_ends ts;
-  last = λ stop lo hi. end_behind-new 0 ts stop _ (omega arith) hi;
+  last = λ stop lo hi. end_after-new 0 ts stop _ (omega arith) hi;
 }
 
 ends_now : (ts : List Event) (p : List ℕ) → ends_from 0 (ts ++ received p ∷ []) ≡ ends_from 0 ts ++ (length (stream_of ts) + length p) ∷ []
@@ -182,19 +182,19 @@ ask_of-received ts bs p fs a =
     (omega arith, AllLe-weaker (0 + n) (n + length p) (places_from 0 ts) (omega arith) (AllLe-places_from 0 ts)) (grows ts bs p fs a) refl
     ∙ next_asked (ask_of ts bs) fs (drop k (places_from 0 ts)) (drop k (items_of ts)) (n + length p) (omega (arith, length-drop k (places_from 0 ts), length-drop k (items_of ts), length-places_from 0 ts))
 
-slice_get-end : {X : Type 0} (xs : List X) (o : Option X) → next_behind xs (xs ++ option_to_list o) ≡ o
+slice_get-end : {X : Type 0} (xs : List X) (o : Option X) → next_beyond xs (xs ++ option_to_list o) ≡ o
 slice_get-end [] None = refl
 slice_get-end [] (Some x) = refl
 slice_get-end (x ∷ xs) o = slice_get-end xs o
 
 pub closed_by-received : (ts : List Event) (bs : List Outer) (p : List ℕ) (fs : List Outer) → Adds ts bs p fs → closed_by ts bs (received p) (bs ++ fs) ≡ closed_among (ask_of ts bs) fs
-closed_by-received ts bs p fs a = ap (λ more. next_behind (answers_of ts bs) more) (answers_of-received ts bs p fs a) ∙ slice_get-end (answers_of ts bs) (closed_among (ask_of ts bs) fs)
+closed_by-received ts bs p fs a = ap (λ more. next_beyond (answers_of ts bs) more) (answers_of-received ts bs p fs a) ∙ slice_get-end (answers_of ts bs) (closed_among (ask_of ts bs) fs)
 
-next_none : {X : Type 0} (xs : List X) → next_behind xs xs ≡ None
+next_none : {X : Type 0} (xs : List X) → next_beyond xs xs ≡ None
 next_none [] = refl
 next_none (x ∷ xs) = next_none xs
 
-next_some : {X : Type 0} (k : ℕ) (is : List X) → next_behind (take k is) (take (suc k) is) ≡ slice_get (drop k is) 0
+next_some : {X : Type 0} (k : ℕ) (is : List X) → next_beyond (take k is) (take (suc k) is) ≡ slice_get (drop k is) 0
 next_some zero [] = refl
 next_some zero (i ∷ is) = refl
 next_some (suc k) [] = refl
@@ -208,14 +208,14 @@ next_item (Some b) waiting = slice_get waiting 0
 pub sent_by-received : (ts : List Event) (bs : List Outer) (p : List ℕ) (fs : List Outer) → Adds ts bs p fs
     → sent_by ts bs (received p) (bs ++ fs) ≡ option_map bytes_of (next_item (closed_among (ask_of ts bs) fs) (drop (length (answers_of ts bs)) (items_of ts)))
 sent_by-received ts bs p fs a =
-    ap (λ (is : List Item). option_map bytes_of (next_behind (take (length (answers_of ts bs)) (items_of ts)) (take (length (answers_of (ts ++ received p ∷ []) (bs ++ fs))) is))) (items_of-received ts p)
-    ∙ ap (λ (xs : List Outer). option_map bytes_of (next_behind (take (length (answers_of ts bs)) (items_of ts)) (take (length xs) (items_of ts)))) (answers_of-received ts bs p fs a)
+    ap (λ (is : List Item). option_map bytes_of (next_beyond (take (length (answers_of ts bs)) (items_of ts)) (take (length (answers_of (ts ++ received p ∷ []) (bs ++ fs))) is))) (items_of-received ts p)
+    ∙ ap (λ (xs : List Outer). option_map bytes_of (next_beyond (take (length (answers_of ts bs)) (items_of ts)) (take (length xs) (items_of ts)))) (answers_of-received ts bs p fs a)
     ∙ go (closed_among (ask_of ts bs) fs)
   where
-    go : (o : Option Outer) → option_map bytes_of (next_behind (take (length (answers_of ts bs)) (items_of ts)) (take (length (answers_of ts bs ++ option_to_list o)) (items_of ts))) ≡ option_map bytes_of (next_item o (drop (length (answers_of ts bs)) (items_of ts)))
-    go None = ap (λ (xs : List Outer). option_map bytes_of (next_behind (take (length (answers_of ts bs)) (items_of ts)) (take (length xs) (items_of ts)))) (append-nil (answers_of ts bs))
+    go : (o : Option Outer) → option_map bytes_of (next_beyond (take (length (answers_of ts bs)) (items_of ts)) (take (length (answers_of ts bs ++ option_to_list o)) (items_of ts))) ≡ option_map bytes_of (next_item o (drop (length (answers_of ts bs)) (items_of ts)))
+    go None = ap (λ (xs : List Outer). option_map bytes_of (next_beyond (take (length (answers_of ts bs)) (items_of ts)) (take (length xs) (items_of ts)))) (append-nil (answers_of ts bs))
         ∙ ap (option_map bytes_of) (next_none (take (length (answers_of ts bs)) (items_of ts)))
     go (Some b) =
         let e : length (answers_of ts bs ++ b ∷ []) ≡ suc (length (answers_of ts bs)) = omega (arith, length-append (answers_of ts bs) (b ∷ [])) in
-        ap (λ (n : ℕ). option_map bytes_of (next_behind (take (length (answers_of ts bs)) (items_of ts)) (take n (items_of ts)))) e
+        ap (λ (n : ℕ). option_map bytes_of (next_beyond (take (length (answers_of ts bs)) (items_of ts)) (take n (items_of ts)))) e
         ∙ ap (option_map bytes_of) (next_some (length (answers_of ts bs)) (items_of ts))

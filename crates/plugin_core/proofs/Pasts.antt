@@ -4,7 +4,7 @@ use Rattle.std.proofs.lemmas.List.{append-nil}
 use Rattle.std.proofs.lemmas.Bool.Decides.{nat_tests}
 use Rattle.plugin_core.specs.declared.item.Item.{Item}
 use Rattle.plugin_core.specs.Past.{Event, accepted, received, stream_of, items_of, places_from, ends_from}
-use Rattle.plugin_core.specs.Answers.{end_behind}
+use Rattle.plugin_core.specs.Answers.{end_after}
 
 pub stream_of-received : (ts : List Event) (p : List ℕ) → stream_of (ts ++ received p ∷ []) ≡ stream_of ts ++ p
 stream_of-received [] p = append-nil p
@@ -47,17 +47,17 @@ ends_from-received at (accepted j ∷ ts) p = ends_from-received at ts p
 ends_from-received at (received q ∷ ts) p = ap (λ is. (at + length q) ∷ is) (ends_from-received (at + length q) ts p ∙ ap (λ n. ends_from (at + length q) ts ++ n ∷ []) (omega (arith, length-append q (stream_of ts))))
 
 -- what was closed stays closed at the same end
-pub end_behind-known : (at : ℕ) (ts : List Event) (stop e : ℕ) → at < stop → stop ≤ at + length (stream_of ts) → end_behind (ends_from at ts ++ e ∷ []) stop ≡ end_behind (ends_from at ts) stop
-end_behind-known at [] stop e lo hi = absurd (omega arith)
-end_behind-known at (accepted j ∷ ts) stop e lo hi = end_behind-known at ts stop e lo hi
-end_behind-known at (received q ∷ ts) stop e lo hi = grind (arith, nat_tests, length-append q (stream_of ts), end_behind-known (at + length q) ts stop e)
+pub end_after-known : (at : ℕ) (ts : List Event) (stop e : ℕ) → at < stop → stop ≤ at + length (stream_of ts) → end_after (ends_from at ts ++ e ∷ []) stop ≡ end_after (ends_from at ts) stop
+end_after-known at [] stop e lo hi = absurd (omega arith)
+end_after-known at (accepted j ∷ ts) stop e lo hi = end_after-known at ts stop e lo hi
+end_after-known at (received q ∷ ts) stop e lo hi = grind (arith, nat_tests, length-append q (stream_of ts), end_after-known (at + length q) ts stop e)
 
-pub end_behind-le : (at : ℕ) (ts : List Event) (stop : ℕ) → at < stop → stop ≤ at + length (stream_of ts) → end_behind (ends_from at ts) stop ≤ at + length (stream_of ts)
-end_behind-le at [] stop lo hi = absurd (omega arith)
-end_behind-le at (accepted j ∷ ts) stop lo hi = end_behind-le at ts stop lo hi
-end_behind-le at (received q ∷ ts) stop lo hi = grind (arith, nat_tests, length-append q (stream_of ts), end_behind-le (at + length q) ts stop)
+pub end_after-le : (at : ℕ) (ts : List Event) (stop : ℕ) → at < stop → stop ≤ at + length (stream_of ts) → end_after (ends_from at ts) stop ≤ at + length (stream_of ts)
+end_after-le at [] stop lo hi = absurd (omega arith)
+end_after-le at (accepted j ∷ ts) stop lo hi = end_after-le at ts stop lo hi
+end_after-le at (received q ∷ ts) stop lo hi = grind (arith, nat_tests, length-append q (stream_of ts), end_after-le (at + length q) ts stop)
 
-pub end_behind-new : (at : ℕ) (ts : List Event) (stop e : ℕ) → at + length (stream_of ts) < stop → stop ≤ e → end_behind (ends_from at ts ++ e ∷ []) stop ≡ e
-end_behind-new at [] stop e lo hi = grind (arith, nat_tests)
-end_behind-new at (accepted j ∷ ts) stop e lo hi = end_behind-new at ts stop e lo hi
-end_behind-new at (received q ∷ ts) stop e lo hi = grind (arith, nat_tests, length-append q (stream_of ts), end_behind-new (at + length q) ts stop e)
+pub end_after-new : (at : ℕ) (ts : List Event) (stop e : ℕ) → at + length (stream_of ts) < stop → stop ≤ e → end_after (ends_from at ts ++ e ∷ []) stop ≡ e
+end_after-new at [] stop e lo hi = grind (arith, nat_tests)
+end_after-new at (accepted j ∷ ts) stop e lo hi = end_after-new at ts stop e lo hi
+end_after-new at (received q ∷ ts) stop e lo hi = grind (arith, nat_tests, length-append q (stream_of ts), end_after-new (at + length q) ts stop e)

@@ -19,15 +19,15 @@ use Rattle.plugin_core.specs.declared.step.Step.{Step}
 use Rattle.plugin_core.specs.declared.piece.Closing.{Closing}
 use Rattle.plugin_core.specs.Past.{Event, accepted, received, stream_of, items_of}
 use Rattle.plugin_core.specs.Answers.{answers_of, ask_of}
-use Rattle.plugin_core.specs.Blocks.{prompt_behind}
+use Rattle.plugin_core.specs.Blocks.{prompt_after}
 use Rattle.plugin_core.specs.inside.Words.{prompt_in, default_in, first_prompt, answered_with}
-use Rattle.plugin_core.specs.Items.{unanswered, waiting_of, prompt_of, bytes_of, answer_to, answer_behind}
+use Rattle.plugin_core.specs.Items.{unanswered, waiting_of, prompt_of, bytes_of, answer_to, answer_following}
 use Rattle.plugin_core.specs.Steps.{reason_of, closed_by, sent_by, step_of}
 use Rattle.plugin_core.specs.Kept.{InterpreterView, LifeHasPast, Accepts, Takes, has_banner}
 use Rattle.plugin_core.specs.inside.Changes.{answer_first, waiting_then, ask_then, Joins, closed_among, closing_by, waiting_after, Passes, Breaks, EndsAt}
 use Rattle.plugin_core.proofs.Pasts.{stream_of-received, stream_of-accepted, items_of-received}
-use Rattle.plugin_core.proofs.Spans.{LieWithin, LieWithin-behind, LieWithin-closed, stream_lies}
-use Rattle.plugin_core.proofs.Told.{told-received, silent-received}
+use Rattle.plugin_core.proofs.Spans.{LieWithin, LieWithin-following, LieWithin-closed, stream_lies}
+use Rattle.plugin_core.proofs.Reported.{reported-received, silent-received}
 use Rattle.plugin_core.proofs.OneMore.{answers_of-accepted, waiting_of-accepted, ask_now-accepted, sent_by-accepted, Adds, answers_of-received, ask_of-received, closed_by-received, sent_by-received, next_ask, next_item}
 
 kept_lies : (k : ReaderView) (s : List ℕ) (bs : List Outer) → ReaderHasRead limits k s bs → LieWithin 0 (length s) bs
@@ -50,7 +50,7 @@ takes_item old new ts bs i s sent j =
         ask = j.ask ∙ (rw (s.greeted, s.waiting, s.ask, s.reader.offset) (ask_now-accepted ts bs i l));
         greeted = j.greeted ∙ s.greeted ∙ ap has_banner (sym a);
         waiting = j.waiting ∙ ap (λ q. q ++ i ∷ []) s.waiting ∙ sym (waiting_of-accepted ts bs i l);
-        prompt = j.prompt ∙ s.prompt ∙ ap (λ fs. prompt_behind first_prompt fs) (sym a);
+        prompt = j.prompt ∙ s.prompt ∙ ap (λ fs. prompt_after first_prompt fs) (sym a);
       };
     }
 
@@ -68,9 +68,9 @@ has_banner-next : (fs : List Outer) (b : Outer) → has_banner (fs ++ b ∷ []) 
 has_banner-next [] b = refl
 has_banner-next (f ∷ fs) b = refl
 
-prompt_behind-next : (q : List ℕ) (fs : List Outer) (b : Outer) → prompt_behind q (fs ++ b ∷ []) ≡ unwrap_or (prompt_in b.block) (prompt_behind q fs)
-prompt_behind-next q [] b = refl
-prompt_behind-next q (f ∷ fs) b = prompt_behind-next (unwrap_or (prompt_in f.block) q) fs b
+prompt_after-next : (q : List ℕ) (fs : List Outer) (b : Outer) → prompt_after q (fs ++ b ∷ []) ≡ unwrap_or (prompt_in b.block) (prompt_after q fs)
+prompt_after-next q [] b = refl
+prompt_after-next q (f ∷ fs) b = prompt_after-next (unwrap_or (prompt_in f.block) q) fs b
 
 pub slice_get-drop : {X : Type 0} (k : ℕ) (xs : List X) → slice_get (drop k xs) 0 ≡ slice_get xs k
 slice_get-drop zero [] = refl
@@ -78,9 +78,9 @@ slice_get-drop zero (x ∷ xs) = refl
 slice_get-drop (suc k) [] = refl
 slice_get-drop (suc k) (x ∷ xs) = slice_get-drop k xs
 
-answer_first-behind : (fs : List Outer) (is : List Item) (q : List ℕ) (b : Tree) → answer_behind fs is q b ≡ answer_first (has_banner fs) (unanswered fs is) q (output b)
-answer_first-behind [] is q b = refl
-answer_first-behind (f ∷ fs) is q b = go (drop (length fs) is) (slice_get is (length fs)) (slice_get-drop (length fs) is)
+answer_first-following : (fs : List Outer) (is : List Item) (q : List ℕ) (b : Tree) → answer_following fs is q b ≡ answer_first (has_banner fs) (unanswered fs is) q (output b)
+answer_first-following [] is q b = refl
+answer_first-following (f ∷ fs) is q b = go (drop (length fs) is) (slice_get is (length fs)) (slice_get-drop (length fs) is)
   where
     go : (rest : List Item) (o : Option Item) → slice_get rest 0 ≡ o → option_map (λ i. answer_to i q (output b)) o ≡ answer_first true rest q (output b)
     go [] o e = ap (λ (o : Option Item). option_map (λ i. answer_to i q (output b)) o) (sym e)
@@ -114,7 +114,7 @@ adds : (ts : List Event) (bs : List Outer) (p : List ℕ) (fs : List Outer) (n :
 adds ts bs p fs n old all close = record {
   old = old;
   fresh = subst (λ (m : ℕ). LieWithin (length (stream_of ts)) m fs) (length-append (stream_of ts) p)
-      (LieWithin-closed (length (stream_of ts)) (length (stream_of ts ++ p)) n fs (LieWithin-behind 0 n bs fs all) close);
+      (LieWithin-closed (length (stream_of ts)) (length (stream_of ts ++ p)) n fs (LieWithin-following 0 n bs fs all) close);
 }
 
 -- A piece that brings no fault.
@@ -132,7 +132,7 @@ passes_gives old mid new ts bs p fs step s fed over taken close h =
       late = subst (λ (t : List ℕ). CloseWithin (length (stream_of ts)) (length t) fs) (sym (stream_of-received ts p)) close;
       answers = answers_of-received ts bs p fs a ∙ ap (λ o. answers_of ts bs ++ option_to_list o) (sym (closed_by-received ts bs p fs a));
       gives = parts.0;
-      told = ap (λ (x : Step). is_some x.answered) parts.0 ∙ told-received ts bs p fs None a;
+      reported = ap (λ (x : Step). is_some x.answered) parts.0 ∙ reported-received ts bs p fs None a;
       silent = λ none.
           let n = silent-received ts bs p fs None a none in
           (ap (λ (x : Step). x.default_input) parts.0 ∙ n.0, ap (λ (x : Step). x.send) parts.0 ∙ n.1);
@@ -165,7 +165,7 @@ passes_gives old mid new ts bs p fs step s fed over taken close h =
             ask = fed.ask ∙ s.ask ∙ ask_next None e;
             greeted = fed.greeted ∙ s.greeted ∙ ap has_banner (sym w);
             waiting = fed.waiting ∙ s.waiting ∙ sym (waiting_of-received ts bs p fs None a e);
-            prompt = fed.prompt ∙ s.prompt ∙ ap (λ xs. prompt_behind first_prompt xs) (sym w);
+            prompt = fed.prompt ∙ s.prompt ∙ ap (λ xs. prompt_after first_prompt xs) (sym w);
           },
         )
     go (Some b) e h =
@@ -175,7 +175,7 @@ passes_gives old mid new ts bs p fs step s fed over taken close h =
         = sent_by-received ts bs p fs a ∙ ap (λ o. option_map bytes_of (next_item o (drop (length (answers_of ts bs)) (items_of ts)))) e in
         let q : waiting_then mid.greeted mid.waiting ≡ drop (length (answers_of ts bs)) (items_of ts) = rw (fed.greeted, fed.waiting, s.greeted, s.waiting) (waiting_then-next (answers_of ts bs) (items_of ts)) in (
           same_step step _ _ _ _
-              (h.0.answered ∙ rw (fed.greeted, fed.waiting, fed.prompt, s.greeted, s.waiting, s.prompt) (sym (answer_first-behind (answers_of ts bs) (items_of ts) (prompt_of ts bs) b.block)) ∙ sym (ap (λ o. option_and_then (answered_with ts bs) o) c))
+              (h.0.answered ∙ rw (fed.greeted, fed.waiting, fed.prompt, s.greeted, s.waiting, s.prompt) (sym (answer_first-following (answers_of ts bs) (items_of ts) (prompt_of ts bs) b.block)) ∙ sym (ap (λ o. option_and_then (answered_with ts bs) o) c))
               (h.0.default_input ∙ sym (ap (λ o. option_and_then (λ (b : Outer). default_in b.block) o) c))
               (h.1 ∙ ap (λ (is : List Item). option_map bytes_of (slice_get is 0)) (h.0.waiting ∙ q) ∙ sym n)
               h.2,
@@ -185,14 +185,14 @@ passes_gives old mid new ts bs p fs step s fed over taken close h =
             ask = h.0.ask ∙ ap (λ is. ask_then is mid.reader.offset) q ∙ ap (λ n. ask_then (drop (length (answers_of ts bs)) (items_of ts)) n) (taken.offset ∙ length-append (stream_of ts) p) ∙ ask_next (Some b) e;
             greeted = h.0.greeted ∙ sym (ap has_banner w ∙ has_banner-next (answers_of ts bs) b);
             waiting = h.0.waiting ∙ q ∙ sym (waiting_of-received ts bs p fs (Some b) a e);
-            prompt = h.0.prompt ∙ ap (λ (x : List ℕ). unwrap_or (prompt_in b.block) x) (fed.prompt ∙ s.prompt) ∙ sym (ap (λ xs. prompt_behind first_prompt xs) w ∙ prompt_behind-next first_prompt (answers_of ts bs) b);
+            prompt = h.0.prompt ∙ ap (λ (x : List ℕ). unwrap_or (prompt_in b.block) x) (fed.prompt ∙ s.prompt) ∙ sym (ap (λ xs. prompt_after first_prompt xs) w ∙ prompt_after-next first_prompt (answers_of ts bs) b);
           },
         )
 
 closing_first : (old mid : InterpreterView) (ts : List Event) (bs : List Outer) (o : Option Outer) → LifeHasPast old ts bs → Fed old mid
     → closing_by o mid ≡ record { answered = option_and_then (answered_with ts bs) o; default_input = option_and_then (λ (b : Outer). default_in b.block) o }
 closing_first old mid ts bs None s fed = refl
-closing_first old mid ts bs (Some b) s fed = rw (fed.greeted, fed.waiting, fed.prompt, s.greeted, s.waiting, s.prompt, answer_first-behind (answers_of ts bs) (items_of ts) (prompt_of ts bs) b.block) refl
+closing_first old mid ts bs (Some b) s fed = rw (fed.greeted, fed.waiting, fed.prompt, s.greeted, s.waiting, s.prompt, answer_first-following (answers_of ts bs) (items_of ts) (prompt_of ts bs) b.block) refl
 
 waiting_after-received : (old mid : InterpreterView) (ts : List Event) (bs : List Outer) (p : List ℕ) (fs : List Outer) (o : Option Outer) → LifeHasPast old ts bs → Fed old mid → Adds ts bs p fs → closed_among (ask_of ts bs) fs ≡ o
     → waiting_after o mid ≡ waiting_of (ts ++ received p ∷ []) (bs ++ fs)
@@ -224,7 +224,7 @@ breaks_gives old mid new ts bs p fs at kind step s fed fault close h =
       late = subst (λ (t : List ℕ). CloseWithin (length (stream_of ts)) (length t) fs) (sym (stream_of-received ts p)) close;
       answers = answers_of-received ts bs p fs a ∙ ap (λ o. answers_of ts bs ++ option_to_list o) (sym (closed_by-received ts bs p fs a));
       gives = gives;
-      told = ap (λ (x : Step). is_some x.answered) gives ∙ told-received ts bs p fs (Some kind) a;
+      reported = ap (λ (x : Step). is_some x.answered) gives ∙ reported-received ts bs p fs (Some kind) a;
       silent = λ none.
           let n = silent-received ts bs p fs (Some kind) a none in
           (ap (λ (x : Step). x.default_input) gives ∙ n.0, ap (λ (x : Step). x.send) gives ∙ n.1);

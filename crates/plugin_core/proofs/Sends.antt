@@ -16,7 +16,7 @@ use Rattle.plugin_core.specs.Kept.{has_banner}
 use Rattle.plugin_core.specs.inside.Changes.{closed_among, sent_for}
 use Rattle.plugin_core.specs.AskPoints.{length_after, IsAskedIn, SendsWhatIsAsked}
 use Rattle.plugin_core.proofs.Pasts.{stream_of-received, stream_of-accepted, items_of-received}
-use Rattle.plugin_core.proofs.Spans.{LieWithin, LieWithin-behind, LieWithin-closed}
+use Rattle.plugin_core.proofs.Spans.{LieWithin, LieWithin-following, LieWithin-closed}
 use Rattle.plugin_core.proofs.Asks.{found-stop}
 use Rattle.plugin_core.proofs.OneMore.{Adds, answers_of-accepted, sent_by-accepted, answers_of-received, sent_by-received, next_item}
 use Rattle.plugin_core.proofs.Pieces.{slice_get-drop}
@@ -249,6 +249,6 @@ sends_what_is_asked past (received p) before more fault old new late bytes =
     let a : Adds past before p more = record {
       old = l;
       fresh = subst (λ (m : ℕ). LieWithin (length (stream_of past)) m more) end (LieWithin-closed (length (stream_of past)) (length (stream_of (past ++ received p ∷ []))) (length (stream_of (past ++ received p ∷ []))) more
-          (LieWithin-behind 0 (length (stream_of (past ++ received p ∷ []))) before more all) late);
+          (LieWithin-following 0 (length (stream_of (past ++ received p ∷ []))) before more all) late);
     } in
     (λ sent. received_asks past p before more a all bytes sent, λ asked. received_sends past p before more a asked.0 asked.1 ∙ ap (λ (b : List ℕ). Some b) (sym asked.2))

@@ -20,9 +20,9 @@ pub LieWithin-append : (from n m : ℕ) (bs fs : List Outer) → from ≤ n → 
 LieWithin-append from n m [] fs h k l f = LieWithin-wider n m from m fs h (omega arith) f
 LieWithin-append from n m (b ∷ bs) fs h k l f = (l.0, omega arith, l.2, LieWithin-append from n m bs fs h k l.3 f)
 
-pub LieWithin-behind : (from to : ℕ) (bs fs : List Outer) → LieWithin from to (bs ++ fs) → LieWithin from to fs
-LieWithin-behind from to [] fs l = l
-LieWithin-behind from to (b ∷ bs) fs l = LieWithin-behind from to bs fs l.3
+pub LieWithin-following : (from to : ℕ) (bs fs : List Outer) → LieWithin from to (bs ++ fs) → LieWithin from to fs
+LieWithin-following from to [] fs l = l
+LieWithin-following from to (b ∷ bs) fs l = LieWithin-following from to bs fs l.3
 
 LieWithin-then : (from to : ℕ) (bs : List Outer) (b : Outer) → LieWithin from to bs → from < b.stop → b.stop ≤ to → b.start < b.stop → LieWithin from to (bs ++ b ∷ [])
 LieWithin-then from to [] b l h k some = (h, k, some, tt)

@@ -9,7 +9,7 @@ use Rattle.meta_format.specs.Limits.{limits}
 use Rattle.meta_format.specs.Stream.{Outer, Chain, Stream}
 use Rattle.meta_format.specs.Stream.Chain.{none as chain_none, next as chain_next}
 use Rattle.meta_format.specs.Faults.{Kind}
-use Rattle.scheme_text.specs.Told.{told_by}
+use Rattle.scheme_text.specs.Reported.{reported_by}
 use Rattle.scheme_text.specs.declared.answer.BadCompletion.{BadCompletion}
 use Rattle.scheme_text.specs.declared.answer.Completions.{Completions}
 use Rattle.plugin_core.specs.declared.item.Item.{Item}
@@ -20,14 +20,14 @@ use Rattle.plugin_core.specs.declared.step.Answered.TheVariants as answered
 use Rattle.plugin_core.specs.Past.{Event, received, stream_of, items_of}
 use Rattle.plugin_core.specs.Answers.{first_from, answers_of, ask_of}
 use Rattle.plugin_core.specs.AskPoints.{length_after, IsAnswer, ClosesIn}
-use Rattle.plugin_core.specs.Items.{prompt_of, answer_to, answer_behind}
+use Rattle.plugin_core.specs.Items.{prompt_of, answer_to, answer_following}
 use Rattle.plugin_core.specs.Steps.{Reads, closed_by}
 use Rattle.plugin_core.specs.inside.Words.{answered_with}
 use Rattle.plugin_core.specs.Kept.{InterpreterView, Takes}
 use Rattle.plugin_core.specs.inside.Changes.{closed_among}
 use Rattle.plugin_core.specs.Whole.{IsWholeIn, IsItsAnswer, IsItsCompletion, TellsTheAnswer, TellsTheCompletion}
 use Rattle.plugin_core.proofs.Pasts.{stream_of-received}
-use Rattle.plugin_core.proofs.Spans.{LieWithin, LieWithin-behind, LieWithin-closed}
+use Rattle.plugin_core.proofs.Spans.{LieWithin, LieWithin-following, LieWithin-closed}
 use Rattle.plugin_core.proofs.Asks.{found-stop}
 use Rattle.plugin_core.proofs.OneMore.{Adds, closed_by-received}
 use Rattle.plugin_core.proofs.ByAskPoints.{answers_by_ask_points, reads_lie}
@@ -57,9 +57,9 @@ one_more : (s : List ℕ) (bs : List Outer) (b : Outer) → AreWhole s bs → Is
 one_more s [] b h k = (k, tt)
 one_more s (c ∷ bs) b h k = (h.0, one_more s bs b h.1 k)
 
-behind : (s : List ℕ) (bs fs : List Outer) → AreWhole s (bs ++ fs) → AreWhole s fs
-behind s [] fs h = h
-behind s (b ∷ bs) fs h = behind s bs fs h.1
+following : (s : List ℕ) (bs fs : List Outer) → AreWhole s (bs ++ fs) → AreWhole s fs
+following s [] fs h = h
+following s (b ∷ bs) fs h = following s bs fs h.1
 
 chain_whole : (blocks : List Outer) (s : List ℕ) → Chain limits blocks s → AreWhole s blocks
 chain_whole _ _ chain_none = tt
@@ -110,9 +110,9 @@ same_some : (a b : Answered) → Some a ≡ Some b → a ≡ b
 same_some a b e = cc
 
 tells_of : (past : List Event) (before : List Outer) (piece : List ℕ) (step : Step) (life : InterpreterView) → Reads (stream_of past) before None → (t : Takes past before piece step life)
-    → (told : Answered) → step.answered ≡ Some told → IsOf past piece t.after (prompt_of past before) told
-tells_of past before piece step life reads t told is_told =
-    closed (closed_by past before (received piece) t.after) refl (sym (ap (λ (x : Step). x.answered) t.gives) ∙ is_told)
+    → (reported : Answered) → step.answered ≡ Some reported → IsOf past piece t.after (prompt_of past before) reported
+tells_of past before piece step life reads t reported is_reported =
+    closed (closed_by past before (received piece) t.after) refl (sym (ap (λ (x : Step). x.answered) t.gives) ∙ is_reported)
   where
     now : List Event
     now = past ++ received piece ∷ []
@@ -121,7 +121,7 @@ tells_of past before piece step life reads t told is_told =
     grown = subst (λ (bs : List Outer). LieWithin 0 (length (stream_of now)) bs) t.grows (reads_lie (stream_of now) t.after t.fault t.reads)
 
     fresh : LieWithin (length (stream_of past)) (length (stream_of now)) t.more
-    fresh = LieWithin-closed (length (stream_of past)) (length (stream_of now)) (length (stream_of now)) t.more (LieWithin-behind 0 (length (stream_of now)) before t.more grown) t.late
+    fresh = LieWithin-closed (length (stream_of past)) (length (stream_of now)) (length (stream_of now)) t.more (LieWithin-following 0 (length (stream_of now)) before t.more grown) t.late
 
     size : length (stream_of now) ≡ length (stream_of past) + length piece
     size = ap length (stream_of-received past piece) ∙ length-append (stream_of past) piece
@@ -130,16 +130,16 @@ tells_of past before piece step life reads t told is_told =
     adds = record { old = reads_lie (stream_of past) before None reads; fresh = subst (λ (n : ℕ). LieWithin (length (stream_of past)) n t.more) size fresh }
 
     whole : AreWhole (stream_of now) t.more
-    whole = behind (stream_of now) before t.more (subst (λ (bs : List Outer). AreWhole (stream_of now) bs) t.grows (reads_whole (stream_of now) t.after t.fault t.reads))
+    whole = following (stream_of now) before t.more (subst (λ (bs : List Outer). AreWhole (stream_of now) bs) t.grows (reads_whole (stream_of now) t.after t.fault t.reads))
 
     by_ask : (b : Outer) (o : Option ℕ) → closed_among o t.more ≡ Some b → ((length (stream_of past) < b.stop) × (b.stop ≤ length (stream_of now))) × IsWholeIn (stream_of now) b
     by_ask b None e = cc
     by_ask b (Some p) e = (found-stop (length (stream_of past)) (length (stream_of now)) p t.more b fresh e, found_whole (stream_of now) p t.more b whole e)
 
-    closed : (o : Option Outer) → closed_by past before (received piece) t.after ≡ o → option_and_then (answered_with past before) o ≡ Some told
-        → IsOf past piece t.after (prompt_of past before) told
+    closed : (o : Option Outer) → closed_by past before (received piece) t.after ≡ o → option_and_then (answered_with past before) o ≡ Some reported
+        → IsOf past piece t.after (prompt_of past before) reported
     closed None c e = cc
-    closed (Some b) c e = behind_some (answers_of past before) refl e
+    closed (Some b) c e = after_some (answers_of past before) refl e
       where
         place : ((length (stream_of past) < b.stop) × (b.stop ≤ length (stream_of now))) × IsWholeIn (stream_of now) b
         place = by_ask b (ask_of past before) (sym (closed_by-received past before piece t.more adds) ∙ ap (λ (bs : List Outer). closed_by past before (received piece) bs) (sym t.grows) ∙ c)
@@ -147,25 +147,25 @@ tells_of past before piece step life reads t told is_told =
         listed : slice_get (answers_of now t.after) (length (answers_of past before)) ≡ Some b
         listed = ap (λ (bs : List Outer). slice_get bs (length (answers_of past before))) (t.answers ∙ ap (λ (o : Option Outer). answers_of past before ++ option_to_list o) c) ∙ last_is (answers_of past before) b
 
-        behind_some : (rs : List Outer) → answers_of past before ≡ rs → answer_behind rs (items_of past) (prompt_of past before) b.block ≡ Some told
-            → IsOf past piece t.after (prompt_of past before) told
-        behind_some [] f e = subst (IsOf past piece t.after (prompt_of past before)) (same_some (answered.Banner (output b.block)) told e) (of_banner (output b.block))
-        behind_some (banner ∷ rs) f e = by_item (slice_get (items_of past) (length rs)) refl e
+        after_some : (rs : List Outer) → answers_of past before ≡ rs → answer_following rs (items_of past) (prompt_of past before) b.block ≡ Some reported
+            → IsOf past piece t.after (prompt_of past before) reported
+        after_some [] f e = subst (IsOf past piece t.after (prompt_of past before)) (same_some (answered.Banner (output b.block)) reported e) (of_banner (output b.block))
+        after_some (banner ∷ rs) f e = by_item (slice_get (items_of past) (length rs)) refl e
           where
-            by_item : (o : Option Item) → slice_get (items_of past) (length rs) ≡ o → option_map (λ i. answer_to i (prompt_of past before) (output b.block)) o ≡ Some told
-                → IsOf past piece t.after (prompt_of past before) told
+            by_item : (o : Option Item) → slice_get (items_of past) (length rs) ≡ o → option_map (λ i. answer_to i (prompt_of past before) (output b.block)) o ≡ Some reported
+                → IsOf past piece t.after (prompt_of past before) reported
             by_item None g e = cc
-            by_item (Some i) g e = subst (IsOf past piece t.after (prompt_of past before)) (same_some (answer_to i (prompt_of past before) (output b.block)) told e)
+            by_item (Some i) g e = subst (IsOf past piece t.after (prompt_of past before)) (same_some (answer_to i (prompt_of past before) (output b.block)) reported e)
                 (of_item (length rs) i b g
                 ((answers_by_ask_points now t.after t.fault t.reads (suc (length rs)) b).1 (subst (λ (xs : List Outer). slice_get (answers_of now t.after) (length xs) ≡ Some b) f listed))
                 (subst (λ (n : ℕ). n < b.stop) (sym (before_last past (received piece))) place.0.0, subst (λ (n : ℕ). b.stop ≤ n) (sym (after_last past (received piece))) place.0.1)
                 place.1)
 
 -- A returned answer to a line is one to a line.
-line_told : (past : List Event) (piece : List ℕ) (after : List Outer) (q : List ℕ) (told : Answered) → IsOf past piece after q told
-    → (id : ℕ) (prompt : List ℕ) (out : Tree) → told ≡ answered.Line id prompt out → IsItsAnswer past piece after id out × (prompt ≡ q)
-line_told past piece after q _ (of_banner b) id prompt out e = cc
-line_told past piece after q _ (of_item number (item.Line other text) b g answers closes whole) id prompt out e =
+line_reported : (past : List Event) (piece : List ℕ) (after : List Outer) (q : List ℕ) (reported : Answered) → IsOf past piece after q reported
+    → (id : ℕ) (prompt : List ℕ) (out : Tree) → reported ≡ answered.Line id prompt out → IsItsAnswer past piece after id out × (prompt ≡ q)
+line_reported past piece after q _ (of_banner b) id prompt out e = cc
+line_reported past piece after q _ (of_item number (item.Line other text) b g answers closes whole) id prompt out e =
     let same_id : other ≡ id = cc in
     let same_prompt : prompt ≡ q = cc in
     let same_out : out ≡ output b.block = cc in (
@@ -181,15 +181,15 @@ line_told past piece after q _ (of_item number (item.Line other text) b g answer
       },
       same_prompt,
     )
-line_told past piece after q _ (of_item number (item.Complete other text cursor) b g answers closes whole) id prompt out e = cc
+line_reported past piece after q _ (of_item number (item.Complete other text cursor) b g answers closes whole) id prompt out e = cc
 
-completion_told : (past : List Event) (piece : List ℕ) (after : List Outer) (q : List ℕ) (told : Answered) → IsOf past piece after q told
-    → (id : ℕ) (result : Result Completions BadCompletion) → told ≡ answered.Complete id result → IsItsCompletion past piece after id result
-completion_told past piece after q _ (of_banner b) id result e = cc
-completion_told past piece after q _ (of_item number (item.Line other text) b g answers closes whole) id result e = cc
-completion_told past piece after q _ (of_item number (item.Complete other text cursor) b g answers closes whole) id result e =
+completion_reported : (past : List Event) (piece : List ℕ) (after : List Outer) (q : List ℕ) (reported : Answered) → IsOf past piece after q reported
+    → (id : ℕ) (result : Result Completions BadCompletion) → reported ≡ answered.Complete id result → IsItsCompletion past piece after id result
+completion_reported past piece after q _ (of_banner b) id result e = cc
+completion_reported past piece after q _ (of_item number (item.Line other text) b g answers closes whole) id result e = cc
+completion_reported past piece after q _ (of_item number (item.Complete other text cursor) b g answers closes whole) id result e =
     let same_id : other ≡ id = cc in
-    let same_result : result ≡ told_by (output b.block) = cc in
+    let same_result : result ≡ reported_by (output b.block) = cc in
     record {
       number = number;
       text = text;
@@ -199,13 +199,13 @@ completion_told past piece after q _ (of_item number (item.Complete other text c
       answers = answers;
       closes = closes;
       whole = whole;
-      told = same_result;
+      reported = same_result;
     }
 
 pub tells_the_answer : TellsTheAnswer
-tells_the_answer past before piece step life reads t id prompt out told =
-    line_told past piece t.after (prompt_of past before) (answered.Line id prompt out) (tells_of past before piece step life reads t (answered.Line id prompt out) told) id prompt out refl
+tells_the_answer past before piece step life reads t id prompt out reported =
+    line_reported past piece t.after (prompt_of past before) (answered.Line id prompt out) (tells_of past before piece step life reads t (answered.Line id prompt out) reported) id prompt out refl
 
 pub tells_the_completion : TellsTheCompletion
-tells_the_completion past before piece step life reads t id result told =
-    completion_told past piece t.after (prompt_of past before) (answered.Complete id result) (tells_of past before piece step life reads t (answered.Complete id result) told) id result refl
+tells_the_completion past before piece step life reads t id result reported =
+    completion_reported past piece t.after (prompt_of past before) (answered.Complete id result) (tells_of past before piece step life reads t (answered.Complete id result) reported) id result refl

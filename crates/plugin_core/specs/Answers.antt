@@ -10,9 +10,9 @@ first_from ask (b ∷ bs) = if nat_le ask b.start then Some b else first_from as
 
 -- The length of the stream after the piece with the last byte of a block, where the pieces end there: the first of these ends that
 -- is not before its stop. A block of the stream has one; the first line is for a stop that lies past them all.
-abbrev pub end_behind : List ℕ → ℕ → ℕ
-end_behind [] stop = stop
-end_behind (e ∷ ends) stop = if nat_le stop e then e else end_behind ends stop
+abbrev pub end_after : List ℕ → ℕ → ℕ
+end_after [] stop = stop
+end_after (e ∷ ends) stop = if nat_le stop e then e else end_after ends stop
 
 -- by cases on a block
 abbrev pub if_found : {T : Type 0} → Option Outer → T → (Outer → T) → T
@@ -25,7 +25,7 @@ if_found (Some b) none some = some b
 abbrev pub answers_from : List ℕ → List Outer → ℕ → List ℕ → List Outer
 answers_from ends blocks closed [] = []
 answers_from ends blocks closed (place ∷ places) =
-    if_found (first_from (max closed place) blocks) [] (λ b. b ∷ answers_from ends blocks (end_behind ends b.stop) places)
+    if_found (first_from (max closed place) blocks) [] (λ b. b ∷ answers_from ends blocks (end_after ends b.stop) places)
 
 -- Answer 0 is the banner: the first block of the stream, as if it were asked where the stream begins.
 abbrev pub asked_places : List Event → List ℕ
@@ -39,7 +39,7 @@ answers_of past blocks = answers_from (ends_from 0 past) blocks 0 (asked_places 
 abbrev pub ask_from : List ℕ → List Outer → ℕ → List ℕ → Option ℕ
 ask_from ends blocks closed [] = None
 ask_from ends blocks closed (place ∷ places) =
-    if_found (first_from (max closed place) blocks) (Some (max closed place)) (λ b. ask_from ends blocks (end_behind ends b.stop) places)
+    if_found (first_from (max closed place) blocks) (Some (max closed place)) (λ b. ask_from ends blocks (end_after ends b.stop) places)
 
 abbrev pub ask_of : List Event → List Outer → Option ℕ
 ask_of past blocks = ask_from (ends_from 0 past) blocks 0 (asked_places past)

@@ -5,6 +5,6 @@ use Rattle.meta_format.specs.Stream.{Outer}
 use Rattle.plugin_core.specs.Limits.{longest_prompt}
 
 -- the prompt of the last of these answers that has one, cut to its first bytes, or else this prompt
-abbrev pub prompt_behind : List ℕ → List Outer → List ℕ
-prompt_behind prompt [] = prompt
-prompt_behind prompt (b ∷ bs) = prompt_behind (unwrap_or (option_map (λ text. take longest_prompt text) (text_on_channel (codes "prompt") b.block)) prompt) bs
+abbrev pub prompt_after : List ℕ → List Outer → List ℕ
+prompt_after prompt [] = prompt
+prompt_after prompt (b ∷ bs) = prompt_after (unwrap_or (option_map (λ text. take longest_prompt text) (text_on_channel (codes "prompt") b.block)) prompt) bs

@@ -5,14 +5,14 @@ use Rattle.block_tree.specs.Tree.{Tree}
 use Rattle.block_tree.specs.Output.{output}
 use Rattle.meta_format.specs.Stream.{Outer}
 use Rattle.scheme_text.specs.Requests.{request}
-use Rattle.scheme_text.specs.Told.{told_by}
+use Rattle.scheme_text.specs.Reported.{reported_by}
 use Rattle.plugin_core.specs.declared.item.Item.{Item}
 use Rattle.plugin_core.specs.declared.item.Item.TheVariants as item
 use Rattle.plugin_core.specs.declared.step.Answered.{Answered}
 use Rattle.plugin_core.specs.declared.step.Answered.TheVariants as answered
 use Rattle.plugin_core.specs.Past.{Event, items_of}
 use Rattle.plugin_core.specs.Answers.{answers_of}
-use Rattle.plugin_core.specs.Blocks.{prompt_behind}
+use Rattle.plugin_core.specs.Blocks.{prompt_after}
 
 -- the items after those that have one of these answers: the first answer is the banner, and the others answer an item each
 abbrev pub unanswered : List Outer → List Item → List Item
@@ -34,19 +34,19 @@ bytes_of (item.Complete id text cursor) = request text cursor
 
 -- the prompt of an item that has these answers before it: "> " where none of them has one
 abbrev pub prompt_of : List Event → List Outer → List ℕ
-prompt_of past blocks = prompt_behind (codes "> ") (answers_of past blocks)
+prompt_of past blocks = prompt_after (codes "> ") (answers_of past blocks)
 
 -- what is returned for an answer with this output to an item; for a request of completions, what the
 -- output says
 abbrev pub answer_to : Item → List ℕ → Tree → Answered
 answer_to (item.Line id text) prompt out = answered.Line id prompt out
-answer_to (item.Complete id text cursor) prompt out = answered.Complete id (told_by out)
+answer_to (item.Complete id text cursor) prompt out = answered.Complete id (reported_by out)
 
 -- What is returned for an answer that comes after these: the first is the banner, and each other one answers an
 -- item.
-abbrev pub answer_behind : List Outer → List Item → List ℕ → Tree → Option Answered
-answer_behind [] items prompt b = Some (answered.Banner (output b))
-answer_behind (banner ∷ answers) items prompt b = option_map (λ i. answer_to i prompt (output b)) (slice_get items (length answers))
+abbrev pub answer_following : List Outer → List Item → List ℕ → Tree → Option Answered
+answer_following [] items prompt b = Some (answered.Banner (output b))
+answer_following (banner ∷ answers) items prompt b = option_map (λ i. answer_to i prompt (output b)) (slice_get items (length answers))
 
 -- the item is a line of this field
 abbrev pub is_line_of : ℕ → Item → Bool

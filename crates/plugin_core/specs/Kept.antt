@@ -67,6 +67,6 @@ pub record Takes (past : List Event) (before : List Outer) (piece : List ℕ) (s
   pub answers : answers_of (past ++ received piece ∷ []) after ≡ answers_of past before ++ option_to_list (closed_by past before (received piece) after)
   pub gives : step ≡ step_of past before piece after fault
   -- an answer that closes is returned, and where none closes there is no default input and nothing is sent
-  pub told : is_some step.answered ≡ is_some (closed_by past before (received piece) after)
+  pub reported : is_some step.answered ≡ is_some (closed_by past before (received piece) after)
   pub silent : closed_by past before (received piece) after ≡ None → (step.default_input ≡ None) × (step.send ≡ None)
   pub then : GoesOn life (past ++ received piece ∷ []) after fault

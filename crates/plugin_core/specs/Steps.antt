@@ -10,7 +10,7 @@ use Rattle.block_tree.specs.declared.reason.Reason.TheVariants as reason
 use Rattle.plugin_core.specs.declared.step.Step.{Step}
 use Rattle.plugin_core.specs.Past.{Event, received, items_of}
 use Rattle.plugin_core.specs.Answers.{answers_of}
-use Rattle.plugin_core.specs.Items.{waiting_of, asked_of, bytes_of, prompt_of, answer_behind}
+use Rattle.plugin_core.specs.Items.{waiting_of, asked_of, bytes_of, prompt_of, answer_following}
 
 -- The stream has these outer blocks, and no fault; or it has its first fault, of this kind, and these blocks before it.
 abbrev pub Reads : List ℕ → List Outer → Option Kind → Type 0
@@ -40,7 +40,7 @@ unless_ended (Some kind) bytes = None
 -- that it brings.
 abbrev pub step_of : List Event → List Outer → List ℕ → List Outer → Option Kind → Step
 step_of past before piece after fault = record {
-  answered = option_and_then (λ b. answer_behind (answers_of past before) (items_of past) (prompt_of past before) b.block) (closed_by past before (received piece) after);
+  answered = option_and_then (λ b. answer_following (answers_of past before) (items_of past) (prompt_of past before) b.block) (closed_by past before (received piece) after);
   default_input = option_and_then (λ b. text_on_channel (codes "input") b.block) (closed_by past before (received piece) after);
   send = unless_ended fault (sent_by past before (received piece) after);
   ended = option_map (λ kind. record { reason = reason_of kind; lost = waiting_of (past ++ received piece ∷ []) after }) fault;

@@ -5,7 +5,7 @@ use Rattle.block_tree.specs.Output.{output}
 use Rattle.meta_format.specs.Limits.{limits}
 use Rattle.meta_format.specs.Spelling.{Spells}
 use Rattle.meta_format.specs.Stream.{Outer}
-use Rattle.scheme_text.specs.Told.{told_by}
+use Rattle.scheme_text.specs.Reported.{reported_by}
 use Rattle.scheme_text.specs.declared.answer.BadCompletion.{BadCompletion}
 use Rattle.scheme_text.specs.declared.answer.Completions.{Completions}
 use Rattle.plugin_core.specs.declared.item.Item.TheVariants as item
@@ -57,7 +57,7 @@ pub record IsItsCompletion (past : List Event) (piece : List ℕ) (after : List 
   pub answers : IsAnswer (past ++ received piece ∷ []) after (suc number) answer
   pub closes : ClosesIn (past ++ received piece ∷ []) (length past) answer
   pub whole : IsWholeIn (stream_of (past ++ received piece ∷ [])) answer
-  pub told : result ≡ told_by (output answer.block)
+  pub reported : result ≡ reported_by (output answer.block)
 
 abbrev pub TellsTheCompletion : Type 0
 TellsTheCompletion = (past : List Event) (before : List Outer) (piece : List ℕ) (step : Step) (life : InterpreterView) → Reads (stream_of past) before None → (t : Takes past before piece step life)

@@ -124,7 +124,7 @@ impl Life {
         ensures { option_map outer_of result ≡ closed_among self.now.ask (outers found.items) }
     {
         match self.ask {
-            Some(ask) => first_behind(found, ask),
+            Some(ask) => first_after(found, ask),
             None => None,
         }
     }
@@ -136,7 +136,7 @@ impl Life {
         ensures number { self.new.number ≡ self.old.number }
     {
         let default_input = channel_text(self.alloc, &block, b"input")?;
-        let next = self.prompt_behind(&block)?;
+        let next = self.prompt_after(&block)?;
         let output = block.into_output(self.alloc)?;
         let prompt = std::mem::replace(&mut self.prompt, next);
         let answered = self.answer_first(prompt, output)?;
@@ -148,7 +148,7 @@ impl Life {
     }
 
     /// The prompt of a block, or else the latest one.
-    fn prompt_behind(&self, block: &Block) -> Result<Octets, OutOfMemory>
+    fn prompt_after(&self, block: &Block) -> Result<Octets, OutOfMemory>
         ensures value { IfOk result (λ prompt. prompt
             ≡ unwrap_or (prompt_in block.now) self.now.prompt) }
         ensures short { IfOk result (λ prompt. length prompt ≤ longest_prompt) }
@@ -165,7 +165,7 @@ impl Life {
         prompt: Octets,
         output: Block,
     ) -> Result<Option<Answered>, OutOfMemory>
-        ensures answered { IfOk result (λ told. told
+        ensures answered { IfOk result (λ reported. reported
             ≡ answer_first self.old.greeted self.old.waiting prompt output) }
         ensures kept { self.new ≡ record self.old { greeted = true; waiting = waiting_then self.old.greeted self.old.waiting } }
     {
@@ -203,7 +203,7 @@ impl Life {
 }
 
 /// The first block that starts at or after the ask point.
-fn first_behind(found: Vec<Found>, ask: u64) -> Option<Found>
+fn first_after(found: Vec<Found>, ask: u64) -> Option<Found>
     ensures { result ≡ find (λ block. nat_le ask block.start) found.items }
 {
     found.into_iter().find(|block| ask <= block.start)
@@ -225,7 +225,7 @@ fn prompt_of_block(alloc: Global, block: &Block) -> Result<Option<Octets>, OutOf
 
 /// What is returned for an answer to an item.
 fn answer(alloc: Global, item: Item, prompt: Octets, output: Block) -> Result<Answered, OutOfMemory>
-    ensures { IfOk result (λ told. told ≡ answer_to item prompt output) }
+    ensures { IfOk result (λ reported. reported ≡ answer_to item prompt output) }
 {
     match item {
         Item::Line { id, text: _ } => Ok(Answered::Line { id, prompt, output }),

@@ -40,7 +40,7 @@ module _ {D W : Type 0} (g : GivenDisk D) (later : D) (w : Writing W) (closed : 
   pub show_answered : (r : Result Unit RunFault) → InModel (view_given g) ((sheet : Contents) → IsSheetImage sheet (bytes_on (view_given g)) → OnOk r (Appends (text_before w) (text_after w) (sheet_text sheet)))
       → InModel (view_given g) (OnOk r ((sheet : Contents) × IsSheetImage sheet (bytes_on (view_given g)))) → (IsErrOf r (fault.Open opens.Disk) → Rises (view_given g).faults (g.how.view later).faults)
       → ((IsErrOf r (fault.Open opens.Disk) → ⊥) → (g.how.view later).faults ≡ (view_given g).faults) → IfErr r (TellsShow (view_given g) (w.new ≡ w.old)) → ShownOf g w (answer_of r)
-  show_answered (Ok done) shown found failed steady told = record {
+  show_answered (Ok done) shown found failed steady reported = record {
     later = later;
     closed = closed;
     whole = refl;
@@ -52,7 +52,7 @@ module _ {D W : Type 0} (g : GivenDisk D) (later : D) (w : Writing W) (closed : 
     steady = λ none. steady (λ e. done-is-no-error done (fault.Open opens.Disk) e);
     fault = tt;
   }
-  show_answered (Err why) shown found failed steady told = record {
+  show_answered (Err why) shown found failed steady reported = record {
     later = later;
     closed = closed;
     whole = tt;
@@ -62,5 +62,5 @@ module _ {D W : Type 0} (g : GivenDisk D) (later : D) (w : Writing W) (closed : 
     looks = looks;
     failed = λ e. failed (of-call why (fault.Open opens.Disk) e);
     steady = λ none. steady (λ e. none (of-answer why (fault.Open opens.Disk) e));
-    fault = told;
+    fault = reported;
   }

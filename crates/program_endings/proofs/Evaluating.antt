@@ -44,7 +44,7 @@ module _ {P C T W : Type 0} (finds : P → Finds) (V : Voice) (contents : W → 
   over_fields first last run o =
       over_seen field_rules (fields_rules finds) (λ (k : PrintedSoFar). k.text) (λ (k : PrintedSoFar) (disk : DiskView) (text : List ℕ) (whole : Bool) (l : PrintedSoFar). l.whole ≡ whole) (λ (a : ByFields P). a)
       (λ (k : Noting (Voiced T W)). printed_so_far (contents k.sink.writer) k.whole)
-      (λ a w n r b said. said) (λ a w b told. told) (λ a w n c note b heeds. heeds) (λ a w first more b joins. joins) (λ k d text whole l t. record { tried = t.tried.1; appends = t.appends }) first last run o
+      (λ a w n r b said. said) (λ a w b reported. reported) (λ a w n c note b heeds. heeds) (λ a w first more b joins. joins) (λ k d text whole l t. record { tried = t.tried.1; appends = t.appends }) first last run o
 
   pub evaluates : {D : Type 0} (k : Closable D) (disk later : D) (c d : C) (start sink : Noting (Voiced T W)) (begun done : ByFields P) (run : Result (Unit {0}) RunFault) (answer : EvaluationAnswer)
       → start.whole ≡ true → begun ≡ first_fields plan programs → Over field_rules (program_parts (k.view disk) c start begun) (program_parts (k.view later) d sink done) run
@@ -69,5 +69,5 @@ module _ {P C T W : Type 0} (finds : P → Finds) (V : Voice) (contents : W → 
 
   -- where the run wasn't broken off it came to its end
   pub is_ended : (first last : ProgramParts (ByFields P) C (Noting (Voiced T W))) (run : Result (Unit {0}) RunFault) → Over field_rules first last run → IfOk run (λ done. IsEnded last.agenda.stage)
-  is_ended first last (Ok done) (ran_over told o) = comes_to_an_end finds s field_sink _ _ o.steps o.ran
+  is_ended first last (Ok done) (ran_over reported o) = comes_to_an_end finds s field_sink _ _ o.steps o.ran
   is_ended first last (Err why) o = tt

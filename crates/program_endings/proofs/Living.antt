@@ -29,7 +29,7 @@ use Rattle.agendas.proofs.OwnFaults.{own_faults}
 use Rattle.offline_programs.specs.declared.fault.RunFault.{RunFault}
 use Rattle.sheet_files.specs.Closing.{Closable}
 use Rattle.tellings.specs.Voice.{Voice}
-use Rattle.program_endings.specs.LiveProgram.{FaultTold, FaultedBy, LiveBegun, LiveSetting, LivedEnds, LivesOn, answer_after, is_printed, lived}
+use Rattle.program_endings.specs.LiveProgram.{FaultReported, FaultedBy, LiveBegun, LiveSetting, LivedEnds, LivesOn, answer_after, is_printed, lived}
 use Rattle.program_endings.specs.Records.{GivenDisk, Writing, calling, given_disk, writing}
 use Rattle.program_endings.specs.StrictProgram.{StrictAnswer}
 
@@ -78,7 +78,7 @@ module _ {I C T W : Type 0} (remaining : I → Option (List ℕ)) (V : Voice) (c
       (program_parts last.disk last.sources (printed_so_far (contents last.sink.sink.writer) last.sink.whole) (lines_stand remaining last.agenda)) run
   over_lines first last run o =
       over_seen given_rules lines_rules (λ (k : PrintedSoFar). k.text) (λ (k : PrintedSoFar) (disk : DiskView) (text : List ℕ) (whole : Bool) (l : PrintedSoFar). l.whole ≡ whole) (lines_stand remaining) (λ (k : Noting (Voiced T W)). printed_so_far (contents k.sink.writer) k.whole)
-      (λ a w n r b said. said) (λ a w b told. told) (λ a w n c note b heeds. heeds) (λ a w first more b joins. joins) (λ k d text whole l t. record { tried = t.tried.1; appends = t.appends }) first last run o
+      (λ a w n r b said. said) (λ a w b reported. reported) (λ a w n c note b heeds. heeds) (λ a w first more b joins. joins) (λ k d text whole l t. record { tried = t.tried.1; appends = t.appends }) first last run o
 
   -- what is seen of a program's parts, where it begins and where it ended
   abbrev seen_first : DiskView → C → Noting (Voiced T W) → LinesAt → Bool → ProgramParts LinesAt C PrintedSoFar
@@ -111,15 +111,15 @@ module _ {I C T W : Type 0} (remaining : I → Option (List ℕ)) (V : Voice) (c
 -- What stands last.
 
 module _ {D C O : Type 0} (o : LiveSetting C) (stream : Option (List ℕ)) (g : GivenDisk D) (contents : O → Option (List ℕ)) where
-  pub lived_so : (c d e : C) (first last new : O) (run_answer : StrictAnswer) (whole told : Bool) (answer : StrictAnswer) → e ≡ d → LivesOn o stream g (calling c d) (writing contents first last) whole run_answer
-      → LivedEnds o.voice (writing contents last new) run_answer whole told answer → LiveBegun o stream g (calling c e) (writing contents first new) told answer
-  lived_so c d e first last new run_answer whole told answer is on ends =
+  pub lived_so : (c d e : C) (first last new : O) (run_answer : StrictAnswer) (whole reported : Bool) (answer : StrictAnswer) → e ≡ d → LivesOn o stream g (calling c d) (writing contents first last) whole run_answer
+      → LivedEnds o.voice (writing contents last new) run_answer whole reported answer → LiveBegun o stream g (calling c e) (writing contents first new) reported answer
+  lived_so c d e first last new run_answer whole reported answer is on ends =
       lived last run_answer whole (subst (λ (x : C). LivesOn o stream g (calling c x) (writing contents first last) whole run_answer) (sym is) on) ends
 
-  pub begun_of : (given : Option (List ℕ)) (c d : C) (first new : O) (told : Bool) (answer : StrictAnswer) → given ≡ stream → LiveBegun o given g (calling c d) (writing contents first new) told answer
-      → LiveBegun o stream g (calling c d) (writing contents first new) told answer
-  begun_of given c d first new told answer is begun = subst (λ (x : Option (List ℕ)). LiveBegun o x g (calling c d) (writing contents first new) told answer) is begun
+  pub begun_of : (given : Option (List ℕ)) (c d : C) (first new : O) (reported : Bool) (answer : StrictAnswer) → given ≡ stream → LiveBegun o given g (calling c d) (writing contents first new) reported answer
+      → LiveBegun o stream g (calling c d) (writing contents first new) reported answer
+  begun_of given c d first new reported answer is begun = subst (λ (x : Option (List ℕ)). LiveBegun o x g (calling c d) (writing contents first new) reported answer) is begun
 
 -- a fault that the run printed, or that is printed now
-pub faulted_by : {O : Type 0} (V : Voice) (w : Writing O) (whole told : Bool) (why : RunFault) (asked by : Bool) → asked ≡ is_printed why → asked ≡ by → FaultedBy by V w whole told why → FaultedBy (is_printed why) V w whole told why
-faulted_by V w whole told why asked by is so f = subst (λ (b : Bool). FaultedBy b V w whole told why) (sym so ∙ is) f
+pub faulted_by : {O : Type 0} (V : Voice) (w : Writing O) (whole reported : Bool) (why : RunFault) (asked by : Bool) → asked ≡ is_printed why → asked ≡ by → FaultedBy by V w whole reported why → FaultedBy (is_printed why) V w whole reported why
+faulted_by V w whole reported why asked by is so f = subst (λ (b : Bool). FaultedBy b V w whole reported why) (sym so ∙ is) f

@@ -23,8 +23,8 @@ length_more : (ends : List CheckEnding) (end : CheckEnding) → length ends + 1 
 length_more ends end = sym (length-append ends (end ∷ []))
 
 same_total : (w v s r d c u b x y i j f e : ℕ) (p o t q : Bool) → w ≡ v → s ≡ r → d ≡ c → u ≡ b → x ≡ y → i ≡ j → f ≡ e → p ≡ o → t ≡ q
-    → let one : Total = record { worksheets = w; same = s; differ = d; unanswered = u; errors = x; new = i; faults = f; passed = p; told = t } in
-    let two : Total = record { worksheets = v; same = r; differ = c; unanswered = b; errors = y; new = j; faults = e; passed = o; told = q } in one ≡ two
+    → let one : Total = record { worksheets = w; same = s; differ = d; unanswered = u; errors = x; new = i; faults = f; passed = p; reported = t } in
+    let two : Total = record { worksheets = v; same = r; differ = c; unanswered = b; errors = y; new = j; faults = e; passed = o; reported = q } in one ≡ two
 same_total w v s r d c u b x y i j f e p o t q g h a aa bb k l m n = cc
 
 same_sum : (f : CheckEnding → ℕ) (ends : List CheckEnding) (end : CheckEnding) → f end ≡ 0 → sum_by f ends ≡ sum_by f (ends ++ end ∷ [])

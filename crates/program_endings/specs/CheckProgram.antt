@@ -17,7 +17,7 @@ use Rattle.sheet_check.specs.declared.named.CheckFault.TheVariants as checks
 use Rattle.program_endings.specs.Ending.{EndsAs}
 use Rattle.program_endings.specs.EvalProgram.{FramedLast, TellsEval}
 use Rattle.program_endings.specs.Faults.{no_files}
-use Rattle.program_endings.specs.LiveProgram.{LastTold}
+use Rattle.program_endings.specs.LiveProgram.{LastReported}
 use Rattle.program_endings.specs.declared.ending.Ending.{Ending}
 use Rattle.tellings.specs.Json.{in_json}
 use Rattle.tellings.specs.declared.note.Frame.TheVariants as frame
@@ -49,7 +49,7 @@ CheckedAnswer = Result Bool CheckFault
 abbrev pub EndsChecked : {E : Type 0} → Saying E → Ending → CheckedAnswer → Type 0
 EndsChecked errors ending (Ok passed) = EndsAs errors ending (Ok passed)
 EndsChecked errors ending (Err (checks.Run why)) = EndsAs errors ending (Err why)
-EndsChecked errors ending (Err (checks.NoField id)) = (ending.status ≡ 1) × TellsEval errors ending.told (Err (evals.NoField id))
+EndsChecked errors ending (Err (checks.NoField id)) = (ending.status ≡ 1) × TellsEval errors ending.reported (Err (evals.NoField id))
 
 -- what the program answers: all is well where all outputs that are compared are the same
 abbrev pub answer_of_check : Chosen → Result Counts CheckFault → CheckedAnswer
@@ -58,17 +58,17 @@ answer_of_check chosen (Err why) = Err why
 
 -- A fault is reported last of all in a report as JSON, where the output takes it; the other formats have none.
 abbrev pub LastInJson : {W : Type 0} → Writing W → Bool → CheckedAnswer → Type 0
-LastInJson w told (Ok passed) = w.new ≡ w.old
-LastInJson w told (Err (checks.Run why)) = LastTold {T = Bool} in_json w.contents w.old w.new told (Err why)
-LastInJson w told (Err (checks.NoField id)) = FramedLast in_json w.contents w.old w.new told (frame.NoField id)
+LastInJson w reported (Ok passed) = w.new ≡ w.old
+LastInJson w reported (Err (checks.Run why)) = LastReported {T = Bool} in_json w.contents w.old w.new reported (Err why)
+LastInJson w reported (Err (checks.NoField id)) = FramedLast in_json w.contents w.old w.new reported (frame.NoField id)
 
 abbrev pub LastOfCheck : {W : Type 0} → Format → Writing W → Bool → CheckedAnswer → Type 0
-LastOfCheck format.Json w told answer = LastInJson w told answer
-LastOfCheck format.Text w told answer = w.new ≡ w.old
-LastOfCheck format.Whole w told answer = w.new ≡ w.old
-LastOfCheck format.Tap w told answer = w.new ≡ w.old
-LastOfCheck format.Junit w told answer = w.new ≡ w.old
-LastOfCheck format.Accepting w told answer = w.new ≡ w.old
+LastOfCheck format.Json w reported answer = LastInJson w reported answer
+LastOfCheck format.Text w reported answer = w.new ≡ w.old
+LastOfCheck format.Whole w reported answer = w.new ≡ w.old
+LastOfCheck format.Tap w reported answer = w.new ≡ w.old
+LastOfCheck format.Junit w reported answer = w.new ≡ w.old
+LastOfCheck format.Accepting w reported answer = w.new ≡ w.old
 
 -- The check of the worksheet on a disk, what it called and wrote, and how the program ends: the status follows from the counts.
 pub record CheckDone {D C W E : Type 0} (o : OneByOne C) (g : GivenDisk D) (q : Calling C) (s : Streams W E) (end : CheckEnding) : Type 0 where
@@ -77,7 +77,7 @@ pub record CheckDone {D C W E : Type 0} (o : OneByOne C) (g : GivenDisk D) (q : 
   pub closed : g.how.closed later
   pub mid : W
   pub checked : CheckAnswer o (view_given g) (passage q.old q.new (text_before s.output) (s.output.contents mid)) (DoesNothing q (writing s.output.contents s.output.old mid)) end.answer
-  pub last_told : LastOfCheck o.format (writing s.output.contents mid s.output.new) end.ending.told (answer_of_check o.chosen end.answer)
+  pub last_reported : LastOfCheck o.format (writing s.output.contents mid s.output.new) end.ending.reported (answer_of_check o.chosen end.answer)
   pub read : OnlyRead (view_given g) (g.how.view later)
   -- that the disk failed is reported only where it did
   pub failed : end.answer ≡ Err (checks.Run (fault.Open opens.Disk)) → Rises (view_given g).faults (g.how.view later).faults
@@ -87,7 +87,7 @@ pub record CheckDone {D C W E : Type 0} (o : OneByOne C) (g : GivenDisk D) (q : 
 
 -- how `check` ends where its files weren't opened: no child is called, and why is its fault
 abbrev pub CheckUnopened : {C W E : Type 0} → Format → Calling C → Streams W E → CheckEnding → FilesFault → Type 0
-CheckUnopened F q s end why = (q.new ≡ q.old) × (end.answer ≡ Err (checks.Run (no_files why))) × LastOfCheck F s.output end.ending.told (Err (checks.Run (no_files why)))
+CheckUnopened F q s end why = (q.new ≡ q.old) × (end.answer ≡ Err (checks.Run (no_files why))) × LastOfCheck F s.output end.ending.reported (Err (checks.Run (no_files why)))
     × EndsAs s.errors end.ending (Err (no_files why))
 
 -- how `check` ends on its files, or on why they weren't opened

@@ -27,12 +27,12 @@ status_of (Err fault) = 1
 
 -- a fault is a line that is said on the stream of errors; nothing else stands there
 abbrev pub TellsFault : {E : Type 0} → Saying E → Bool → ProgramAnswer → Type 0
-TellsFault errors told (Ok whole) = errors.new ≡ errors.old
-TellsFault errors told (Err fault) = IsSaid errors (fault_text fault) told
+TellsFault errors reported (Ok whole) = errors.new ≡ errors.old
+TellsFault errors reported (Err fault) = IsSaid errors (fault_text fault) reported
 
 -- how a program with this answer ends: the status, and the line of its fault
 abbrev pub EndsAs : {E : Type 0} → Saying E → Ending → ProgramAnswer → Type 0
-EndsAs errors ending answer = (ending.status ≡ status_of answer) × TellsFault errors ending.told answer
+EndsAs errors ending answer = (ending.status ≡ status_of answer) × TellsFault errors ending.reported answer
 
 -- What `blocks` answers, and what it has written then: its clauses. The stream is what the reader gives,
 -- where it is known; `contents` are the bytes that the writer holds.

@@ -5,7 +5,7 @@ use Rattle.disk_model.specs.Disk.{SameDisk}
 use Rattle.child_edge.specs.Faithful.{Relation}
 use Rattle.offline_programs.specs.Saying.{IsSaid, Saying}
 use Rattle.offline_programs.specs.declared.fault.RunFault.{RunFault}
-use Rattle.tellings.specs.Voice.{IsUntold, Voice}
+use Rattle.tellings.specs.Voice.{IsWithheld, Voice}
 use Rattle.tellings.specs.declared.note.Counts.{Counts}
 use Rattle.tellings.specs.declared.note.Frame.{Frame}
 use Rattle.tellings.specs.declared.note.Frame.TheVariants as frame
@@ -27,7 +27,7 @@ use Rattle.field_agenda.specs.Standing.{first_fields}
 use Rattle.field_agenda.specs.declared.by_fields.ByFields.{ByFields}
 use Rattle.field_agenda.specs.declared.stage.Stage.{Stage}
 use Rattle.field_agenda.specs.declared.stage.Stage.TheVariants as stage
-use Rattle.program_endings.specs.LiveProgram.{EndsFaulted, FaultTold, Framed, LastTold}
+use Rattle.program_endings.specs.LiveProgram.{EndsFaulted, FaultReported, Framed, LastReported}
 use Rattle.program_endings.specs.StrictProgram.{TellsStop}
 use Rattle.program_endings.specs.Records.{Calling, GivenDisk, Streams, Writing, text_after, text_before, view_given, writing}
 use Rattle.program_endings.specs.declared.ending.Ending.{Ending}
@@ -55,8 +55,8 @@ evaluation_status (Err why) = 1
 
 -- Where it stopped is a line that is said on the stream of errors, as of `run --strict`, and so is a fault; nothing else stands there.
 abbrev pub TellsEval : {E : Type 0} → Saying E → Bool → EvaluationAnswer → Type 0
-TellsEval errors told (Ok end) = TellsStop errors told (Ok end.stopped_at)
-TellsEval errors told (Err why) = IsSaid errors (eval_fault_text why) told
+TellsEval errors reported (Ok end) = TellsStop errors reported (Ok end.stopped_at)
+TellsEval errors reported (Err why) = IsSaid errors (eval_fault_text why) reported
 
 -- How fields are evaluated: by which plan, with which programs and how a look for one may be answered, the voice of what is printed, and what the sources
 -- may do.
@@ -98,25 +98,25 @@ pub record EvaluatesTo {D C O P : Type 0} (o : EvalSetting C P) (g : GivenDisk D
 
 -- what stands last is written whole where both streams took what they had to, and it is nothing where the voice takes no memory
 abbrev pub FramedLast : {O : Type 0} → Voice → (O → Option (List ℕ)) → O → O → Bool → Frame → Type 0
-FramedLast V contents old new told last = (V.takes_memory ≡ false → new ≡ old) × (told ≡ true → Appends (contents old) (contents new) (V.frame last))
+FramedLast V contents old new reported last = (V.takes_memory ≡ false → new ≡ old) × (reported ≡ true → Appends (contents old) (contents new) (V.frame last))
 
 -- That the evaluation came to its end is printed last; or it couldn't be, and that is the fault, which is printed last.
 pub data LastOfEnd {O E : Type 0} (V : Voice) (s : Streams O E) (ending : Ending) (end : EvalEnd) : Type 0 where
-  ended : Framed V s.output.contents frame.End s.output.old s.output.new → ending.status ≡ evaluation_status (Ok end) → TellsEval s.errors ending.told (Ok end)
+  ended : Framed V s.output.contents frame.End s.output.old s.output.new → ending.status ≡ evaluation_status (Ok end) → TellsEval s.errors ending.reported (Ok end)
       → LastOfEnd V s ending end
-  unended : (why : RunFault) (mid : O) → V.takes_memory ≡ true → IsUntold V why → LastTold {T = Bool} V s.output.contents mid s.output.new ending.told (Err why)
-      → ending.status ≡ 1 → TellsEval s.errors ending.told (Err (evals.Run why)) → LastOfEnd V s ending end
+  unended : (why : RunFault) (mid : O) → V.takes_memory ≡ true → IsWithheld V why → LastReported {T = Bool} V s.output.contents mid s.output.new ending.reported (Err why)
+      → ending.status ≡ 1 → TellsEval s.errors ending.reported (Err (evals.Run why)) → LastOfEnd V s ending end
 
 -- A fault is printed last, where the voice has it and the run didn't print it, and is a line on the stream of errors.
 abbrev pub LastOfFault : {O E : Type 0} → Voice → Streams O E → Bool → Ending → EvalFault → Type 0
-LastOfFault V s whole ending (evals.NoField id) = FramedLast V s.output.contents s.output.old s.output.new ending.told (frame.NoField id)
-LastOfFault V s whole ending (evals.NoProgram name) = FramedLast V s.output.contents s.output.old s.output.new ending.told (frame.NoProgram name)
-LastOfFault V s whole ending (evals.Run why) = (said : Bool) × (ending.told ≡ true → said ≡ true) × EndsFaulted V s.output whole said why
+LastOfFault V s whole ending (evals.NoField id) = FramedLast V s.output.contents s.output.old s.output.new ending.reported (frame.NoField id)
+LastOfFault V s whole ending (evals.NoProgram name) = FramedLast V s.output.contents s.output.old s.output.new ending.reported (frame.NoProgram name)
+LastOfFault V s whole ending (evals.Run why) = (said : Bool) × (ending.reported ≡ true → said ≡ true) × EndsFaulted V s.output whole said why
 
 -- What stands last after an evaluation that was answered so, of whose last text this is known, and how the program ends then.
 abbrev pub EndsEvaluated : {O E : Type 0} → Voice → Streams O E → Bool → Ending → EvaluationAnswer → Type 0
 EndsEvaluated V s whole ending (Ok end) = LastOfEnd V s ending end
-EndsEvaluated V s whole ending (Err why) = LastOfFault V s whole ending why × (ending.status ≡ 1) × TellsEval s.errors ending.told (Err why)
+EndsEvaluated V s whole ending (Err why) = LastOfFault V s whole ending why × (ending.status ≡ 1) × TellsEval s.errors ending.reported (Err why)
 
 -- the same streams, of which this is the output before
 abbrev pub streams_from : {O E : Type 0} → Streams O E → O → Streams O E
@@ -131,5 +131,5 @@ EvaluationBegun {O = O} o g q s ending = (last : O) × (whole : Bool) × (answer
 pub data EvaluationEnded {D C O P E : Type 0} (o : EvalSetting C P) (g : GivenDisk D) (q : Calling C) (s : Streams O E) (ending : Ending) : Type 0 where
   greeted : (first : O) → Framed o.voice s.output.contents frame.Hello s.output.old first → EvaluationBegun o g q (streams_from s first) ending → EvaluationEnded o g q s ending
   -- it couldn't greet, and nothing was done but to close the disk
-  ungreeted : (why : RunFault) (mid : O) → o.voice.takes_memory ≡ true → IsUntold o.voice why → LastTold {T = Bool} o.voice s.output.contents mid s.output.new ending.told (Err why)
-      → ending.status ≡ 1 → TellsEval s.errors ending.told (Err (evals.Run why)) → q.new ≡ q.old → g.how.closed g.disk → EvaluationEnded o g q s ending
+  ungreeted : (why : RunFault) (mid : O) → o.voice.takes_memory ≡ true → IsWithheld o.voice why → LastReported {T = Bool} o.voice s.output.contents mid s.output.new ending.reported (Err why)
+      → ending.status ≡ 1 → TellsEval s.errors ending.reported (Err (evals.Run why)) → q.new ≡ q.old → g.how.closed g.disk → EvaluationEnded o g q s ending

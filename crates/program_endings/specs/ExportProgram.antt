@@ -27,8 +27,8 @@ export_status (Err why) = 1
 
 -- a fault is a line that is said on the stream of errors; nothing else stands there
 abbrev pub TellsExported : {E : Type 0} → Saying E → Bool → ExportAnswer → Type 0
-TellsExported errors told (Ok u) = errors.new ≡ errors.old
-TellsExported errors told (Err why) = IsSaid errors (export_fault_text why) told
+TellsExported errors reported (Ok u) = errors.new ≡ errors.old
+TellsExported errors reported (Err why) = IsSaid errors (export_fault_text why) reported
 
 -- What `export` answers on a disk, and what it has written then: its clauses.
 pub record ExportedFrom {D W : Type 0} (g : GivenDisk D) (format : Format) (title : List ℕ) (w : Writing W) (answer : ExportAnswer) : Type 0 where
@@ -58,4 +58,4 @@ Exports k files format title w answer =
 -- how `export` ends on its files, or on why they weren't opened
 abbrev pub ExportEnds : {D W E : Type 0} → Closable D → Result D FilesFault → Format → List ℕ → Streams W E → Ending → Type 0
 ExportEnds k files format title s ending = (answer : ExportAnswer) × Exports k files format title s.output answer
-    × (ending.status ≡ export_status answer) × TellsExported s.errors ending.told answer
+    × (ending.status ≡ export_status answer) × TellsExported s.errors ending.reported answer

@@ -14,7 +14,7 @@ use Rattle.agendas.specs.LinesRules.{lines_rules}
 use Rattle.offline_programs.specs.declared.fault.RunFault.{RunFault}
 use Rattle.offline_programs.specs.declared.fault.RunFault.TheVariants as fault
 use Rattle.sheet_files.specs.declared.files_fault.FilesFault.{FilesFault}
-use Rattle.tellings.specs.Voice.{IsUntold, Voice}
+use Rattle.tellings.specs.Voice.{IsWithheld, Voice}
 use Rattle.tellings.specs.declared.note.Frame.{Frame}
 use Rattle.tellings.specs.declared.note.Frame.TheVariants as frame
 use Rattle.program_endings.specs.Ending.{EndsAs}
@@ -71,53 +71,53 @@ abbrev pub Framed : {O : Type 0} → Voice → (O → Option (List ℕ)) → Fra
 Framed V contents f old new = Appends (contents old) (contents new) (V.frame f) × (V.takes_memory ≡ false → new ≡ old)
 
 -- A fault is printed last of all, where the voice has a text for it and the output takes it.
-abbrev pub FaultTold : {O : Type 0} → Voice → (O → Option (List ℕ)) → O → O → Bool → RunFault → Type 0
-FaultTold V contents old new told why = (V.takes_memory ≡ false → new ≡ old) × (told ≡ true → Appends (contents old) (contents new) (V.fault why))
+abbrev pub FaultReported : {O : Type 0} → Voice → (O → Option (List ℕ)) → O → O → Bool → RunFault → Type 0
+FaultReported V contents old new reported why = (V.takes_memory ≡ false → new ≡ old) × (reported ≡ true → Appends (contents old) (contents new) (V.fault why))
 
-abbrev pub LastTold : {O T : Type 0} → Voice → (O → Option (List ℕ)) → O → O → Bool → Result T RunFault → Type 0
-LastTold V contents old new told (Ok done) = new ≡ old
-LastTold V contents old new told (Err why) = FaultTold V contents old new told why
+abbrev pub LastReported : {O T : Type 0} → Voice → (O → Option (List ℕ)) → O → O → Bool → Result T RunFault → Type 0
+LastReported V contents old new reported (Ok done) = new ≡ old
+LastReported V contents old new reported (Err why) = FaultReported V contents old new reported why
 
 -- A frame couldn't be printed, and that is the fault, which is printed last.
 abbrev pub Unframed : {O : Type 0} → Voice → Writing O → Bool → StrictAnswer → Type 0
-Unframed {O = O} V w told answer =
-    (why : RunFault) × (mid : O) × (answer ≡ Err why) × (V.takes_memory ≡ true) × IsUntold V why × FaultTold V w.contents mid w.new told why
+Unframed {O = O} V w reported answer =
+    (why : RunFault) × (mid : O) × (answer ≡ Err why) × (V.takes_memory ≡ true) × IsWithheld V why × FaultReported V w.contents mid w.new reported why
 
 -- after the end of its lines the voice's last message is printed
 abbrev pub EndsFramed : {O : Type 0} → Voice → Writing O → Bool → Option ℕ → StrictAnswer → Type 0
-EndsFramed V w told stopped answer = (Framed V w.contents frame.End w.old w.new × (answer ≡ Ok stopped)) ⊎ Unframed V w told answer
+EndsFramed V w reported stopped answer = (Framed V w.contents frame.End w.old w.new × (answer ≡ Ok stopped)) ⊎ Unframed V w reported answer
 
 -- a fault was printed last by the run, or it is printed now
 abbrev pub FaultedBy : {O : Type 0} → Bool → Voice → Writing O → Bool → Bool → RunFault → Type 0
-FaultedBy true V w whole told why = (w.new ≡ w.old) × (told ≡ whole)
-FaultedBy false V w whole told why = FaultTold V w.contents w.old w.new told why
+FaultedBy true V w whole reported why = (w.new ≡ w.old) × (reported ≡ whole)
+FaultedBy false V w whole reported why = FaultReported V w.contents w.old w.new reported why
 
 abbrev pub EndsFaulted : {O : Type 0} → Voice → Writing O → Bool → Bool → RunFault → Type 0
-EndsFaulted V w whole told why = FaultedBy (is_printed why) V w whole told why
+EndsFaulted V w whole reported why = FaultedBy (is_printed why) V w whole reported why
 
 -- What stands last after a run that was answered so, of whose last text this is known, and what the program answers then.
 abbrev pub LivedEnds : {O : Type 0} → Voice → Writing O → StrictAnswer → Bool → Bool → StrictAnswer → Type 0
-LivedEnds V w (Ok stopped) whole told answer = EndsFramed V w told stopped answer
-LivedEnds V w (Err why) whole told answer = (answer ≡ Err why) × EndsFaulted V w whole told why
+LivedEnds V w (Ok stopped) whole reported answer = EndsFramed V w reported stopped answer
+LivedEnds V w (Err why) whole reported answer = (answer ≡ Err why) × EndsFaulted V w whole reported why
 
 -- What `live` answers on a disk, what it has written and done then, and whether its last text went out, once it has greeted.
-pub data LiveBegun {D C O : Type 0} (o : LiveSetting C) (stream : Option (List ℕ)) (g : GivenDisk D) (q : Calling C) (w : Writing O) (told : Bool) (answer : StrictAnswer) : Type 0 where
+pub data LiveBegun {D C O : Type 0} (o : LiveSetting C) (stream : Option (List ℕ)) (g : GivenDisk D) (q : Calling C) (w : Writing O) (reported : Bool) (answer : StrictAnswer) : Type 0 where
   -- it lived, and printed what stands last
   lived : (last : O) (lived_so : StrictAnswer) (whole : Bool) → LivesOn o stream g q (writing w.contents w.old last) whole lived_so
-      → LivedEnds o.voice (writing w.contents last w.new) lived_so whole told answer → LiveBegun o stream g q w told answer
+      → LivedEnds o.voice (writing w.contents last w.new) lived_so whole reported answer → LiveBegun o stream g q w reported answer
   -- there was no memory for the lines of its input, and nothing was done but to close the disk
-  not_begun : FaultTold o.voice w.contents w.old w.new told fault.OutOfMemory → answer ≡ Err fault.OutOfMemory → q.new ≡ q.old → g.how.closed g.disk
-      → LiveBegun o stream g q w told answer
+  not_begun : FaultReported o.voice w.contents w.old w.new reported fault.OutOfMemory → answer ≡ Err fault.OutOfMemory → q.new ≡ q.old → g.how.closed g.disk
+      → LiveBegun o stream g q w reported answer
 
 -- The same from its greeting on.
-pub data LiveAnswer {D C O : Type 0} (o : LiveSetting C) (stream : Option (List ℕ)) (g : GivenDisk D) (q : Calling C) (w : Writing O) (told : Bool) (answer : StrictAnswer) : Type 0 where
-  greeted : (first : O) → Framed o.voice w.contents frame.Hello w.old first → LiveBegun o stream g q (writing w.contents first w.new) told answer → LiveAnswer o stream g q w told answer
+pub data LiveAnswer {D C O : Type 0} (o : LiveSetting C) (stream : Option (List ℕ)) (g : GivenDisk D) (q : Calling C) (w : Writing O) (reported : Bool) (answer : StrictAnswer) : Type 0 where
+  greeted : (first : O) → Framed o.voice w.contents frame.Hello w.old first → LiveBegun o stream g q (writing w.contents first w.new) reported answer → LiveAnswer o stream g q w reported answer
   -- it couldn't greet, and nothing was done but to close the disk
-  ungreeted : Unframed o.voice w told answer → q.new ≡ q.old → g.how.closed g.disk → LiveAnswer o stream g q w told answer
+  ungreeted : Unframed o.voice w reported answer → q.new ≡ q.old → g.how.closed g.disk → LiveAnswer o stream g q w reported answer
 
 -- How `live` and `eval` end where their files weren't opened: no child is called, and why is printed last and is a line on the stream of errors.
 abbrev pub LiveUnopened : {C O E : Type 0} → Voice → Calling C → Streams O E → Ending → FilesFault → Type 0
-LiveUnopened V q s ending why = (q.new ≡ q.old) × LastTold {T = Bool} V s.output.contents s.output.old s.output.new ending.told (Err (no_files why))
+LiveUnopened V q s ending why = (q.new ≡ q.old) × LastReported {T = Bool} V s.output.contents s.output.old s.output.new ending.reported (Err (no_files why))
     × EndsAs s.errors ending (Err (no_files why))
 
 -- How `live` ends on a disk: what it answers, whether its last text went out, and the status. Where a strict input stopped is a line on the
@@ -126,6 +126,6 @@ pub record LiveEnded {D C O E : Type 0} (o : LiveSetting C) (stream : Option (Li
   pub answer : StrictAnswer
   pub said : Bool
   pub answered : LiveAnswer o stream g q s.output said answer
-  pub last_said : ending.told ≡ true → said ≡ true
+  pub last_said : ending.reported ≡ true → said ≡ true
   pub status : ending.status ≡ strict_status answer
-  pub told : TellsStop s.errors ending.told answer
+  pub reported : TellsStop s.errors ending.reported answer

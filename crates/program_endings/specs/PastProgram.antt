@@ -34,7 +34,7 @@ FilesArePast k n files answer = IfErr files (λ why. answer ≡ Err (past.Run (n
 
 -- Why an earlier worksheet can't be had is a line that is said on the stream of errors.
 abbrev pub EndsPast : {E : Type 0} → Saying E → Ending → PastFault → Type 0
-EndsPast errors ending why = (ending.status ≡ 1) × IsSaid errors (past_fault_text why) ending.told
+EndsPast errors ending why = (ending.status ≡ 1) × IsSaid errors (past_fault_text why) ending.reported
 
 -- How `show` ends of what was found, whose disk is closed: the worksheet was written, or the output has failed.
 abbrev pub PastShown : {D W E : Type 0} → (D → Type 0) → Rescued D → Streams W E → Ending → Type 0
@@ -48,7 +48,7 @@ PastExported closed found format title s ending = closed found.disk × ((answer 
     × OnOk answer ((has_text format found.sheet.contents ≡ true) × Appends (text_before s.output) (text_after s.output) (text_in format title found.sheet.contents))
     × OnOk answer (ReadsBack format found.sheet.contents)
     × IfErr answer (TellsText format found.sheet.contents (s.output.new ≡ s.output.old))
-    × (ending.status ≡ export_status answer) × TellsExported s.errors ending.told answer)
+    × (ending.status ≡ export_status answer) × TellsExported s.errors ending.reported answer)
 
 -- What `history` answers on a disk, and what it has written then.
 pub record HistoryOf {D W : Type 0} (g : GivenDisk D) (w : Writing W) (answer : Result Unit RunFault) : Type 0 where

@@ -33,12 +33,12 @@ create_status (Some why) = 1
 
 -- why no worksheet was made is a line that is said on the stream of errors; nothing else stands there
 abbrev pub TellsMake : {E : Type 0} → Saying E → Bool → MakeFault → Type 0
-TellsMake errors told why = IsSaid errors (create_fault_text why) told
+TellsMake errors reported why = IsSaid errors (create_fault_text why) reported
 
 -- the same of what `create` answers: nothing stands there where it made a worksheet
 abbrev pub TellsCreate : {E : Type 0} → Saying E → Bool → CreateAnswer → Type 0
-TellsCreate errors told None = errors.new ≡ errors.old
-TellsCreate errors told (Some why) = TellsMake errors told (makes.Create why)
+TellsCreate errors reported None = errors.new ≡ errors.old
+TellsCreate errors reported (Some why) = TellsMake errors reported (makes.Create why)
 
 -- What `create` makes of a disk, and what it answers: its clauses.
 pub record Creates (old new : DiskView) (answer : CreateAnswer) : Type 0 where
@@ -56,7 +56,7 @@ pub record Creates (old new : DiskView) (answer : CreateAnswer) : Type 0 where
 abbrev pub CreateEnds : {D E : Type 0} → GivenDisk D → Saying E → Ending → Type 0
 CreateEnds {D = D} g errors ending =
     (later : D) × g.how.closed later × ((answer : CreateAnswer) × Creates (view_given g) (g.how.view later) answer
-    × (ending.status ≡ create_status answer) × TellsCreate errors ending.told answer)
+    × (ending.status ≡ create_status answer) × TellsCreate errors ending.reported answer)
 
 -- What `show` answers on a disk, and what it has written then.
 pub record ShownOf {D W : Type 0} (g : GivenDisk D) (w : Writing W) (answer : ProgramAnswer) : Type 0 where

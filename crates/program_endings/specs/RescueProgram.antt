@@ -37,13 +37,13 @@ rescue_status (Err why) = 1
 
 -- why nothing was rescued is a line that is said on the stream of errors
 abbrev pub TellsRescueFault : {E : Type 0} → Saying E → Bool → RescueFault → Type 0
-TellsRescueFault errors told rescues.NotEmpty = TellsMake errors told (makes.Create creates.NotEmpty)
-TellsRescueFault errors told (rescues.Run why) = TellsFault errors told (Err why)
+TellsRescueFault errors reported rescues.NotEmpty = TellsMake errors reported (makes.Create creates.NotEmpty)
+TellsRescueFault errors reported (rescues.Run why) = TellsFault errors reported (Err why)
 
 -- nothing stands there where it went well
 abbrev pub TellsRescued : {E : Type 0} → Saying E → Bool → Result Unit RescueFault → Type 0
-TellsRescued errors told (Ok u) = errors.new ≡ errors.old
-TellsRescued errors told (Err why) = TellsRescueFault errors told why
+TellsRescued errors reported (Ok u) = errors.new ≡ errors.old
+TellsRescued errors reported (Err why) = TellsRescueFault errors reported why
 
 -- how much was kept is a line that is said on the output, which is the fault of it only where that didn't go out; another fault has
 -- written nothing
@@ -66,10 +66,10 @@ RescueDone {N = N} g found s ending =
     (later : N) × g.how.closed later × ((answer : Result Unit RescueFault)
     × RescueIsSaved (view_given g) (g.how.view later) found.sheet.contents answer
     × WritesKept s.output found.kept found.damage answer
-    × (ending.status ≡ rescue_status answer) × TellsRescued s.errors ending.told answer)
+    × (ending.status ≡ rescue_status answer) × TellsRescued s.errors ending.reported answer)
 
 -- So on the files of the new worksheet, or on why they weren't made. The disk that was rescued from is closed as it was found.
 abbrev pub RescueEnds : {D N W E : Type 0} → (D → Type 0) → Closable N → Result N MakeFault → Rescued D → SaidStreams W E → Ending → Type 0
 RescueEnds closed k files found s ending = closed found.disk
-    × IfErr files (λ why. (s.output.new ≡ s.output.old) × (ending.status ≡ 1) × TellsMake s.errors ending.told why)
+    × IfErr files (λ why. (s.output.new ≡ s.output.old) × (ending.status ≡ 1) × TellsMake s.errors ending.reported why)
     × IfOk files (λ disk. RescueDone (given_disk k disk) found s ending)

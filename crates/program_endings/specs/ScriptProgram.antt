@@ -58,7 +58,7 @@ pub record RunsWhole {D C W E : Type 0} (m : Manner C) (script : List ℕ) (g : 
   pub fault : IfErr answer (TellsRun m (Some script) (outside_before g q s.output) (outside_after g later q s.output)
       (DoesNothing q s.output × Untouched (view_given g) (g.how.view later)))
   pub status : ending.status ≡ strict_status answer
-  pub told : TellsStop s.errors ending.told answer
+  pub reported : TellsStop s.errors ending.reported answer
 
 -- A script that was read is taken line by line, as `live` does it, where one of its lines has such a form, and else as ever.
 abbrev pub RunsRead : {D C W E : Type 0} → LiveSetting C → List ℕ → GivenDisk D → Calling C → Streams W E → Ending → Type 0

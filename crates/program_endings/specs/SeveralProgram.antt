@@ -41,7 +41,7 @@ abbrev pub is_well : CheckEnding → Bool
 is_well end = end.ending.status == 0
 
 abbrev pub went_out : CheckEnding → Bool
-went_out end = end.ending.told
+went_out end = end.ending.reported
 
 -- The total of checks that ended so: the sums over all of them, whether each ended well, and whether all that each had to say went out.
 abbrev pub total_of : List CheckEnding → Total
@@ -54,7 +54,7 @@ total_of ends = record {
   new = sum_by (counted_in (λ counts. counts.new)) ends;
   faults = sum_by faults_in ends;
   passed = list_all is_well ends;
-  told = list_all went_out ends;
+  reported = list_all went_out ends;
 }
 
 -- Each count of a total has room for that of one worksheet more.
@@ -80,13 +80,13 @@ total_text total = summed_part total ++ errors_part total.errors ++ new_part tot
 
 -- how the program ends with this total: well where each worksheet did
 abbrev pub ending_of : Total → Ending
-ending_of total = record { status = status_of (Ok total.passed); told = total.told }
+ending_of total = record { status = status_of (Ok total.passed); reported = total.reported }
 
 -- The total is written last; or the output doesn't take it, and that is a fault.
 abbrev pub TotalEnds : {W E : Type 0} → Total → Streams W E → Ending → Type 0
 TotalEnds total s ending =
     (Appends (text_before s.output) (text_after s.output) (total_text total) × (s.errors.new ≡ s.errors.old) × (ending ≡ ending_of total))
-    ⊎ ((last : Ending) × EndsAs s.errors last (Err fault.Output) × (ending ≡ record { status = 1; told = total.told && last.told }))
+    ⊎ ((last : Ending) × EndsAs s.errors last (Err fault.Output) × (ending ≡ record { status = 1; reported = total.reported && last.reported }))
 
 -- whether the output failed: nothing more can be written then
 abbrev pub failed_output : RunFault → Bool

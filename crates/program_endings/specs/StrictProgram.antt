@@ -20,6 +20,6 @@ stopped_text number = codes "stopped at line " ++ decimal number ++ 10 ∷ []
 
 -- where it stopped is a line that is said on the stream of errors, and so is a fault; nothing else stands there
 abbrev pub TellsStop : {E : Type 0} → Saying E → Bool → StrictAnswer → Type 0
-TellsStop errors told (Ok None) = errors.new ≡ errors.old
-TellsStop errors told (Ok (Some number)) = IsSaid errors (stopped_text number) told
-TellsStop errors told (Err why) = IsSaid errors (fault_text why) told
+TellsStop errors reported (Ok None) = errors.new ≡ errors.old
+TellsStop errors reported (Ok (Some number)) = IsSaid errors (stopped_text number) reported
+TellsStop errors reported (Err why) = IsSaid errors (fault_text why) reported

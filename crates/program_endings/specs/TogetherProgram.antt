@@ -20,7 +20,7 @@ pub record TogetherDone {D C W E : Type 0} (o : SideBySide C) (g : GivenDisk D) 
   pub closed : g.how.closed later
   pub mid : W
   pub checked : TogetherAnswer o (view_given g) (passage q.old q.new (text_before s.output) (s.output.contents mid)) (DoesNothing q (writing s.output.contents s.output.old mid)) end.answer
-  pub last_told : LastOfCheck o.format (writing s.output.contents mid s.output.new) end.ending.told (answer_of_check o.chosen end.answer)
+  pub last_reported : LastOfCheck o.format (writing s.output.contents mid s.output.new) end.ending.reported (answer_of_check o.chosen end.answer)
   pub read : OnlyRead (view_given g) (g.how.view later)
   -- that the disk failed is reported only where it did
   pub failed : end.answer ≡ Err (checks.Run (fault.Open opens.Disk)) → Rises (view_given g).faults (g.how.view later).faults

@@ -2,11 +2,11 @@
 ghost use Rattle.offline_programs.specs.Saying.{saying};
 ghost use Rattle.program_endings.specs.BlocksProgram.{ObjectsAnswer};
 ghost use Rattle.program_endings.specs.Ending.{EndsAs, ProgramAnswer};
-ghost use Rattle.program_endings.specs.LiveProgram.{LastTold};
+ghost use Rattle.program_endings.specs.LiveProgram.{LastReported};
 ghost use Rattle.tellings.specs.Json.{in_json};
 
 use crate::Ending;
-use crate::live_program::end_told;
+use crate::live_program::end_reported;
 use offline_programs::Says;
 use std::alloc::Global;
 use std::io::{Read, Write};
@@ -23,9 +23,9 @@ pub fn run_block_objects<R: Read, W: Write, E: Says>(
 ) -> Ending
     ensures { (answer : ProgramAnswer) × (mid : W)
         × ObjectsAnswer (R.remaining input.old) W.contents output.old mid answer
-        × LastTold in_json W.contents mid output.new result.told answer
+        × LastReported in_json W.contents mid output.new result.reported answer
         × EndsAs (saying E.contents E.tried errors.old errors.new) result answer }
 {
     let answer = block_objects(alloc, input, output);
-    end_told(answer, &InJson { alloc }, output, errors)
+    end_reported(answer, &InJson { alloc }, output, errors)
 }

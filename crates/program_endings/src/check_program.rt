@@ -12,7 +12,7 @@ ghost use Rattle.program_endings.specs.Records.{calling, given_disk, streams, wr
 
 use crate::ending::ended;
 use crate::eval_program::end_without;
-use crate::live_program::end_told;
+use crate::live_program::end_reported;
 use crate::messages::NotEvaluated;
 use crate::telling::no_files;
 use crate::{Ending, end_program};
@@ -91,12 +91,12 @@ fn end_in_json<W: Write, E: Says>(
     output: &mut W,
     errors: &mut E,
 ) -> Ending
-    ensures last { LastInJson (writing W.contents output.old output.new) result.told answer }
+    ensures last { LastInJson (writing W.contents output.old output.new) result.reported answer }
     ensures ends { EndsChecked (saying E.contents E.tried errors.old errors.new) result answer }
 {
     match answer {
         Ok(passed) => end_program(Ok(passed), errors),
-        Err(CheckFault::Run(why)) => end_told(Err(why), &InJson { alloc }, output, errors),
+        Err(CheckFault::Run(why)) => end_reported(Err(why), &InJson { alloc }, output, errors),
         Err(CheckFault::NoField(id)) => end_without(
             EvalFault::NoField(id),
             Frame::NoField(id),
@@ -115,7 +115,7 @@ fn end_report<W: Write, E: Says>(
     output: &mut W,
     errors: &mut E,
 ) -> Ending
-    ensures last { LastOfCheck format (writing W.contents output.old output.new) result.told answer }
+    ensures last { LastOfCheck format (writing W.contents output.old output.new) result.reported answer }
     ensures ends { EndsChecked (saying E.contents E.tried errors.old errors.new) result answer }
 {
     match format {
@@ -134,7 +134,7 @@ pub(crate) fn end_check<W: Write, E: Says>(
     output: &mut W,
     errors: &mut E,
 ) -> Ending
-    ensures last { LastOfCheck request.now.format (writing W.contents output.old output.new) result.told
+    ensures last { LastOfCheck request.now.format (writing W.contents output.old output.new) result.reported
         (answer_of_check request.now.chosen answer) }
     ensures ends { EndsChecked (saying E.contents E.tried errors.old errors.new) result
         (answer_of_check request.now.chosen answer) }
@@ -157,7 +157,7 @@ pub(crate) fn end_unopened<W: Write, E: Says>(
     errors: &mut E,
 ) -> CheckEnding
     ensures answer { result.answer ≡ Err (checks.Run (printed.no_files why)) }
-    ensures last { LastOfCheck format (writing W.contents output.old output.new) result.ending.told
+    ensures last { LastOfCheck format (writing W.contents output.old output.new) result.ending.reported
         (Err (checks.Run (printed.no_files why))) }
     ensures ends { EndsAs (saying E.contents E.tried errors.old errors.new) result.ending (Err (printed.no_files why)) }
 {

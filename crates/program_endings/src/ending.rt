@@ -17,13 +17,13 @@ pub struct Ending {
     /// 3 where a strict run or a strict evaluation stopped.
     pub status: u8,
     /// Whether all that it had to say, on standard output and on standard error, went out.
-    pub told: bool,
+    pub reported: bool,
 }
 
-pub(crate) fn ended(status: u8, told: bool) -> Ending
-    ensures { result ≡ record { status = status; told = told } }
+pub(crate) fn ended(status: u8, reported: bool) -> Ending
+    ensures { result ≡ record { status = status; reported = reported } }
 {
-    Ending { status, told }
+    Ending { status, reported }
 }
 
 /// The answer of a program that came to its end, or had a fault.
@@ -39,7 +39,7 @@ pub(crate) fn answered<T: Copy>(done: Result<T, RunFault>) -> Result<bool, RunFa
 /// Ends a program by what it answered, whether all is well or its fault, which is printed on a line.
 pub fn end_program<E: Says>(answer: Result<bool, RunFault>, errors: &mut E) -> Ending
     ensures status { result.status ≡ status_of answer }
-    ensures told { TellsFault (saying E.contents E.tried errors.old errors.new) result.told answer }
+    ensures reported { TellsFault (saying E.contents E.tried errors.old errors.new) result.reported answer }
 {
     match answer {
         Ok(true) => ended(0, true),

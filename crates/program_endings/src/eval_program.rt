@@ -10,7 +10,7 @@ ghost use Rattle.program_endings.specs.Records.{calling, given_disk, streams, wr
 ghost use Rattle.sheet_files.specs.Closing.{closable};
 
 use crate::ending::ended;
-use crate::live_program::{LiveEnding, end_told, is_printed, with_last};
+use crate::live_program::{LiveEnding, end_reported, is_printed, with_last};
 use crate::messages::{NotEvaluated, StoppedAt};
 use crate::telling::no_files;
 use crate::{Ending, end_program};
@@ -123,7 +123,7 @@ fn evaluate_on<W: Write, D: Close, S: Sources, T: Tells + Copy, P: Programs + Dr
 /// Ends the program where an evaluation came to its end: where it stopped is a line.
 fn end_evaluated<E: Says>(end: EvalEnd, errors: &mut E) -> Ending
     ensures status { result.status ≡ evaluation_status (Ok end) }
-    ensures told { TellsEval (saying E.contents E.tried errors.old errors.new) result.told (Ok end) }
+    ensures reported { TellsEval (saying E.contents E.tried errors.old errors.new) result.reported (Ok end) }
 {
     match end.stopped_at {
         None => ended(status_by(end.counts), true),
@@ -140,13 +140,13 @@ pub(crate) fn end_without<W: Write, E: Says, T: Tells>(
     output: &mut W,
     errors: &mut E,
 ) -> Ending
-    ensures last { FramedLast T.voice W.contents output.old output.new result.told last }
+    ensures last { FramedLast T.voice W.contents output.old output.new result.reported last }
     ensures status { result.status ≡ 1 }
-    ensures told { TellsEval (saying E.contents E.tried errors.old errors.new) result.told (Err why) }
+    ensures reported { TellsEval (saying E.contents E.tried errors.old errors.new) result.reported (Err why) }
 {
     let said = tells.frame(last, output).is_ok();
-    let told = errors.say(&NotEvaluated { why });
-    ended(1, told && said)
+    let reported = errors.say(&NotEvaluated { why });
+    ended(1, reported && said)
 }
 
 /// Whether a fault goes to the output, where its voice has it: a run prints its own, but where its output failed.
@@ -161,9 +161,9 @@ fn tell_run_fault<W: Write, T: Tells>(why: RunFault, whole: bool, tells: &T, out
 
 /// Ends the program by a fault, which is printed on standard error, where what stands last went out or didn't.
 fn end_faulted<E: Says>(why: RunFault, said: bool, errors: &mut E) -> Ending
-    ensures last { result.told ≡ true → said ≡ true }
+    ensures last { result.reported ≡ true → said ≡ true }
     ensures status { result.status ≡ 1 }
-    ensures told { TellsFault (saying E.contents E.tried errors.old errors.new) result.told (Err why) }
+    ensures reported { TellsFault (saying E.contents E.tried errors.old errors.new) result.reported (Err why) }
 {
     with_last(end_program(Err(why), errors), said)
 }
@@ -178,7 +178,7 @@ fn end_broken<W: Write, E: Says, T: Tells>(
 ) -> Ending
     ensures last { LastOfFault T.voice (streams (writing W.contents output.old output.new) (saying E.contents E.tried errors.old errors.new)) whole result (evals.Run why) }
     ensures status { result.status ≡ 1 }
-    ensures told { TellsEval (saying E.contents E.tried errors.old errors.new) result.told (Err (evals.Run why)) }
+    ensures reported { TellsEval (saying E.contents E.tried errors.old errors.new) result.reported (Err (evals.Run why)) }
 {
     let said = tell_run_fault(why, whole, tells, output);
     end_faulted(why, said, errors)
@@ -194,7 +194,7 @@ fn end_faulty<W: Write, E: Says, T: Tells>(
 ) -> Ending
     ensures last { LastOfFault T.voice (streams (writing W.contents output.old output.new) (saying E.contents E.tried errors.old errors.new)) whole result fault }
     ensures status { result.status ≡ 1 }
-    ensures told { TellsEval (saying E.contents E.tried errors.old errors.new) result.told (Err fault) }
+    ensures reported { TellsEval (saying E.contents E.tried errors.old errors.new) result.reported (Err fault) }
 {
     match fault {
         EvalFault::NoField(id) => end_without(
@@ -226,7 +226,7 @@ fn end_framed<W: Write, E: Says, T: Tells>(
 {
     match tells.frame(Frame::End, output) {
         Ok(()) => end_evaluated(end, errors),
-        Err(why) => end_told(Err(why), tells, output, errors),
+        Err(why) => end_reported(Err(why), tells, output, errors),
     }
 }
 
@@ -292,7 +292,7 @@ fn end_greeted<W: Write, E: Says, D: Close, S: Sources, T: Tells + Copy, P: Prog
         Err(why) => {
             disk.close();
             LiveEnding {
-                ending: end_told(Err(why), &tells, &mut output, errors),
+                ending: end_reported(Err(why), &tells, &mut output, errors),
                 sources,
                 output,
             }
@@ -323,7 +323,7 @@ pub fn run_evaluation<W: Write, E: Says, D: Close, S: Sources, T: Tells + Copy, 
     match files {
         Ok(disk) => end_greeted(alloc, plan, programs, tells, output, errors, disk, sources),
         Err(why) => LiveEnding {
-            ending: end_told(Err(no_files(why)), &tells, &mut output, errors),
+            ending: end_reported(Err(no_files(why)), &tells, &mut output, errors),
             sources,
             output,
         },

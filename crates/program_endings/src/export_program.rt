@@ -33,7 +33,7 @@ fn export_disk<D: Close, W: Write>(
 /// Ends the program by what an export answered.
 pub(crate) fn end_export<E: Says>(answer: Result<(), ExportFault>, errors: &mut E) -> Ending
     ensures { (result.status ≡ export_status answer)
-        × TellsExported (saying E.contents E.tried errors.old errors.new) result.told answer }
+        × TellsExported (saying E.contents E.tried errors.old errors.new) result.reported answer }
 {
     match answer {
         Ok(()) => ended(0, true),

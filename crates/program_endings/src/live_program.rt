@@ -5,7 +5,7 @@ ghost use Rattle.arrivals.specs.Held.{nothing_held};
 ghost use Rattle.offline_programs.specs.Saying.{saying};
 ghost use Rattle.program_endings.specs.Ending.{TellsFault, status_of};
 ghost use Rattle.program_endings.specs.LiveProgram as meant;
-ghost use Rattle.program_endings.specs.LiveProgram.{EndsFaulted, EndsFramed, FaultTold, LastTold, LiveAnswer, LiveBegun, LiveEnded, LiveUnopened, LivedEnds, LivesOn, live_setting};
+ghost use Rattle.program_endings.specs.LiveProgram.{EndsFaulted, EndsFramed, FaultReported, LastReported, LiveAnswer, LiveBegun, LiveEnded, LiveUnopened, LivedEnds, LivesOn, live_setting};
 ghost use Rattle.program_endings.specs.Records.{calling, given_disk, streams, writing};
 ghost use Rattle.program_endings.specs.StrictProgram.{TellsStop, strict_status};
 ghost use Rattle.sheet_files.specs.Closing.{closable};
@@ -26,7 +26,7 @@ use tellings::{Frame, Tells};
 /// What a program answered, whether its last text went out, and what it was given back.
 struct Answered<S, W> {
     answer: Result<Option<u64>, RunFault>,
-    told: bool,
+    reported: bool,
     sources: S,
     output: W,
 }
@@ -55,13 +55,13 @@ fn with_fault<S, W: Write, T: Tells + Copy>(
     sources: S,
 ) -> Answered<S, W>
     ensures answer { result.answer ≡ Err why }
-    ensures last { FaultTold T.voice W.contents output result.output result.told why }
+    ensures last { FaultReported T.voice W.contents output result.output result.reported why }
     ensures sources { result.sources ≡ sources }
 {
-    let told = tells.fault(why, &mut output);
+    let reported = tells.fault(why, &mut output);
     Answered {
         answer: Err(why),
-        told,
+        reported,
         sources,
         output,
     }
@@ -144,13 +144,13 @@ fn with_end<S, W: Write, T: Tells + Copy>(
     mut output: W,
     sources: S,
 ) -> Answered<S, W>
-    ensures ended { EndsFramed T.voice (writing W.contents output result.output) result.told stopped result.answer }
+    ensures ended { EndsFramed T.voice (writing W.contents output result.output) result.reported stopped result.answer }
     ensures sources { result.sources ≡ sources }
 {
     match tells.frame(Frame::End, &mut output) {
         Ok(()) => Answered {
             answer: Ok(stopped),
-            told: true,
+            reported: true,
             sources,
             output,
         },
@@ -167,13 +167,13 @@ fn with_run_fault<S, W: Write, T: Tells + Copy>(
     sources: S,
 ) -> Answered<S, W>
     ensures answer { result.answer ≡ Err why }
-    ensures ended { EndsFaulted T.voice (writing W.contents output result.output) whole result.told why }
+    ensures ended { EndsFaulted T.voice (writing W.contents output result.output) whole result.reported why }
     ensures sources { result.sources ≡ sources }
 {
     if is_printed(why) {
         return Answered {
             answer: Err(why),
-            told: whole,
+            reported: whole,
             sources,
             output,
         };
@@ -189,7 +189,7 @@ fn end_lived<S, W: Write, T: Tells + Copy>(
     output: W,
     sources: S,
 ) -> Answered<S, W>
-    ensures ended { LivedEnds T.voice (writing W.contents output result.output) answer whole result.told result.answer }
+    ensures ended { LivedEnds T.voice (writing W.contents output result.output) answer whole result.reported result.answer }
     ensures sources { result.sources ≡ sources }
 {
     match answer {
@@ -212,7 +212,7 @@ where
     R: Drop,
     requires { lines.held ≡ nothing_held }
     ensures { LiveBegun (live_setting manner T.voice S.after S.clock S.wakes) (R.remaining lines.reader) (given_disk (closable D.view D.closed) disk)
-        (calling sources result.sources) (writing W.contents output result.output) result.told result.answer }
+        (calling sources result.sources) (writing W.contents output result.output) result.reported result.answer }
 {
     let Lived {
         answer,
@@ -234,7 +234,7 @@ fn live_read<R: Read, W: Write, D: Close, S: Sources, T: Tells + Copy>(
     sources: S,
 ) -> Answered<S, W>
     ensures { LiveBegun (live_setting manner T.voice S.after S.clock S.wakes) (R.remaining input.old) (given_disk (closable D.view D.closed) disk)
-        (calling sources result.sources) (writing W.contents output result.output) result.told result.answer }
+        (calling sources result.sources) (writing W.contents output result.output) result.reported result.answer }
 {
     match InputLines::new(alloc, input) {
         Ok(lines) => live_lines(alloc, manner, lines, tells, output, disk, sources),
@@ -256,7 +256,7 @@ fn live_framed<R: Read, W: Write, D: Close, S: Sources, T: Tells + Copy>(
     sources: S,
 ) -> Answered<S, W>
     ensures { LiveAnswer (live_setting manner T.voice S.after S.clock S.wakes) (R.remaining input.old) (given_disk (closable D.view D.closed) disk)
-        (calling sources result.sources) (writing W.contents output result.output) result.told result.answer }
+        (calling sources result.sources) (writing W.contents output result.output) result.reported result.answer }
 {
     match tells.frame(Frame::Hello, &mut output) {
         Ok(()) => live_read(alloc, manner, input, tells, output, disk, sources),
@@ -273,7 +273,7 @@ fn tell_last<A: Copy, W: Write, T: Tells>(
     tells: &T,
     output: &mut W,
 ) -> bool
-    ensures { LastTold T.voice W.contents output.old output.new result answer }
+    ensures { LastReported T.voice W.contents output.old output.new result answer }
 {
     match answer {
         Ok(_) => true,
@@ -283,25 +283,25 @@ fn tell_last<A: Copy, W: Write, T: Tells>(
 
 /// The same ending, where what stands last went out or didn't.
 pub(crate) fn with_last(ending: Ending, said: bool) -> Ending
-    ensures { result ≡ record { status = ending.status; told = ending.told && said } }
+    ensures { result ≡ record { status = ending.status; reported = ending.reported && said } }
 {
     Ending {
         status: ending.status,
-        told: ending.told && said,
+        reported: ending.reported && said,
     }
 }
 
 /// Ends the program by what it answered: a fault is printed on standard error, and on standard output where
 /// its voice has it.
-pub(crate) fn end_told<W: Write, E: Says, T: Tells>(
+pub(crate) fn end_reported<W: Write, E: Says, T: Tells>(
     answer: Result<bool, RunFault>,
     tells: &T,
     output: &mut W,
     errors: &mut E,
 ) -> Ending
-    ensures last { LastTold T.voice W.contents output.old output.new result.told answer }
+    ensures last { LastReported T.voice W.contents output.old output.new result.reported answer }
     ensures status { result.status ≡ status_of answer }
-    ensures told { TellsFault (saying E.contents E.tried errors.old errors.new) result.told answer }
+    ensures reported { TellsFault (saying E.contents E.tried errors.old errors.new) result.reported answer }
 {
     let said = tell_last(answer, tells, output);
     with_last(end_program(answer, errors), said)
@@ -310,9 +310,9 @@ pub(crate) fn end_told<W: Write, E: Says, T: Tells>(
 /// Ends the program by what it answered, where its last text went out or didn't: a fault, or the number of the line after which it
 /// stopped, is printed on standard error.
 fn end_stopped<E: Says>(answer: Result<Option<u64>, RunFault>, said: bool, errors: &mut E) -> Ending
-    ensures last { result.told ≡ true → said ≡ true }
+    ensures last { result.reported ≡ true → said ≡ true }
     ensures status { result.status ≡ strict_status answer }
-    ensures told { TellsStop (saying E.contents E.tried errors.old errors.new) result.told answer }
+    ensures reported { TellsStop (saying E.contents E.tried errors.old errors.new) result.reported answer }
 {
     with_last(end_strict(answer, errors), said)
 }
@@ -333,12 +333,12 @@ pub(crate) fn end_live<R: Read, W: Write, E: Says, D: Close, S: Sources, T: Tell
 {
     let Answered {
         answer,
-        told,
+        reported,
         sources,
         output,
     } = live_framed(alloc, manner, input, tells, output, disk, sources);
     LiveEnding {
-        ending: end_stopped(answer, told, errors),
+        ending: end_stopped(answer, reported, errors),
         sources,
         output,
     }
@@ -368,7 +368,7 @@ pub fn run_live<R: Read, W: Write, E: Says, D: Close, S: Sources, T: Tells + Cop
     match files {
         Ok(disk) => end_live(alloc, manner, input, tells, output, errors, disk, sources),
         Err(why) => LiveEnding {
-            ending: end_told(Err(no_files(why)), &tells, &mut output, errors),
+            ending: end_reported(Err(no_files(why)), &tells, &mut output, errors),
             sources,
             output,
         },

@@ -19,7 +19,7 @@ use std::io::Write;
 /// Tells on a line why no worksheet was made.
 pub(crate) fn end_create<E: Says>(why: MakeFault, errors: &mut E) -> Ending
     ensures { (result.status ≡ 1)
-        × TellsMake (saying E.contents E.tried errors.old errors.new) result.told why }
+        × TellsMake (saying E.contents E.tried errors.old errors.new) result.reported why }
 {
     ended(1, errors.say(&NotMade { why }))
 }
@@ -47,7 +47,7 @@ pub fn run_create<D: Close, E: Says>(files: Result<D, MakeFault>, errors: &mut E
     requires { IfOk files (λ disk. 11 ≤ (D.view disk).room) }
 
     ensures no_files { IfErr files (λ why. (result.status ≡ 1)
-        × TellsMake (saying E.contents E.tried errors.old errors.new) result.told why) }
+        × TellsMake (saying E.contents E.tried errors.old errors.new) result.reported why) }
 
     // What becomes of the disk, and what is said of it.
     ensures files { IfOk files (λ disk. CreateEnds (given_disk (closable D.view D.closed) disk)

@@ -50,7 +50,7 @@ pub fn read_rescued<D: Close>(
 /// Tells on a line why nothing was rescued.
 fn refuse_rescue<E: Says>(why: RescueFault, errors: &mut E) -> Ending
     ensures { (result.status ≡ 1)
-        × TellsRescueFault (saying E.contents E.tried errors.old errors.new) result.told why }
+        × TellsRescueFault (saying E.contents E.tried errors.old errors.new) result.reported why }
 {
     match why {
         RescueFault::NotEmpty => end_create(MakeFault::Create(CreateCause::NotEmpty), errors),
@@ -61,7 +61,7 @@ fn refuse_rescue<E: Says>(why: RescueFault, errors: &mut E) -> Ending
 /// Ends the program by what the writing of the new worksheet answered.
 fn end_rescue<E: Says>(answer: Result<(), RescueFault>, errors: &mut E) -> Ending
     ensures { (result.status ≡ rescue_status answer)
-        × TellsRescued (saying E.contents E.tried errors.old errors.new) result.told answer }
+        × TellsRescued (saying E.contents E.tried errors.old errors.new) result.reported answer }
 {
     match answer {
         Ok(()) => ended(0, true),
@@ -99,7 +99,7 @@ fn rescue_to<D: Disk, N: Close, W: Says, E: Says>(
     requires made { (ops : List Op) × Makes ops found.now.sheet.contents }
 
     ensures no_files { IfErr files (λ why. (output.new ≡ output.old) × (result.status ≡ 1)
-        × TellsMake (saying E.contents E.tried errors.old errors.new) result.told why) }
+        × TellsMake (saying E.contents E.tried errors.old errors.new) result.reported why) }
 
     // What becomes of the disk, and what is said of it.
     ensures files { IfOk files (λ disk. RescueDone (given_disk (closable N.view N.closed) disk) found.now

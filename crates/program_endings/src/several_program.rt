@@ -43,7 +43,7 @@ pub struct Total {
     /// Whether the check of each ended well.
     pub passed: bool,
     /// Whether all that each had to say went out.
-    pub told: bool,
+    pub reported: bool,
 }
 
 impl Total {
@@ -61,7 +61,7 @@ impl Total {
             new: 0,
             faults: 0,
             passed: true,
-            told: true,
+            reported: true,
         }
     }
 
@@ -88,7 +88,7 @@ impl Total {
             new: self.new + u128::from(counts.new),
             faults: self.faults,
             passed: self.passes(ending),
-            told: self.told && ending.told,
+            reported: self.reported && ending.reported,
         }
     }
 
@@ -108,7 +108,7 @@ impl Total {
             new: self.new,
             faults: self.faults + 1,
             passed: self.passes(ending),
-            told: self.told && ending.told,
+            reported: self.reported && ending.reported,
         }
     }
 
@@ -132,9 +132,9 @@ impl Total {
         ensures { result ≡ ending_of self }
     {
         if self.passed {
-            ended(0, self.told)
+            ended(0, self.reported)
         } else {
-            ended(1, self.told)
+            ended(1, self.reported)
         }
     }
 }
@@ -233,7 +233,7 @@ fn write_summed<W: Write>(total: Total, out: &mut W) -> Result<(), WriteFault>
         new: _,
         faults: _,
         passed: _,
-        told: _,
+        reported: _,
     } = total;
     write!(
         out,
@@ -258,10 +258,10 @@ fn write_total<W: Write>(total: Total, out: &mut W) -> Result<(), WriteFault>
 /// The end of a check whose total can't be written.
 fn end_unsummed<E: Says>(total: Total, errors: &mut E) -> Ending
     ensures { (last : Ending) × EndsAs (saying E.contents E.tried errors.old errors.new) last (Err fault.Output)
-        × (result ≡ record { status = 1; told = total.told && last.told }) }
+        × (result ≡ record { status = 1; reported = total.reported && last.reported }) }
 {
     let last = end_program(Err(RunFault::Output), errors);
-    ended(1, total.told && last.told)
+    ended(1, total.reported && last.reported)
 }
 
 /// The end of a check of several worksheets: their total goes to `output`, and is flushed. Where that fails

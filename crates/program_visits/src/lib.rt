@@ -31,7 +31,7 @@ pub fn visited<W: Write, D: Disk, C: Children>(
         (outside (D.view disk) children.old (W.contents writer.old))
         (outside (D.view result.disk) children.new (W.contents writer.new)))
         × (OpeningHas (D.view disk) it.start it.now it.opened → Visit (bytes_on (D.view disk)) (D.view disk)
-        (record { events = events_of it.all.beats ++ []; told = outcomes_of it.all.beats }) (D.view result.disk)))) }
+        (record { events = events_of it.all.entries ++ []; reported = outcomes_of it.all.entries }) (D.view result.disk)))) }
 {
     run_read(alloc, script, strict, writer, disk, children)
 }

@@ -111,10 +111,10 @@ pub unread : (result : Result Op DecodeFault) (o : Op) → result ≡ Err faults
 unread result o wrong finds = subst (λ (r : Result Op DecodeFault). FindsOp o r) wrong finds
 
 -- what begins with a byte
-abbrev pub behind_first : List ℕ → List ℕ
-behind_first bytes = take (length bytes - 1) (drop 1 bytes)
+abbrev pub following_first : List ℕ → List ℕ
+following_first bytes = take (length bytes - 1) (drop 1 bytes)
 
-pub first_and_rest : (bytes : List ℕ) (n : ℕ) → 1 ≤ length bytes → get_or bytes 0 0 ≡ n → bytes ≡ n ∷ behind_first bytes
+pub first_and_rest : (bytes : List ℕ) (n : ℕ) → 1 ≤ length bytes → get_or bytes 0 0 ≡ n → bytes ≡ n ∷ following_first bytes
 first_and_rest [] n some is = absurd (omega (arith, some))
 first_and_rest (b ∷ bytes) n some is =
     let whole : take (length (b ∷ bytes) - 1) bytes ≡ bytes = take_all (length (b ∷ bytes) - 1) bytes (omega arith) in

@@ -23,9 +23,9 @@ pub all_front : (P : Op → Type 0) (a b : List Op) → AllByRecursion P (a ++ b
 all_front P [] b all = tt
 all_front P (o ∷ a) b all = (all.0, all_front P a b all.1)
 
-pub all_behind : (P : Op → Type 0) (a b : List Op) → AllByRecursion P (a ++ b) → AllByRecursion P b
-all_behind P [] b all = all
-all_behind P (o ∷ a) b all = all_behind P a b all.1
+pub all_after : (P : Op → Type 0) (a b : List Op) → AllByRecursion P (a ++ b) → AllByRecursion P b
+all_after P [] b all = all
+all_after P (o ∷ a) b all = all_after P a b all.1
 
 ops_append : (a b : List Record) → map op_in (a ++ b) ≡ map op_in a ++ map op_in b
 ops_append [] b = refl

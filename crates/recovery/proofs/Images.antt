@@ -20,7 +20,7 @@ use Rattle.journal.specs.declared.opening.OpenCause.{OpenCause}
 use Rattle.journal.specs.declared.opening.OpenCause.TheVariants as causes
 use Rattle.journal.specs.Open.{IsPassing}
 use Rattle.journal.specs.Laws.{OneList}
-use Rattle.recovery.specs.Code.{code_of, longest_told, IsTyped, IsPayloadOf}
+use Rattle.recovery.specs.Code.{code_of, longest_reported, IsTyped, IsPayloadOf}
 use Rattle.recovery.specs.Sheets.{codes_of, Makes, IsSheetImage, IsEither}
 use Rattle.recovery.specs.inside.Taken.{RefusesFrom}
 use Rattle.recovery.specs.declared.base.Base.{Base}
@@ -48,7 +48,7 @@ on_ok (Ok y) x is holds = holds
 on_ok (Err e) x is holds = cc
 
 -- what fits by a capped length fits
-pub fits_uncapped : (room end n : ℕ) → Fits room end (min n longest_told) → Fits room end n
+pub fits_uncapped : (room end n : ℕ) → Fits room end (min n longest_reported) → Fits room end n
 fits_uncapped room end n fits =
     let short : n ≤ longest_payload = omega (arith, fits.0) in
     (short, omega (arith, fits.1, short))
@@ -82,9 +82,9 @@ module _ {D : Type 0} (view : D → DiskView) (base : Base D) (sheet : Contents)
       let after : sheet_of (ops ++ o ∷ []) ≡ sheet_of (kept.ops ++ o ∷ []) = sym (same_next kept.ops ops o kept.makes.allowed (sym kept.makes.is ∙ is) allowed) in
       ⊎_elim
       (λ before. inl (record { ops = kept.ops; stands = before; makes = record { typed = kept.makes.typed; lengths = kept.makes.lengths; allowed = kept.makes.allowed; is = sym is ∙ kept.makes.is } }))
-      (λ behind. inr (record {
+      (λ following. inr (record {
         ops = kept.ops ++ o ∷ [];
-        stands = subst (λ (l : List (List ℕ)). ImageStandsFor i l) (codes_more kept.ops) behind;
+        stands = subst (λ (l : List (List ℕ)). ImageStandsFor i l) (codes_more kept.ops) following;
         makes = makes_more kept.ops o sheet (sheet_of (ops ++ o ∷ [])) kept.makes own.typed short next after;
       }))
       stands.0
@@ -139,8 +139,8 @@ same_ops_from before (x ∷ a) [] allowed p q ta tb same = absurd cc
 same_ops_from before (x ∷ a) (y ∷ b) allowed p q ta tb same =
     let parts = head_is (code_of x) (code_of y) (codes_of a) (codes_of b) same in
     let first : x ≡ y = same_op before x y allowed p.0 q.0 ta.0 tb.0 parts.0 in
-    let behind : AllowedFrom (before ++ x ∷ []) b = subst (λ (z : Op). AllowedFrom (before ++ z ∷ []) b) (sym first) q.1 in
-    ap (λ (z : Op). z ∷ a) first ∙ ap (λ (l : List Op). y ∷ l) (same_ops_from (before ++ x ∷ []) a b (allowed_goes_on before x allowed p.0) p.1 behind ta.1 tb.1 parts.1)
+    let following : AllowedFrom (before ++ x ∷ []) b = subst (λ (z : Op). AllowedFrom (before ++ z ∷ []) b) (sym first) q.1 in
+    ap (λ (z : Op). z ∷ a) first ∙ ap (λ (l : List Op). y ∷ l) (same_ops_from (before ++ x ∷ []) a b (allowed_goes_on before x allowed p.0) p.1 following ta.1 tb.1 parts.1)
 
 pub one_list_of_ops : OneList → OneListOfOps
 one_list_of_ops lists a b s t i p q stands other = same_ops_from [] a b tt p.allowed q.allowed p.typed q.typed (lists longest_payload (omega arith) (active_of i) (codes_of a) (codes_of b) stands.stands other.stands)
@@ -162,8 +162,8 @@ taken_from before (x ∷ ops) [] payload more allowed p q ta tb same wrong = cc
 taken_from before (x ∷ ops) (y ∷ taken) payload more allowed p q ta tb same wrong =
     let parts = head_is (code_of y) (code_of x) (codes_of taken) (codes_of ops ++ payload ∷ more) same in
     let first : y ≡ x = same_op before y x allowed q.0 p.0 tb.0 ta.0 parts.0 in
-    let behind : AllowedFrom (before ++ x ∷ []) taken = subst (λ (z : Op). AllowedFrom (before ++ z ∷ []) taken) first q.1 in
-    taken_from (before ++ x ∷ []) ops taken payload more (allowed_goes_on before x allowed p.0) p.1 behind ta.1 tb.1 parts.1
+    let following : AllowedFrom (before ++ x ∷ []) taken = subst (λ (z : Op). AllowedFrom (before ++ z ∷ []) taken) first q.1 in
+    taken_from (before ++ x ∷ []) ops taken payload more (allowed_goes_on before x allowed p.0) p.1 following ta.1 tb.1 parts.1
     (λ o own next. wrong o own (subst (λ (l : List Op). first_refusal (sheet_of l) o ≡ None) (append_assoc before (x ∷ []) ops) next))
 
 pub not_refused : (ops : List Op) (sheet : Contents) (cause : OpenCause) → Makes ops sheet → RefusesFrom (codes_of ops) cause → IsPassing cause

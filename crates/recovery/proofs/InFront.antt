@@ -50,8 +50,8 @@ pub none_in_front : (id : ℕ) (old : List ℕ) → TellsAlike id old [] → 0 �
 none_in_front id old alike = alike id (omega arith)
 
 -- after those that are left it stands as it would after them all
-pub put_behind : (id : ℕ) (old new : List ℕ) → TellsAlike id old new → (other : ℕ) → last_below 0 other (new ++ id ∷ []) ≡ last_below 0 other (old ++ id ∷ [])
-put_behind id old new alike other = rw (below_push 0 other id new, below_push 0 other id old) (go (nat_lt id other) refl)
+pub put_after : (id : ℕ) (old new : List ℕ) → TellsAlike id old new → (other : ℕ) → last_below 0 other (new ++ id ∷ []) ≡ last_below 0 other (old ++ id ∷ [])
+put_after id old new alike other = rw (below_push 0 other id new, below_push 0 other id old) (go (nat_lt id other) refl)
   where
     go : (b : Bool) → nat_lt id other ≡ b → (if b then id else last_below 0 other new) ≡ (if b then id else last_below 0 other old)
     go true e = refl

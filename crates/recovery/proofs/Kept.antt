@@ -131,7 +131,7 @@ module _ {D : Type 0} (view : D → DiskView) (base : Base D) (sheet : SheetView
       → InModel (disk_of view base) ((ops : List Op) → KeepsOps (store_on view (Some base) sheet) ops → LeavesOnly (StandsWithOrWithout ops o) (disk_of view base).history new)
   payload_moments new each model ops kept =
       weakens (BeforeOrAfter (disk_of view base).history.now (codes_of ops) payload) (StandsWithOrWithout ops o) (disk_of view base).history new
-      (λ i stands. ⊎_elim (λ before. inl before) (λ behind. inr (subst (λ (l : List (List ℕ)). ImageStandsFor i l) (codes_more ops) behind)) stands.0)
+      (λ i stands. ⊎_elim (λ before. inl before) (λ following. inr (subst (λ (l : List (List ℕ)). ImageStandsFor i l) (codes_more ops) following)) stands.0)
       (each model (codes_of ops) (inside view base (codes_of ops) kept.still_open kept.keeps))
 
   -- and at Ok the latter

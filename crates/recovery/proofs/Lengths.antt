@@ -118,8 +118,8 @@ fields_short fields each (suc count) number next =
   where
     go : (found : Option Field) → FoundFits found → AllByRecursion FitsAsAnswer (fields_ops fields count (number + 1) (number + 1)) → AllByRecursion FitsAsAnswer (fields_ops fields count (number + 1) next)
         → AllByRecursion FitsAsAnswer (found_ops fields next found (fields_ops fields count (number + 1) (number + 1)) (fields_ops fields count (number + 1) next))
-    go None fits behind without = without
-    go (Some f) fits behind without = all_append FitsAsAnswer (field_ops fields next f) (fields_ops fields count (number + 1) (number + 1)) (field_short fields next f fits) behind
+    go None fits following without = without
+    go (Some f) fits following without = all_append FitsAsAnswer (field_ops fields next f) (fields_ops fields count (number + 1) (number + 1)) (field_short fields next f fits) following
 
 rewrite_short : (sheet : Contents) → AllByRecursion FieldFits sheet.fields → AllByRecursion FitsAsAnswer (rewrite_of sheet)
 rewrite_short sheet each =
@@ -152,8 +152,8 @@ all_have_records before (o ∷ os) front allowed fit =
 is_worksheet : (ops : List Op) (sheet : Contents) → Makes ops sheet → IsWorksheet sheet
 is_worksheet ops sheet makes = subst IsWorksheet (sym makes.is) (ops_make_worksheets ops makes.allowed)
 
-pub records_anew : (ops : List Op) (sheet : Contents) → Makes ops sheet → AllByRecursion HasRecord (rewrite_of sheet)
-records_anew ops sheet makes =
+pub records_again : (ops : List Op) (sheet : Contents) → Makes ops sheet → AllByRecursion HasRecord (rewrite_of sheet)
+records_again ops sheet makes =
     let fit = subst (λ (s : Contents). AllByRecursion FieldFits s.fields) (sym makes.is) (fields_fit ops makes.lengths (order_of ops)) in
     all_have_records [] (rewrite_of sheet) tt (rewrite_makes_the_same sheet (is_worksheet ops sheet makes)).0 (rewrite_short sheet fit)
 
@@ -162,7 +162,7 @@ payloads_of [] each = tt
 payloads_of (o ∷ os) each = ((omega arith, each.0.1), payloads_of os each.1)
 
 pub rewrites_are_short : RewritesAreShort
-rewrites_are_short ops sheet makes = payloads_of (rewrite_of sheet) (records_anew ops sheet makes)
+rewrites_are_short ops sheet makes = payloads_of (rewrite_of sheet) (records_again ops sheet makes)
 
 pub next_some : (ops : List Op) (sheet : Contents) → Makes ops sheet → 1 ≤ sheet.next
 next_some ops sheet makes = (is_worksheet ops sheet makes).from_one

@@ -10,11 +10,11 @@ use Rattle.worksheet.specs.Checks.{numbers}
 use Rattle.worksheet.specs.Rewrite.{field_ops, ids_to, outcome_ops, rewrite_of, smaller_before}
 use Rattle.journal.specs.Area.{record_of, records}
 use Rattle.journal.specs.Limits.{longest_payload}
-use Rattle.recovery.specs.Code.{code_of, longest_told}
+use Rattle.recovery.specs.Code.{code_of, longest_reported}
 use Rattle.recovery.specs.Sheets.{codes_of}
-use Rattle.recovery.specs.Checkpointed.{HasRoomAnew}
+use Rattle.recovery.specs.Checkpointed.{HasRoomAgain}
 use Rattle.recovery.specs.inside.Measured.{Measures}
-use Rattle.recovery.proofs.Gathering.{all_behind, codes_append}
+use Rattle.recovery.proofs.Gathering.{all_after, codes_append}
 
 -- how long the records of ops are
 abbrev size_of : List Op → ℕ
@@ -32,10 +32,10 @@ size_append a b = ap (λ (l : List (List ℕ)). length (records l)) (codes_appen
 size_one : (o : Op) → size_of (o ∷ []) ≡ 5 + length (code_of o)
 size_one o = omega (arith, length-append (record_of (code_of o)) [])
 
-pub measures_wide : (o : Op) (left len : ℕ) → len ≡ min (length (code_of o)) longest_told → len ≤ longest_payload → left < len + 5 → Measures (o ∷ []) left None
+pub measures_wide : (o : Op) (left len : ℕ) → len ≡ min (length (code_of o)) longest_reported → len ≤ longest_payload → left < len + 5 → Measures (o ∷ []) left None
 measures_wide o left len is short wide = λ room. omega (arith, is, short, wide, size_one o, room)
 
-pub measures_one : (o : Op) (left len : ℕ) → len ≡ min (length (code_of o)) longest_told → len ≤ longest_payload → len + 5 ≤ left → Measures (o ∷ []) left (Some (left - 5 - len))
+pub measures_one : (o : Op) (left len : ℕ) → len ≡ min (length (code_of o)) longest_reported → len ≤ longest_payload → len + 5 ≤ left → Measures (o ∷ []) left (Some (left - 5 - len))
 measures_one o left len is short fits = omega (arith, is, short, fits, size_one o)
 
 -- One after another.
@@ -74,13 +74,13 @@ measured_stops all rest more left x y so_far is one =
     measured_ends all rest None x y so_far (subst (λ (l : List Op). Measures l y None) (sym is) (measures_stop more left y one))
 
 pub rest_measured : (P : Op → Type 0) (all rest : List Op) (x y : ℕ) → MeasuredSoFar all rest x y → AllByRecursion P all → AllByRecursion P rest
-rest_measured P all rest x y so_far holds = all_behind P so_far.done rest (subst (AllByRecursion P) (sym so_far.split) holds)
+rest_measured P all rest x y so_far holds = all_after P so_far.done rest (subst (AllByRecursion P) (sym so_far.split) holds)
 
 -- whether there is room for them all
-pub no_room_anew : (room : ℕ) (sheet : Contents) → room < 11 → IsTrue false ↔ HasRoomAnew room sheet
-no_room_anew room sheet small = ((λ no. absurd (let wrong : false ≡ true = no in cc)), λ has. absurd (omega (arith, small, has)))
+pub no_room_again : (room : ℕ) (sheet : Contents) → room < 11 → IsTrue false ↔ HasRoomAgain room sheet
+no_room_again room sheet small = ((λ no. absurd (let wrong : false ≡ true = no in cc)), λ has. absurd (omega (arith, small, has)))
 
-pub has_room : (room : ℕ) (sheet : Contents) (r : Option ℕ) → 11 ≤ room → Measures (rewrite_of sheet) (room - 11) r → IsTrue (is_some r) ↔ HasRoomAnew room sheet
+pub has_room : (room : ℕ) (sheet : Contents) (r : Option ℕ) → 11 ≤ room → Measures (rewrite_of sheet) (room - 11) r → IsTrue (is_some r) ↔ HasRoomAgain room sheet
 has_room room sheet (Some rest) wide one = ((λ _. omega (arith, wide, one)), λ _. refl)
 has_room room sheet None wide one = ((λ no. absurd (let wrong : false ≡ true = no in cc)), λ has. absurd (one (omega (arith, wide, has))))
 

@@ -17,7 +17,7 @@ use Rattle.journal.proofs.Unique.{laid_out_once}
 use Rattle.recovery.specs.Sheets.{IsSheetImage, IsSheetOf, KeepsOps, Makes, codes_of}
 use Rattle.recovery.specs.declared.base.Base.{Base}
 use Rattle.recovery.specs.declared.base.Base.TheVariants.{Open, Gathering, Closed}
-use Rattle.recovery.specs.inside.Base.{AnewAnswers, IsBaseOf, MayOweIn, KeepsIn, KeepsSome, MayOwe, RealKeeps, disk_of, end_in, is_closed, owed_to, real_of, store_on}
+use Rattle.recovery.specs.inside.Base.{AgainAnswers, IsBaseOf, MayOweIn, KeepsIn, KeepsSome, MayOwe, RealKeeps, disk_of, end_in, is_closed, owed_to, real_of, store_on}
 use Rattle.recovery.proofs.Images.{all_images, same_sheet}
 use Rattle.recovery.proofs.Kept.{inside, outside}
 
@@ -88,11 +88,11 @@ keeps_back j gs payloads none keeps =
     (subst (λ (l : List (List ℕ)). Keeps (owed_disk j.disk j.end l).history (end_at j l) payloads) none keeps)
 
 -- a journal to which nothing is owed is rewritten
-pub anew_flushed : {D : Type 0} (view : D → DiskView) (self : Base D) (j : JournalView) (g : GroupView) → self ≡ Gathering j g → owed_to self ≡ [] → (new : JournalView) (payloads : List (List ℕ)) → new.end ≡ end_of payloads
-    → new.disk.faults ≡ j.disk.faults → InModel j.disk ((before : List (List ℕ)) → Keeps j.disk.history j.end before → Keeps new.disk.history new.end payloads) → AnewAnswers view self (Open new) payloads (Ok tt)
-anew_flushed {D = D} view self j g is flushed new payloads ends steady ok =
+pub again_flushed : {D : Type 0} (view : D → DiskView) (self : Base D) (j : JournalView) (g : GroupView) → self ≡ Gathering j g → owed_to self ≡ [] → (new : JournalView) (payloads : List (List ℕ)) → new.end ≡ end_of payloads
+    → new.disk.faults ≡ j.disk.faults → InModel j.disk ((before : List (List ℕ)) → Keeps j.disk.history j.end before → Keeps new.disk.history new.end payloads) → AgainAnswers view self (Open new) payloads (Ok tt)
+again_flushed {D = D} view self j g is flushed new payloads ends steady ok =
     let none : g.payloads ≡ [] = ap (λ (b : Base D). owed_to b) (sym is) ∙ flushed in
-    subst (λ (b : Base D). AnewAnswers view b (Open new) payloads (Ok tt)) (sym is)
+    subst (λ (b : Base D). AgainAnswers view b (Open new) payloads (Ok tt)) (sym is)
     (refl, ends, steady, λ model before keeps. ok model before (keeps_back j g.payloads before none keeps))
 
 pub made_of : (ops : List Op) (sheet : Contents) → Makes ops sheet → Makes ops (sheet_of ops)

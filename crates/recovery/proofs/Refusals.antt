@@ -34,11 +34,11 @@ refused_once before (x ∷ firsts) [] p q more others allowed fa fb ta tb same w
 refused_once before (x ∷ firsts) (y ∷ seconds) p q more others allowed fa fb ta tb same wa wb =
     let parts = head_is (code_of x) (code_of y) (codes_of firsts ++ p ∷ more) (codes_of seconds ++ q ∷ others) same in
     let first : x ≡ y = same_op before x y allowed fa.0 fb.0 ta.0 tb.0 parts.0 in
-    let behind : AllowedFrom (before ++ x ∷ []) seconds = subst (λ (z : Op). AllowedFrom (before ++ z ∷ []) seconds) (sym first) fb.1 in
-    let same_behind = refused_once (before ++ x ∷ []) firsts seconds p q more others (allowed_goes_on before x allowed fa.0) fa.1 behind ta.1 tb.1 parts.1
+    let following : AllowedFrom (before ++ x ∷ []) seconds = subst (λ (z : Op). AllowedFrom (before ++ z ∷ []) seconds) (sym first) fb.1 in
+    let same_after = refused_once (before ++ x ∷ []) firsts seconds p q more others (allowed_goes_on before x allowed fa.0) fa.1 following ta.1 tb.1 parts.1
     (λ o own next. wa o own (subst (λ (l : List Op). first_refusal (sheet_of l) o ≡ None) (append_assoc before (x ∷ []) firsts) next))
     (λ o own next. wb o own (subst (λ (l : List Op). first_refusal (sheet_of l) o ≡ None) (append_assoc before (x ∷ []) seconds ∙ ap (λ (z : Op). before ++ z ∷ seconds) first) next)) in
-    ap (λ (z : Op). z ∷ firsts) first ∙ ap (λ (l : List Op). y ∷ l) same_behind
+    ap (λ (z : Op). z ∷ firsts) first ∙ ap (λ (l : List Op). y ∷ l) same_after
 
 -- and so is its gate
 one_gate : (payloads : List (List ℕ)) (gate other : ℕ) → IsRefusedAt payloads gate → IsRefusedAt payloads other → gate ≡ other
@@ -47,21 +47,21 @@ one_gate payloads gate other a b =
     a.gate_is ∙ ap (λ (ops : List Op). end_of (codes_of ops)) same ∙ sym b.gate_is
 
 pub one_refusal : OneList → OneDamage → NoDamage → OneRefusal
-one_refusal lists once none i gate other told also = ⊎_elim
+one_refusal lists once none i gate other reported also = ⊎_elim
     (λ damaged. ⊎_elim
     (λ again. once longest_payload (omega arith) (active_of i) gate other damaged again)
     (λ refused. absurd (none longest_payload (omega arith) (active_of i) refused.0 gate refused.1.stands damaged)) also)
     (λ refused. ⊎_elim
     (λ damaged. absurd (none longest_payload (omega arith) (active_of i) refused.0 other refused.1.stands damaged))
     (λ again. one_gate again.0 gate other (subst (λ (l : List (List ℕ)). IsRefusedAt l gate) (lists longest_payload (omega arith) (active_of i) refused.0 again.0 refused.1.stands again.1.stands) refused.2) again.2) also)
-    told
+    reported
 
 pub sheet_image_opens : OneList → StandingOpens → SheetImageOpens
-sheet_image_opens lists opens sheet i (causes.Damaged gate) image told = ⊎_elim
+sheet_image_opens lists opens sheet i (causes.Damaged gate) image reported = ⊎_elim
     (λ damaged. opens i (codes_of image.ops) (causes.Damaged gate) image.stands damaged)
     (λ refused. not_refused image.ops sheet (causes.Damaged gate) image.makes
     (subst (λ (l : List (List ℕ)). RefusesFrom l (causes.Damaged gate)) (lists longest_payload (omega arith) (active_of i) refused.0 (codes_of image.ops) refused.1.stands image.stands.stands) refused.2))
-    told
-sheet_image_opens lists opens sheet i causes.NotASheet image told = opens i (codes_of image.ops) causes.NotASheet image.stands told
-sheet_image_opens lists opens sheet i causes.Disk image told = tt
-sheet_image_opens lists opens sheet i causes.OutOfMemory image told = tt
+    reported
+sheet_image_opens lists opens sheet i causes.NotASheet image reported = opens i (codes_of image.ops) causes.NotASheet image.stands reported
+sheet_image_opens lists opens sheet i causes.Disk image reported = tt
+sheet_image_opens lists opens sheet i causes.OutOfMemory image reported = tt

@@ -21,7 +21,7 @@ use Rattle.journal.specs.declared.opening.OpenCause.{OpenCause}
 use Rattle.journal.specs.declared.opening.OpenCause.TheVariants as causes
 use Rattle.recovery.specs.Code.{code_of, IsPayloadOf, IsTyped}
 use Rattle.recovery.specs.Sheets.{codes_of, Makes}
-use Rattle.recovery.specs.Rescued.{IsRescued, StopsBehind, stops_at}
+use Rattle.recovery.specs.Rescued.{IsRescued, StopsAfter, stops_at}
 use Rattle.recovery.specs.Laws.{LongestRescue, OneRescue, RescueOfWhole}
 use Rattle.recovery.specs.inside.Rescuing.{FindsRescued, Stops}
 use Rattle.recovery.specs.inside.Taken.{TakesOps, Refuses}
@@ -45,15 +45,15 @@ pub record ReachedInFront (old now : FrontView) (sheet : Contents) (kept : ℕ) 
   pub so_far : InModel old.disk ((payloads : List (List ℕ)) → HasGivenFront old [] payloads → LeftInFront now ops payloads)
 
 -- one payload more
-pub left_behind : (now behind : FrontView) (ops : List Op) (payloads : List (List ℕ)) (bytes : List ℕ) (sheet : Contents) (far : LeftInFront now ops payloads)
-    → ((others : List (List ℕ)) × (far.left ≡ bytes ∷ others) × HasGivenFront behind (codes_of ops ++ bytes ∷ []) others)
-    → (takes : TakesOps ops bytes sheet) → LeftInFront behind (ops ++ takes.next ∷ []) payloads
-left_behind now behind ops payloads bytes sheet far next takes =
+pub left_beyond : (now following : FrontView) (ops : List Op) (payloads : List (List ℕ)) (bytes : List ℕ) (sheet : Contents) (far : LeftInFront now ops payloads)
+    → ((others : List (List ℕ)) × (far.left ≡ bytes ∷ others) × HasGivenFront following (codes_of ops ++ bytes ∷ []) others)
+    → (takes : TakesOps ops bytes sheet) → LeftInFront following (ops ++ takes.next ∷ []) payloads
+left_beyond now following ops payloads bytes sheet far next takes =
     let codes : codes_of ops ++ bytes ∷ [] ≡ codes_of (ops ++ takes.next ∷ []) =
     ap (λ (b : List ℕ). codes_of ops ++ b ∷ []) takes.is ∙ sym (codes_push ops takes.next) in
     record {
       left = next.0;
-      given = subst (λ (l : List (List ℕ)). HasGivenFront behind l next.0) codes next.2;
+      given = subst (λ (l : List (List ℕ)). HasGivenFront following l next.0) codes next.2;
       are = far.are ∙ ap (λ (l : List (List ℕ)). codes_of ops ++ l) next.1 ∙ sym (append_assoc (codes_of ops) (bytes ∷ []) next.0)
           ∙ ap (λ (l : List (List ℕ)). l ++ next.0) codes;
     }
@@ -65,13 +65,13 @@ module _ (old now : FrontView) (ops : List Op) (payloads : List (List ℕ)) (mak
   whole_front left is = subst (λ (l : List (List ℕ)). ImageHasFront (bytes_on old.disk) l old.damaged) (far.are ∙ ap (λ (l : List (List ℕ)). codes_of ops ++ l) is) has.has
 
   pub rescued_whole : (damage : Option ℕ) → far.left ≡ [] → damage ≡ damage_at now.damaged now.end → IsRescued (bytes_on old.disk) ops damage
-  rescued_whole damage none told = record {
+  rescued_whole damage none reported = record {
     left = [];
     damaged = old.damaged;
     front = whole_front [] none;
     makes = makes;
     stops = tt;
-    damage_is = told ∙ ap (λ (b : Bool). damage_at b now.end) same
+    damage_is = reported ∙ ap (λ (b : Bool). damage_at b now.end) same
         ∙ ap (λ (n : ℕ). damage_at old.damaged n) (far.given.end_is ∙ ap (λ (l : List (List ℕ)). end_of (codes_of ops ++ l)) none ∙ ap end_of (append-nil (codes_of ops)));
   }
 
@@ -93,9 +93,9 @@ own_sheet ops sheet makes = record { typed = makes.typed; lengths = makes.length
 pub found_whole : {D : Type 0} (old now : FrontView) (sheet : SheetView) (kept : ℕ) (disk : D) (damage : Option ℕ) (payloads : List (List ℕ)) (reached : ReachedInFront old now sheet.contents kept)
     → HasGivenFront old [] payloads → (far : LeftInFront now reached.ops payloads) → far.left ≡ [] → damage ≡ damage_at now.damaged now.end
     → FindsRescued (bytes_on old.disk) (record { disk = disk; sheet = sheet; kept = kept; damage = damage })
-found_whole old now sheet kept disk damage payloads reached has far none told = (
+found_whole old now sheet kept disk damage payloads reached has far none reported = (
   reached.ops,
-  rescued_whole old now reached.ops payloads (own_sheet reached.ops sheet.contents reached.makes) reached.damaged has far damage none told,
+  rescued_whole old now reached.ops payloads (own_sheet reached.ops sheet.contents reached.makes) reached.damaged has far damage none reported,
   reached.makes.is,
   reached.count,
 )
@@ -136,7 +136,7 @@ passing_stop {D = D} ops sheet kept disk p causes.OutOfMemory result refuses sto
 
 -- Allowed ops whose payloads stand there are the first of those that are rescued.
 longest_from : (before ops others : List Op) (left rest : List (List ℕ)) → Allowed before → AllowedFrom before ops → AllowedFrom before others → AllByRecursion IsTyped ops → AllByRecursion IsTyped others
-    → codes_of ops ++ left ≡ codes_of others ++ rest → StopsBehind (before ++ ops) left → (more : List Op) × (ops ≡ others ++ more)
+    → codes_of ops ++ left ≡ codes_of others ++ rest → StopsAfter (before ++ ops) left → (more : List Op) × (ops ≡ others ++ more)
 longest_from before ops [] left rest allowed fa fb ta tb same stops = (ops, refl)
 longest_from before [] (y ∷ others) [] rest allowed fa fb ta tb same stops = absurd cc
 longest_from before [] (y ∷ others) (p ∷ left) rest allowed fa fb ta tb same stops =
@@ -145,9 +145,9 @@ longest_from before [] (y ∷ others) (p ∷ left) rest allowed fa fb ta tb same
 longest_from before (x ∷ ops) (y ∷ others) left rest allowed fa fb ta tb same stops =
     let parts = head_is (code_of x) (code_of y) (codes_of ops ++ left) (codes_of others ++ rest) same in
     let first : x ≡ y = same_op before x y allowed fa.0 fb.0 ta.0 tb.0 parts.0 in
-    let behind : AllowedFrom (before ++ x ∷ []) others = subst (λ (z : Op). AllowedFrom (before ++ z ∷ []) others) (sym first) fb.1 in
-    let more = longest_from (before ++ x ∷ []) ops others left rest (allowed_goes_on before x allowed fa.0) fa.1 behind ta.1 tb.1 parts.1
-    (subst (λ (l : List Op). StopsBehind l left) (sym (append_assoc before (x ∷ []) ops)) stops) in
+    let following : AllowedFrom (before ++ x ∷ []) others = subst (λ (z : Op). AllowedFrom (before ++ z ∷ []) others) (sym first) fb.1 in
+    let more = longest_from (before ++ x ∷ []) ops others left rest (allowed_goes_on before x allowed fa.0) fa.1 following ta.1 tb.1 parts.1
+    (subst (λ (l : List Op). StopsAfter l left) (sym (append_assoc before (x ∷ []) ops)) stops) in
     (more.0, ap (λ (z : Op). z ∷ ops) first ∙ ap (λ (l : List Op). y ∷ l) more.1)
 
 pub longest_rescue : OneFront → LongestRescue

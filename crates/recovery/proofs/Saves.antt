@@ -15,7 +15,7 @@ use Rattle.recovery.specs.Code.{IsTyped}
 use Rattle.recovery.specs.Saved.{IsBeingSaved}
 use Rattle.recovery.specs.Sheets.{codes_of, IsSheetImage, Makes}
 use Rattle.recovery.specs.inside.Rescuing.{IsBeingLaid}
-use Rattle.recovery.proofs.Renewing.{makes_anew}
+use Rattle.recovery.proofs.Renewing.{makes_again}
 
 abbrev IsCutOff : DiskState → Image → Type 0
 IsCutOff s i = Reaches (ChangesArea First (Torn 0 11)) s i
@@ -31,7 +31,7 @@ being_laid payloads h0 h1 h2 created laid =
 -- the payloads of the ops that make a worksheet again
 module _ (ops : List Op) (sheet : Contents) (makes : Makes ops sheet) (typed : AllByRecursion IsTyped (rewrite_of sheet)) where
   sheet_stands : (i : Image) → ImageStandsFor i (codes_of (rewrite_of sheet)) → IsSheetImage sheet i
-  sheet_stands i stands = record { ops = rewrite_of sheet; stands = stands; makes = makes_anew ops sheet makes typed }
+  sheet_stands i stands = record { ops = rewrite_of sheet; stands = stands; makes = makes_again ops sheet makes typed }
 
   empty_stands : (i : Image) → ImageStandsFor i [] → IsSheetImage (sheet_of []) i
   empty_stands i stands = record { ops = []; stands = stands; makes = record { typed = tt; lengths = tt; allowed = tt; is = refl } }

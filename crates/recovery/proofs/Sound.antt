@@ -24,9 +24,9 @@ in_front [] b byte i = omega arith
 in_front (x ∷ a) b byte zero = byte zero
 in_front (x ∷ a) b byte (suc i) = in_front a b (λ j. byte (suc j)) i
 
-behind : (a b : List ℕ) → AreBytes (a ++ b) → AreBytes b
-behind [] b byte = byte
-behind (x ∷ a) b byte = behind a b (λ j. byte (suc j))
+following : (a b : List ℕ) → AreBytes (a ++ b) → AreBytes b
+following [] b byte = byte
+following (x ∷ a) b byte = following a b (λ j. byte (suc j))
 
 -- what comes before a part that was read, and its value
 record Bound {A B : Type 0} (m : Option A) (f : A → Option B) (y : B) : Type 0 where
@@ -63,10 +63,10 @@ number_is bytes rest n byte read =
     let b = bound (front_at 4 bytes) (λ x. just (from_be_bytes w32 x.0, x.1)) (n, rest) read in
     let front = front_is 4 bytes b.x.0 b.x.1 b.is in
     let same = some_is (from_be_bytes w32 b.x.0, b.x.1) (n, rest) b.gives in
-    let told : n ≡ from_be_bytes w32 b.x.0 = sym (ap (λ (x : ℕ × List ℕ). x.0) same) in
+    let reported : n ≡ from_be_bytes w32 b.x.0 = sym (ap (λ (x : ℕ × List ℕ). x.0) same) in
     let after : b.x.1 ≡ rest = ap (λ (x : ℕ × List ℕ). x.1) same in
     let small : AreBytes b.x.0 = in_front b.x.0 b.x.1 (subst AreBytes front.0 byte) in
-    (front.0 ∙ ap (λ (l : List ℕ). l ++ b.x.1) (sym (be_bytes_4 b.x.0 n front.1 small told)) ∙ ap (λ (l : List ℕ). number n ++ l) after, omega (arith, told, small 0, small 1, small 2, small 3))
+    (front.0 ∙ ap (λ (l : List ℕ). l ++ b.x.1) (sym (be_bytes_4 b.x.0 n front.1 small reported)) ∙ ap (λ (l : List ℕ). number n ++ l) after, omega (arith, reported, small 0, small 1, small 2, small 3))
 
 last_number_is : (bytes : List ℕ) (n : ℕ) → AreBytes bytes → last_number_at bytes ≡ Some n → (bytes ≡ number n) × IsNumber n
 unfolding last_number_at
@@ -116,16 +116,16 @@ IsSound kind read = (bytes : List ℕ) (o : Op) → AreBytes bytes → read byte
 pub sound_by : (kind : ℕ) (read : List ℕ → Option Op) → IsSound kind read → (bytes rest : List ℕ) → bytes ≡ kind ∷ rest → AreBytes bytes
     → (result : Result Op DecodeFault) → ReadsOrFails (λ x. x) result (read rest) → IfOk result (λ o. IsPayloadOf o bytes)
 sound_by kind read sound bytes rest front byte (Ok o) gives =
-    let behind_kind : AreBytes rest = λ i. (subst AreBytes front byte) (suc i) in
-    subst (λ (b : List ℕ). IsPayloadOf o b) (sym front) (sound rest o behind_kind gives)
+    let after_kind : AreBytes rest = λ i. (subst AreBytes front byte) (suc i) in
+    subst (λ (b : List ℕ). IsPayloadOf o b) (sym front) (sound rest o after_kind gives)
 sound_by kind read sound bytes rest front byte (Err e) gives = tt
 
 -- the parts of an op that a reader of this kind found
 pub parts_by : {X : Type 0} (kind : ℕ) (read : List ℕ → Option Op) → IsSound kind read → (view : X → Op) (bytes rest : List ℕ) → bytes ≡ kind ∷ rest → AreBytes bytes
     → (found : Option X) → ReadsPart view found (read rest) → IfSome found (λ x. IsPayloadOf (view x) bytes)
 parts_by kind read sound view bytes rest front byte (Some x) gives =
-    let behind_kind : AreBytes rest = λ i. (subst AreBytes front byte) (suc i) in
-    subst (λ (b : List ℕ). IsPayloadOf (view x) b) (sym front) (sound rest (view x) behind_kind gives)
+    let after_kind : AreBytes rest = λ i. (subst AreBytes front byte) (suc i) in
+    subst (λ (b : List ℕ). IsPayloadOf (view x) b) (sym front) (sound rest (view x) after_kind gives)
 parts_by kind read sound view bytes rest front byte None gives = tt
 
 -- the payload of the op that was read, where it is that of this one
@@ -139,10 +139,10 @@ new_sound bytes o byte read =
     let s = bound (short_at a.x.1) (λ s. last_long_at s.1 >>= λ t. just (op.New a.x.0 s.0 t)) o a.gives in
     let t = bound (last_long_at s.x.1) (λ t. just (op.New a.x.0 s.x.0 t)) o s.gives in
     let number_part = number_is bytes a.x.1 a.x.0 byte a.is in
-    let behind_number : AreBytes a.x.1 = behind (number a.x.0) a.x.1 (subst AreBytes number_part.0 byte) in
-    let name = short_is a.x.1 s.x.0 s.x.1 behind_number s.is in
-    let behind_name : AreBytes s.x.1 = behind (short s.x.0) s.x.1 (subst AreBytes name.0 behind_number) in
-    let input = last_long_is s.x.1 t.x behind_name t.is in
+    let after_number : AreBytes a.x.1 = following (number a.x.0) a.x.1 (subst AreBytes number_part.0 byte) in
+    let name = short_is a.x.1 s.x.0 s.x.1 after_number s.is in
+    let after_name : AreBytes s.x.1 = following (short s.x.0) s.x.1 (subst AreBytes name.0 after_number) in
+    let input = last_long_is s.x.1 t.x after_name t.is in
     own 2 bytes (op.New a.x.0 s.x.0 t.x) o t.gives (record {
       typed = number_part.1;
       fits = (name.1, input.1);
@@ -155,7 +155,7 @@ set_sound bytes o byte read =
     let a = bound (number_at bytes) (λ x. last_long_at x.1 >>= λ t. just (op.Set x.0 t)) o read in
     let t = bound (last_long_at a.x.1) (λ t. just (op.Set a.x.0 t)) o a.gives in
     let number_part = number_is bytes a.x.1 a.x.0 byte a.is in
-    let input = last_long_is a.x.1 t.x (behind (number a.x.0) a.x.1 (subst AreBytes number_part.0 byte)) t.is in
+    let input = last_long_is a.x.1 t.x (following (number a.x.0) a.x.1 (subst AreBytes number_part.0 byte)) t.is in
     own 3 bytes (op.Set a.x.0 t.x) o t.gives (record {
       typed = number_part.1;
       fits = input.1;
@@ -175,7 +175,7 @@ move_sound bytes o byte read =
     let a = bound (number_at bytes) (λ x. last_number_at x.1 >>= λ n. just (op.Move x.0 n)) o read in
     let n = bound (last_number_at a.x.1) (λ n. just (op.Move a.x.0 n)) o a.gives in
     let id = number_is bytes a.x.1 a.x.0 byte a.is in
-    let after = last_number_is a.x.1 n.x (behind (number a.x.0) a.x.1 (subst AreBytes id.0 byte)) n.is in
+    let after = last_number_is a.x.1 n.x (following (number a.x.0) a.x.1 (subst AreBytes id.0 byte)) n.is in
     own 5 bytes (op.Move a.x.0 n.x) o n.gives (record {
       typed = (id.1, after.1);
       fits = tt;
@@ -220,7 +220,7 @@ answer_sound bytes rest prompt id output byte read spelled proper =
     let prompt_same : p.x.0 ≡ prompt = ap (λ (x : (ℕ × List ℕ) × List ℕ). x.0.1) same in
     let rest_same : p.x.1 ≡ rest = ap (λ (x : (ℕ × List ℕ) × List ℕ). x.1) same in
     let number_part = number_is bytes a.x.1 a.x.0 byte a.is in
-    let prompt_part = long_is a.x.1 p.x.0 p.x.1 (behind (number a.x.0) a.x.1 (subst AreBytes number_part.0 byte)) p.is in
+    let prompt_part = long_is a.x.1 p.x.0 p.x.1 (following (number a.x.0) a.x.1 (subst AreBytes number_part.0 byte)) p.is in
     own 7 bytes (op.Answer a.x.0 p.x.0 output) (op.Answer id prompt output) (ap (λ (k : ℕ). just (op.Answer k p.x.0 output)) id_same ∙ ap (λ (l : List ℕ). just (op.Answer id l output)) prompt_same) (record {
       typed = (number_part.1, proper);
       fits = prompt_part.1;

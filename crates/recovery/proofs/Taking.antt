@@ -28,15 +28,15 @@ pub record Reached (old now : OpeningView) (sheet : Contents) : Type 0 where
   pub so_far : InModel old.disk ((payloads : List (List ℕ)) → HasGiven old [] payloads → Left now ops payloads)
 
 -- one payload more
-pub left_on : (now behind : OpeningView) (ops : List Op) (payloads : List (List ℕ)) (bytes : List ℕ) (sheet : Contents) (far : Left now ops payloads)
-    → ((others : List (List ℕ)) × (far.left ≡ bytes ∷ others) × HasGiven behind (codes_of ops ++ bytes ∷ []) others)
-    → (takes : TakesOps ops bytes sheet) → Left behind (ops ++ takes.next ∷ []) payloads
-left_on now behind ops payloads bytes sheet far next takes =
+pub left_on : (now following : OpeningView) (ops : List Op) (payloads : List (List ℕ)) (bytes : List ℕ) (sheet : Contents) (far : Left now ops payloads)
+    → ((others : List (List ℕ)) × (far.left ≡ bytes ∷ others) × HasGiven following (codes_of ops ++ bytes ∷ []) others)
+    → (takes : TakesOps ops bytes sheet) → Left following (ops ++ takes.next ∷ []) payloads
+left_on now following ops payloads bytes sheet far next takes =
     let codes : codes_of ops ++ bytes ∷ [] ≡ codes_of (ops ++ takes.next ∷ []) =
     ap (λ (b : List ℕ). codes_of ops ++ b ∷ []) takes.is ∙ sym (codes_push ops takes.next) in
     record {
       left = next.0;
-      given = subst (λ (l : List (List ℕ)). HasGiven behind l next.0) codes next.2;
+      given = subst (λ (l : List (List ℕ)). HasGiven following l next.0) codes next.2;
       are = far.are ∙ ap (λ (l : List (List ℕ)). codes_of ops ++ l) next.1 ∙ sym (append_assoc (codes_of ops) (bytes ∷ []) next.0)
           ∙ ap (λ (l : List (List ℕ)). l ++ next.0) codes;
     }

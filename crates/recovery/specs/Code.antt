@@ -60,8 +60,8 @@ abbrev pub IsLong : List ℕ → Type 0
 IsLong bytes = length bytes < 2 ^ 16
 
 -- the greatest length that `code_len` tells, for a longer payload too
-abbrev pub longest_told : ℕ
-longest_told = 4294967295
+abbrev pub longest_reported : ℕ
+longest_reported = 4294967295
 
 -- each length in the payload fits its field
 abbrev pub HasCode : Op → Type 0

@@ -13,9 +13,9 @@ use Rattle.recovery.specs.declared.rescuing.Rescued.{Rescued}
 
 -- Of the payloads that are left after these ops none is taken: none is left, or the first one is of no
 -- op that is allowed there.
-abbrev pub StopsBehind : List Op → List (List ℕ) → Type 0
-StopsBehind ops [] = Unit {0}
-StopsBehind ops (payload ∷ left) =
+abbrev pub StopsAfter : List Op → List (List ℕ) → Type 0
+StopsAfter ops [] = Unit {0}
+StopsAfter ops (payload ∷ left) =
     (o : Op) → IsPayloadOf o payload → first_refusal (sheet_of ops) o ≡ None → ⊥
 
 -- the offset of the gate where it stops, but for a closed one
@@ -31,7 +31,7 @@ pub record IsRescued (i : Image) (ops : List Op) (damage : Option ℕ) : Type 0 
   pub damaged : Bool
   pub front : ImageHasFront i (codes_of ops ++ left) damaged
   pub makes : Makes ops (sheet_of ops)
-  pub stops : StopsBehind ops left
+  pub stops : StopsAfter ops left
   pub damage_is : damage ≡ stops_at left damaged (end_of (codes_of ops))
 
 -- the disk that a rescue leaves

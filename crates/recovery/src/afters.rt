@@ -11,7 +11,7 @@ use worksheet::Sheet;
 // is what it would be if none had been dropped. Gives the one in front of it, or 0.
 fn put_number(smaller: &mut Vec<u32>, id: u32) -> Result<u32, OutOfMemory>
     ensures front { IfOk result (λ after. after ≡ last_below 0 id smaller.old.items) }
-    ensures behind { OnOk result ((other : ℕ) → last_below 0 other smaller.new.items
+    ensures following { OnOk result ((other : ℕ) → last_below 0 other smaller.new.items
         ≡ last_below 0 other (smaller.old.items ++ id ∷ [])) }
 {
     while let Some(last) = smaller.pop() {

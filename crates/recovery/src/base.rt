@@ -1,7 +1,7 @@
 //! What a store stands on.
 ghost use Rattle.std.specs.Prelude.{◌≡◌, ◌≤◌, ◌+◌, ◌++◌, ◌∷◌, ◌↔◌, [], List, ℕ, length, false, true, OnOk, OnErr, IsTrue, MatchResult, vec_capacity};
 ghost use Rattle.disk_model.specs.Disk.{InModel, IsImage, LeavesOnly, SameDisk, Rises, bytes_on};
-ghost use Rattle.journal.specs.Kept.{BeforeOrAfter, EitherStands, Fits, FitsAnew, other_of};
+ghost use Rattle.journal.specs.Kept.{BeforeOrAfter, EitherStands, Fits, FitsAgain, other_of};
 ghost use Rattle.journal.specs.Limits.{longest_payload};
 ghost use Rattle.journal.specs.Sources.{HoldsEach};
 
@@ -19,7 +19,7 @@ pub(crate) enum Base<D: Disk> {
 }
 
 impl<D: Disk> Base<D> {
-    ghost use Rattle.recovery.specs.inside.Base.{disk_of, end_in, gathers, is_closed, owed_to, place_for, real_of, start_in, AnewAnswers, HasPlaceIn, MayOweIn, KeepsIn, KeepsSome, RealKeeps};
+    ghost use Rattle.recovery.specs.inside.Base.{disk_of, end_in, gathers, is_closed, owed_to, place_for, real_of, start_in, AgainAnswers, HasPlaceIn, MayOweIn, KeepsIn, KeepsSome, RealKeeps};
 
     /// Adds a payload for which there is a place, or owes it. A failure of the disk closes it.
     pub(crate) fn with(self, frame: &Frame) -> (Base<D>, Result<(), DiskFault>)
@@ -67,20 +67,20 @@ impl<D: Disk> Base<D> {
     }
 
     /// Writes these payloads in place of its own. A failure of the disk closes it.
-    pub(crate) fn anew<S: Source>(
+    pub(crate) fn again<S: Source>(
         self,
         source: &S,
         batch: &mut Vec<u8>,
     ) -> (Base<D>, Result<(), CheckpointFault>)
         requires open { is_closed self ≡ false }
         requires flushed { owed_to self ≡ [] }
-        requires room { FitsAnew (disk_of D.view self).room (S.payloads source.now) }
+        requires room { FitsAgain (disk_of D.view self).room (S.payloads source.now) }
         requires memory { HoldsEach (vec_capacity batch.old) (S.payloads source.now) }
 
         ensures same { SameDisk (disk_of D.view self) (disk_of D.view result.0) }
         ensures owing { MayOweIn result.0 }
         ensures written { gathers result.0 ≡ false }
-        ensures answers { AnewAnswers D.view self result.0 (S.payloads source.now) result.1 }
+        ensures answers { AgainAnswers D.view self result.0 (S.payloads source.now) result.1 }
         ensures any_moment { InModel (disk_of D.view self)
             ((payloads : List (List ℕ)) → KeepsIn self payloads
             → LeavesOnly (EitherStands payloads (S.payloads source.now)) (disk_of D.view self).history
@@ -109,7 +109,7 @@ impl<D: Disk> Base<D> {
     {
         match self {
             Base::Open(journal) => journal.fits(payload_len),
-            Base::Gathering(journal, group) => journal.fits_behind(group, payload_len),
+            Base::Gathering(journal, group) => journal.fits_after(group, payload_len),
             Base::Closed(_) => false,
         }
     }

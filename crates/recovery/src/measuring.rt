@@ -6,8 +6,8 @@ ghost use Rattle.worksheet.specs.declared.field.Field.{Field};
 ghost use Rattle.worksheet.specs.Rewrite.{field_ops, fields_ops, ids_to, lost_ops, outcome_ops, rewrite_of, session_op};
 ghost use Rattle.journal.specs.Area.{records};
 ghost use Rattle.journal.specs.Limits.{longest_payload};
-ghost use Rattle.recovery.specs.Code.{code_of, longest_told};
-ghost use Rattle.recovery.specs.Checkpointed.{HasRoomAnew};
+ghost use Rattle.recovery.specs.Code.{code_of, longest_reported};
+ghost use Rattle.recovery.specs.Checkpointed.{HasRoomAgain};
 ghost use Rattle.recovery.specs.Sheets.{codes_of};
 ghost use Rattle.recovery.specs.inside.Measured.{HasRecord, Measures};
 
@@ -19,7 +19,7 @@ use worksheet::{Answer, Field, Session, Sheet};
 // What a record of a payload of so many bytes leaves of so much room, where the record fits.
 fn left_after(left: u64, len: u64) -> Option<u64>
     requires { len ≤ longest_payload }
-    ensures { (o : Op) → len ≡ min (length (code_of o)) longest_told
+    ensures { (o : Op) → len ≡ min (length (code_of o)) longest_reported
         → Measures (o ∷ []) left result }
 {
     if left < len + 5 {
@@ -144,10 +144,10 @@ fn left_after_all(left: u64, sheet: &Sheet) -> Option<u64>
 
 /// The bytes of the records that make a worksheet again, where an area of so many bytes has room for
 /// them. It takes no memory.
-pub(crate) fn len_anew(room: u64, sheet: &Sheet) -> Option<u64>
+pub(crate) fn len_again(room: u64, sheet: &Sheet) -> Option<u64>
     requires some { 1 ≤ sheet.now.contents.next }
     requires records { AllByRecursion HasRecord (rewrite_of sheet.now.contents) }
-    ensures room { IsTrue (is_some result) ↔ HasRoomAnew room sheet.now.contents }
+    ensures room { IsTrue (is_some result) ↔ HasRoomAgain room sheet.now.contents }
     ensures len { IfSome result (λ len. len
         ≡ length (records (codes_of (rewrite_of sheet.now.contents)))) }
 {

@@ -94,13 +94,13 @@ pub(crate) fn take_all<D: Disk>(
     let mut room = Text::from_string(String::new(alloc));
     loop {
         match opening.next() {
-            Ok(Next::Payload(mut behind, payload)) => {
+            Ok(Next::Payload(mut following, payload)) => {
                 if let Err(cause) = take(alloc, &mut sheet, &mut room, &payload) {
-                    let disk = behind.into_disk();
+                    let disk = following.into_disk();
                     return Err(OpenFault { cause, disk });
                 }
-                behind.reuse(payload);
-                opening = behind;
+                following.reuse(payload);
+                opening = following;
             }
             Ok(Next::End(journal)) => return Ok((journal, sheet)),
             Err(fault) => return Err(fault),

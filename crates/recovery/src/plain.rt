@@ -19,8 +19,8 @@ fn split_colon(bytes: &[u8]) -> Option<(&[u8], &[u8])>
     ensures { IfSome result (λ x. bytes.now ≡ x.0.now ++ 58 ∷ x.1.now) }
 {
     let place = memchr2(b':', b'#', bytes)?;
-    let (front, behind) = bytes.split_at(place);
-    let [b':', rest @ ..] = behind else {
+    let (front, following) = bytes.split_at(place);
+    let [b':', rest @ ..] = following else {
         return None;
     };
     Some((front, rest))

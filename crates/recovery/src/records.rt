@@ -3,7 +3,7 @@ ghost use Rattle.std.specs.Prelude.{◌≡◌, ◌<◌, ◌≤◌, ◌+◌, ◌+
 ghost use Rattle.std.specs.List.{AllByRecursion};
 ghost use Rattle.journal.specs.Area.{record_of};
 ghost use Rattle.recovery.specs.Sheets.{codes_of};
-ghost use Rattle.recovery.specs.Code.{code_of, longest_told, HasCode};
+ghost use Rattle.recovery.specs.Code.{code_of, longest_reported, HasCode};
 ghost use Rattle.recovery.specs.inside.Measured.{HasRecord};
 ghost use Rattle.recovery.specs.inside.Records.{op_in};
 
@@ -32,7 +32,7 @@ impl<'a> Record<'a> {
     /// The length of its payload in bytes, or 4,294,967,295 where it is longer.
     pub(crate) fn payload_len(&self) -> u64
         requires { HasCode (op_in self.now) }
-        ensures { result ≡ min (length (code_of (op_in self.now))) longest_told }
+        ensures { result ≡ min (length (code_of (op_in self.now))) longest_reported }
     {
         match self {
             Record::Session(session) => session_len(session),
@@ -90,11 +90,11 @@ impl<'a> Record<'a> {
 
 /// The payloads of records, each of which is made when it is written. Contracts see the payloads.
 #[derive(Drop)]
-pub(crate) struct Anew<'a> {
+pub(crate) struct Again<'a> {
     records: Vec<Record<'a>>,
 }
 
-impl<'a> Model for Anew<'a> {
+impl<'a> Model for Again<'a> {
     ghost use Rattle.std.specs.Prelude.{List, ℕ, map};
     ghost use Rattle.std.specs.List.{AllByRecursion};
     ghost use Rattle.recovery.specs.Sheets.{codes_of};
@@ -108,17 +108,17 @@ impl<'a> Model for Anew<'a> {
     ghost invariant = { λ a. AllByRecursion HasRecord (map op_in a.records.items) };
 }
 
-impl<'a> Anew<'a> {
+impl<'a> Again<'a> {
     /// Those of these records.
-    pub(crate) fn new(records: Vec<Record<'a>>) -> Anew<'a>
+    pub(crate) fn new(records: Vec<Record<'a>>) -> Again<'a>
         requires { AllByRecursion HasRecord (map op_in records.items) }
         ensures { result ≡ codes_of (map op_in records.entry.items) }
     {
-        Anew { records }
+        Again { records }
     }
 }
 
-impl<'a> Source for Anew<'a> {
+impl<'a> Source for Again<'a> {
     ghost payloads = { λ all. all };
 
     fn count(&self) -> usize {

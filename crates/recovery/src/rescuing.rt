@@ -57,11 +57,11 @@ fn take_front<D: Disk>(alloc: Global, front: Front<D>) -> Result<Rescued<D>, Ope
     let mut kept = 0;
     loop {
         match front.next() {
-            Ok(InFront::Payload(behind, payload)) => {
+            Ok(InFront::Payload(following, payload)) => {
                 if let Err(cause) = take(alloc, &mut sheet, &mut room, &payload) {
-                    return stop(behind.into_disk(), sheet, kept, cause);
+                    return stop(following.into_disk(), sheet, kept, cause);
                 }
-                front = behind;
+                front = following;
                 kept += 1;
             }
             Ok(InFront::End(disk, damage)) => {

@@ -13,7 +13,7 @@ ghost use Rattle.recovery.specs.inside.Measured.{HasRecord};
 ghost use Rattle.recovery.specs.inside.Records.{op_in};
 
 use crate::afters::afters_of;
-use crate::records::{Anew, Record};
+use crate::records::{Again, Record};
 use block_tree::{OutOfMemory, Reason};
 use journal::{BATCH_LEN, LONGEST_PAYLOAD};
 use std::alloc::Global;
@@ -137,15 +137,15 @@ pub(crate) fn records_of<'a>(
 }
 
 /// The payloads of the ops that make a worksheet again.
-pub(crate) fn anew_of<'a>(alloc: Global, sheet: &'a Sheet) -> Result<Anew<'a>, OutOfMemory>
+pub(crate) fn again_of<'a>(alloc: Global, sheet: &'a Sheet) -> Result<Again<'a>, OutOfMemory>
     requires some { 1 ≤ sheet.now.contents.next }
     requires apart { HasNumbersApart sheet.now.contents }
     requires records { AllByRecursion HasRecord (rewrite_of sheet.now.contents) }
-    ensures ok { IfOk result (λ anew. anew ≡ codes_of (rewrite_of sheet.now.contents)) }
+    ensures ok { IfOk result (λ again. again ≡ codes_of (rewrite_of sheet.now.contents)) }
     ensures typed { OnOk result (AllByRecursion IsTyped (rewrite_of sheet.now.contents)) }
 {
     let records = records_of(alloc, sheet)?;
-    Ok(Anew::new(records))
+    Ok(Again::new(records))
 }
 
 /// Memory for the batches in which payloads are written whose records have so many bytes together.

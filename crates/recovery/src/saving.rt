@@ -3,17 +3,17 @@ ghost use Rattle.std.specs.Prelude.{◌≡◌, ◌≤◌, [], List, ℕ, IfErr, 
 ghost use Rattle.disk_model.specs.Disk.{InModel, Leaves, LeavesOnly, Looks, Rises, SameDisk, bytes_on};
 ghost use Rattle.worksheet.specs.declared.op.Op.{Op};
 ghost use Rattle.worksheet.specs.Rewrite.{rewrite_of};
-ghost use Rattle.journal.specs.Kept.{FitsAnew, Keeps};
+ghost use Rattle.journal.specs.Kept.{FitsAgain, Keeps};
 ghost use Rattle.journal.specs.Sources.{HoldsEach};
 ghost use Rattle.journal.specs.Open.{AreEmpty};
-ghost use Rattle.recovery.specs.Checkpointed.{HasRoomAnew};
+ghost use Rattle.recovery.specs.Checkpointed.{HasRoomAgain};
 ghost use Rattle.recovery.specs.Saved.{IsBeingSaved, disk_saved};
 ghost use Rattle.recovery.specs.Sheets.{IsSheetImage, Makes};
 ghost use Rattle.recovery.specs.inside.Rescuing.{IsBeingLaid, IsOfDisk, created_cause};
 ghost use Rattle.recovery.specs.declared.saving.SaveCause.TheVariants as causes;
 
-use crate::measuring::len_anew;
-use crate::rewriting::{anew_of, batch_of};
+use crate::measuring::len_again;
+use crate::rewriting::{again_of, batch_of};
 use disk_model::Disk;
 use journal::{AppendFault, CreateCause, CreateFault, Journal, Source};
 use std::alloc::Global;
@@ -51,9 +51,13 @@ fn cause_of(cause: CreateCause) -> SaveCause
 }
 
 // Lays an empty journal on an empty disk, and the payloads of a source in its place.
-fn lay_anew<D: Disk, S: Source>(disk: D, source: &S, batch: &mut Vec<u8>) -> Result<D, SaveFault<D>>
+fn lay_again<D: Disk, S: Source>(
+    disk: D,
+    source: &S,
+    batch: &mut Vec<u8>,
+) -> Result<D, SaveFault<D>>
     requires room { 11 ≤ (D.view disk).room }
-    requires fits { FitsAnew (D.view disk).room (S.payloads source.now) }
+    requires fits { FitsAgain (D.view disk).room (S.payloads source.now) }
     requires memory { HoldsEach (vec_capacity batch.old) (S.payloads source.now) }
     ensures same { SameDisk (D.view disk) (disk_saved D.view result) }
     ensures ok { InModel (D.view disk) (IfOk result (λ new. AreEmpty (bytes_on (D.view disk))
@@ -120,11 +124,11 @@ pub fn save<D: Disk>(alloc: Global, disk: D, sheet: &Sheet) -> Result<D, SaveFau
         (IfErr result (λ e. (AreEmpty (bytes_on (D.view disk)) → ⊥)
         → Looks (D.view disk).history (D.view e.disk).history)) }
     ensures full { IfErr result (λ e. e.cause ≡ causes.Full
-        → (HasRoomAnew (D.view disk).room sheet.now.contents → ⊥) × (e.disk ≡ disk)) }
+        → (HasRoomAgain (D.view disk).room sheet.now.contents → ⊥) × (e.disk ≡ disk)) }
 
     // Where anything else is answered an area has room for it.
-    ensures fits { MatchResult result (λ _. HasRoomAnew (D.view disk).room sheet.now.contents)
-        (λ e. (e.cause ≡ causes.Full → ⊥) → HasRoomAnew (D.view disk).room sheet.now.contents) }
+    ensures fits { MatchResult result (λ _. HasRoomAgain (D.view disk).room sheet.now.contents)
+        (λ e. (e.cause ≡ causes.Full → ⊥) → HasRoomAgain (D.view disk).room sheet.now.contents) }
     ensures memory { IfErr result (λ e. e.cause ≡ causes.OutOfMemory → e.disk ≡ disk) }
 
     // A failure of the disk is reported as one, and nothing else is.
@@ -134,13 +138,13 @@ pub fn save<D: Disk>(alloc: Global, disk: D, sheet: &Sheet) -> Result<D, SaveFau
         (λ new. (D.view new).faults ≡ (D.view disk).faults)
         (λ e. (e.cause ≡ causes.Disk → ⊥) → (D.view e.disk).faults ≡ (D.view disk).faults) }
 {
-    let Some(len) = len_anew(disk.room(), sheet) else {
+    let Some(len) = len_again(disk.room(), sheet) else {
         return Err(SaveFault {
             cause: SaveCause::Full,
             disk,
         });
     };
-    let Ok(anew) = anew_of(alloc, sheet) else {
+    let Ok(again) = again_of(alloc, sheet) else {
         return Err(SaveFault {
             cause: SaveCause::OutOfMemory,
             disk,
@@ -152,5 +156,5 @@ pub fn save<D: Disk>(alloc: Global, disk: D, sheet: &Sheet) -> Result<D, SaveFau
             disk,
         });
     };
-    lay_anew(disk, &anew, &mut batch)
+    lay_again(disk, &again, &mut batch)
 }

@@ -5,7 +5,7 @@ ghost use Rattle.block_tree.specs.View.{tree_of};
 ghost use Rattle.meta_format.specs.Canonical.{escape, canonical};
 ghost use Rattle.worksheet.specs.declared.op.Op.TheVariants as op;
 ghost use Rattle.worksheet.specs.Rewrite.{session_op};
-ghost use Rattle.recovery.specs.Code.{code_of, long, longest_told, HasCode};
+ghost use Rattle.recovery.specs.Code.{code_of, long, longest_reported, HasCode};
 
 use crate::runs::{is_special, split_plain};
 use block_tree::{Item, Node, Octets};
@@ -22,8 +22,8 @@ pub(crate) const LOST_LEN: u64 = 6;
 
 // A length with so many bytes more, up to the greatest that is returned.
 fn longer(len: u64, more: u64) -> u64
-    requires { len ≤ longest_told }
-    ensures { result ≡ min (len + more) longest_told }
+    requires { len ≤ longest_reported }
+    ensures { result ≡ min (len + more) longest_reported }
 {
     if more < LONGEST_TOLD - len {
         len + more
@@ -34,16 +34,16 @@ fn longer(len: u64, more: u64) -> u64
 
 #[tactic(auto, using(crate::proofs::Sizes::size_rules))]
 fn with_text(before: u64, text: &[u8]) -> u64
-    requires { before ≤ longest_told }
-    ensures { result ≡ min (before + length (flat_map escape text.now)) longest_told }
+    requires { before ≤ longest_reported }
+    ensures { result ≡ min (before + length (flat_map escape text.now)) longest_reported }
 {
     let mut len = before;
     let mut rest = text;
     while !rest.is_empty() {
-        let (plain, behind) = split_plain(rest);
+        let (plain, following) = split_plain(rest);
         len = longer(len, plain.len() as u64);
-        rest = behind;
-        if let [byte, more @ ..] = behind {
+        rest = following;
+        if let [byte, more @ ..] = following {
             len = longer(len, if is_special(*byte) { 2 } else { 1 });
             rest = more;
         }
@@ -53,8 +53,8 @@ fn with_text(before: u64, text: &[u8]) -> u64
 
 #[tactic(auto, using(crate::proofs::Sizes::size_rules))]
 fn with_node(before: u64, node: &Node) -> u64
-    requires { before ≤ longest_told }
-    ensures { result ≡ min (before + length (canonical (tree_of node.now))) longest_told }
+    requires { before ≤ longest_reported }
+    ensures { result ≡ min (before + length (canonical (tree_of node.now))) longest_reported }
 {
     // Around the name and the items stand the two ends of the block and the separator.
     let mut len = longer(longer(before, 3), node.tag.name.as_slice().len() as u64);
@@ -69,8 +69,8 @@ fn with_node(before: u64, node: &Node) -> u64
 
 #[tactic(auto, using(crate::proofs::Sizes::size_rules))]
 fn with_words(before: u64, words: &[Octets]) -> u64
-    requires { before ≤ longest_told }
-    ensures { result ≡ min (before + length (flat_map long words.now)) longest_told }
+    requires { before ≤ longest_reported }
+    ensures { result ≡ min (before + length (flat_map long words.now)) longest_reported }
 {
     let mut len = before;
     for word in words {
@@ -84,7 +84,7 @@ fn with_words(before: u64, words: &[Octets]) -> u64
 #[tactic(auto, using(crate::proofs::Sizes::size_rules))]
 pub fn code_len(op: &Op) -> u64
     requires { HasCode op.now }
-    ensures { result ≡ min (length (code_of op.now)) longest_told }
+    ensures { result ≡ min (length (code_of op.now)) longest_reported }
 {
     match op {
         Op::Session {
@@ -113,7 +113,7 @@ pub fn code_len(op: &Op) -> u64
 #[tactic(auto, using(crate::proofs::Sizes::size_rules))]
 pub(crate) fn session_len(session: &Session) -> u64
     requires { HasCode (session_op session.now) }
-    ensures { result ≡ min (length (code_of (session_op session.now))) longest_told }
+    ensures { result ≡ min (length (code_of (session_op session.now))) longest_reported }
 {
     with_words(
         session.name.as_slice().len() as u64 + 4,
@@ -126,7 +126,7 @@ pub(crate) fn session_len(session: &Session) -> u64
 pub(crate) fn new_len(after: u32, field: &Field) -> u64
     requires { HasCode (op.New after field.now.session field.now.input) }
     ensures { result
-        ≡ min (length (code_of (op.New after field.now.session field.now.input))) longest_told }
+        ≡ min (length (code_of (op.New after field.now.session field.now.input))) longest_reported }
 {
     8 + field.session.as_slice().len() as u64 + field.input.as_bytes().len() as u64
 }
@@ -137,7 +137,7 @@ pub(crate) fn new_len(after: u32, field: &Field) -> u64
 pub(crate) fn answer_len(id: u32, answer: &Answer) -> u64
     requires { HasCode (op.Answer id answer.now.prompt answer.now.output) }
     ensures { result
-        ≡ min (length (code_of (op.Answer id answer.now.prompt answer.now.output))) longest_told }
+        ≡ min (length (code_of (op.Answer id answer.now.prompt answer.now.output))) longest_reported }
 {
     with_node(
         7 + answer.prompt.as_slice().len() as u64,

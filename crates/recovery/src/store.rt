@@ -13,9 +13,9 @@ ghost use Rattle.recovery.specs.Sheets.{codes_of, IsSheetImage, IsEither, KeepsO
 
 use crate::base::Base;
 use crate::fault::{CheckpointFault, CommitFault, PrepareFault};
-use crate::measuring::len_anew;
+use crate::measuring::len_again;
 use crate::opening::take_all;
-use crate::rewriting::{anew_of, batch_of};
+use crate::rewriting::{again_of, batch_of};
 use crate::size::code_len;
 use crate::writing::frame_of;
 use disk_model::{Disk, DiskFault};
@@ -54,7 +54,7 @@ impl<D: Disk> Model for Store<D> {
 impl<D: Disk> Store<D> {
     ghost use Rattle.recovery.specs.Opened.{disk_left, GivesSheet};
     ghost use Rattle.recovery.specs.Committed.{Commits, DoesNotFit, LeftBy};
-    ghost use Rattle.recovery.specs.Checkpointed.{CheckpointAnswers, HasRoomAnew};
+    ghost use Rattle.recovery.specs.Checkpointed.{CheckpointAnswers, HasRoomAgain};
 
     /// Opens a disk that a crash may have left, and gives the worksheet that it stands for. It writes
     /// nothing. A disk that stands for none is refused with its first damage: that of the gates
@@ -299,21 +299,21 @@ impl<D: Disk> Store<D> {
         if base.is_closed() {
             return Err(CheckpointFault::Closed);
         }
-        let Some(len) = len_anew(base.room(), &self.sheet) else {
+        let Some(len) = len_again(base.room(), &self.sheet) else {
             return Err(CheckpointFault::Full);
         };
         if base.owes() {
             return Err(CheckpointFault::OutOfMemory);
         }
-        let anew = match anew_of(self.alloc, &self.sheet) {
-            Ok(anew) => anew,
+        let again = match again_of(self.alloc, &self.sheet) {
+            Ok(again) => again,
             Err(_) => return Err(CheckpointFault::OutOfMemory),
         };
         let mut batch = match batch_of(self.alloc, len) {
             Ok(batch) => batch,
             Err(_) => return Err(CheckpointFault::OutOfMemory),
         };
-        let (renewed, result) = self.base.take().unwrap().anew(&anew, &mut batch);
+        let (renewed, result) = self.base.take().unwrap().again(&again, &mut batch);
         self.base = Some(renewed);
         result
     }

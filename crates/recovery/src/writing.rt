@@ -6,7 +6,7 @@ ghost use Rattle.block_tree.specs.View.{tree_of};
 ghost use Rattle.block_tree.specs.Reasons.{reason_number};
 ghost use Rattle.meta_format.specs.Canonical.{canonical, escape};
 ghost use Rattle.worksheet.specs.declared.op.Op.TheVariants as op;
-ghost use Rattle.recovery.specs.Code.{code_of, longest_told, short, long, HasCode, IsShort, IsLong, IsTyped};
+ghost use Rattle.recovery.specs.Code.{code_of, longest_reported, short, long, HasCode, IsShort, IsLong, IsTyped};
 ghost use Rattle.recovery.specs.inside.Measured.{HasRecord};
 
 use crate::runs::{is_special, split_plain};
@@ -73,10 +73,10 @@ fn put_text(text: &[u8], out: &mut Vec<u8>) -> Result<(), OutOfMemory>
 {
     let mut rest = text;
     while !rest.is_empty() {
-        let (plain, behind) = split_plain(rest);
+        let (plain, following) = split_plain(rest);
         out.extend_from_slice(plain)?;
-        rest = behind;
-        if let [byte, more @ ..] = behind {
+        rest = following;
+        if let [byte, more @ ..] = following {
             put_byte(*byte, out)?;
             rest = more;
         }
@@ -272,7 +272,7 @@ pub(crate) fn encode_within(alloc: Global, op: &Op, len: usize) -> Result<Vec<u8
 /// payload is written into it once.
 pub(crate) fn frame_of(alloc: Global, op: &Op, len: u64) -> Result<Frame, OutOfMemory>
     requires record { HasRecord op.now }
-    requires len { len ≡ min (length (code_of op.now)) longest_told }
+    requires len { len ≡ min (length (code_of op.now)) longest_reported }
     ensures code { IfOk result (λ frame. frame ≡ code_of op.now) }
     ensures typed { IfOk result (λ frame. IsTyped op.now) }
 {

@@ -3,7 +3,7 @@ use Rattle.std.proofs.Common.{◌≡◌, ℕ, Bool, true, false, List, [], ◌�
 use Rattle.std.specs.Prelude.{◌==◌, ◌||◌, codes, if◌then◌else◌}
 use Rattle.std.specs.List.{list_all}
 use Rattle.std.proofs.lemmas.Bool.{and_parts, true≢false, false≢true}
-use Rattle.scheme_text.specs.Quoting.{Quotes, nothing, itself, behind_slash}
+use Rattle.scheme_text.specs.Quoting.{Quotes, nothing, itself, after_slash}
 use Rattle.scheme_text.specs.inside.Words.{slashed}
 use Rattle.scheme_text.specs.Outputs.{is_white}
 use Rattle.scheme_text.specs.Answers.{Strings, no_string, white_first, string_first, Form, empty, empty_string, tuple, Says}
@@ -33,7 +33,7 @@ quotes_read (itself {c} {s} {t} h p) r =
     other (c == 34) (add_first [] (read_from outside (s ++ 34 ∷ r))) (if c == 92 then read_from slash (s ++ 34 ∷ r) else in_front (c ∷ []) (read_from inside (s ++ 34 ∷ r))) n.0
     ∙ other (c == 92) (read_from slash (s ++ 34 ∷ r)) (in_front (c ∷ []) (read_from inside (s ++ 34 ∷ r))) n.1
     ∙ ap (in_front (c ∷ [])) (quotes_read p r) ∙ front_first (c ∷ []) t (read_from outside r)
-quotes_read (behind_slash {c} {s} {t} p) r = ap (in_front (slashed c)) (quotes_read p r) ∙ front_first (slashed c) t (read_from outside r)
+quotes_read (after_slash {c} {s} {t} p) r = ap (in_front (slashed c)) (quotes_read p r) ∙ front_first (slashed c) t (read_from outside r)
 
 strings_read : {s : List ℕ} {ts : List (List ℕ)} → Strings s ts → (w : List ℕ) → list_all is_white w ≡ true → read_from outside (s ++ 41 ∷ w) ≡ Some ts
 strings_read no_string w h = chosen (list_all is_white w) (Some []) None h
@@ -64,7 +64,7 @@ form_read (tuple v s {ts} white strings) w h =
     ∙ strings_read strings w h
 
 pub says_read : (s : List ℕ) (ts : List (List ℕ)) → Says s ts → read_strings s ≡ Some ts
-says_read s ts p = ap read_strings p.is ∙ ap read_form (white_dropped p.before (p.inside ++ p.behind) p.white_before) ∙ form_read p.form p.behind p.white_behind
+says_read s ts p = ap read_strings p.is ∙ ap read_form (white_dropped p.before (p.inside ++ p.following) p.white_before) ∙ form_read p.form p.following p.white_after
 
 unsome : Option (List (List ℕ)) → List (List ℕ)
 unsome None = []

@@ -5,7 +5,7 @@ use Rattle.std.specs.Fmt.{decimal}
 use Rattle.std.proofs.lemmas.Fmt.{decimal_is_IsNumeral}
 use Rattle.std.proofs.lemmas.List.{append_cancel_right}
 use Rattle.std.specs.Str.Parse.{digits_value}
-use Rattle.scheme_text.specs.Quoting.{Quotes, nothing, itself, behind_slash}
+use Rattle.scheme_text.specs.Quoting.{Quotes, nothing, itself, after_slash}
 use Rattle.scheme_text.specs.inside.Words.{slashed}
 use Rattle.scheme_text.specs.Laws.{OneRequest}
 use Rattle.scheme_text.proofs.Read.{neither, other}
@@ -32,15 +32,15 @@ quotes_split (itself {c} {s} {t} h p) r =
     other (c == 34) (Some ([], s ++ 34 ∷ r)) (if c == 92 then split true (s ++ 34 ∷ r) else before (c ∷ []) (split false (s ++ 34 ∷ r))) n.0
     ∙ other (c == 92) (split true (s ++ 34 ∷ r)) (before (c ∷ []) (split false (s ++ 34 ∷ r))) n.1
     ∙ ap (before (c ∷ [])) (quotes_split p r)
-quotes_split (behind_slash {c} {s} {t} p) r = ap (before (slashed c)) (quotes_split p r)
+quotes_split (after_slash {c} {s} {t} p) r = ap (before (slashed c)) (quotes_split p r)
 
 abbrev text_in : Split → List ℕ
 text_in None = []
 text_in (Some p) = p.0
 
-abbrev behind_in : Split → List ℕ
-behind_in None = []
-behind_in (Some p) = p.1
+abbrev after_in : Split → List ℕ
+after_in None = []
+after_in (Some p) = p.1
 
 abbrev cursor_text : ℕ → List ℕ
 cursor_text cursor = decimal cursor ++ codes ")\n"
@@ -49,7 +49,7 @@ pub one_request : OneRequest
 one_request s t i j small little same =
     let parts : Some (s, 32 ∷ cursor_text i) ≡ Some (t, 32 ∷ cursor_text j) =
     sym (quotes_split (quoted_is_read s) (32 ∷ cursor_text i)) ∙ ap (λ (u : List ℕ). split false (drop 12 u)) same ∙ quotes_split (quoted_is_read t) (32 ∷ cursor_text j) in
-    let decimals : decimal i ≡ decimal j = append_cancel_right (decimal i) (decimal j) (codes ")\n") (ap (λ p. drop 1 (behind_in p)) parts) in (
+    let decimals : decimal i ≡ decimal j = append_cancel_right (decimal i) (decimal j) (codes ")\n") (ap (λ p. drop 1 (after_in p)) parts) in (
       ap text_in parts,
       sym (decimal_is_IsNumeral i small).1 ∙ ap (digits_value 10) decimals ∙ (decimal_is_IsNumeral j little).1,
     )

@@ -6,7 +6,7 @@ use Rattle.std.specs.Str.{bytes_eq}
 use Rattle.std.proofs.lemmas.List.{take-append-drop}
 use Rattle.std.proofs.lemmas.Bool.{and_from, true≢false, false≢true, eqb-true}
 use Rattle.std.proofs.lemmas.Slice.Eq.{bytes_eq-Decides}
-use Rattle.scheme_text.specs.Quoting.{is_marked, Quotes, nothing, itself, behind_slash}
+use Rattle.scheme_text.specs.Quoting.{is_marked, Quotes, nothing, itself, after_slash}
 use Rattle.scheme_text.specs.inside.Words.{slashed}
 use Rattle.scheme_text.specs.Outputs.{is_white}
 use Rattle.scheme_text.specs.Answers.{Strings, no_string, white_first, string_first, Form, empty, empty_string, tuple, Says}
@@ -19,10 +19,10 @@ no_some ts h = false≢true (ap is_some h)
 -- a row of strings, the bracket after it, and white space
 record Ends (s : List ℕ) (ts : List (List ℕ)) : Type 0 where
   body : List ℕ
-  behind : List ℕ
-  is : s ≡ body ++ 41 ∷ behind
+  following : List ℕ
+  is : s ≡ body ++ 41 ∷ following
   strings : Strings body ts
-  white : list_all is_white behind ≡ true
+  white : list_all is_white following ≡ true
 
 -- the rest of a string, and such a row
 record Opened (s : List ℕ) (ts : List (List ℕ)) : Type 0 where
@@ -77,20 +77,20 @@ out_step : (c : ℕ) (s : List ℕ) (ts : List (List ℕ)) → (read_from outsid
     → (w q b : Bool) → is_white c ≡ w → (c == 34) ≡ q → (c == 41) ≡ b
     → (if w then read_from outside s else if q then read_from inside s else if b then closed s else None) ≡ Some ts → Ends (c ∷ s) ts
 out_step c s ts out in_string true q b hw hq hb h =
-    let p = out h in record { body = c ∷ p.body; behind = p.behind; is = ap (λ r. c ∷ r) p.is; strings = white_first hw p.strings; white = p.white }
+    let p = out h in record { body = c ∷ p.body; following = p.following; is = ap (λ r. c ∷ r) p.is; strings = white_first hw p.strings; white = p.white }
 out_step c s ts out in_string false true b hw hq hb h =
     let p = in_string h in
     let first : c ≡ 34 = eqb-true c 34 hq in
     record {
       body = 34 ∷ (p.bytes ++ 34 ∷ p.ends.body);
-      behind = p.ends.behind;
-      is = ap (λ d. d ∷ s) first ∙ ap (λ r. 34 ∷ r) (p.is ∙ ap (λ r. p.bytes ++ 34 ∷ r) p.ends.is ∙ sym (append_assoc p.bytes (34 ∷ p.ends.body) (41 ∷ p.ends.behind)));
+      following = p.ends.following;
+      is = ap (λ d. d ∷ s) first ∙ ap (λ r. 34 ∷ r) (p.is ∙ ap (λ r. p.bytes ++ 34 ∷ r) p.ends.is ∙ sym (append_assoc p.bytes (34 ∷ p.ends.body) (41 ∷ p.ends.following)));
       strings = subst (Strings (34 ∷ (p.bytes ++ 34 ∷ p.ends.body))) (sym p.are) (string_first p.quotes p.ends.strings);
       white = p.ends.white;
     }
 out_step c s ts out in_string false false true hw hq hb h =
     let p = closed_some s (list_all is_white s) ts refl h in
-    record { body = []; behind = s; is = ap (λ d. d ∷ s) (eqb-true c 41 hb); strings = subst (Strings []) (sym p.1) no_string; white = p.0 }
+    record { body = []; following = s; is = ap (λ d. d ∷ s) (eqb-true c 41 hb); strings = subst (Strings []) (sym p.1) no_string; white = p.0 }
 out_step c s ts out in_string false false false hw hq hb h = absurd (no_some ts h)
 
 in_step : (c : ℕ) (s : List ℕ) (ts : List (List ℕ)) → ((us : List (List ℕ)) → read_from outside s ≡ Some us → Ends s us)
@@ -119,7 +119,7 @@ slash_step c s ts in_string h =
       rest = p.rest;
       others = p.others;
       is = ap (λ r. 92 ∷ c ∷ r) p.is;
-      quotes = behind_slash p.quotes;
+      quotes = after_slash p.quotes;
       are = f.3 ∙ ap (put_in_front (slashed c)) p.are;
       ends = p.ends;
     }
@@ -139,13 +139,13 @@ no_first ts e t us h = true≢false (ap some_first (sym h ∙ e))
     some_first [] = false
     some_first (t ∷ us) = true
 
-same_behind : (s : List ℕ) (o : Option (List (List ℕ))) → read_from inside s ≡ o → in_front [] o ≡ o
-same_behind s None h = refl
-same_behind s (Some []) h = let p = sound inside s [] h in absurd (no_first [] refl p.text p.others p.are)
-same_behind s (Some (t ∷ ts)) h = refl
+same_after : (s : List ℕ) (o : Option (List (List ℕ))) → read_from inside s ≡ o → in_front [] o ≡ o
+same_after s None h = refl
+same_after s (Some []) h = let p = sound inside s [] h in absurd (no_first [] refl p.text p.others p.are)
+same_after s (Some (t ∷ ts)) h = refl
 
 pub front_empty : (s : List ℕ) → in_front [] (read_from inside s) ≡ read_from inside s
-front_empty s = same_behind s (read_from inside s) refl
+front_empty s = same_after s (read_from inside s) refl
 
 -- white space in front, and the rest
 record Split (s : List ℕ) : Type 0 where
@@ -163,9 +163,9 @@ split (c ∷ s) = let p = split_step c s (split s) (is_white c) refl in record {
 
 record Formed (s : List ℕ) (ts : List (List ℕ)) : Type 0 where
   inner : List ℕ
-  behind : List ℕ
-  is : s ≡ inner ++ behind
-  white : list_all is_white behind ≡ true
+  following : List ℕ
+  is : s ≡ inner ++ following
+  white : list_all is_white following ≡ true
   form : Form inner ts
 
 tuple_step : (s x : List ℕ) (w : List ℕ) (ts : List (List ℕ)) (b : Bool) → s ≡ w ++ x → list_all is_white w ≡ true → bytes_eq (take 5 x) (codes "tuple") ≡ b
@@ -175,9 +175,9 @@ tuple_step s x w ts true e white eq h =
     let word : x ≡ codes "tuple" ++ drop 5 x = sym (take-append-drop 5 x) ∙ ap (λ r. r ++ drop 5 x) ((bytes_eq-Decides (take 5 x) (codes "tuple")).0 eq) in
     record {
       inner = 40 ∷ (w ++ (codes "tuple" ++ (p.body ++ 41 ∷ [])));
-      behind = p.behind;
-      is = ap (λ r. 40 ∷ r) (e ∙ ap (λ r. w ++ r) (word ∙ ap (λ r. codes "tuple" ++ r) (p.is ∙ sym (append_assoc p.body (41 ∷ []) p.behind)))
-          ∙ sym (append_assoc w (codes "tuple" ++ (p.body ++ 41 ∷ [])) p.behind));
+      following = p.following;
+      is = ap (λ r. 40 ∷ r) (e ∙ ap (λ r. w ++ r) (word ∙ ap (λ r. codes "tuple" ++ r) (p.is ∙ sym (append_assoc p.body (41 ∷ []) p.following)))
+          ∙ sym (append_assoc w (codes "tuple" ++ (p.body ++ 41 ∷ [])) p.following));
       white = p.white;
       form = tuple w p.body white p.strings;
     }
@@ -186,7 +186,7 @@ tuple_step s x w ts false e white eq h = absurd (no_some ts h)
 quote_step : (d : ℕ) (s : List ℕ) (ts : List (List ℕ)) (b : Bool) → (d == 34) ≡ b → (if b then closed s else None) ≡ Some ts → Formed (34 ∷ d ∷ s) ts
 quote_step d s ts true e h =
     let p = closed_some s (list_all is_white s) ts refl h in
-    record { inner = 34 ∷ 34 ∷ []; behind = s; is = ap (λ x. 34 ∷ x ∷ s) (eqb-true d 34 e); white = p.0; form = subst (Form (34 ∷ 34 ∷ [])) (sym p.1) empty_string }
+    record { inner = 34 ∷ 34 ∷ []; following = s; is = ap (λ x. 34 ∷ x ∷ s) (eqb-true d 34 e); white = p.0; form = subst (Form (34 ∷ 34 ∷ [])) (sym p.1) empty_string }
 quote_step d s ts false e h = absurd (no_some ts h)
 
 quote_form : (s : List ℕ) (ts : List (List ℕ)) → read_empty_string s ≡ Some ts → Formed (34 ∷ s) ts
@@ -202,11 +202,11 @@ form_step c s ts false true hq hb h =
 form_step c s ts false false hq hb h = absurd (no_some ts h)
 
 formed : (s : List ℕ) (ts : List (List ℕ)) → read_form s ≡ Some ts → Formed s ts
-formed [] ts h = record { inner = []; behind = []; is = refl; white = refl; form = subst (Form []) (same_strings [] ts h) empty }
+formed [] ts h = record { inner = []; following = []; is = refl; white = refl; form = subst (Form []) (same_strings [] ts h) empty }
 formed (c ∷ s) ts h = form_step c s ts (c == 34) (c == 40) refl refl h
 
 pub read_says : (s : List ℕ) (ts : List (List ℕ)) → read_strings s ≡ Some ts → Says s ts
 read_says s ts h =
     let w = split s in
     let p = formed (without_white s) ts h in
-    record { before = w.white; inside = p.inner; behind = p.behind; is = w.is ∙ ap (λ r. w.white ++ r) p.is; white_before = w.all; white_behind = p.white; form = p.form }
+    record { before = w.white; inside = p.inner; following = p.following; is = w.is ∙ ap (λ r. w.white ++ r) p.is; white_before = w.all; white_after = p.white; form = p.form }

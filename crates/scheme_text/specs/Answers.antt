@@ -24,10 +24,10 @@ pub data Form : List ℕ → List (List ℕ) → Type 0 where
 pub record Says (s : List ℕ) (ts : List (List ℕ)) : Type 0 where
   pub before : List ℕ
   pub inside : List ℕ
-  pub behind : List ℕ
-  pub is : s ≡ before ++ (inside ++ behind)
+  pub following : List ℕ
+  pub is : s ≡ before ++ (inside ++ following)
   pub white_before : list_all is_white before ≡ true
-  pub white_behind : list_all is_white behind ≡ true
+  pub white_after : list_all is_white following ≡ true
   pub form : Form inside ts
 
 -- The first text is the root, and the others are the completions. Without a text there are none, and the root is empty.
@@ -36,7 +36,7 @@ rooted [] = record { root = []; rest = [] }
 rooted (t ∷ ts) = record { root = t; rest = ts }
 
 -- The output tells these completions.
-pub record IsToldBy (b : Tree) (c : Completions) : Type 0 where
+pub record IsReportedBy (b : Tree) (c : Completions) : Type 0 where
   pub text : List ℕ
   pub strings : List (List ℕ)
   pub holds : answer_text b ≡ Some text

@@ -4,8 +4,8 @@ use Rattle.std.specs.List.{flat_map}
 use Rattle.block_tree.specs.Tree.{Tree}
 use Rattle.scheme_text.specs.Quoting.{Quotes, quoted}
 use Rattle.scheme_text.specs.Requests.{request}
-use Rattle.scheme_text.specs.Answers.{Says, IsToldBy}
-use Rattle.scheme_text.specs.Told.{told_by}
+use Rattle.scheme_text.specs.Answers.{Says, IsReportedBy}
+use Rattle.scheme_text.specs.Reported.{reported_by}
 use Rattle.scheme_text.specs.declared.answer.Completions.{Completions}
 
 -- Bytes ask for the completions of one input at one cursor at most.
@@ -25,17 +25,17 @@ abbrev pub QuotedIsRead : Type 0
 QuotedIsRead = (t : List ℕ) → Quotes (quoted t) t
 
 -- a string between quotes, with a space in front of it
-abbrev pub string_behind_space : List ℕ → List ℕ
-string_behind_space t = 32 ∷ (34 ∷ (quoted t ++ 34 ∷ []))
+abbrev pub string_after_space : List ℕ → List ℕ
+string_after_space t = 32 ∷ (34 ∷ (quoted t ++ 34 ∷ []))
 
 -- a tuple as an interpreter writes it
 abbrev pub written_tuple : List (List ℕ) → List ℕ
-written_tuple ts = codes "(tuple" ++ (flat_map string_behind_space ts ++ 41 ∷ [])
+written_tuple ts = codes "(tuple" ++ (flat_map string_after_space ts ++ 41 ∷ [])
 
 -- A tuple that is written so says its strings.
 abbrev pub WrittenTuplesAreRead : Type 0
 WrittenTuplesAreRead = (ts : List (List ℕ)) → Says (written_tuple ts) ts
 
 -- What is said as a value is what the output says.
-abbrev pub ToldAsAValue : Type 0
-ToldAsAValue = (b : Tree) (c : Completions) → (told_by b ≡ Ok c) ↔ IsToldBy b c
+abbrev pub ReportedAsAValue : Type 0
+ReportedAsAValue = (b : Tree) (c : Completions) → (reported_by b ≡ Ok c) ↔ IsReportedBy b c

@@ -12,7 +12,7 @@ is_marked c = c == 34 || c == 92
 pub data Quotes : List ℕ → List ℕ → Type 0 where
   nothing : Quotes [] []
   itself : {c : ℕ} {s t : List ℕ} → is_marked c ≡ false → Quotes s t → Quotes (c ∷ s) (c ∷ t)
-  behind_slash : {c : ℕ} {s t : List ℕ} → Quotes s t → Quotes (92 ∷ c ∷ s) (cond (is_marked c) (c ∷ []) (92 ∷ c ∷ []) ++ t)
+  after_slash : {c : ℕ} {s t : List ℕ} → Quotes s t → Quotes (92 ∷ c ∷ s) (cond (is_marked c) (c ∷ []) (92 ∷ c ∷ []) ++ t)
 
 -- a text as it is written between quotes: with a backslash before each quote and each backslash
 abbrev pub quoted : List ℕ → List ℕ

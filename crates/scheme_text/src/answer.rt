@@ -1,7 +1,7 @@
 //! Answers to requests of completions.
 ghost use Rattle.std.specs.Prelude.{◌≡◌, IfOk, IsErrOf, Ok, Err};
-ghost use Rattle.scheme_text.specs.Answers.{IsToldBy, rooted};
-ghost use Rattle.scheme_text.specs.Told.{no_completion, told_by};
+ghost use Rattle.scheme_text.specs.Answers.{IsReportedBy, rooted};
+ghost use Rattle.scheme_text.specs.Reported.{no_completion, reported_by};
 ghost use Rattle.scheme_text.specs.declared.answer.Completions as declared;
 
 use crate::outputs::answer_text;
@@ -55,12 +55,12 @@ fn with_root(alloc: Global, mut strings: Vec<Octets>) -> Completions
 /// completion.)
 #[tactic(auto, using(crate::proofs::Telling::answer_rules))]
 pub fn read_answer(alloc: Global, output: &Block) -> Result<Completions, AnswerFault>
-    ensures ok { IfOk result (IsToldBy output.now) }
+    ensures ok { IfOk result (IsReportedBy output.now) }
     ensures bad { IsErrOf result AnswerFault.BadCompletion → (c : declared.Completions)
-        → IsToldBy output.now c → ⊥ }
-    ensures value { IfOk result (λ c. told_by output.now ≡ Ok c) }
+        → IsReportedBy output.now c → ⊥ }
+    ensures value { IfOk result (λ c. reported_by output.now ≡ Ok c) }
     ensures bad_value { IsErrOf result AnswerFault.BadCompletion
-        → told_by output.now ≡ Err no_completion }
+        → reported_by output.now ≡ Err no_completion }
 {
     let Some(text) = answer_text(output.node()) else {
         return Err(AnswerFault::BadCompletion);

@@ -2,9 +2,9 @@
 //! law.
 ghost use Rattle.std.specs.Prelude.{◌≡◌, ◌↔◌, IsTrue};
 ghost use Rattle.block_tree.specs.Tree.{Tree};
-ghost use Rattle.scheme_text.specs.Answers.{IsToldBy};
+ghost use Rattle.scheme_text.specs.Answers.{IsReportedBy};
 ghost use Rattle.scheme_text.specs.Laws.{OneRequest, QuotedIsRead, QuotesOneText, SaysOneList};
-ghost use Rattle.scheme_text.specs.Laws.{ToldAsAValue, WrittenTuplesAreRead};
+ghost use Rattle.scheme_text.specs.Laws.{ReportedAsAValue, WrittenTuplesAreRead};
 ghost use Rattle.scheme_text.specs.Same.{same_completions};
 ghost use Rattle.scheme_text.specs.declared.answer.Completions.{Completions};
 
@@ -25,7 +25,7 @@ pub fn says_one_list()
 
 /// An output tells one value of completions at most.
 pub fn one_completion()
-    ensures { (b : Tree) (c d : Completions) → IsToldBy b c → IsToldBy b d → c ≡ d }
+    ensures { (b : Tree) (c d : Completions) → IsReportedBy b c → IsReportedBy b d → c ≡ d }
 {}
 
 /// What is written between quotes, as in a request, is read as what was to be written.
@@ -38,10 +38,10 @@ pub fn written_tuples_are_read()
     ensures { WrittenTuplesAreRead }
 {}
 
-/// The value `told_by`, which definitions of other crates keep, is what the output tells; it is bad
+/// The value `reported_by`, which definitions of other crates keep, is what the output tells; it is bad
 /// where the output tells nothing.
-pub fn told_as_a_value()
-    ensures { ToldAsAValue }
+pub fn reported_as_a_value()
+    ensures { ReportedAsAValue }
 {}
 
 /// What `==` answers of two values, `same_completions`, is true exactly where they are one.

@@ -13,7 +13,7 @@ mod strings;
 
 pub use answer::{AnswerFault, BadCompletion, Completions, read_answer};
 pub use laws::{
-    equal_completions, one_completion, one_request, quoted_is_read, quotes_one_text, says_one_list,
-    told_as_a_value, written_tuples_are_read,
+    equal_completions, one_completion, one_request, quoted_is_read, quotes_one_text,
+    reported_as_a_value, says_one_list, written_tuples_are_read,
 };
 pub use request::write_request;

@@ -53,11 +53,11 @@ fn read_string<'a>(alloc: Global, bytes: &'a [u8]) -> Result<(Octets, &'a [u8]),
             return Ok((Octets::from_vec(text), others));
         }
         if *byte == b'\\' {
-            let Some((next, behind)) = others.split_first() else {
+            let Some((next, following)) = others.split_first() else {
                 return Err(AnswerFault::BadCompletion);
             };
             push_slashed(*next, &mut text).map_err(|_| AnswerFault::OutOfMemory)?;
-            rest = behind;
+            rest = following;
         } else {
             text.push(*byte).map_err(|_| AnswerFault::OutOfMemory)?;
             rest = others;
@@ -82,9 +82,9 @@ fn read_tuple(alloc: Global, bytes: &[u8]) -> Result<Vec<Octets>, AnswerFault>
         } else if *byte == b'"' {
             match read_string(alloc, others) {
                 Err(fault) => return Err(fault),
-                Ok((text, behind)) => {
+                Ok((text, following)) => {
                     strings.push(text).map_err(|_| AnswerFault::OutOfMemory)?;
-                    rest = behind;
+                    rest = following;
                 }
             }
         } else if *byte == b')' && are_white(others) {
@@ -97,7 +97,7 @@ fn read_tuple(alloc: Global, bytes: &[u8]) -> Result<Vec<Octets>, AnswerFault>
 }
 
 /// The bytes after the word `tuple`.
-fn behind_word(bytes: &[u8]) -> Option<&[u8]>
+fn after_word(bytes: &[u8]) -> Option<&[u8]>
     ensures { (if bytes_eq (take 5 bytes.now) (codes "tuple") then Some (drop 5 bytes.now)
         else None) ≡ option_copied result }
 {
@@ -115,12 +115,12 @@ pub(crate) fn read_strings(alloc: Global, text: &[u8]) -> Result<Vec<Octets>, An
     };
     if *byte == b'"' {
         return match others.split_first() {
-            Some((next, behind)) if *next == b'"' && are_white(behind) => Ok(Vec::new(alloc)),
+            Some((next, following)) if *next == b'"' && are_white(following) => Ok(Vec::new(alloc)),
             _ => Err(AnswerFault::BadCompletion),
         };
     }
     if *byte == b'(' {
-        return match behind_word(without_white(others)) {
+        return match after_word(without_white(others)) {
             Some(strings) => read_tuple(alloc, strings),
             None => Err(AnswerFault::BadCompletion),
         };

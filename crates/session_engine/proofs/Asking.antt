@@ -20,7 +20,7 @@ use Rattle.session_engine.specs.declared.table.Running.{Running}
 use Rattle.session_engine.specs.inside.Tables.{Joined, Begun, with_life}
 use Rattle.session_engine.specs.Host.{Lives, HasField, HaveFields, EngineStandsFor}
 use Rattle.session_engine.proofs.Tables.{found, not_found, pushed, numbers_are}
-use Rattle.session_engine.proofs.Naming.{differ_behind}
+use Rattle.session_engine.proofs.Naming.{differ_after}
 use Rattle.session_engine.proofs.Standing.{all_at, put}
 use Rattle.session_engine.specs.World.{World, Going, life_of, session_of_field, sheet_in, waiting_in, fits_in}
 use Rattle.session_engine.specs.inside.Words.{fits, line_of_field, with_op, starting_words, begun_with, joined_by, full, lives_are_spent, by_field}
@@ -45,12 +45,12 @@ use Rattle.session_engine.specs.Host.{name_of, number_in}
 use Rattle.session_engine.proofs.Tables.{numbers_stay}
 use Rattle.session_engine.specs.World.{in_flight, with_op_if}
 use Rattle.session_engine.specs.Refused.{command_refusals}
-use Rattle.session_engine.specs.inside.Commits.{RefusesEval, SparesItem, SparesLife, told_asked, begun_with_words}
-use Rattle.session_engine.specs.Does.{does, asks_item, tells, behind, CommandDoes, MayDo}
+use Rattle.session_engine.specs.inside.Commits.{RefusesEval, SparesItem, SparesLife, reported_asked, begun_with_words}
+use Rattle.session_engine.specs.Does.{does, asks_item, tells, following, CommandDoes, MayDo}
 use Rattle.session_engine.specs.Faults.{CauseOf, Failed}
 use Rattle.session_engine.specs.Host.{HostView, OnDisk}
 use Rattle.host_events.specs.declared.reply.Reply.TheVariants as reply
-use Rattle.session_engine.proofs.Changing.{first_behind, first_before}
+use Rattle.session_engine.proofs.Changing.{first_after, first_before}
 
 pub fit : (room end : ℕ) (o : Op) → Fits room end (length (code_of o)) → fits_in room end o ≡ true
 fit room end o h = go (nat_le (length (code_of o)) longest_payload) (nat_le (end + 5 + length (code_of o) + 1) room) refl refl
@@ -82,7 +82,7 @@ pub refused_queue : (w : World) (id : ℕ) (name : List ℕ) (r : Refusal) → s
 refused_queue w id name r is e = inl (first_before (queue_refusals w (life_of w (session_of_field w id))) (full w (op.Clear id) ∷ []) r (at_session w id name is ∙ e))
 
 first_is : (w : World) (id : ℕ) (name : List ℕ) → session_of_field w id ≡ name → first_of (queue_refusals w (life_of w name)) ≡ None → first_of (eval_refusals w id) ≡ (if not (fits w (op.Clear id)) then Some refusal.JournalFull else None)
-first_is w id name is e = first_behind (queue_refusals w (life_of w (session_of_field w id))) (full w (op.Clear id) ∷ []) (at_session w id name is ∙ e)
+first_is w id name is e = first_after (queue_refusals w (life_of w (session_of_field w id))) (full w (op.Clear id) ∷ []) (at_session w id name is ∙ e)
 
 pub refused_full : (w : World) (id : ℕ) (name : List ℕ) → session_of_field w id ≡ name → first_of (queue_refusals w (life_of w name)) ≡ None → fits w (op.Clear id) ≡ false → RefusesEval w id refusal.JournalFull
 refused_full w id name is e f = inl (first_is w id name is e ∙ ap (λ (b : Bool). if not b then Some refusal.JournalFull else None) f)
@@ -92,28 +92,28 @@ not_refused w id name is e f = first_is w id name is e ∙ ap (λ (b : Bool). if
 
 -- An item is asked.
 
-all_behind : {A : Type 0} (P : A → Type 0) (xs : List A) (x : A) → AllByRecursion P xs → P x → AllByRecursion P (xs ++ x ∷ [])
-all_behind P [] x all one = (one, tt)
-all_behind P (y ∷ xs) x all one = (all.0, all_behind P xs x all.1 one)
+all_after : {A : Type 0} (P : A → Type 0) (xs : List A) (x : A) → AllByRecursion P xs → P x → AllByRecursion P (xs ++ x ∷ [])
+all_after P [] x all one = (one, tt)
+all_after P (y ∷ xs) x all one = (all.0, all_after P xs x all.1 one)
 
 -- the worlds and outcomes of an item that joins a life, and of one that begins one
 pub joins : (store : StoreView) (rs new : List Running) (begun next : ℕ) (w : World) (name : List ℕ) (i : Item) (number : ℕ) (sent : Option (List ℕ)) (words : Option (List (List ℕ)))
     → EngineStandsFor store rs begun w → HasField (sheet_in w) name i → Joined name i rs new (record { number = number; sent = sent }) → words ≡ start_words w name (life_of w name)
-    → (told_asked name number words sent ≡ asks w name i (life_of w name)) × EngineStandsFor store new (begun_with_words begun words) (with_item w name i (life_of w name))
+    → (reported_asked name number words sent ≡ asks w name i (life_of w name)) × EngineStandsFor store new (begun_with_words begun words) (with_item w name i (life_of w name))
 joins store rs new begun next w name i number sent words h has j is =
     let f = found name rs w.lives j.before h.lives_are j.found in
     let a = j.accepts f.life.past f.life.blocks f.runs.stands in
     let no_words : words ≡ None = is ∙ ap (λ (o : Option Going). start_words w name o) f.is in
-    let n : number ≡ f.life.number = j.told ∙ j.same ∙ f.runs.number in
+    let n : number ≡ f.life.number = j.reported ∙ j.same ∙ f.runs.number in
     let had = all_at (HaveFields (sheet_in w)) (λ (l : Going). l.name) name f.life w.lives h.fields f.is in
     let have = subst (λ (l : List Item). AllByRecursion (HasField (sheet_in w) f.life.name) l) (sym a.waiting)
-    (all_behind (HasField (sheet_in w) f.life.name) (waiting_in f.life) i had (subst (λ (n : List ℕ). HasField (sheet_in w) n i) (sym f.named) has)) in
-    let told : told_asked name number words sent ≡ asks w name i (Some f.life) =
-    ap (λ (ws : Option (List (List ℕ))). told_asked name number ws sent) no_words
-    ∙ ap (λ (k : ℕ). told_asked name k None sent) n
-    ∙ ap (λ (s : Option (List ℕ)). told_asked name f.life.number None s) a.gives in
+    (all_after (HasField (sheet_in w) f.life.name) (waiting_in f.life) i had (subst (λ (n : List ℕ). HasField (sheet_in w) n i) (sym f.named) has)) in
+    let reported : reported_asked name number words sent ≡ asks w name i (Some f.life) =
+    ap (λ (ws : Option (List (List ℕ))). reported_asked name number ws sent) no_words
+    ∙ ap (λ (k : ℕ). reported_asked name k None sent) n
+    ∙ ap (λ (s : Option (List ℕ)). reported_asked name f.life.number None s) a.gives in
     let stand = put store rs begun w name j.before (with_life j.before j.life) (joined_by f.life i) h f (record { name = f.runs.name; number = j.same ∙ f.runs.number; stands = a.then }) have f.named in (
-      told ∙ sym (ap (λ (o : Option Going). asks w name i o) f.is),
+      reported ∙ sym (ap (λ (o : Option Going). asks w name i o) f.is),
       subst (λ (o : Option Going). EngineStandsFor store new (begun_with_words begun words) (with_item w name i o)) (sym f.is)
           (subst (λ (ws : Option (List (List ℕ))). EngineStandsFor store new (begun_with_words begun ws) (with_item w name i (Some f.life))) (sym no_words)
           (subst (λ (l : List Running). EngineStandsFor store l begun (with_item w name i (Some f.life))) (sym j.put) stand)),
@@ -121,11 +121,11 @@ joins store rs new begun next w name i number sent words h has j is =
 
 pub begins : (store : StoreView) (rs new : List Running) (begun : ℕ) (w : World) (name : List ℕ) (i : Item) (number : ℕ) (sent : Option (List ℕ)) (words : Option (List (List ℕ)))
     → EngineStandsFor store rs begun w → HasField (sheet_in w) name i → lives_are_spent w.begun (life_of w name) ≡ false → Begun name (begun + 1) i rs new (record { number = number; sent = sent }) → words ≡ start_words w name (life_of w name)
-    → (told_asked name number words sent ≡ asks w name i (life_of w name)) × EngineStandsFor store new (begun_with_words begun words) (with_item w name i (life_of w name))
+    → (reported_asked name number words sent ≡ asks w name i (life_of w name)) × EngineStandsFor store new (begun_with_words begun words) (with_item w name i (life_of w name))
 begins store rs new begun w name i number sent words h has left b is =
     let e : life_of w name ≡ None = not_found name rs w.lives h.lives_are b.none in
     let ws : words ≡ Some (starting_words (session_named (sheet_in w).sessions name)) = is ∙ ap (λ (o : Option Going). start_words w name o) e in
-    let n : number ≡ w.begun + 1 = b.told ∙ ap (λ (k : ℕ). k + 1) h.begun_is in
+    let n : number ≡ w.begun + 1 = b.reported ∙ ap (λ (k : ℕ). k + 1) h.begun_is in
     let spare : nat_le most_lives w.begun ≡ false = sym (ap (λ (o : Option Going). lives_are_spent w.begun o) e) ∙ left in
     let life = begun_with w name i in
     let stand : EngineStandsFor store new (begun + 1) (with_item w name i None) = record {
@@ -138,10 +138,10 @@ begins store rs new begun w name i number sent words h has left b is =
       begun_is = ap (λ (k : ℕ). k + 1) h.begun_is;
       bound = grind (arith, nat_tests, spare, h.bound);
       lives_are = subst (λ (l : List Running). Lives l (w.lives ++ life ∷ [])) (sym b.put) (pushed rs w.lives (record { name = name; life = b.life }) life h.lives_are (record { name = refl; number = b.is_number ∙ ap (λ (k : ℕ). k + 1) h.begun_is; stands = b.stands }));
-      fields = all_behind (HaveFields (sheet_in w)) w.lives life h.fields (has, tt);
-      apart = differ_behind (λ (l : Going). l.name) w.lives life h.apart e;
+      fields = all_after (HaveFields (sheet_in w)) w.lives life h.fields (has, tt);
+      apart = differ_after (λ (l : Going). l.name) w.lives life h.apart e;
     } in (
-      ap (λ (x : Option (List (List ℕ))). told_asked name number x sent) ws ∙ ap (λ (k : ℕ). told_asked name k (Some (starting_words (session_named (sheet_in w).sessions name))) sent) n ∙ sym (ap (λ (o : Option Going). asks w name i o) e),
+      ap (λ (x : Option (List (List ℕ))). reported_asked name number x sent) ws ∙ ap (λ (k : ℕ). reported_asked name k (Some (starting_words (session_named (sheet_in w).sessions name))) sent) n ∙ sym (ap (λ (o : Option Going). asks w name i o) e),
       subst (λ (o : Option Going). EngineStandsFor store new (begun_with_words begun words) (with_item w name i o)) (sym e)
           (subst (λ (x : Option (List (List ℕ))). EngineStandsFor store new (begun_with_words begun x) (with_item w name i None)) (sym ws) stand),
     )
@@ -161,9 +161,9 @@ spared_clear id (l ∷ ls) = (spared_items id (waiting_in l), spared_clear id ls
 
 -- An item can be taken back.
 
-without_behind : {A : Type 0} (name_of : A → List ℕ) (name : List ℕ) (xs : List A) (x : A) → first_named name_of name xs ≡ None → bytes_eq (name_of x) name ≡ true → without_named name_of name (xs ++ x ∷ []) ≡ xs
-without_behind name_of name [] x none is = rw is refl
-without_behind {A} name_of name (y ∷ xs) x none is = go (bytes_eq (name_of y) name) none (without_behind name_of name xs x)
+without_after : {A : Type 0} (name_of : A → List ℕ) (name : List ℕ) (xs : List A) (x : A) → first_named name_of name xs ≡ None → bytes_eq (name_of x) name ≡ true → without_named name_of name (xs ++ x ∷ []) ≡ xs
+without_after name_of name [] x none is = rw is refl
+without_after {A} name_of name (y ∷ xs) x none is = go (bytes_eq (name_of y) name) none (without_after name_of name xs x)
   where
     go : (b : Bool) → (if b then Some y else first_named name_of name xs) ≡ None → (first_named name_of name xs ≡ None → bytes_eq (name_of x) name ≡ true → without_named name_of name (xs ++ x ∷ []) ≡ xs)
         → (if b then xs ++ x ∷ [] else y ∷ without_named name_of name (xs ++ x ∷ [])) ≡ y ∷ xs
@@ -182,7 +182,7 @@ goes_back store rs new begun w name i number sent words h asked is = ⊎_elim
     let some : words ≡ Some (starting_words (session_named (sheet_in w).sessions name)) = is ∙ ap (λ (o : Option Going). start_words w name o) e in
     inr (
       ap (λ (x : Option (List (List ℕ))). begun_with_words begun x) some,
-      ap (λ (l : List Running). without_named name_of name l) b.put ∙ without_behind name_of name rs (record { name = name; life = b.life }) b.none ((bytes_eq-Decides name name).1 refl),
+      ap (λ (l : List Running). without_named name_of name l) b.put ∙ without_after name_of name rs (record { name = name; life = b.life }) b.none ((bytes_eq-Decides name name).1 refl),
     ))
     asked
 
@@ -229,11 +229,11 @@ gives_in_flight w id f e waits =
 
 -- An evaluation in the parts that a host works on.
 
-pub asked_told : (w : World) (i : Item) (o : Option Op) (name : List ℕ) (l : Option Going) → (asks_item w i o name l).told ≡ asks w name i l
-asked_told w i o name None = refl
-asked_told w i o name (Some l) = refl
+pub asked_reported : (w : World) (i : Item) (o : Option Op) (name : List ℕ) (l : Option Going) → (asks_item w i o name l).reported ≡ asks w name i l
+asked_reported w i o name None = refl
+asked_reported w i o name (Some l) = refl
 
-pub asked_leads : (w : World) (i : Item) (o : Option Op) (name : List ℕ) (l : Option Going) → behind w (asks_item w i o name l) ≡ with_op_if o (with_item w name i l)
+pub asked_leads : (w : World) (i : Item) (o : Option Op) (name : List ℕ) (l : Option Going) → following w (asks_item w i o name l) ≡ with_op_if o (with_item w name i l)
 asked_leads w i o name None = refl
 asked_leads w i o name (Some l) = refl
 
@@ -242,11 +242,11 @@ asked_op w i o name None = refl
 asked_op w i o name (Some l) = refl
 
 pub asked_on_disk : (w : World) (i : Item) (o : Option Op) (name : List ℕ) (l : Option Going) (old new : DiskView) → OnDisk w.ops false o old new
-    → OnDisk w.ops (asks_item w i o name l).anew (asks_item w i o name l).op old new
+    → OnDisk w.ops (asks_item w i o name l).again (asks_item w i o name l).op old new
 asked_on_disk w i o name None old new disk = disk
 asked_on_disk w i o name (Some l) old new disk = disk
 
-asked_writes : (w : World) (i : Item) (o : Op) (name : List ℕ) (l : Option Going) → ((asks_item w i (Some o) name l).anew || is_some (asks_item w i (Some o) name l).op) ≡ true
+asked_writes : (w : World) (i : Item) (o : Op) (name : List ℕ) (l : Option Going) → ((asks_item w i (Some o) name l).again || is_some (asks_item w i (Some o) name l).op) ≡ true
 asked_writes w i o name None = refl
 asked_writes w i o name (Some l) = refl
 
@@ -260,20 +260,20 @@ module _ (w : World) (id : ℕ) (f : Field) (e : field_in (sheet_in w).fields id
   pub eval_done : first_of (eval_refusals w id) ≡ None → MayDo w (event.Command (command.Eval id)) (does w (command.Eval id))
   eval_done none = subst (λ (x : Option Refusal). CommandDoes w (command.Eval id) x (does w (command.Eval id))) (sym (first_eval w id f e free ∙ none)) (inl refl)
 
-  pub eval_told : (line : Item) → line ≡ item.Line id f.input → asks w f.session line (life_of w f.session) ≡ (does w (command.Eval id)).told
-  eval_told line is =
+  pub eval_reported : (line : Item) → line ≡ item.Line id f.input → asks w f.session line (life_of w f.session) ≡ (does w (command.Eval id)).reported
+  eval_reported line is =
       let s = sym (session_is w id f e) in
       let l : line ≡ line_of_field w id = is ∙ sym (line_is w id f e) in
-      ap (λ (n : List ℕ). asks w n line (life_of w n)) s ∙ ap (λ (i : Item). asks w (session_of_field w id) i (life_of w (session_of_field w id))) l ∙ sym (asked_told w (line_of_field w id) (Some (op.Clear id)) (session_of_field w id) (life_of w (session_of_field w id)))
+      ap (λ (n : List ℕ). asks w n line (life_of w n)) s ∙ ap (λ (i : Item). asks w (session_of_field w id) i (life_of w (session_of_field w id))) l ∙ sym (asked_reported w (line_of_field w id) (Some (op.Clear id)) (session_of_field w id) (life_of w (session_of_field w id)))
 
-  pub eval_leads : (line : Item) → line ≡ item.Line id f.input → with_op (op.Clear id) (with_item w f.session line (life_of w f.session)) ≡ behind w (does w (command.Eval id))
+  pub eval_leads : (line : Item) → line ≡ item.Line id f.input → with_op (op.Clear id) (with_item w f.session line (life_of w f.session)) ≡ following w (does w (command.Eval id))
   eval_leads line is =
       let s = sym (session_is w id f e) in
       let l : line ≡ line_of_field w id = is ∙ sym (line_is w id f e) in
       ap (λ (n : List ℕ). with_op (op.Clear id) (with_item w n line (life_of w n))) s ∙ ap (λ (i : Item). with_op (op.Clear id) (with_item w (session_of_field w id) i (life_of w (session_of_field w id)))) l
       ∙ sym (asked_leads w (line_of_field w id) (Some (op.Clear id)) (session_of_field w id) (life_of w (session_of_field w id)))
 
-  pub eval_on_disk : (old new : DiskView) → OnDisk w.ops false (Some (op.Clear id)) old new → OnDisk w.ops (does w (command.Eval id)).anew (does w (command.Eval id)).op old new
+  pub eval_on_disk : (old new : DiskView) → OnDisk w.ops false (Some (op.Clear id)) old new → OnDisk w.ops (does w (command.Eval id)).again (does w (command.Eval id)).op old new
   eval_on_disk old new disk = asked_on_disk w (line_of_field w id) (Some (op.Clear id)) (session_of_field w id) (life_of w (session_of_field w id)) old new disk
 
   -- the disk's fault at an Eval, after a preparation that changed nothing

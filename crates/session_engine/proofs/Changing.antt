@@ -50,9 +50,9 @@ as_op w (command.CompleteText id cursor text) o e = cc
 as_op w (command.Stop name) o e = cc
 as_op w command.Checkpoint o e = cc
 
-pub first_behind : (rs qs : List (Refusal × Bool)) → first_of rs ≡ None → first_of (rs ++ qs) ≡ first_of qs
-first_behind [] qs h = refl
-first_behind (r ∷ rs) qs h = go r.1 h (first_behind rs qs)
+pub first_after : (rs qs : List (Refusal × Bool)) → first_of rs ≡ None → first_of (rs ++ qs) ≡ first_of qs
+first_after [] qs h = refl
+first_after (r ∷ rs) qs h = go r.1 h (first_after rs qs)
   where
     go : (b : Bool) → (if b then Some r.0 else first_of rs) ≡ None → (first_of rs ≡ None → first_of (rs ++ qs) ≡ first_of qs) → (if b then Some r.0 else first_of (rs ++ qs)) ≡ first_of qs
     go true h rest = cc
@@ -140,7 +140,7 @@ module _ (w : World) (c : Command) (o : Op) (is : op_of c ≡ Some o) where
       subst (λ (x : Option Refusal). CommandDoes w c x (tells w (reply.Refused r))) (sym first) refl
 
   first_is : first_of (refusals_but_room w o) ≡ None → first_of (command_refusals w c) ≡ (if not (fits w o) then Some refusal.JournalFull else None)
-  first_is e = ap first_of (as_op w c o is).refusals_are ∙ first_behind (refusals_but_room w o) (full w o ∷ []) e
+  first_is e = ap first_of (as_op w c o is).refusals_are ∙ first_after (refusals_but_room w o) (full w o ∷ []) e
 
   pub gives_full : first_of (refusals_but_room w o) ≡ None → fits w o ≡ false → MayDo w (event.Command c) (tells w (reply.Refused refusal.JournalFull))
   gives_full e f =

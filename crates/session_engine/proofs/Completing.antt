@@ -18,12 +18,12 @@ use Rattle.host_events.specs.declared.reply.Reply.TheVariants as reply
 use Rattle.session_engine.specs.World.{World, sheet_in, life_of, session_of_field, input_of}
 use Rattle.session_engine.specs.inside.Words.{by_field}
 use Rattle.session_engine.specs.Refused.{begins_inside, is_cursor, queue_refusals, cursor_refusals, tab_refusals}
-use Rattle.session_engine.specs.Does.{Does, asks_completions, asks_item, does, tells, behind, CommandDoes, MayDo}
+use Rattle.session_engine.specs.Does.{Does, asks_completions, asks_item, does, tells, following, CommandDoes, MayDo}
 use Rattle.session_engine.specs.Host.{HasField, OnDisk}
 use Rattle.session_engine.specs.inside.Parts.{asks, with_item}
 use Rattle.session_engine.specs.inside.Commits.{GivesRequest, RefusesRequest}
-use Rattle.session_engine.proofs.Asking.{asked_told, asked_leads, asked_on_disk, session_is}
-use Rattle.session_engine.proofs.Changing.{first_behind}
+use Rattle.session_engine.proofs.Asking.{asked_reported, asked_leads, asked_on_disk, session_is}
+use Rattle.session_engine.proofs.Changing.{first_after}
 
 -- Cursors.
 
@@ -96,7 +96,7 @@ module _ (w : World) (id cursor : ℕ) (f : Field) (e : field_in (sheet_in w).fi
 
   pub input_asked : (i : Item) → i ≡ item.Complete id f.input cursor → first_of (cursor_refusals w f.session f.input cursor) ≡ None → GivesRequest w (command.Complete id cursor) f.session i
   input_asked i is none = record {
-    none = first_behind (tab_refusals w id) (cursor_refusals w (session_of_field w id) (input_of w id) cursor) tab
+    none = first_after (tab_refusals w id) (cursor_refusals w (session_of_field w id) (input_of w id) cursor) tab
         ∙ at_field (input_of w id)
         ∙ ap (λ (t : List ℕ). first_of (cursor_refusals w f.session t cursor)) input_is
         ∙ none;
@@ -118,11 +118,11 @@ module _ (w : World) (c : Command) (name : List ℕ) (i : Item) (g : GivesReques
   pub request_done : MayDo w (event.Command c) (does w c)
   request_done = subst (λ (x : Option Refusal). CommandDoes w c x (does w c)) (sym g.none) (inl refl)
 
-  pub request_told : asks w name i (life_of w name) ≡ (does w c).told
-  request_told = sym (ap (λ (d : Does). d.told) g.does_is ∙ asked_told w i None name (life_of w name))
+  pub request_reported : asks w name i (life_of w name) ≡ (does w c).reported
+  request_reported = sym (ap (λ (d : Does). d.reported) g.does_is ∙ asked_reported w i None name (life_of w name))
 
-  pub request_leads : with_item w name i (life_of w name) ≡ behind w (does w c)
-  request_leads = sym (ap (behind w) g.does_is ∙ asked_leads w i None name (life_of w name))
+  pub request_leads : with_item w name i (life_of w name) ≡ following w (does w c)
+  request_leads = sym (ap (following w) g.does_is ∙ asked_leads w i None name (life_of w name))
 
-  pub request_on_disk : (old new : DiskView) → new ≡ old → OnDisk w.ops (does w c).anew (does w c).op old new
-  request_on_disk old new same = subst (λ (d : Does). OnDisk w.ops d.anew d.op old new) (sym g.does_is) (asked_on_disk w i None name (life_of w name) old new same)
+  pub request_on_disk : (old new : DiskView) → new ≡ old → OnDisk w.ops (does w c).again (does w c).op old new
+  request_on_disk old new same = subst (λ (d : Does). OnDisk w.ops d.again d.op old new) (sym g.does_is) (asked_on_disk w i None name (life_of w name) old new same)

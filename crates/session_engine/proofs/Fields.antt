@@ -25,7 +25,7 @@ use Rattle.block_tree.specs.Tree.{Tree}
 use Rattle.block_tree.specs.Output.{output}
 use Rattle.plugin_core.specs.declared.step.Step.{Step}
 use Rattle.plugin_core.specs.Kept.{InterpreterView, Takes}
-use Rattle.plugin_core.specs.Items.{unanswered, waiting_of, prompt_of, answer_behind, answer_to}
+use Rattle.plugin_core.specs.Items.{unanswered, waiting_of, prompt_of, answer_following, answer_to}
 use Rattle.plugin_core.specs.inside.Words.{answered_with}
 use Rattle.plugin_core.specs.Steps.{closed_by as closed_in}
 use Rattle.plugin_core.proofs.Pasts.{items_of-received}
@@ -190,7 +190,7 @@ allowed_answer short sheet past before b all = go (answers_of past before) (item
         rw (f, k) refl
     line (Some (item.Complete id text cursor)) prompt le has = tt
 
-    go : (answers : List Outer) (items : List Item) (prompt : List ℕ) → length prompt ≤ longest_prompt → AllByRecursion (IsOfField sheet) (unanswered answers items) → AllowedIf sheet (answer_op (answer_behind answers items prompt b.block))
+    go : (answers : List Outer) (items : List Item) (prompt : List ℕ) → length prompt ≤ longest_prompt → AllByRecursion (IsOfField sheet) (unanswered answers items) → AllowedIf sheet (answer_op (answer_following answers items prompt b.block))
     go [] items prompt le all = tt
     go (a ∷ answers) items prompt le all = line (slice_get items (length answers)) prompt le (λ i e. first_dropped (IsOfField sheet) (length answers) items i e all)
 

@@ -52,16 +52,16 @@ broke_by result fault closed Broke is either opened closes broke = ⊎_elim
 -- A host before events, after them, and after what they owe was flushed.
 module _ (w : World) (events : List Event) (old mid new : HostView) (real : mid.store.real ≡ old.store.real) (same : SameDisk old.store.disk mid.store.disk)
     (flushes : FlushesTo mid.store.sheet.contents mid.store new.store) where
-  pub took_group : (told : List Outcome) (p : HasPlayed w events [] told mid) → IsHost new p.leads → IsFlushed new → TookGroup w events told old new
-  took_group told p stands flushed = record {
+  pub took_group : (reported : List Outcome) (p : HasPlayed w events [] reported mid) → IsHost new p.leads → IsFlushed new → TookGroup w events reported old new
+  took_group reported p stands flushed = record {
     played = record { done = p.done; split = p.split; leads = p.leads; runs = p.runs; stands = stands };
     flushed = flushed;
     moments = flushes_after old.store mid.store new.store (sheet_in p.leads) real same p.stands.stands.contents flushes;
   }
 
-  pub stopped_group : (told : List Outcome) (fault : HostFault) (first : HostView) (s : StoppedAt w events first mid told fault) → ((fault ≡ faults.Disk) → ⊥)
-      → new.store.sheet ≡ mid.store.sheet → new.lives ≡ mid.lives → new.closed ≡ mid.closed → IsFlushed new → StoppedGroup w events old new told fault
-  stopped_group told fault first s kept sheet lives closed flushed = record {
+  pub stopped_group : (reported : List Outcome) (fault : HostFault) (first : HostView) (s : StoppedAt w events first mid reported fault) → ((fault ≡ faults.Disk) → ⊥)
+      → new.store.sheet ≡ mid.store.sheet → new.lives ≡ mid.lives → new.closed ≡ mid.closed → IsFlushed new → StoppedGroup w events old new reported fault
+  stopped_group reported fault first s kept sheet lives closed flushed = record {
     at = s.at;
     dropped = s.dropped;
     before = s.before;
@@ -76,12 +76,12 @@ module _ (w : World) (events : List Event) (old mid new : HostView) (real : mid.
     moments = flushes_after old.store mid.store new.store (sheet_in s.played.leads) real same s.failed.contents flushes;
   }
 
-  abbrev pub failed_group : (rest : List Event) (untold : List Outcome) (before : HostView) (p : HasPlayed w events rest untold before) → mid.store.sheet.contents ≡ sheet_in p.leads
+  abbrev pub failed_group : (rest : List Event) (withheld : List Outcome) (before : HostView) (p : HasPlayed w events rest withheld before) → mid.store.sheet.contents ≡ sheet_in p.leads
       → ((name : List ℕ) → number_in mid.lives name ≡ option_map (λ l. l.number) (life_of p.leads name)) → new.store.sheet ≡ mid.store.sheet → new.lives ≡ mid.lives
       → new.closed ≡ true → Rises mid.store.real.faults new.store.real.faults → FailedGroup w events old new
-  failed_group rest untold before p is numbers sheet lives closed broke = record {
+  failed_group rest withheld before p is numbers sheet lives closed broke = record {
     rest = rest;
-    untold = untold;
+    withheld = withheld;
     before = before;
     played = p;
     contents = ap (λ (v : SheetView). v.contents) sheet ∙ is;

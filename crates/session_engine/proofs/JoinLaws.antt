@@ -26,29 +26,29 @@ runs_both w (e ∷ es) [] v fs ps u run more = absurd run
 runs_both w (e ∷ es) (o ∷ os) v fs ps u run more = (run.0, run.1, runs_both run.0 es os v fs ps u run.2 more)
 
 -- all of these events were taken
-pub all_run : (w : World) (events : List Event) (told : List Outcome) (host : HostView) (p : PlayedBy false w events told host) → Runs w events told p.played.leads
-all_run w events told host p = subst (λ (es : List Event). Runs w es told p.played.leads)
+pub all_run : (w : World) (events : List Event) (reported : List Outcome) (host : HostView) (p : PlayedBy false w events reported host) → Runs w events reported p.played.leads
+all_run w events reported host p = subst (λ (es : List Event). Runs w es reported p.played.leads)
     (sym (append-nil p.played.done) ∙ ap (λ (rest : List Event). p.played.done ++ rest) (sym p.ends) ∙ sym p.played.split) p.played.runs
 
-module _ (w : World) (events : List Event) (told : List Outcome) (v : World) (runs : Runs w events told v) where
+module _ (w : World) (events : List Event) (reported : List Outcome) (v : World) (runs : Runs w events reported v) where
   -- events that were taken after others
-  pub played_after : (more rest : List Event) (later : List Outcome) (host : HostView) → HasPlayed v more rest later host → HasPlayed w (events ++ more) rest (told ++ later) host
+  pub played_after : (more rest : List Event) (later : List Outcome) (host : HostView) → HasPlayed v more rest later host → HasPlayed w (events ++ more) rest (reported ++ later) host
   played_after more rest later host p = record {
     done = events ++ p.done;
     split = ap (λ (es : List Event). events ++ es) p.split ∙ sym (append_assoc events p.done rest);
     leads = p.leads;
-    runs = runs_both w events told v p.done later p.leads runs p.runs;
+    runs = runs_both w events reported v p.done later p.leads runs p.runs;
     stands = p.stands;
   }
 
   module _ (A : Asking) (first : Option ℕ) (more : List Event) (answered : A.answers v first more) where
-    joined : JoinsAfter A w events told first more
+    joined : JoinsAfter A w events reported first more
     joined = record { world = v; runs = runs; answered = answered }
 
-    pub played_joined : (host : HostView) (joint : Joint) → joint.outcomes.items ≡ told → joint.first ≡ first → PlayedBy false v more joint.later.items host → PlayedJoined A w events host joint
+    pub played_joined : (host : HostView) (joint : Joint) → joint.outcomes.items ≡ reported → joint.first ≡ first → PlayedBy false v more joint.later.items host → PlayedJoined A w events host joint
     played_joined host joint is at p = record {
       more = more;
-      joined = subst (λ (os : List Outcome). JoinsAfter A w events os joint.first more) (sym is) (subst (λ (n : Option ℕ). JoinsAfter A w events told n more) (sym at) joined);
+      joined = subst (λ (os : List Outcome). JoinsAfter A w events os joint.first more) (sym is) (subst (λ (n : Option ℕ). JoinsAfter A w events reported n more) (sym at) joined);
       played = subst (λ (os : List Outcome). HasPlayed w (events ++ more) [] (os ++ joint.later.items) host) (sym is)
           (played_after more [] joint.later.items host (subst (λ (rest : List Event). HasPlayed v more rest joint.later.items host) p.ends p.played));
     }
@@ -58,9 +58,9 @@ module _ (w : World) (events : List Event) (told : List Outcome) (v : World) (ru
     unfolding played_after
     stops_later later fault mid new s = (
       events ++ more,
-      with_more told first more joined,
+      with_more reported first more joined,
       record {
-        told = told ++ later;
+        reported = reported ++ later;
         at = s.at;
         dropped = s.dropped;
         before = s.before;
@@ -70,8 +70,8 @@ module _ (w : World) (events : List Event) (told : List Outcome) (v : World) (ru
       },
     )
 
-pub stops_at : (w : World) (events : List Event) (told : List Outcome) (fault : HostFault) (old new : HostView) → StoppedAt w events old new told fault → Stops w events new fault
-stops_at w events told fault old new s = record { told = told; at = s.at; dropped = s.dropped; before = s.before; played = s.played; failed = s.failed; closed = s.closed }
+pub stops_at : (w : World) (events : List Event) (reported : List Outcome) (fault : HostFault) (old new : HostView) → StoppedAt w events old new reported fault → Stops w events new fault
+stops_at w events reported fault old new s = record { reported = reported; at = s.at; dropped = s.dropped; before = s.before; played = s.played; failed = s.failed; closed = s.closed }
 
 -- A host before events, after them, and after what they owe was flushed.
 module _ (w : World) (events : List Event) (old mid new : HostView) (real : mid.store.real ≡ old.store.real) (same : SameDisk old.store.disk mid.store.disk)
@@ -84,7 +84,7 @@ module _ (w : World) (events : List Event) (old mid new : HostView) (real : mid.
   }
 
   pub stopped_joined : (fault : HostFault) (s : Stops w events mid fault) → ((fault ≡ faults.Disk) → ⊥)
-      → new.store.sheet ≡ mid.store.sheet → new.lives ≡ mid.lives → new.closed ≡ mid.closed → IsFlushed new → StoppedGroup w events old new s.told fault
+      → new.store.sheet ≡ mid.store.sheet → new.lives ≡ mid.lives → new.closed ≡ mid.closed → IsFlushed new → StoppedGroup w events old new s.reported fault
   stopped_joined fault s kept sheet lives closed flushed = record {
     at = s.at;
     dropped = s.dropped;

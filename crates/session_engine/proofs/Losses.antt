@@ -114,17 +114,17 @@ op_at_end : (w : World) (why : Reason) (killed : Bool) (l : Option Going) (r : R
 op_at_end w why killed None r = refl
 op_at_end w why killed (Some l) r = refl
 
-anew_at_end : (w : World) (why : Reason) (killed : Bool) (l : Option Going) (r : Reply) → (ends_life w why killed l r).anew ≡ false
-anew_at_end w why killed None r = refl
-anew_at_end w why killed (Some l) r = refl
+again_at_end : (w : World) (why : Reason) (killed : Bool) (l : Option Going) (r : Reply) → (ends_life w why killed l r).again ≡ false
+again_at_end w why killed None r = refl
+again_at_end w why killed (Some l) r = refl
 
 -- an end that keeps a reason writes
 pub end_writes : (w : World) (why : Reason) (killed : Bool) (l : Option Going) (r : Reply) (o : Op) → kept_at_end w why l ≡ Some o
-    → ((ends_life w why killed l r).anew || is_some (ends_life w why killed l r).op) ≡ true
-end_writes w why killed l r o is = rw (anew_at_end w why killed l r, op_at_end w why killed l r ∙ is) refl
+    → ((ends_life w why killed l r).again || is_some (ends_life w why killed l r).op) ≡ true
+end_writes w why killed l r o is = rw (again_at_end w why killed l r, op_at_end w why killed l r ∙ is) refl
 
 pub end_on_disk : (w : World) (why : Reason) (killed : Bool) (l : Option Going) (r : Reply) (o : Op) → kept_at_end w why l ≡ Some o → (old new : DiskView) → OnDisk w.ops false (Some o) old new
-    → OnDisk w.ops (ends_life w why killed l r).anew (ends_life w why killed l r).op old new
+    → OnDisk w.ops (ends_life w why killed l r).again (ends_life w why killed l r).op old new
 end_on_disk w why killed l r o is old new disk =
-    subst (λ (b : Bool). OnDisk w.ops b (ends_life w why killed l r).op old new) (sym (anew_at_end w why killed l r))
+    subst (λ (b : Bool). OnDisk w.ops b (ends_life w why killed l r).op old new) (sym (again_at_end w why killed l r))
     (subst (λ (p : Option Op). OnDisk w.ops false p old new) (sym (op_at_end w why killed l r ∙ is)) disk)

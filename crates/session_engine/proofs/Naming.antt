@@ -50,20 +50,20 @@ module _ {A : Type 0} (name_of : A → List ℕ) where
       go true e rest = (subst (λ (n : List ℕ). first_named name_of n xs ≡ None) ((bytes_eq-Decides (name_of x) (name_of y)).0 e) differ.0, differ.1)
       go false e rest = (none_put (name_of x) y xs differ.0, rest)
 
-  none_behind : (n : List ℕ) (xs : List A) (x : A) → first_named name_of n xs ≡ None → bytes_eq (name_of x) n ≡ false → first_named name_of n (xs ++ x ∷ []) ≡ None
-  none_behind n [] x none other = rw other refl
-  none_behind n (y ∷ xs) x none other = go (bytes_eq (name_of y) n) none (none_behind n xs x)
+  none_after : (n : List ℕ) (xs : List A) (x : A) → first_named name_of n xs ≡ None → bytes_eq (name_of x) n ≡ false → first_named name_of n (xs ++ x ∷ []) ≡ None
+  none_after n [] x none other = rw other refl
+  none_after n (y ∷ xs) x none other = go (bytes_eq (name_of y) n) none (none_after n xs x)
     where
       go : (b : Bool) → (if b then Some y else first_named name_of n xs) ≡ None → (first_named name_of n xs ≡ None → bytes_eq (name_of x) n ≡ false → first_named name_of n (xs ++ x ∷ []) ≡ None)
           → (if b then Some y else first_named name_of n (xs ++ x ∷ [])) ≡ None
       go true none rest = cc
       go false none rest = rest none other
 
-  pub differ_behind : (xs : List A) (x : A) → NamesDiffer name_of xs → first_named name_of (name_of x) xs ≡ None → NamesDiffer name_of (xs ++ x ∷ [])
-  differ_behind [] x differ none = (refl, tt)
-  differ_behind (y ∷ xs) x differ none = go (bytes_eq (name_of y) (name_of x)) refl none (differ_behind xs x differ.1)
+  pub differ_after : (xs : List A) (x : A) → NamesDiffer name_of xs → first_named name_of (name_of x) xs ≡ None → NamesDiffer name_of (xs ++ x ∷ [])
+  differ_after [] x differ none = (refl, tt)
+  differ_after (y ∷ xs) x differ none = go (bytes_eq (name_of y) (name_of x)) refl none (differ_after xs x differ.1)
     where
       go : (b : Bool) → bytes_eq (name_of y) (name_of x) ≡ b → (if b then Some y else first_named name_of (name_of x) xs) ≡ None
           → (first_named name_of (name_of x) xs ≡ None → NamesDiffer name_of (xs ++ x ∷ [])) → NamesDiffer name_of ((y ∷ xs) ++ x ∷ [])
       go true e none rest = cc
-      go false e none rest = (none_behind (name_of y) xs x differ.0 (turned (name_of y) (name_of x) e), rest none)
+      go false e none rest = (none_after (name_of y) xs x differ.0 (turned (name_of y) (name_of x) e), rest none)

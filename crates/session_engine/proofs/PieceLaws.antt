@@ -24,7 +24,7 @@ use Rattle.session_engine.specs.declared.table.Running.{Running}
 use Rattle.host_events.specs.declared.outcome.Outcome.{Outcome}
 use Rattle.host_events.specs.declared.outcome.HostFault.{HostFault}
 use Rattle.host_events.specs.declared.event.Event.TheVariants as event
-use Rattle.session_engine.specs.Does.{Does, MayDo, ChildDoes, behind, lives_behind, steps}
+use Rattle.session_engine.specs.Does.{Does, MayDo, ChildDoes, following, lives_after, steps}
 use Rattle.session_engine.specs.Host.{OnDisk}
 use Rattle.session_engine.specs.Faults.{CauseOf, is_piece}
 use Rattle.host_events.specs.declared.event.ChildEvent.TheVariants as child
@@ -33,7 +33,7 @@ use Rattle.session_engine.specs.Host.{name_of}
 use Rattle.session_engine.specs.inside.Tables.{with_life as running_with}
 use Rattle.session_engine.specs.World.{World, Going, life_of, with_number, with_op_if, sheet_in}
 use Rattle.session_engine.specs.inside.Words.{with_op, fits, with_piece}
-use Rattle.session_engine.specs.Does.{op_by, closed_told, told_with}
+use Rattle.session_engine.specs.Does.{op_by, closed_reported, reported_with}
 use Rattle.session_engine.specs.inside.Parts.{goes_on}
 use Rattle.session_engine.specs.Host.{HasField, HaveFields, EngineStandsFor}
 use Rattle.session_engine.specs.inside.Commits.{AllowedIf, Committed, CommittedIf, IsEitherIf, LosesField, NotKept, SparesLife, unkept_in_memory, unkept_in_room, unkept_on_disk}
@@ -65,7 +65,7 @@ module _ (store : StoreView) (rs : List Running) (begun : ℕ) (w : World) (name
   lead = with_op_if given (goes_on (with_piece f.life piece takes.after) step.ended w)
 
   abbrev pub outcome : Outcome
-  outcome = told_with name number (closed_told step.answered) step.default_input step.send step.ended
+  outcome = reported_with name number (closed_reported step.answered) step.default_input step.send step.ended
 
   there : with_number number (life_of w name) ≡ Some f.life
   there =
@@ -79,16 +79,16 @@ module _ (store : StoreView) (rs : List Running) (begun : ℕ) (w : World) (name
   pub may : MayDo w (event.Child name number (child.Piece piece)) did
   may = subst (λ (x : Option Going). ChildDoes w x (child.Piece piece) did) (sym there) (takes.after, takes.fault, takes.reads, ap (λ (s : Step). steps w f.life piece takes.after s) takes.gives)
 
-  pub told : outcome ≡ did.told
-  told =
+  pub reported : outcome ≡ did.reported
+  reported =
       let k : f.life.number ≡ number = sym f.runs.number ∙ numbered in
-      ap (λ (m : List ℕ). told_with m number (closed_told step.answered) step.default_input step.send step.ended) (sym f.named)
-      ∙ ap (λ (m : ℕ). told_with f.life.name m (closed_told step.answered) step.default_input step.send step.ended) (sym k)
+      ap (λ (m : List ℕ). reported_with m number (closed_reported step.answered) step.default_input step.send step.ended) (sym f.named)
+      ∙ ap (λ (m : ℕ). reported_with f.life.name m (closed_reported step.answered) step.default_input step.send step.ended) (sym k)
 
-  pub leads : lead ≡ behind w did
+  pub leads : lead ≡ following w did
   leads = go step.ended
     where
-      go : (e : Option Ended) → with_op_if given (goes_on (with_piece f.life piece takes.after) e w) ≡ with_op_if given (record w { begun = w.begun; lives = lives_behind (with_piece f.life piece takes.after) e w.lives })
+      go : (e : Option Ended) → with_op_if given (goes_on (with_piece f.life piece takes.after) e w) ≡ with_op_if given (record w { begun = w.begun; lives = lives_after (with_piece f.life piece takes.after) e w.lives })
       go None = refl
       go (Some e) = refl
 

@@ -11,7 +11,7 @@ use Rattle.worksheet.specs.Ops.{sheet_of}
 use Rattle.worksheet.specs.Checks.{first_of}
 use Rattle.journal.specs.Area.{end_of}
 use Rattle.recovery.specs.Sheets.{IsSheetImage, StoreView}
-use Rattle.recovery.specs.Checkpointed.{CheckpointAnswers, HasRoomAnew}
+use Rattle.recovery.specs.Checkpointed.{CheckpointAnswers, HasRoomAgain}
 use Rattle.recovery.specs.declared.fault.CheckpointFault.TheVariants as checkpoint
 use Rattle.host_events.specs.declared.command.Command.TheVariants as command
 use Rattle.host_events.specs.declared.event.Event.{Event}
@@ -22,9 +22,9 @@ use Rattle.host_events.specs.declared.outcome.Outcome.{Outcome}
 use Rattle.host_events.specs.declared.reply.Reply.TheVariants as reply
 use Rattle.session_engine.specs.declared.table.Running.{Running}
 use Rattle.session_engine.specs.World.{World, sheet_in}
-use Rattle.session_engine.specs.inside.Words.{codes_anew, fits_anew, fits_anew_in, renewed, renews}
+use Rattle.session_engine.specs.inside.Words.{codes_again, fits_again, fits_again_in, renewed, renews}
 use Rattle.session_engine.specs.Refused.{command_refusals}
-use Rattle.session_engine.specs.Does.{CommandDoes, Does, MayDo, behind, refused, replies, tells}
+use Rattle.session_engine.specs.Does.{CommandDoes, Does, MayDo, following, refused, replies, tells}
 use Rattle.session_engine.specs.Host.{EngineStandsFor, HostView, IsHost, OnDisk, Took}
 use Rattle.session_engine.specs.Faults.{CauseOf, Failed}
 use Rattle.session_engine.proofs.Standing.{unchanged}
@@ -32,13 +32,13 @@ use Rattle.session_engine.proofs.Tables.{numbers_are}
 
 -- Whether there is room.
 
-pub fits_with_room : (room : ℕ) (sheet : Contents) → HasRoomAnew room sheet → fits_anew_in room sheet ≡ true
+pub fits_with_room : (room : ℕ) (sheet : Contents) → HasRoomAgain room sheet → fits_again_in room sheet ≡ true
 fits_with_room room sheet has = grind (arith, nat_tests, has)
 
-pub fits_without_room : (room : ℕ) (sheet : Contents) → (HasRoomAnew room sheet → ⊥) → fits_anew_in room sheet ≡ false
-fits_without_room room sheet none = go (nat_le (end_of (codes_anew sheet) + 1) room) refl
+pub fits_without_room : (room : ℕ) (sheet : Contents) → (HasRoomAgain room sheet → ⊥) → fits_again_in room sheet ≡ false
+fits_without_room room sheet none = go (nat_le (end_of (codes_again sheet) + 1) room) refl
   where
-    go : (b : Bool) → nat_le (end_of (codes_anew sheet) + 1) room ≡ b → b ≡ false
+    go : (b : Bool) → nat_le (end_of (codes_again sheet) + 1) room ≡ b → b ≡ false
     go true e = absurd (none (grind (arith, nat_tests, e)))
     go false e = refl
 
@@ -48,13 +48,13 @@ abbrev pub the_checkpoint : Event
 the_checkpoint = event.Command command.Checkpoint
 
 module _ (w : World) where
-  may_renew : fits_anew w ≡ true → MayDo w the_checkpoint (renews w)
+  may_renew : fits_again w ≡ true → MayDo w the_checkpoint (renews w)
   may_renew fits = subst (λ (b : Bool). CommandDoes w command.Checkpoint (if not b then Some refusal.JournalFull else None) (renews w)) (sym fits) (inl refl)
 
-  may_want : fits_anew w ≡ true → MayDo w the_checkpoint (tells w (reply.Refused refusal.OutOfMemory))
+  may_want : fits_again w ≡ true → MayDo w the_checkpoint (tells w (reply.Refused refusal.OutOfMemory))
   may_want fits = subst (λ (b : Bool). CommandDoes w command.Checkpoint (if not b then Some refusal.JournalFull else None) (tells w (reply.Refused refusal.OutOfMemory))) (sym fits) (inr (refl, refl))
 
-  may_refuse : fits_anew w ≡ false → MayDo w the_checkpoint (tells w (reply.Refused refusal.JournalFull))
+  may_refuse : fits_again w ≡ false → MayDo w the_checkpoint (tells w (reply.Refused refusal.JournalFull))
   may_refuse fits = subst (λ (b : Bool). CommandDoes w command.Checkpoint (if not b then Some refusal.JournalFull else None) (tells w (reply.Refused refusal.JournalFull))) (sym fits) refl
 
 module _ (store new : StoreView) (rs : List Running) (begun : ℕ) (w : World) (h : EngineStandsFor store rs begun w) (same : SameDisk store.disk new.disk) (sheet : new.sheet ≡ store.sheet)
@@ -62,11 +62,11 @@ module _ (store new : StoreView) (rs : List Running) (begun : ℕ) (w : World) (
   abbrev pub hosted : StoreView → HostView
   hosted s = record { store = s; lives = rs; begun = begun; closed = false }
 
-  fits : HasRoomAnew store.disk.room store.sheet.contents → fits_anew w ≡ true
-  fits has = ap (λ (k : ℕ). fits_anew_in k (sheet_in w)) (sym h.room) ∙ ap (λ (s : Contents). fits_anew_in store.disk.room s) (sym h.contents) ∙ fits_with_room store.disk.room store.sheet.contents has
+  fits : HasRoomAgain store.disk.room store.sheet.contents → fits_again w ≡ true
+  fits has = ap (λ (k : ℕ). fits_again_in k (sheet_in w)) (sym h.room) ∙ ap (λ (s : Contents). fits_again_in store.disk.room s) (sym h.contents) ∙ fits_with_room store.disk.room store.sheet.contents has
 
-  unfit : (HasRoomAnew store.disk.room store.sheet.contents → ⊥) → fits_anew w ≡ false
-  unfit none = ap (λ (k : ℕ). fits_anew_in k (sheet_in w)) (sym h.room) ∙ ap (λ (s : Contents). fits_anew_in store.disk.room s) (sym h.contents) ∙ fits_without_room store.disk.room store.sheet.contents none
+  unfit : (HasRoomAgain store.disk.room store.sheet.contents → ⊥) → fits_again w ≡ false
+  unfit none = ap (λ (k : ℕ). fits_again_in k (sheet_in w)) (sym h.room) ∙ ap (λ (s : Contents). fits_again_in store.disk.room s) (sym h.contents) ∙ fits_without_room store.disk.room store.sheet.contents none
 
   -- each image is one of the worksheet
   images : InModel store.disk (LeavesOnly (IsSheetImage (sheet_in w)) store.disk.history new.disk.history)
@@ -79,7 +79,7 @@ module _ (store new : StoreView) (rs : List Running) (begun : ℕ) (w : World) (
     allowed = h.allowed;
     images = λ model. at_end (IsSheetImage (sheet_in w)) store.disk.history new.disk.history (images (subst IsTrue same.keeps_model model));
     room = same.room ∙ h.room;
-    end = answers.3 ∙ ap (λ (s : Contents). end_of (codes_anew s)) h.contents;
+    end = answers.3 ∙ ap (λ (s : Contents). end_of (codes_again s)) h.contents;
     begun_is = h.begun_is;
     bound = h.bound;
     lives_are = h.lives_are;
@@ -91,7 +91,7 @@ module _ (store new : StoreView) (rs : List Running) (begun : ℕ) (w : World) (
   checkpoint_done answers = record {
     did = renews w;
     may = may_renew w (fits answers.1);
-    told = refl;
+    reported = refl;
     stands = record { works = refl; stands = stands answers };
     disk = images;
   }
@@ -100,7 +100,7 @@ module _ (store new : StoreView) (rs : List Running) (begun : ℕ) (w : World) (
   checkpoint_full answers = record {
     did = tells w (reply.Refused refusal.JournalFull);
     may = may_refuse w (unfit answers.1);
-    told = refl;
+    reported = refl;
     stands = record { works = refl; stands = unchanged store new rs begun w h answers.2 };
     disk = answers.2.disk;
   }
@@ -109,7 +109,7 @@ module _ (store new : StoreView) (rs : List Running) (begun : ℕ) (w : World) (
   checkpoint_wants answers = record {
     did = tells w (reply.Refused refusal.OutOfMemory);
     may = may_want w (fits answers.1);
-    told = refl;
+    reported = refl;
     stands = record { works = refl; stands = unchanged store new rs begun w h answers.2 };
     disk = answers.2.disk;
   }
@@ -124,22 +124,22 @@ module _ (store new : StoreView) (rs : List Running) (begun : ℕ) (w : World) (
 -- At every moment.
 
 kept_by : (w : World) (r : Option Refusal) (d : Does) (old new : DiskView) → CommandDoes w command.Checkpoint r d → InModel old (Leaves (IsSheetImage (sheet_in w)) old.history.now)
-    → OnDisk w.ops d.anew d.op old new → InModel old (LeavesOnly (IsSheetImage (sheet_in w)) old.history new.history)
+    → OnDisk w.ops d.again d.op old new → InModel old (LeavesOnly (IsSheetImage (sheet_in w)) old.history new.history)
 kept_by w r d old new does holds disk = go r does
   where
-    told : (x : Refusal) → d ≡ tells w (reply.Refused x) → InModel old (LeavesOnly (IsSheetImage (sheet_in w)) old.history new.history)
-    told x is model =
-        let still : new ≡ old = subst (λ (e : Does). OnDisk w.ops e.anew e.op old new) is disk in
+    reported : (x : Refusal) → d ≡ tells w (reply.Refused x) → InModel old (LeavesOnly (IsSheetImage (sheet_in w)) old.history new.history)
+    reported x is model =
+        let still : new ≡ old = subst (λ (e : Does). OnDisk w.ops e.again e.op old new) is disk in
         subst (λ (v : DiskView). LeavesOnly (IsSheetImage (sheet_in w)) old.history v.history) (sym still) (started (IsSheetImage (sheet_in w)) old.history (holds model))
 
     go : (r : Option Refusal) → CommandDoes w command.Checkpoint r d → InModel old (LeavesOnly (IsSheetImage (sheet_in w)) old.history new.history)
-    go (Some x) is = told x is
-    go None does = ⊎_elim (λ is. subst (λ (e : Does). OnDisk w.ops e.anew e.op old new) is disk) (λ want. told refusal.OutOfMemory want.1) does
+    go (Some x) is = reported x is
+    go None does = ⊎_elim (λ is. subst (λ (e : Does). OnDisk w.ops e.again e.op old new) is disk) (λ want. reported refusal.OutOfMemory want.1) does
 
 -- the ops stay
-same_ops : (w : World) (r : Option Refusal) (d : Does) → CommandDoes w command.Checkpoint r d → (behind w d).ops ≡ w.ops
-same_ops w (Some x) d is = ap (λ (e : Does). (behind w e).ops) is
-same_ops w None d does = ⊎_elim (λ is. ap (λ (e : Does). (behind w e).ops) is) (λ want. ap (λ (e : Does). (behind w e).ops) want.1) does
+same_ops : (w : World) (r : Option Refusal) (d : Does) → CommandDoes w command.Checkpoint r d → (following w d).ops ≡ w.ops
+same_ops w (Some x) d is = ap (λ (e : Does). (following w e).ops) is
+same_ops w None d does = ⊎_elim (λ is. ap (λ (e : Does). (following w e).ops) is) (λ want. ap (λ (e : Does). (following w e).ops) want.1) does
 
 module _ (old new : HostView) (r : Result Outcome HostFault) (works : old.closed ≡ false → (w : World) × IsHost old w)
     (took : (w : World) → IsHost old w → IfOk r (Took w the_checkpoint old new)) (failed : (w : World) → IsHost old w → IfErr r (Failed w the_checkpoint old new)) (still : old.closed ≡ true → new ≡ old) where

@@ -120,9 +120,9 @@ gone store rs begun w name r h f = record {
 }
 
 -- what is returned for an end, by the parts of a life
-pub told_end : (l : Going) (name : List ℕ) (number : ℕ) (why : Reason) (killed : Bool) → name ≡ l.name → number ≡ l.number
+pub reported_end : (l : Going) (name : List ℕ) (number : ℕ) (why : Reason) (killed : Bool) → name ≡ l.name → number ≡ l.number
     → ends (record { name = name; number = number; past = l.past; blocks = l.blocks }) why killed ≡ ends l why killed
-told_end l name number why killed e f = ap (λ (n : List ℕ). ends (record { name = n; number = number; past = l.past; blocks = l.blocks }) why killed) e
+reported_end l name number why killed e f = ap (λ (n : List ℕ). ends (record { name = n; number = number; past = l.past; blocks = l.blocks }) why killed) e
     ∙ ap (λ (k : ℕ). ends (record { name = l.name; number = k; past = l.past; blocks = l.blocks }) why killed) f
 
 -- a store in which nothing has changed

@@ -176,15 +176,15 @@ numbers_stay name other (x ∷ rs) r life h e = go (bytes_eq x.name name) refl h
 pub record AtPlace (rs : List Running) (ls : List Going) (i : ℕ) : Type 0 where
   pub life : Going
   pub runs : (d : Running) → RunsAs (get_or rs i d) life
-  pub behind : drop i ls ≡ life ∷ drop (i + 1) ls
+  pub following : drop i ls ≡ life ∷ drop (i + 1) ls
 
 pub at_place : (rs : List Running) (ls : List Going) (i : ℕ) → Lives rs ls → i < length rs → AtPlace rs ls i
 at_place [] ls i s h = absurd (omega arith)
 at_place (r ∷ rs) [] i s h = absurd s
-at_place (r ∷ rs) (l ∷ ls) zero s h = record { life = l; runs = λ d. s.0; behind = refl }
+at_place (r ∷ rs) (l ∷ ls) zero s h = record { life = l; runs = λ d. s.0; following = refl }
 at_place (r ∷ rs) (l ∷ ls) (suc i) s h =
     let p = at_place rs ls i s.1 (omega arith) in
-    record { life = p.life; runs = p.runs; behind = p.behind ∙ ap (λ (k : ℕ). p.life ∷ drop k (l ∷ ls)) (let e : suc (i + 1) ≡ suc i + 1 = omega arith in e) }
+    record { life = p.life; runs = p.runs; following = p.following ∙ ap (λ (k : ℕ). p.life ∷ drop k (l ∷ ls)) (let e : suc (i + 1) ≡ suc i + 1 = omega arith in e) }
 
 pub no_more : (rs : List Running) (ls : List Going) → Lives rs ls → drop (length rs) ls ≡ []
 no_more [] [] s = refl

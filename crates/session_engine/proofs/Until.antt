@@ -12,7 +12,7 @@ use Rattle.session_engine.specs.World.{World, life_of, sheet_in}
 use Rattle.session_engine.specs.Host.{HostView, IsHost, number_in}
 use Rattle.session_engine.specs.Crash.{HasPlayed}
 use Rattle.session_engine.specs.Gathers.{FlushesTo, IsFlushed}
-use Rattle.session_engine.specs.Groups.{HaltsGroup, LastRefused, StopsAtRefusal, behind_one, is_refusal, nowhere}
+use Rattle.session_engine.specs.Groups.{HaltsGroup, LastRefused, StopsAtRefusal, after_one, is_refusal, nowhere}
 use Rattle.session_engine.specs.inside.Until.{EndsWith, HaltsBy, PlayedBy, TookBy}
 use Rattle.session_engine.proofs.Gathering.{failed_group, flushes_after}
 
@@ -33,9 +33,9 @@ pub goes_on : (up_to b r : Bool) → r ≡ (up_to && b) → r ≡ false → up_t
 goes_on false b r is went on = absurd (false≢true on)
 goes_on true b r is went on = sym is ∙ went
 
-pub ends_behind : (up_to : Bool) (os : List Outcome) (o : Outcome) (rest : List Event) (r : Bool) → r ≡ (up_to && is_refusal o) → r ≡ true → (up_to ≡ true → list_any is_refusal os ≡ false) → EndsWith up_to (os ++ o ∷ []) rest
-ends_behind false os o rest r is stopped right = absurd (false≢true (sym is ∙ stopped))
-ends_behind true os o rest r is stopped right = behind_one os o refl (right refl) (sym is ∙ stopped)
+pub ends_after : (up_to : Bool) (os : List Outcome) (o : Outcome) (rest : List Event) (r : Bool) → r ≡ (up_to && is_refusal o) → r ≡ true → (up_to ≡ true → list_any is_refusal os ≡ false) → EndsWith up_to (os ++ o ∷ []) rest
+ends_after false os o rest r is stopped right = absurd (false≢true (sym is ∙ stopped))
+ends_after true os o rest r is stopped right = after_one os o refl (right refl) (sym is ∙ stopped)
 
 pub ends_nowhere : (up_to : Bool) (os : List Outcome) → (up_to ≡ true → list_any is_refusal os ≡ false) → EndsWith up_to os []
 ends_nowhere false os right = refl
@@ -46,7 +46,7 @@ none_refused os none = record { before = os; last = []; split = sym (append-nil 
 
 last_refused : (os : List Outcome) (rest : List Event) → StopsAtRefusal os rest → LastRefused os
 last_refused os rest (nowhere none is) = none_refused os none
-last_refused os rest (behind_one before last is none refused) = record { before = before; last = last ∷ []; split = is; one = omega arith; accepted = none }
+last_refused os rest (after_one before last is none refused) = record { before = before; last = last ∷ []; split = is; one = omega arith; accepted = none }
 
 pub ends_refused : (up_to : Bool) (os : List Outcome) (rest : List Event) → EndsWith up_to os rest → up_to ≡ true → LastRefused os
 ends_refused false os rest ends on = absurd (false≢true on)
@@ -56,13 +56,13 @@ ends_refused true os rest ends on = last_refused os rest ends
 
 module _ (w : World) (events : List Event) (old mid new : HostView) (real : mid.store.real ≡ old.store.real) (same : SameDisk old.store.disk mid.store.disk)
     (flushes : FlushesTo mid.store.sheet.contents mid.store new.store) where
-  pub took_by : (up_to : Bool) (told : List Outcome) (p : PlayedBy up_to w events told mid) → IsHost new p.played.leads → IsFlushed new → TookBy up_to w events told old new
-  took_by false told p stands flushed = record {
+  pub took_by : (up_to : Bool) (reported : List Outcome) (p : PlayedBy up_to w events reported mid) → IsHost new p.played.leads → IsFlushed new → TookBy up_to w events reported old new
+  took_by false reported p stands flushed = record {
     played = record { done = p.played.done; split = p.played.split ∙ ap (λ (x : List Event). p.played.done ++ x) p.ends; leads = p.played.leads; runs = p.played.runs; stands = stands };
     flushed = flushed;
     moments = flushes_after old.store mid.store new.store (sheet_in p.played.leads) real same p.played.stands.stands.contents flushes;
   }
-  took_by true told p stands flushed = record {
+  took_by true reported p stands flushed = record {
     rest = p.rest;
     played = record { done = p.played.done; split = p.played.split; leads = p.played.leads; runs = p.played.runs; stands = stands };
     stops = p.ends;
@@ -70,11 +70,11 @@ module _ (w : World) (events : List Event) (old mid new : HostView) (real : mid.
     moments = flushes_after old.store mid.store new.store (sheet_in p.played.leads) real same p.played.stands.stands.contents flushes;
   }
 
-  pub failed_by : (up_to : Bool) (rest : List Event) (untold : List Outcome) (before : HostView) (p : HasPlayed w events rest untold before) → (up_to ≡ true → LastRefused untold) → mid.store.sheet.contents ≡ sheet_in p.leads
+  pub failed_by : (up_to : Bool) (rest : List Event) (withheld : List Outcome) (before : HostView) (p : HasPlayed w events rest withheld before) → (up_to ≡ true → LastRefused withheld) → mid.store.sheet.contents ≡ sheet_in p.leads
       → ((name : List ℕ) → number_in mid.lives name ≡ option_map (λ l. l.number) (life_of p.leads name)) → new.store.sheet ≡ mid.store.sheet → new.lives ≡ mid.lives
       → new.closed ≡ true → Rises mid.store.real.faults new.store.real.faults → HaltsBy up_to w events old new halt.Disk
-  failed_by false rest untold before p right is numbers sheet lives closed broke = failed_group w events old mid new real same flushes rest untold before p is numbers sheet lives closed broke
-  failed_by true rest untold before p right is numbers sheet lives closed broke = (failed_group w events old mid new real same flushes rest untold before p is numbers sheet lives closed broke, right refl)
+  failed_by false rest withheld before p right is numbers sheet lives closed broke = failed_group w events old mid new real same flushes rest withheld before p is numbers sheet lives closed broke
+  failed_by true rest withheld before p right is numbers sheet lives closed broke = (failed_group w events old mid new real same flushes rest withheld before p is numbers sheet lives closed broke, right refl)
 
 -- Why not all were taken.
 

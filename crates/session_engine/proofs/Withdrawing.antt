@@ -19,12 +19,12 @@ use Rattle.host_events.specs.declared.outcome.HostFault.{HostFault}
 use Rattle.host_events.specs.declared.outcome.HostFault.TheVariants as faults
 use Rattle.session_engine.specs.World.{Going, World, renewed_if, sheet_in, with_op_if}
 use Rattle.session_engine.specs.Refused.{command_refusals}
-use Rattle.session_engine.specs.Does.{CommandDoes, Does, Runs, behind}
+use Rattle.session_engine.specs.Does.{CommandDoes, Does, Runs, following}
 use Rattle.session_engine.specs.Host.{EngineStandsFor, HostView, IsHost, Lives}
 use Rattle.session_engine.specs.Crash.{HasPlayed, StoppedAt}
 use Rattle.session_engine.specs.Faults.{CauseOf, event_takes_memory, is_piece}
 use Rattle.session_engine.specs.Gathers.{NoCheckpoints, is_checkpoint}
-use Rattle.session_engine.specs.Groups.{StopsAtRefusal, behind_one, is_refusal, nowhere}
+use Rattle.session_engine.specs.Groups.{StopsAtRefusal, after_one, is_refusal, nowhere}
 use Rattle.session_engine.specs.Whole.{HasAtMost, MadeWhole, OnlyEdits, RefusedAt, is_edit}
 use Rattle.session_engine.specs.declared.whole.Whole.{Whole}
 use Rattle.session_engine.specs.declared.whole.Whole.TheVariants as whole
@@ -87,7 +87,7 @@ does_keep w (command.CompleteText id cursor text) None d edit (inl is) = absurd 
 does_keep w (command.Stop name) None d edit (inl is) = absurd (false≢true edit)
 does_keep w command.Checkpoint None d edit (inl is) = absurd (false≢true edit)
 
-op_keeps : (anew : Bool) (o : Option Op) (w : World) → SameLives w (renewed_if anew (with_op_if o w)).lives (renewed_if anew (with_op_if o w)).begun
+op_keeps : (again : Bool) (o : Option Op) (w : World) → SameLives w (renewed_if again (with_op_if o w)).lives (renewed_if again (with_op_if o w)).begun
 op_keeps false None w = (refl, refl)
 op_keeps false (Some o) w = (refl, refl)
 op_keeps true None w = (refl, refl)
@@ -101,7 +101,7 @@ runs_keep w v (event.Child name number e ∷ es) (o ∷ os) all run = absurd (fa
 runs_keep w v (event.Command c ∷ es) (o ∷ os) all run =
     let d = run.1.0 in
     let did = does_keep w c (first_of (command_refusals w c)) d all.0 run.1.1 in
-    let put = op_keeps d.anew d.op (record w { begun = d.begun; lives = d.lives }) in
+    let put = op_keeps d.again d.op (record w { begun = d.begun; lives = d.lives }) in
     let rest = runs_keep run.0 v es os all.1 run.2 in (
       rest.0 ∙ ap (λ (x : World). x.lives) run.1.3 ∙ put.0 ∙ did.0,
       rest.1 ∙ ap (λ (x : World). x.begun) run.1.3 ∙ put.1 ∙ did.1,
@@ -123,17 +123,17 @@ no_cause w e old new faults.Disk edit kept cause = kept refl
 no_cause w e old new faults.OutOfMemory edit kept cause = takes_none w e edit cause.1
 no_cause w e old new faults.JournalFull edit kept cause = piece_is_none w e edit cause.1
 
-pub never_stops : (w : World) (events : List Event) (old new : HostView) (told : List Outcome) (fault : HostFault) → OnlyEdits events → StoppedAt w events old new told fault
+pub never_stops : (w : World) (events : List Event) (old new : HostView) (reported : List Outcome) (fault : HostFault) → OnlyEdits events → StoppedAt w events old new reported fault
     → (fault ≡ faults.Disk → old.store.gathers ≡ false) → old.store.gathers ≡ true → ⊥
-never_stops w events old new told fault all s at_once gathers =
+never_stops w events old new reported fault all s at_once gathers =
     no_cause s.played.leads s.at s.before.store.disk new.store.disk fault (edit_at s.played.done s.dropped s.at (subst OnlyEdits s.played.split all))
     (λ disk. false≢true (sym (at_once disk) ∙ gathers)) s.failed.cause
 
 -- Where they end.
 
-refused_behind : (before : List Outcome) (last : Outcome) → is_refusal last ≡ true → list_any is_refusal (before ++ last ∷ []) ≡ true
-refused_behind [] last refused = ap (λ (b : Bool). b || false) refused
-refused_behind (o ∷ before) last refused = either (is_refusal o) (list_any is_refusal (before ++ last ∷ [])) (refused_behind before last refused)
+refused_after : (before : List Outcome) (last : Outcome) → is_refusal last ≡ true → list_any is_refusal (before ++ last ∷ []) ≡ true
+refused_after [] last refused = ap (λ (b : Bool). b || false) refused
+refused_after (o ∷ before) last refused = either (is_refusal o) (list_any is_refusal (before ++ last ∷ [])) (refused_after before last refused)
   where
     either : (a b : Bool) → b ≡ true → (a || b) ≡ true
     either true b is = refl
@@ -147,20 +147,20 @@ last_is (o ∷ []) [] x y is = absurd cc
 last_is (o ∷ p ∷ a) [] x y is = absurd cc
 last_is (o ∷ a) (p ∷ b) x y is =
     let first : o ≡ p = cc in
-    let behind : a ++ x ∷ [] ≡ b ++ y ∷ [] = cc in
-    let rest = last_is a b x y behind in
+    let following : a ++ x ∷ [] ≡ b ++ y ∷ [] = cc in
+    let rest = last_is a b x y following in
     (ap (λ (l : List Outcome). o ∷ l) rest.0 ∙ ap (λ (z : Outcome). z ∷ b) first, rest.1)
 
-module _ (w : World) (events : List Event) (told : List Outcome) (host : HostView) (p : PlayedBy true w events told host) where
-  pub all_taken : list_any is_refusal told ≡ false → p.rest ≡ []
+module _ (w : World) (events : List Event) (reported : List Outcome) (host : HostView) (p : PlayedBy true w events reported host) where
+  pub all_taken : list_any is_refusal reported ≡ false → p.rest ≡ []
   all_taken none = go p.ends
     where
-      go : StopsAtRefusal told p.rest → p.rest ≡ []
+      go : StopsAtRefusal reported p.rest → p.rest ≡ []
       go (nowhere accepted is) = is
-      go (behind_one before last is accepted refused) =
-          absurd (false≢true (sym none ∙ ap (λ (os : List Outcome). list_any is_refusal os) is ∙ refused_behind before last refused))
+      go (after_one before last is accepted refused) =
+          absurd (false≢true (sym none ∙ ap (λ (os : List Outcome). list_any is_refusal os) is ∙ refused_after before last refused))
 
-  abbrev pub all_played : list_any is_refusal told ≡ false → HasPlayed w events [] told host
+  abbrev pub all_played : list_any is_refusal reported ≡ false → HasPlayed w events [] reported host
   all_played none = record {
     done = p.played.done;
     split = p.played.split ∙ ap (λ (x : List Event). p.played.done ++ x) (all_taken none);
@@ -169,12 +169,12 @@ module _ (w : World) (events : List Event) (told : List Outcome) (host : HostVie
     stands = p.played.stands;
   }
 
-  pub refused_at : list_any is_refusal told ≡ true → (before : List Outcome) (last : Outcome) → told ≡ before ++ last ∷ [] → RefusedAt w events before last
+  pub refused_at : list_any is_refusal reported ≡ true → (before : List Outcome) (last : Outcome) → reported ≡ before ++ last ∷ [] → RefusedAt w events before last
   refused_at some before last is = go p.ends
     where
-      go : StopsAtRefusal told p.rest → RefusedAt w events before last
+      go : StopsAtRefusal reported p.rest → RefusedAt w events before last
       go (nowhere accepted end) = absurd (false≢true (sym accepted ∙ some))
-      go (behind_one b l is_so accepted refused) =
+      go (after_one b l is_so accepted refused) =
           let same = last_is b before l last (sym is_so ∙ is) in
           record {
             done = p.played.done;
@@ -190,7 +190,7 @@ module _ (w : World) (events : List Event) (told : List Outcome) (host : HostVie
 
   pub withdraws : (old : HostView) (before : Contents) → IsHost old w → OnlyEdits events → MayWithdraw old before → host.store.real ≡ old.store.real → host.store.start ≡ old.store.start → WithdrawsTo host before w
   withdraws old before h all m real start =
-      let keep = runs_keep w p.played.leads p.played.done told (edits_front p.played.done p.rest (subst OnlyEdits p.played.split all)) p.played.runs in
+      let keep = runs_keep w p.played.leads p.played.done reported (edits_front p.played.done p.rest (subst OnlyEdits p.played.split all)) p.played.runs in
       let there = p.played.stands.stands in
       let disk : host.store.real ≡ old.store.disk = real ∙ m.real in
       record {
@@ -210,13 +210,13 @@ module _ (w : World) (events : List Event) (told : List Outcome) (host : HostVie
       }
 
   -- one of them is a refusal, so none was taken
-  pub made_refused : (old new : HostView) (r : Whole) → list_any is_refusal told ≡ true → EndsIn told r → IsHost new w → new.store.disk ≡ old.store.disk → MadeWhole w events old new r
+  pub made_refused : (old new : HostView) (r : Whole) → list_any is_refusal reported ≡ true → EndsIn reported r → IsHost new w → new.store.disk ≡ old.store.disk → MadeWhole w events old new r
   made_refused old new (whole.Taken outcomes) some ends stands disk = absurd ends
   made_refused old new (whole.Refused before last) some ends stands disk = record { at = refused_at some before.items last ends; stands = stands; disk = disk }
 
-pub few_refused : (told : List Outcome) (count : ℕ) (r : Whole) → EndsIn told r → length told ≤ count → HasAtMost count r
-few_refused told count (whole.Taken outcomes) ends few = absurd ends
-few_refused told count (whole.Refused before last) ends few = omega (arith, few, ap (λ (l : List Outcome). length l) ends, length-append before.items (last ∷ []))
+pub few_refused : (reported : List Outcome) (count : ℕ) (r : Whole) → EndsIn reported r → length reported ≤ count → HasAtMost count r
+few_refused reported count (whole.Taken outcomes) ends few = absurd ends
+few_refused reported count (whole.Refused before last) ends few = omega (arith, few, ap (λ (l : List Outcome). length l) ends, length-append before.items (last ∷ []))
 
 pub images_again : (host : HostView) (before : Contents) (w : World) → WithdrawsTo host before w → InModel host.store.real (Leaves (IsSheetImage before) host.store.real.history.now)
 images_again host before w back = subst (λ (s : Contents). InModel host.store.real (Leaves (IsSheetImage s) host.store.real.history.now)) (sym back.contents) back.images

@@ -39,15 +39,15 @@ use Rattle.session_engine.specs.Refused.{command_refusals, command_takes_memory}
 -- What an event does: its outcome, its op if any, whether it rewrites the journal, how many lives have begun after it, and the lives that
 -- go on.
 pub record Does : Type 0 where
-  pub told : Outcome
+  pub reported : Outcome
   pub op : Option Op
-  pub anew : Bool
+  pub again : Bool
   pub begun : ℕ
   pub lives : List Going
 
 -- the world after what an event does
-abbrev pub behind : World → Does → World
-behind w d = renewed_if d.anew (with_op_if d.op (record w { begun = d.begun; lives = d.lives }))
+abbrev pub following : World → Does → World
+following w d = renewed_if d.again (with_op_if d.op (record w { begun = d.begun; lives = d.lives }))
 
 -- What is returned.
 
@@ -66,11 +66,11 @@ ends l why killed = record {
 }
 
 -- the answer that a piece closes, as it is returned
-abbrev pub closed_told : Option Answered → Option Closed
-closed_told None = None
-closed_told (Some (answered.Banner b)) = Some (closed.Banner b)
-closed_told (Some (answered.Line id prompt output)) = Some (closed.Line id)
-closed_told (Some (answered.Complete id result)) = Some (closed.Complete id result)
+abbrev pub closed_reported : Option Answered → Option Closed
+closed_reported None = None
+closed_reported (Some (answered.Banner b)) = Some (closed.Banner b)
+closed_reported (Some (answered.Line id prompt output)) = Some (closed.Line id)
+closed_reported (Some (answered.Complete id result)) = Some (closed.Complete id result)
 
 -- The op that a piece gives, by the answer that it closes and by the end that it brings: that of the answer to a line; where no item
 -- was answered, that of the end.
@@ -86,9 +86,9 @@ sends_or_kills name number send (Some e) = Some (effect.Kill name number)
 
 -- What is returned for a piece of a life, by its name and number: the answer that it closes, the default input of that, and the end that
 -- it brings. Where it closes no answer and brings no end, the reply is Nothing.
-abbrev pub told_with : List ℕ → ℕ → Option Closed → Option (List ℕ) → Option (List ℕ) → Option Ended → Outcome
-told_with name number None default_input send None = replies reply.Nothing
-told_with name number answer default_input send end = record {
+abbrev pub reported_with : List ℕ → ℕ → Option Closed → Option (List ℕ) → Option (List ℕ) → Option Ended → Outcome
+reported_with name number None default_input send None = replies reply.Nothing
+reported_with name number answer default_input send end = record {
   reply = reply.Child (record { name = name; life = number; closed = answer; default_input = default_input; ended = end });
   effect = sends_or_kills name number send end;
 }
@@ -96,33 +96,33 @@ told_with name number answer default_input send end = record {
 -- The lives after an event.
 
 -- the lives after a piece of one of them, which is now this one: it stands in the place of what it was, and is taken out where it ended
-abbrev pub lives_behind : Going → Option Ended → List Going → List Going
-lives_behind l None lives = replace_named (λ g. g.name) l.name l lives
-lives_behind l (Some e) lives = without_named (λ g. g.name) l.name lives
+abbrev pub lives_after : Going → Option Ended → List Going → List Going
+lives_after l None lives = replace_named (λ g. g.name) l.name l lives
+lives_after l (Some e) lives = without_named (λ g. g.name) l.name lives
 
 -- The rows.
 
 -- an event does nothing but return this reply
 abbrev pub tells : World → Reply → Does
-tells w r = record { told = replies r; op = None; anew = false; begun = w.begun; lives = w.lives }
+tells w r = record { reported = replies r; op = None; again = false; begun = w.begun; lives = w.lives }
 
 -- an event gives this op, and no life changes
 abbrev pub changes : World → Op → Does
-changes w o = record { told = replies (reply_to (sheet_in w) o); op = Some o; anew = false; begun = w.begun; lives = w.lives }
+changes w o = record { reported = replies (reply_to (sheet_in w) o); op = Some o; again = false; begun = w.begun; lives = w.lives }
 
 -- A session is asked an item, which gives this op or none. The item begins a life, or joins the one that goes on.
 abbrev pub asks_item : World → Item → Option Op → List ℕ → Option Going → Does
 asks_item w i given name None = record {
-  told = record { reply = reply.Asked (w.begun + 1); effect = Some (effect.Start name (w.begun + 1) (option_map_or (λ s. s.words) (session_named (sheet_in w).sessions name) [])) };
+  reported = record { reply = reply.Asked (w.begun + 1); effect = Some (effect.Start name (w.begun + 1) (option_map_or (λ s. s.words) (session_named (sheet_in w).sessions name) [])) };
   op = given;
-  anew = false;
+  again = false;
   begun = w.begun + 1;
   lives = w.lives ++ record { name = name; number = w.begun + 1; past = accepted i ∷ []; blocks = [] } ∷ [];
 }
 asks_item w i given name (Some l) = record {
-  told = record { reply = reply.Asked l.number; effect = option_map (λ bytes. effect.Send name l.number bytes) (sent_by l.past l.blocks (accepted i) l.blocks) };
+  reported = record { reply = reply.Asked l.number; effect = option_map (λ bytes. effect.Send name l.number bytes) (sent_by l.past l.blocks (accepted i) l.blocks) };
   op = given;
-  anew = false;
+  again = false;
   begun = w.begun;
   lives = replace_named (λ g. g.name) l.name (record l { past = l.past ++ accepted i ∷ [] }) w.lives;
 }
@@ -133,17 +133,17 @@ asks_completions w id text cursor = asks_item w (item.Complete id text cursor) N
 
 -- a life ends from outside; where none goes on, only this is returned
 abbrev pub ends_life : World → Reason → Bool → Option Going → Reply → Does
-ends_life w why killed None else_told = tells w else_told
-ends_life w why killed (Some l) else_told = record { told = ends l why killed; op = kept_at_end w why (Some l); anew = false; begun = w.begun; lives = without_named (λ g. g.name) l.name w.lives }
+ends_life w why killed None else_reported = tells w else_reported
+ends_life w why killed (Some l) else_reported = record { reported = ends l why killed; op = kept_at_end w why (Some l); again = false; begun = w.begun; lives = without_named (λ g. g.name) l.name w.lives }
 
 -- a piece of a life gives this step of it, where these are the blocks of its stream with the piece
 abbrev pub steps : World → Going → List ℕ → List Outer → Step → Does
 steps w l piece blocks s = record {
-  told = told_with l.name l.number (closed_told s.answered) s.default_input s.send s.ended;
+  reported = reported_with l.name l.number (closed_reported s.answered) s.default_input s.send s.ended;
   op = op_by w.room w.end s.answered s.ended;
-  anew = false;
+  again = false;
   begun = w.begun;
-  lives = lives_behind (record l { past = l.past ++ received piece ∷ []; blocks = blocks }) s.ended w.lives;
+  lives = lives_after (record l { past = l.past ++ received piece ∷ []; blocks = blocks }) s.ended w.lives;
 }
 
 -- what an accepted command does
@@ -161,7 +161,7 @@ does w (command.Complete id cursor) = asks_completions w id (input_of w id) curs
 does w (command.CompleteText id cursor text) = asks_completions w id text cursor
 does w (command.Stop name) = ends_life w reason.Stopped true (life_of w name) reply.Done
 -- only the journal changes: it is rewritten
-does w command.Checkpoint = record { told = replies reply.Done; op = None; anew = true; begun = w.begun; lives = w.lives }
+does w command.Checkpoint = record { reported = replies reply.Done; op = None; again = true; begun = w.begun; lives = w.lives }
 
 -- What an event of a child does, where this is the life with its number, if that goes on. A piece does what the stream of the
 -- life with it tells by its blocks and its fault.
@@ -189,7 +189,7 @@ MayDo w (event.Child name number e) d = ChildDoes w (with_number number (life_of
 
 -- an event gives this outcome, and leads there
 abbrev pub Gives : World → Event → Outcome → World → Type 0
-Gives w e o v = (d : Does) × MayDo w e d × (o ≡ d.told) × (v ≡ behind w d)
+Gives w e o v = (d : Does) × MayDo w e d × (o ≡ d.reported) × (v ≡ following w d)
 
 -- events one after another give these outcomes, and lead there
 abbrev pub Runs : World → List Event → List Outcome → World → Type 0

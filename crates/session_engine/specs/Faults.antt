@@ -37,13 +37,13 @@ pub record MayGive (w : World) (e : Event) (o : Op) : Type 0 where
 pub record MayWrite (w : World) (e : Event) : Type 0 where
   pub does : Does
   pub may : MayDo w e does
-  pub writes : (does.anew || is_some does.op) ≡ true
+  pub writes : (does.again || is_some does.op) ≡ true
 
 -- What a fault is answered for, and what it leaves of the disk. Where an event has no cause here, it is answered Ok: so is a Stop,
 -- and each event of a child but a piece, where it gives no op; and a piece of a life that doesn't go on.
 abbrev pub CauseOf : World → Event → DiskView → DiskView → HostFault → Type 0
 CauseOf w e old new faults.Closed = ⊥
-CauseOf w e old new faults.Disk = Rises old.faults new.faults × ((write : MayWrite w e) × OnDisk w.ops write.does.anew write.does.op old new)
+CauseOf w e old new faults.Disk = Rises old.faults new.faults × ((write : MayWrite w e) × OnDisk w.ops write.does.again write.does.op old new)
 CauseOf w e old new faults.OutOfMemory = (new ≡ old) × (event_takes_memory w e ≡ true)
 CauseOf w e old new faults.JournalFull = (new ≡ old) × (is_piece w e ≡ true) × ((o : Op) × MayGive w e o × (fits_in w.room w.end o ≡ false))
 

@@ -19,20 +19,20 @@ use Rattle.session_engine.specs.Gathers.{FlushesTo, IsFlushed, is_checkpoint}
 
 -- All events were taken, and what they give is durable: each image at every moment is one of the worksheet from before, or of
 -- that after all of them.
-pub record TookGroup (w : World) (events : List Event) (told : List Outcome) (old new : HostView) : Type 0 where
-  pub played : HasPlayed w events [] told new
+pub record TookGroup (w : World) (events : List Event) (reported : List Outcome) (old new : HostView) : Type 0 where
+  pub played : HasPlayed w events [] reported new
   pub flushed : IsFlushed new
   pub moments : FlushesTo (sheet_in played.leads) old.store new.store
 
 -- Events were taken with these outcomes, which are durable, and the one after them had this fault, which isn't the disk's. The
 -- later events are dropped, and the host is closed.
-pub record StoppedGroup (w : World) (events : List Event) (old new : HostView) (told : List Outcome) (fault : HostFault) : Type 0 where
+pub record StoppedGroup (w : World) (events : List Event) (old new : HostView) (reported : List Outcome) (fault : HostFault) : Type 0 where
   pub at : Event
   pub dropped : List Event
   -- the host before that event, and after it
   pub before : HostView
   pub after : HostView
-  pub played : HasPlayed w events (at ∷ dropped) told before
+  pub played : HasPlayed w events (at ∷ dropped) reported before
   pub failed : Failed played.leads at before after fault
   pub kept : (fault ≡ faults.Disk) → ⊥
   pub contents : new.store.sheet.contents ≡ sheet_in played.leads
@@ -45,9 +45,9 @@ pub record StoppedGroup (w : World) (events : List Event) (old new : HostView) (
 -- memory the worksheet, and each life's number, are as after them.
 pub record FailedGroup (w : World) (events : List Event) (old new : HostView) : Type 0 where
   pub rest : List Event
-  pub untold : List Outcome
+  pub withheld : List Outcome
   pub before : HostView
-  pub played : HasPlayed w events rest untold before
+  pub played : HasPlayed w events rest withheld before
   pub contents : new.store.sheet.contents ≡ sheet_in played.leads
   pub numbers : (name : List ℕ) → number_in new.lives name ≡ option_map (λ l. l.number) (life_of played.leads name)
   pub closed : new.closed ≡ true
@@ -89,23 +89,23 @@ abbrev pub is_refusal : Outcome → Bool
 is_refusal o = is_refused o.reply
 
 -- None of these outcomes is a refusal, but for the last.
-pub record LastRefused (told : List Outcome) : Type 0 where
+pub record LastRefused (reported : List Outcome) : Type 0 where
   pub before : List Outcome
   pub last : List Outcome
-  pub split : told ≡ before ++ last
+  pub split : reported ≡ before ++ last
   pub one : length last ≤ 1
   pub accepted : list_any is_refusal before ≡ false
 
 -- Events were taken with these outcomes up to the first refusal, and these are left: none was refused, and none is left; or the last was.
-pub data StopsAtRefusal (told : List Outcome) (rest : List Event) : Type 0 where
-  nowhere : list_any is_refusal told ≡ false → rest ≡ [] → StopsAtRefusal told rest
-  behind_one : (before : List Outcome) (last : Outcome) → told ≡ before ++ last ∷ [] → list_any is_refusal before ≡ false → is_refusal last ≡ true → StopsAtRefusal told rest
+pub data StopsAtRefusal (reported : List Outcome) (rest : List Event) : Type 0 where
+  nowhere : list_any is_refusal reported ≡ false → rest ≡ [] → StopsAtRefusal reported rest
+  after_one : (before : List Outcome) (last : Outcome) → reported ≡ before ++ last ∷ [] → list_any is_refusal before ≡ false → is_refusal last ≡ true → StopsAtRefusal reported rest
 
 -- Events were taken up to the first one that was refused, and what they give is durable.
-pub record TookUpTo (w : World) (events : List Event) (told : List Outcome) (old new : HostView) : Type 0 where
+pub record TookUpTo (w : World) (events : List Event) (reported : List Outcome) (old new : HostView) : Type 0 where
   pub rest : List Event
-  pub played : HasPlayed w events rest told new
-  pub stops : StopsAtRefusal told rest
+  pub played : HasPlayed w events rest reported new
+  pub stops : StopsAtRefusal reported rest
   pub flushed : IsFlushed new
   pub moments : FlushesTo (sheet_in played.leads) old.store new.store
 
@@ -114,4 +114,4 @@ abbrev pub HaltsUpTo : World → List Event → HostView → HostView → GroupF
 HaltsUpTo w events old new (halt.Checkpoint back) = (list_any is_checkpoint events ≡ true) × (back.items ≡ events) × (new ≡ old)
 HaltsUpTo w events old new (halt.NoRoom back) = NoGroup w events back.items old new
 HaltsUpTo w events old new (halt.Stopped outcomes fault) = StoppedGroup w events old new outcomes.items fault × (list_any is_refusal outcomes.items ≡ false)
-HaltsUpTo w events old new halt.Disk = (p : FailedGroup w events old new) × LastRefused p.untold
+HaltsUpTo w events old new halt.Disk = (p : FailedGroup w events old new) × LastRefused p.withheld

@@ -20,7 +20,7 @@ use Rattle.session_engine.specs.declared.table.Running.{Running}
 use Rattle.host_events.specs.declared.event.Event.{Event}
 use Rattle.host_events.specs.declared.outcome.Outcome.{Outcome}
 use Rattle.session_engine.specs.World.{World, Going, waiting_in, sheet_in}
-use Rattle.session_engine.specs.Does.{Does, MayDo, behind}
+use Rattle.session_engine.specs.Does.{Does, MayDo, following}
 
 -- A host as contracts see it: its store, the lives that it runs, how many it has begun, and whether it is closed.
 pub record HostView : Type 0 where
@@ -100,9 +100,9 @@ OnDisk ops true given old new = InModel old (LeavesOnly (IsSheetImage (sheet_of 
 pub record Took (w : World) (e : Event) (old new : HostView) (o : Outcome) : Type 0 where
   pub did : Does
   pub may : MayDo w e did
-  pub told : o ≡ did.told
-  pub stands : IsHost new (behind w did)
-  pub disk : OnDisk w.ops did.anew did.op old.store.disk new.store.disk
+  pub reported : o ≡ did.reported
+  pub stands : IsHost new (following w did)
+  pub disk : OnDisk w.ops did.again did.op old.store.disk new.store.disk
 
 -- the disk that an opening leaves
 abbrev pub disk_of_opening : {D : Type 0} → (D → DiskView) → Result HostView (OpenFault D) → DiskView

@@ -30,9 +30,9 @@ abbrev pub asking : {J : Type 0} → JoinRule J → J → J → Asking
 asking rule old new = record { answers = λ w first more. rule old w first more new; unasked = new ≡ old }
 
 -- These events went through with these outcomes, he was asked then, and answered these.
-pub record JoinsAfter (A : Asking) (w : World) (events : List Event) (told : List Outcome) (first : Option ℕ) (more : List Event) : Type 0 where
+pub record JoinsAfter (A : Asking) (w : World) (events : List Event) (reported : List Outcome) (first : Option ℕ) (more : List Event) : Type 0 where
   pub world : World
-  pub runs : Runs w events told world
+  pub runs : Runs w events reported world
   pub answered : A.answers world first more
 
 -- All events were taken, and those that joined them, and what they give is durable: at every moment a crash leaves the worksheet from before, or that
@@ -45,11 +45,11 @@ pub record TookJoined (A : Asking) (w : World) (events : List Event) (old new : 
 -- The events that were to be taken: these alone, where he wasn't asked; or with those that he answered.
 pub data ToBeTaken (A : Asking) (w : World) (events : List Event) : List Event → Type 0 where
   alone : A.unasked → ToBeTaken A w events events
-  with_more : (told : List Outcome) (first : Option ℕ) (more : List Event) → JoinsAfter A w events told first more → ToBeTaken A w events (events ++ more)
+  with_more : (reported : List Outcome) (first : Option ℕ) (more : List Event) → JoinsAfter A w events reported first more → ToBeTaken A w events (events ++ more)
 
 -- What a fault leaves. Without memory nothing was done; so also where one of the events is a checkpoint.
 abbrev pub HaltsJoined : Asking → World → List Event → HostView → HostView → JoinFault → Type 0
 HaltsJoined A w events old new halt.Checkpoint = A.unasked × (new ≡ old) × (list_any is_checkpoint events ≡ true)
 HaltsJoined A w events old new halt.NoRoom = A.unasked × (new ≡ old)
-HaltsJoined A w events old new (halt.Stopped fault) = (all : List Event) × ToBeTaken A w events all × (told : List Outcome) × StoppedGroup w all old new told fault
+HaltsJoined A w events old new (halt.Stopped fault) = (all : List Event) × ToBeTaken A w events all × (reported : List Outcome) × StoppedGroup w all old new reported fault
 HaltsJoined A w events old new halt.Disk = (all : List Event) × ToBeTaken A w events all × FailedGroup w all old new

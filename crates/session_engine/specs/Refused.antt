@@ -12,7 +12,7 @@ use Rattle.plugin_core.specs.Limits.{most_waiting}
 use Rattle.session_engine.specs.Limits.{most_lives}
 use Rattle.host_events.specs.declared.command.Command.{Command}
 use Rattle.host_events.specs.declared.command.Command.TheVariants as command
-use Rattle.session_engine.specs.World.{World, Going, sheet_in, in_flight, fits_in, end_anew, kept_at_end, life_of, session_of_field, input_of, waiting_in}
+use Rattle.session_engine.specs.World.{World, Going, sheet_in, in_flight, fits_in, end_again, kept_at_end, life_of, session_of_field, input_of, waiting_in}
 
 -- these refusals with one more, which stands directly after the first
 abbrev pub second : Refusal × Bool → List (Refusal × Bool) → List (Refusal × Bool)
@@ -77,7 +77,7 @@ command_refusals w (command.CompleteText id cursor text) =
     tab_refusals w id ++ (refusal.BadInput, not (is_input text)) ∷ cursor_refusals w (session_of_field w id) text cursor
 command_refusals w (command.Stop name) = (refusal.NoSession, not (has_session (sheet_in w) name)) ∷ []
 -- the ops that make the worksheet again have no room: the gate after their records isn't in the area
-command_refusals w command.Checkpoint = (refusal.JournalFull, not (nat_le (end_anew (sheet_in w) + 1) w.room)) ∷ []
+command_refusals w command.Checkpoint = (refusal.JournalFull, not (nat_le (end_again (sheet_in w) + 1) w.room)) ∷ []
 
 -- Which commands may be refused for lack of memory, where no other refusal applies: all of them, a Stop where a line keeps its reason.
 abbrev pub command_takes_memory : World → Command → Bool

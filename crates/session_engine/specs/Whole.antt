@@ -34,9 +34,9 @@ pub record RefusedAt (w : World) (events : List Event) (before : List Outcome) (
   pub refused : is_refusal last ≡ true
 
 -- All were taken, and none of them was refused.
-pub record TookWhole (w : World) (events : List Event) (told : List Outcome) (old new : HostView) : Type 0 where
-  pub took : TookGroup w events told old new
-  pub accepted : list_any is_refusal told ≡ false
+pub record TookWhole (w : World) (events : List Event) (reported : List Outcome) (old new : HostView) : Type 0 where
+  pub took : TookGroup w events reported old new
+  pub accepted : list_any is_refusal reported ≡ false
 
 -- One would be refused, so none was taken: the host stands for the world from before, and its disk is untouched.
 pub record RefusedWhole (w : World) (events : List Event) (before : List Outcome) (last : Outcome) (old new : HostView) : Type 0 where
@@ -48,7 +48,7 @@ pub record RefusedWhole (w : World) (events : List Event) (before : List Outcome
 pub record FailedWhole (w : World) (events : List Event) (old new : HostView) : Type 0 where
   pub failed : FailedGroup w events old new
   pub all : failed.rest ≡ []
-  pub accepted : list_any is_refusal failed.untold ≡ false
+  pub accepted : list_any is_refusal failed.withheld ≡ false
 
 -- what was made of them
 abbrev pub MadeWhole : World → List Event → HostView → HostView → Whole → Type 0

@@ -72,8 +72,8 @@ abbrev pub fits_in : ℕ → ℕ → Op → Bool
 fits_in room end o = nat_le (length (code_of o)) longest_payload && nat_le (end + 5 + length (code_of o) + 1) room
 
 -- where the payloads of the ops that make a worksheet again end
-abbrev pub end_anew : Contents → ℕ
-end_anew sheet = end_of (map code_of (rewrite_of sheet))
+abbrev pub end_again : Contents → ℕ
+end_again sheet = end_of (map code_of (rewrite_of sheet))
 
 -- The op of the end of a life which leaves these items without an answer: where the first of them is a line, its field keeps the
 -- reason, if there is room for that. The others keep none.
@@ -92,4 +92,4 @@ with_op_if (Some o) w = record w { ops = w.ops ++ o ∷ []; end = w.end + 5 + le
 -- the world with its journal rewritten, if it is: the worksheet and its ops are what they were, and the payloads end elsewhere
 abbrev pub renewed_if : Bool → World → World
 renewed_if false w = w
-renewed_if true w = record w { end = end_anew (sheet_in w) }
+renewed_if true w = record w { end = end_again (sheet_in w) }

@@ -7,7 +7,7 @@ ghost use Rattle.worksheet.specs.Ops.{sheet_of};
 ghost use Rattle.worksheet.specs.Checks.{first_refusal};
 ghost use Rattle.recovery.specs.Sheets.{GathersOn, IsEither};
 ghost use Rattle.plugin_core.specs.Items.{first_line_of};
-ghost use Rattle.session_engine.specs.Does.{closed_told, op_by};
+ghost use Rattle.session_engine.specs.Does.{closed_reported, op_by};
 ghost use Rattle.session_engine.specs.inside.Words.{op_of_end};
 ghost use Rattle.session_engine.specs.World.{fits_in};
 ghost use Rattle.session_engine.specs.inside.Commits.{Commits, AllowedIf, CommittedIf, HasFieldIf, IsEitherIf, LosesField, NotKept, NotLost, answer_op, kept_for, refusal_for};
@@ -160,7 +160,7 @@ pub(crate) fn keep<D: Disk>(
     ensures gathers { GathersOn store.old store.new }
     ensures at_once { IsErrOf result HostFault.Disk → store.old.gathers ≡ false }
     ensures ok { (ops : List Op) → store.old.sheet.contents ≡ sheet_of ops
-        → IfOk result (λ closed. (closed ≡ closed_told answered)
+        → IfOk result (λ closed. (closed ≡ closed_reported answered)
         × CommittedIf store.old ops
         (op_by store.old.disk.room store.old.end answered ended.now) store.new) }
     ensures fault { IfErr result (NotKept store.old store.new

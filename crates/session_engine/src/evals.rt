@@ -60,8 +60,8 @@ fn ask(
     requires going { GoesOnAt lives.old.items name }
     requires askable { IsAskable item }
     ensures ok { IfOk result
-        (λ told. Asked name next item lives.old.items lives.new.items
-        (record { number = told.0; sent = told.1 })) }
+        (λ reported. Asked name next item lives.old.items lives.new.items
+        (record { number = reported.0; sent = reported.1 })) }
     ensures err { OnErr result (lives.new.items ≡ lives.old.items) }
 {
     match place_of(lives, name) {
@@ -97,7 +97,7 @@ impl<D: Disk> Engine<D> {
     ghost use Rattle.session_engine.specs.Refused.{queue_refusals};
     ghost use Rattle.session_engine.specs.inside.Words.{lives_are_spent};
     ghost use Rattle.session_engine.specs.Host.{HasField};
-    ghost use Rattle.session_engine.specs.inside.Commits.{told_asked, begun_with_words, Evaluated};
+    ghost use Rattle.session_engine.specs.inside.Commits.{reported_asked, begun_with_words, Evaluated};
     ghost use Rattle.host_events.specs.declared.outcome.HostFault.TheVariants as faults;
     ghost use Rattle.std.specs.Result.{result_err};
     ghost use Rattle.worksheet.specs.Checks.{first_of, has_field};
@@ -177,7 +177,7 @@ impl<D: Disk> Engine<D> {
         sent: Option<Octets>,
     ) -> Outcome
         requires { self.old.begun < 4294967295 }
-        ensures told { result ≡ told_asked name life words sent }
+        ensures reported { result ≡ reported_asked name life words sent }
         ensures begun { self.new.begun ≡ begun_with_words self.old.begun words }
         ensures store { self.new.store ≡ self.old.store }
         ensures lives { self.new.lives ≡ self.old.lives }

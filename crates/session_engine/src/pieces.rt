@@ -2,7 +2,7 @@
 ghost use Rattle.std.specs.Prelude.{◌≡◌, false, IfOk, IfErr, IsErrOf, List, ℕ, Option};
 ghost use Rattle.disk_model.specs.Disk.{SameDisk};
 ghost use Rattle.recovery.specs.Sheets.{GathersOn};
-ghost use Rattle.session_engine.specs.Does.{told_with};
+ghost use Rattle.session_engine.specs.Does.{reported_with};
 
 use crate::commits::keep;
 use crate::engine::{Engine, nothing};
@@ -70,7 +70,7 @@ fn outcome_of_piece(
     send: Option<Octets>,
     ended: Option<Ended>,
 ) -> Outcome
-    ensures { result ≡ told_with name life closed default_input send ended }
+    ensures { result ≡ reported_with name life closed default_input send ended }
 {
     if closed.is_none() && ended.is_none() {
         return nothing();

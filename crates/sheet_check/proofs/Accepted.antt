@@ -57,9 +57,9 @@ order-accepted : (next : ℕ) (ids : List ℕ) (cases : List Case) → order_fro
 order-accepted next ids [] = refl
 order-accepted next ids (c ∷ cases) = order-put next ids c.field.id (accepted_answer c.came c.verdict) (accepted cases) ∙ order-accepted next ids cases
 
-order-behind : (next : ℕ) (ids : List ℕ) (ops : List Op) (cases : List Case) → order_from next ids (ops ++ accepted cases) ≡ order_from next ids ops
-order-behind next ids [] cases = order-accepted next ids cases
-order-behind next ids (o ∷ ops) cases = order-behind (next_after next o) (order_after next o ids) ops cases
+order-following : (next : ℕ) (ids : List ℕ) (ops : List Op) (cases : List Case) → order_from next ids (ops ++ accepted cases) ≡ order_from next ids ops
+order-following next ids [] cases = order-accepted next ids cases
+order-following next ids (o ∷ ops) cases = order-following (next_after next o) (order_after next o ids) ops cases
 
 abbrev is-there : List ℕ → ℕ → Bool
 is-there [] id = false
@@ -76,7 +76,7 @@ there-by ops (other ∷ ids) id = go (other == id) (there-by ops ids id)
 pub has_still : (ops : List Op) (cases : List Case) (id : ℕ) → has_field (sheet_of (ops ++ accepted cases)) id ≡ has_field (sheet_of ops) id
 has_still ops cases id =
     there-by (ops ++ accepted cases) (order_from 1 [] (ops ++ accepted cases)) id
-    ∙ ap (λ (ids : List ℕ). is-there ids id) (order-behind 1 [] ops cases) ∙ sym (there-by ops (order_from 1 [] ops) id)
+    ∙ ap (λ (ids : List ℕ). is-there ids id) (order-following 1 [] ops cases) ∙ sym (there-by ops (order_from 1 [] ops) id)
 
 has-first : (gone : List Field) (field : Field) (others : List Field) → is_some (field_in (gone ++ field ∷ others) field.id) ≡ true
 has-first [] field others =
@@ -125,14 +125,14 @@ not_taken ops more disk ones new a refused.Full p = inside.full p.0 refl p.1 p.2
 not_taken ops more disk ones new a refused.OutOfMemory p = inside.unremembered refl p refl
 not_taken ops more disk ones new a refused.Disk p = inside.broken p.0 refl p.1 p.2 refl
 
-evaluation-told : {C : Type 0} (o : Way C) (id : ℕ) (s : At C) (h : HostView) (c : C) (why : RunFault) → EvaluationBroke o id s h c why → why ≡ fault.Output → ⊥
-evaluation-told o id s h c why (checking.halted cause is of broke) e = never_output why of e
-evaluation-told o id s h c why (checking.unremembered marks is came) e = let no : fault.OutOfMemory ≡ fault.Output = sym is ∙ e in cc
+evaluation-reported : {C : Type 0} (o : Way C) (id : ℕ) (s : At C) (h : HostView) (c : C) (why : RunFault) → EvaluationBroke o id s h c why → why ≡ fault.Output → ⊥
+evaluation-reported o id s h c why (checking.halted cause is of broke) e = never_output why of e
+evaluation-reported o id s h c why (checking.unremembered marks is came) e = let no : fault.OutOfMemory ≡ fault.Output = sym is ∙ e in cc
 
 module _ {C : Type 0} (o : Way C) (chosen : Chosen) (field : Field) (s : At C) (h : HostView) (c : C) (a : Option (List ℕ)) (ops more : List Op) (disk : DiskView) (store : StoreView) where
   -- the evaluation broke off
   pub evaluation_broke : (why : RunFault) → EvaluationBroke o field.id s h c why → FieldFailed (to_accept o chosen) field s (records.left h c a a) why → Stores ops more disk store → FieldBroke (to_accept o chosen) field s (records.left h c a a) (storing ops more disk store) why
-  evaluation_broke why broke failed stores = early failed (evaluation-told o field.id s h c why broke) stores
+  evaluation_broke why broke failed stores = early failed (evaluation-reported o field.id s h c why broke) stores
 
   -- there was no memory for what came
   pub memory_broke : FieldFailed (to_accept o chosen) field s (records.left h c a a) fault.OutOfMemory → Stores ops more disk store → FieldBroke (to_accept o chosen) field s (records.left h c a a) (storing ops more disk store) fault.OutOfMemory
@@ -155,7 +155,7 @@ pub shown_took : {C : Type 0} (o : Way C) (chosen : Chosen) (field : Field) (s :
     → Stores ops (more ++ answer_ops field.id found.answer) disk store → Appends a b found.text.items → ShownTook (to_accept o chosen) (question 0 field) s (records.left h c a b) (storing ops more disk store) j
 shown_took o chosen field s h c a b ops more disk store came took t found j evaluated stands f is stores wrote =
     subst (ShownTook (to_accept o chosen) (question 0 field) s (records.left h c a b) (storing ops more disk store)) (sym is) (
-      (came, t, took, evaluated, stands, f.judged, f.error, subst (Appends a b) f.told wrote),
+      (came, t, took, evaluated, stands, f.judged, f.error, subst (Appends a b) f.reported wrote),
       subst (λ (x : Option Answer). Stores ops (more ++ answer_ops field.id x) disk store) f.taken stores,
     )
 
@@ -237,11 +237,11 @@ module _ {C : Type 0} (o : Way C) (chosen : Chosen) (all left : List Field) (fie
     stands = p.2;
   }
 
-  told-so : e ≡ b → Appends a e (report_front format.Accepting taken.so.cases)
-  told-so same = subst (λ (x : Option (List ℕ)). Appends a x (report_front format.Accepting taken.so.cases)) (sym same) taken.so.wrote
+  reported-so : e ≡ b → Appends a e (report_front format.Accepting taken.so.cases)
+  reported-so same = subst (λ (x : Option (List ℕ)). Appends a x (report_front format.Accepting taken.so.cases)) (sym same) taken.so.wrote
 
   pub one_broke : (why : RunFault) → FieldBroke (to_accept o chosen) field (at taken.so.leads c h.store.disk) (records.left g d b e) (storing ops (accepted taken.so.cases) disk new) why → FieldsBroke (to_accept o chosen) all s (records.left g d a e) (storing ops [] disk new) why
-  one_broke why (early failed untold stores) = early
+  one_broke why (early failed withheld stores) = early
       (record {
         gone = taken.so.gone;
         left = left;
@@ -252,9 +252,9 @@ module _ {C : Type 0} (o : Way C) (chosen : Chosen) (all left : List Field) (fie
         failed = subst (λ x. FirstFailed (to_accept o chosen) x (at taken.so.leads c h.store.disk) g d why) (sym is) (failed.0 others);
         wrote = leaves-on (to_accept o chosen) all left field others s h c a b counts g d e is taken.so why failed.1;
       })
-      untold stores
-  one_broke why (full last one is-full came taken-is same stores place) = full taken.so.cases last one is-full (up-to last came) taken-is (told-so same) stores place
-  one_broke why (broken last one is-disk came taken-is same holds) = broken taken.so.cases last one is-disk (up-to last came) taken-is (told-so same) holds
+      withheld stores
+  one_broke why (full last one is-full came taken-is same stores place) = full taken.so.cases last one is-full (up-to last came) taken-is (reported-so same) stores place
+  one_broke why (broken last one is-disk came taken-is same holds) = broken taken.so.cases last one is-disk (up-to last came) taken-is (reported-so same) holds
   one_broke why (unwritten last is-output came stores) = unwritten (taken.so.cases ++ last ∷ []) is-output (up-to last came)
       (subst (λ (os : List Op). Stores ops os disk new) (ap (λ (os : List Op). accepted taken.so.cases ++ os) (sym (append-nil (accepted_of last))) ∙ accepted-more taken.so.cases (last ∷ [])) stores)
 

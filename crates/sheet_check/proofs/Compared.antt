@@ -29,7 +29,7 @@ use Rattle.sheet_check.specs.Driven.{DriveBroke, DrivenToEnd, DrivenUpTo, broke_
 use Rattle.sheet_check.specs.Evaluated.{fault_on_copy, reason_shown_in}
 use Rattle.sheet_check.specs.Together as together
 use Rattle.sheet_check.specs.Together.{EvaluatedTogether, FieldCompared, FieldsCompared, SideBySide, TellsTogether, TogetherChecked, came_by, checked_ids, checking, cleared}
-use Rattle.sheet_check.specs.inside.Checking.{Untold, counted_on, unremembered, unwritten}
+use Rattle.sheet_check.specs.inside.Checking.{Withheld, counted_on, unremembered, unwritten}
 use Rattle.sheet_check.specs.inside.Comparing.{BrokeTogether, CameTogether, Comparing, EndedTogether, FailedTogether, FieldReported, FieldsReported, LeavesReport, ReportBroke, ReportedTogether}
 use Rattle.sheet_check.specs.declared.silence.Mark.{Mark}
 use Rattle.sheet_check.proofs.Counting.{as_judged, cases-more, front-more}
@@ -81,11 +81,11 @@ module _ (m : Comparing) (all left : List Field) (field : Field) (others : List 
     wrote = subst (Appends a e) (sym (front-more m.format so.cases p.0 counts so.counted)) (Appends-trans a b e (report_front m.format so.cases) (cases_text m.format (total counts + 1) p.0) so.wrote p.3);
   }
 
-  leaves : (why : RunFault) → Untold b e why → LeavesReport m.format so.cases a e why
+  leaves : (why : RunFault) → Withheld b e why → LeavesReport m.format so.cases a e why
   leaves why (unremembered is p) = inl (is, subst (Appends a e) (append-nil (report_front m.format so.cases)) (Appends-trans a b e (report_front m.format so.cases) [] so.wrote p))
   leaves why (unwritten is) = inr is
 
-  pub report_broke : (why : RunFault) → Untold b e why → ReportBroke m all a e why
+  pub report_broke : (why : RunFault) → Withheld b e why → ReportBroke m all a e why
   report_broke why p = record { gone = so.gone; left = left; split = so.split; cases = so.cases; compared = so.ran; wrote = leaves why p }
 
 pub all_compared : (m : Comparing) (all left : List Field) (a b : Option (List ℕ)) (counts : Counts) → left ≡ [] → ComparedSoFar m all left a b counts → FieldsReported m all a b counts
@@ -122,7 +122,7 @@ module _ {C : Type 0} (o : SideBySide C) (sheet : Contents) (w : World) (h g : H
   }
 
   pub together_ended : (counts : Counts) → ReportedTogether o sheet.fields (at w c h.store.disk) (records.left g m a b) counts → EndedTogether o sheet (passage c d a b) counts
-  together_ended counts q = let came = q.1.0 in let told = q.1.1 in (came.0, q.0, evaluated q.0 came, (told.0, told.1, told.2, told.3))
+  together_ended counts q = let came = q.1.0 in let reported = q.1.1 in (came.0, q.0, evaluated q.0 came, (reported.0, reported.1, reported.2, reported.3))
 
   stopped : (why : RunFault) → DriveBroke o.way (checking o sheet.fields) (at w c h.store.disk) g m why → (v : World) × (g.store.sheet.contents ≡ sheet_in v) × Stops o.way.after (running v) m d
   stopped why (unplanned is same stands) = (w, stands.stands.contents, stops.0 w stands)
@@ -147,15 +147,15 @@ module _ {C : Type 0} (o : SideBySide C) (sheet : Contents) (w : World) (h g : H
 -- The whole.
 
 module _ {C : Type 0} (o : SideBySide C) (sheet : Contents) (c d : C) (a b : Option (List ℕ)) where
-  pub told_together : (e : Option (List ℕ)) (counts : Counts) → EndedTogether o sheet (passage c d a b) counts → Appends b e (closing_text o.format counts) → TogetherChecked o sheet (passage c d a e) counts
-  told_together e counts q told = let p = q.3 in record {
+  pub reported_together : (e : Option (List ℕ)) (counts : Counts) → EndedTogether o sheet (passage c d a b) counts → Appends b e (closing_text o.format counts) → TogetherChecked o sheet (passage c d a e) counts
+  reported_together e counts q reported = let p = q.3 in record {
     leads = q.0;
     marks = q.1;
     evaluated = q.2;
     cases = p.0;
     compared = p.1;
     counted = p.2;
-    wrote = Appends-trans a b e (report_front o.format p.0) (closing_text o.format (counts_of (judgements_of p.0))) p.3 (subst (λ x. Appends b e (closing_text o.format x)) p.2 told);
+    wrote = Appends-trans a b e (report_front o.format p.0) (closing_text o.format (counts_of (judgements_of p.0))) p.3 (subst (λ x. Appends b e (closing_text o.format x)) p.2 reported);
   }
 
   pub counts_unwritten : (e : Option (List ℕ)) (counts : Counts) (nothing : Type 0) (why : RunFault) → EndedTogether o sheet (passage c d a b) counts → why ≡ fault.Output → TellsTogether o sheet (passage c d a e) nothing why

@@ -12,7 +12,7 @@ use Rattle.host_events.specs.declared.reply.Reply.{Reply}
 use Rattle.session_engine.specs.World.{World, sheet_in}
 use Rattle.session_engine.specs.Host.{HostView, IsHost}
 use Rattle.child_edge.specs.Faithful.{at}
-use Rattle.child_edge.specs.Told.{spoken}
+use Rattle.child_edge.specs.Reported.{spoken}
 use Rattle.offline_programs.specs.declared.fault.RunFault.{RunFault}
 use Rattle.tellings.specs.Voice.{numbered_text}
 use Rattle.driver.specs.declared.report.Show.TheVariants as show
@@ -25,7 +25,7 @@ use Rattle.driver.specs.Steps.{Goes, Run}
 use Rattle.driver.specs.Steps as step
 use Rattle.driver.proofs.Order.{after_halt, after_is}
 use Rattle.evaluation.specs.Meant.{missing_in}
-use Rattle.evaluation.specs.Programs.{IsFirstLacking, behind, here}
+use Rattle.evaluation.specs.Programs.{IsFirstLacking, following, here}
 use Rattle.evaluation.specs.declared.plan.Plan.{Plan}
 use Rattle.field_agenda.specs.LooksFirst.{IsUnderWay, LookedFirst, all_found, in_vain, not_looked}
 use Rattle.field_agenda.specs.Looks.{LookFinds, all_there, no_field, no_program}
@@ -126,7 +126,7 @@ module _ {C : Type 0} (o : Way C) where
   none_printed : (p q : Spot) (why : RunFault) (steps : List RunStep) → Run (copy_rules o) p (print_fault why ∷ []) steps [] q → ⊥
   none_printed p q why [] (is, same) = absurd cc
   none_printed p q why (s ∷ steps) (next, mid, step.prints_fault w whole k tries, more) = none_halted mid q why steps more
-  none_printed p q why (s ∷ steps) (next, mid, step.breaks i beats w x rest fails, more) = absurd (elim fails [ ])
+  none_printed p q why (s ∷ steps) (next, mid, step.breaks i entries w x rest fails, more) = absurd (elim fails [ ])
 
   none_broke : (p q : Spot) (why : RunFault) (steps : List RunStep) → Run (copy_rules o) p (after_fault why) steps [] q → ⊥
   none_broke p q why steps r = by (after_is why)
@@ -138,7 +138,7 @@ module _ {C : Type 0} (o : Way C) where
   step_kept : (p mid q : Spot) (todo next : List Item) (s : RunStep) (steps : List RunStep) → Goes (copy_rules o) p todo s next mid → Run (copy_rules o) mid next steps [] q
       → numbers_of mid.sink.kept ≡ numbers_of p.sink.kept ++ numbers_of (step_marks s)
   step_kept p mid q todo next s steps (step.asks now t a clock said) more = sym (append-nil (numbers_of p.sink.kept))
-  step_kept p mid q todo next s steps (step.watches x w c a rest wakes told) more = sym (append-nil (numbers_of p.sink.kept))
+  step_kept p mid q todo next s steps (step.watches x w c a rest wakes reported) more = sym (append-nil (numbers_of p.sink.kept))
   step_kept p mid q todo next s steps (step.hears seat most events c rest h) more = sym (append-nil (numbers_of p.sink.kept))
   step_kept p mid q todo next s steps (step.takes from events outcomes followed w c d rest t) more = sym (append-nil (numbers_of p.sink.kept))
   step_kept p mid q todo next s steps (step.joins events outcomes first others later followed a w c d rest asked t) more = sym (append-nil (numbers_of p.sink.kept))
@@ -146,10 +146,10 @@ module _ {C : Type 0} (o : Way C) where
   step_kept p mid q todo next s steps (step.refuses_whole first events outcomes one rest r) more = sym (append-nil (numbers_of p.sink.kept))
   step_kept p mid q todo next s steps (step.rewrites line one w d rest gives kept) more = sym (append-nil (numbers_of p.sink.kept))
   step_kept p mid q todo next s steps (step.stalls_all rest) more = sym (append-nil (numbers_of p.sink.kept))
-  step_kept p mid q todo next s steps (step.interrupts name told c rest i) more = sym (append-nil (numbers_of p.sink.kept))
+  step_kept p mid q todo next s steps (step.interrupts name reported c rest i) more = sym (append-nil (numbers_of p.sink.kept))
   step_kept p mid q todo next s steps (step.prints t k rest tries) more = tries.appends refl ∙ ap (λ (l : List ℕ). numbers_of p.sink.kept ++ l) (said_is p.world t)
   step_kept p mid q todo next s steps (step.heeds c now n a rest clock h) more = sym (append-nil (numbers_of p.sink.kept))
-  step_kept p mid q todo next s steps (step.breaks i beats why there rest fails) more = absurd (none_broke mid q why steps more)
+  step_kept p mid q todo next s steps (step.breaks i entries why there rest fails) more = absurd (none_broke mid q why steps more)
   step_kept p mid q todo next s steps (step.prints_fault why whole k tries) more = absurd (none_halted mid q why steps more)
 
   all_kept : (p q : Spot) (todo : List Item) (steps : List RunStep) → Run (copy_rules o) p todo steps [] q → numbers_of q.sink.kept ≡ numbers_of p.sink.kept ++ numbers_of (marks_of steps)
@@ -163,7 +163,7 @@ module _ {C : Type 0} (o : Way C) where
 
 never_lacking : (programs : AllThere) (fields : List Field) (ids : List ℕ) (sessions : List Session) (name : List ℕ) → IsFirstLacking (counts_as_there programs) fields ids sessions name → ⊥
 never_lacking programs fields ids sessions name (here session others needed lacks) = true≢false (sym lacks)
-never_lacking programs fields ids sessions name (behind session others found has lacks) = never_lacking programs fields ids others name lacks
+never_lacking programs fields ids sessions name (following session others found has lacks) = never_lacking programs fields ids others name lacks
 
 found_all : (programs : AllThere) (plan : Plan) (sheet : Contents) (ids : List ℕ) (how : Stage) → missing_in plan.which sheet.fields ≡ None → (IsUnderWay how → ⊥) → LookFinds (counts_as_there programs) plan sheet ids how → ⊥
 found_all programs plan sheet ids how all not_so (no_field id is) = let no : None ≡ Some id = sym all ∙ is in cc

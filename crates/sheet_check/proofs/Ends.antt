@@ -77,7 +77,7 @@ fields_stopped o fields s h c d a b why stops numbered p = record {
 module _ {C : Type 0} (o : OneByOne C) (sheet : Contents) (w : World) (copy : DiskView) (copied : IsCopy sheet w copy) (c d : C) (a b : Option (List ℕ)) where
   pub sheet_checked : (e : Option (List ℕ)) (counts : Counts) → FieldsEnded o sheet.fields w copy (passage c d a b) counts → Appends b e (closing_text o.format counts)
       → SheetChecked o sheet (passage c d a e) counts
-  sheet_checked e counts p told = record {
+  sheet_checked e counts p reported = record {
     start = w;
     copy = copy;
     copied = copied;
@@ -86,13 +86,13 @@ module _ {C : Type 0} (o : OneByOne C) (sheet : Contents) (w : World) (copy : Di
     checked = p.2;
     stops = p.3;
     counted = p.4;
-    wrote = Appends-trans a b e (report_front o.format p.0) (closing_text o.format (counts_of (judgements_of p.0))) p.5 (subst (λ x. Appends b e (closing_text o.format x)) p.4 told);
+    wrote = Appends-trans a b e (report_front o.format p.0) (closing_text o.format (counts_of (judgements_of p.0))) p.5 (subst (λ x. Appends b e (closing_text o.format x)) p.4 reported);
   }
 
   -- the counts couldn't be reported
-  pub counts_untold : (e : Option (List ℕ)) (counts : Counts) (none : Type 0) (why : RunFault) → FieldsEnded o sheet.fields w copy (passage c d a b) counts → why ≡ fault.Output
+  pub counts_withheld : (e : Option (List ℕ)) (counts : Counts) (none : Type 0) (why : RunFault) → FieldsEnded o sheet.fields w copy (passage c d a b) counts → why ≡ fault.Output
       → TellsCheck o sheet (passage c d a e) none why
-  counts_untold e counts none why p is = ends.unwritten p.0 is
+  counts_withheld e counts none why p is = ends.unwritten p.0 is
       (record {
         start = w;
         copy = copy;
@@ -111,7 +111,7 @@ module _ {C : Type 0} (o : OneByOne C) (sheet : Contents) (w : World) (copy : Di
   stopped_tells none why p = tells p.ended
     where
       text : (why ≡ fault.Output → ⊥) → Appends a b (report_front o.format p.cases)
-      text untold = text_left a b (report_front o.format p.cases) why p.wrote untold
+      text withheld = text_left a b (report_front o.format p.cases) why p.wrote withheld
 
       led : (t : At C) → FirstLed o p.left p.mid t → Stops o.way.after (running t.world) t.children d → SheetLed o sheet c d p.cases
       led t so stops =

@@ -22,7 +22,7 @@ use Rattle.sheet_check.specs.Driven.{DrivenToEnd, DrivenUpTo, broke_off, one_pla
 use Rattle.sheet_check.specs.Evaluated.{OneByOne, Way, fault_on_copy, reason_shown_in}
 use Rattle.sheet_check.specs.Fields.{Evaluated, FieldChecked, FieldsChecked, checked, passed}
 use Rattle.sheet_check.specs.declared.silence.Mark.{Mark}
-use Rattle.sheet_check.specs.inside.Checking.{CameAlone, EvaluationBroke, FieldFailed, FieldWrote, FieldsFailed, FieldsWrote, FirstFailed, LeavesText, ShownWrote, Untold, counted_on, question}
+use Rattle.sheet_check.specs.inside.Checking.{CameAlone, EvaluationBroke, FieldFailed, FieldWrote, FieldsFailed, FieldsWrote, FirstFailed, LeavesText, ShownWrote, Withheld, counted_on, question}
 use Rattle.sheet_check.specs.inside.Checking as inside
 use Rattle.sheet_check.proofs.Counting.{as_judged, cases-more, front-more}
 use Rattle.sheet_check.proofs.Own.{of_evaluation}
@@ -167,12 +167,12 @@ module _ {C : Type 0} (o : OneByOne C) (field : Field) (is_one : is_chosen o.cho
   evaluation_failed a why p = ((λ others. broke-first others why p), inr (Appends-nil a))
 
   -- the field was evaluated, and what came of it couldn't be reported
-  pub tell_failed : (came : Option Answer) (took : Took) (t : World) → Evaluated o.way field s came took (at t c h.store.disk) → IsHost h t → (a b : Option (List ℕ)) (why : RunFault) → Untold a b why → FieldFailed o field s (records.left h c a b) why
+  pub tell_failed : (came : Option Answer) (took : Took) (t : World) → Evaluated o.way field s came took (at t c h.store.disk) → IsHost h t → (a b : Option (List ℕ)) (why : RunFault) → Withheld a b why → FieldFailed o field s (records.left h c a b) why
   tell_failed came took t e stands a b why p = go p
     where
       led : (others : List Field) → FirstLed o (field ∷ others) s (at t c h.store.disk)
       led others = evaluated field e.marks (first others) e.driven
 
-      go : Untold a b why → FieldFailed o field s (records.left h c a b) why
+      go : Withheld a b why → FieldFailed o field s (records.left h c a b) why
       go (inside.unremembered is wrote) = ((λ others. inside.unremembered t is (led others) stands), inr wrote)
       go (inside.unwritten is) = ((λ others. inside.unwritten t is (led others) stands), inl is)

@@ -61,7 +61,7 @@ module _ {C : Type 0} (o : Way C) (chosen : Chosen) (sheet : Contents) (w : Worl
 
   early-left : IsCopy sheet w copy → (why : RunFault) → (p : FieldsFailed (to_accept o chosen) sheet.fields (at w c copy) (records.left h mid a b) why) → (why ≡ fault.Output → ⊥) → Stores ops (accepted p.cases) disk store
       → AcceptLeft (to_accept o chosen) sheet (passage c d a b) (filing ops disk store.disk) why
-  early-left copied why p untold stores = left-by (first-stopped (to_accept o chosen) p.left p.mid h mid d stops numbered why p.failed) (text_left a b (report_front format.Accepting p.cases) why p.wrote untold)
+  early-left copied why p withheld stores = left-by (first-stopped (to_accept o chosen) p.left p.mid h mid d stops numbered why p.failed) (text_left a b (report_front format.Accepting p.cases) why p.wrote withheld)
     where
       led-to : (t : At C) → FirstLed (to_accept o chosen) p.left p.mid t → Stops o.after (running t.world) t.children d → SheetLed (to_accept o chosen) sheet c d p.cases
       led-to t so stopped =
@@ -72,10 +72,10 @@ module _ {C : Type 0} (o : Way C) (chosen : Chosen) (sheet : Contents) (w : Worl
           (record { start = w; copy = copy; copied = copied; gone = p.gone; left = p.left; split = p.split; mid = p.mid; checked = p.checked; host = k; sources = m; broke = broke; stops = stopped })
           wrote stores.disk
       left-by (inside.unremembered t is so stopped) wrote = ends.unremembered p.cases is (led-to t so stopped) wrote stores.disk
-      left-by (inside.unwritten t is so stopped) wrote = absurd (untold is)
+      left-by (inside.unwritten t is so stopped) wrote = absurd (withheld is)
 
   pub broke_left : IsCopy sheet w copy → (why : RunFault) → FieldsBroke (to_accept o chosen) sheet.fields (at w c copy) (records.left h mid a b) (storing ops [] disk store) why → AcceptLeft (to_accept o chosen) sheet (passage c d a b) (filing ops disk store.disk) why
-  broke_left copied why (early failed untold stores) = early-left copied why failed untold stores
+  broke_left copied why (early failed withheld stores) = early-left copied why failed withheld stores
   broke_left copied why (full cases last one is checked taken wrote stores place) = ends.full cases last one is (led-so copied (cases ++ last ∷ []) checked) taken wrote stores.disk place
   broke_left copied why (broken cases last one is checked taken wrote holds) = ends.broken cases last one is (led-so copied (cases ++ last ∷ []) checked) taken wrote holds
   broke_left copied why (unwritten cases is checked stores) = ends.unwritten cases is (led-so copied cases checked) stores.disk
@@ -83,8 +83,8 @@ module _ {C : Type 0} (o : Way C) (chosen : Chosen) (sheet : Contents) (w : Worl
 -- The counts are reported, or not.
 module _ {C : Type 0} (o : Way C) (chosen : Chosen) (sheet : Contents) (w : World) (copy : DiskView) (copied : IsCopy sheet w copy) (c d : C) (a b e : Option (List ℕ)) (ops : List Op) (disk : DiskView) (store : StoreView) (nothing : Type 0) (counts : Counts)
     (p : (ended : FieldsEnded (to_accept o chosen) sheet.fields w copy (passage c d a b) counts) × PutAll (storing ops [] disk store) (accepted ended.0)) where
-  pub counts_told : Appends b e (closing_text format.Accepting counts) → SheetAccepts (to_accept o chosen) sheet (passage c d a e) nothing (filing ops disk store.disk) (Ok counts)
-  counts_told told = (
+  pub counts_reported : Appends b e (closing_text format.Accepting counts) → SheetAccepts (to_accept o chosen) sheet (passage c d a e) nothing (filing ops disk store.disk) (Ok counts)
+  counts_reported reported = (
     record {
       start = w;
       copy = copy;
@@ -94,7 +94,7 @@ module _ {C : Type 0} (o : Way C) (chosen : Chosen) (sheet : Contents) (w : Worl
       checked = p.0.2;
       stops = p.0.3;
       counted = p.0.4;
-      wrote = Appends-trans a b e (report_front format.Accepting p.0.0) (closing_text format.Accepting (counts_of (judgements_of p.0.0))) p.0.5 (subst (λ x. Appends b e (closing_text format.Accepting x)) p.0.4 told);
+      wrote = Appends-trans a b e (report_front format.Accepting p.0.0) (closing_text format.Accepting (counts_of (judgements_of p.0.0))) p.0.5 (subst (λ x. Appends b e (closing_text format.Accepting x)) p.0.4 reported);
     },
     p.1.disk,
   )

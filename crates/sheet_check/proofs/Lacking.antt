@@ -59,19 +59,19 @@ done_so missing nothing done Came Else answer none came (all_named counted is e 
 
 -- One after another.
 
-told_unopened : {C : Type 0} (o : OneByOne C) (sheet : Contents) (q : Passage C) (nothing : Type 0) (x : OpenCause) (why : RunFault) → why ≡ fault.Open x → TellsCheck o sheet q nothing why → ⊥
-told_unopened o sheet q nothing x why e (ends.not_begun is done) = let no : fault.OutOfMemory ≡ fault.Open x = sym is ∙ e in cc
-told_unopened o sheet q nothing x why e (ends.halted cases led wrote) = never_open why x led.broke.of e
-told_unopened o sheet q nothing x why e (ends.unremembered cases is led wrote) = let no : fault.OutOfMemory ≡ fault.Open x = sym is ∙ e in cc
-told_unopened o sheet q nothing x why e (ends.unwritten cases is led) = let no : fault.Output ≡ fault.Open x = sym is ∙ e in cc
+reported_unopened : {C : Type 0} (o : OneByOne C) (sheet : Contents) (q : Passage C) (nothing : Type 0) (x : OpenCause) (why : RunFault) → why ≡ fault.Open x → TellsCheck o sheet q nothing why → ⊥
+reported_unopened o sheet q nothing x why e (ends.not_begun is done) = let no : fault.OutOfMemory ≡ fault.Open x = sym is ∙ e in cc
+reported_unopened o sheet q nothing x why e (ends.halted cases led wrote) = never_open why x led.broke.of e
+reported_unopened o sheet q nothing x why e (ends.unremembered cases is led wrote) = let no : fault.OutOfMemory ≡ fault.Open x = sym is ∙ e in cc
+reported_unopened o sheet q nothing x why e (ends.unwritten cases is led) = let no : fault.Output ≡ fault.Open x = sym is ∙ e in cc
 
 sheet_unopened : {C : Type 0} (o : OneByOne C) (sheet : Contents) (q : Passage C) (nothing : Type 0) (x : OpenCause) → SheetAnswer o sheet q nothing (Err (fault.Open x)) → ⊥
-sheet_unopened o sheet q nothing x told = told_unopened o sheet q nothing x (fault.Open x) refl told
+sheet_unopened o sheet q nothing x reported = reported_unopened o sheet q nothing x (fault.Open x) refl reported
 
 pub check_unopened : {C : Type 0} (o : OneByOne C) (sheet : Contents) (q : Passage C) (missing : Option ℕ) (nothing : Type 0) (answer : Result Counts CheckFault) (x : OpenCause)
     → ByNames missing nothing (SheetAnswer o sheet q nothing) answer → answer ≡ Err (checks.Run (fault.Open x)) → ⊥
-check_unopened o sheet q missing nothing answer x told e =
-    came_of missing nothing (SheetAnswer o sheet q nothing) answer (fault.Open x) (λ counted is came. sheet_unopened o sheet q nothing x (subst (SheetAnswer o sheet q nothing) is came)) told e
+check_unopened o sheet q missing nothing answer x reported e =
+    came_of missing nothing (SheetAnswer o sheet q nothing) answer (fault.Open x) (λ counted is came. sheet_unopened o sheet q nothing x (subst (SheetAnswer o sheet q nothing) is came)) reported e
 
 -- Side by side.
 
@@ -84,19 +84,19 @@ together_unopened o sheet q nothing x why e (together.unwritten cases is led) = 
 
 sessions_unopened : {C : Type 0} (o : SideBySide C) (sheet : Contents) (q : Passage C) (nothing : Type 0) (x : OpenCause) (several : Bool)
     → MatchBool several (TogetherTells o sheet q nothing (Err (fault.Open x))) (SheetAnswer (one_by_one o.way o.chosen o.format) sheet q nothing (Err (fault.Open x))) → ⊥
-sessions_unopened o sheet q nothing x true told = together_unopened o sheet q nothing x (fault.Open x) refl told
-sessions_unopened o sheet q nothing x false told = sheet_unopened (one_by_one o.way o.chosen o.format) sheet q nothing x told
+sessions_unopened o sheet q nothing x true reported = together_unopened o sheet q nothing x (fault.Open x) refl reported
+sessions_unopened o sheet q nothing x false reported = sheet_unopened (one_by_one o.way o.chosen o.format) sheet q nothing x reported
 
 pub together_check_unopened : {C : Type 0} (o : SideBySide C) (sheet : Contents) (q : Passage C) (missing : Option ℕ) (nothing : Type 0) (answer : Result Counts CheckFault) (x : OpenCause)
     → ByNames missing nothing (TellsBySessions o sheet q nothing) answer → answer ≡ Err (checks.Run (fault.Open x)) → ⊥
-together_check_unopened o sheet q missing nothing answer x told e =
+together_check_unopened o sheet q missing nothing answer x reported e =
     came_of missing nothing (TellsBySessions o sheet q nothing) answer (fault.Open x)
-    (λ counted is came. sessions_unopened o sheet q nothing x (have_several o.chosen sheet.fields) (subst (TellsBySessions o sheet q nothing) is came)) told e
+    (λ counted is came. sessions_unopened o sheet q nothing x (have_several o.chosen sheet.fields) (subst (TellsBySessions o sheet q nothing) is came)) reported e
 
 -- Where answers are accepted.
 
 pub accept_unopened : {C : Type 0} (o : Way C) (chosen : Chosen) (sheet : Contents) (c d : C) (a b : Option (List ℕ)) (ops : List Op) (now back : DiskView) (missing : Option ℕ) (nothing done : Type 0) (answer : Result Counts CheckFault) (x : OpenCause)
     → ByNames missing done (SheetAccepts (to_accept o chosen) sheet (passage c d a b) nothing (filing ops now back)) answer → answer ≡ Err (checks.Run (fault.Open x)) → ⊥
-accept_unopened o chosen sheet c d a b ops now back missing nothing done answer x told e =
+accept_unopened o chosen sheet c d a b ops now back missing nothing done answer x reported e =
     came_of missing done (SheetAccepts (to_accept o chosen) sheet (passage c d a b) nothing (filing ops now back)) answer (fault.Open x)
-    (λ counted is came. was_opened o chosen sheet c d a b ops now back x nothing (subst (SheetAccepts (to_accept o chosen) sheet (passage c d a b) nothing (filing ops now back)) is came)) told e
+    (λ counted is came. was_opened o chosen sheet c d a b ops now back x nothing (subst (SheetAccepts (to_accept o chosen) sheet (passage c d a b) nothing (filing ops now back)) is came)) reported e

@@ -1,4 +1,4 @@
-pub mod Behind
+pub mod After
 pub mod Counting
 pub mod Fields
 pub mod Ends

@@ -7,9 +7,9 @@ use Rattle.host_events.specs.declared.reply.Reply.{Reply}
 use Rattle.journal.specs.declared.opening.OpenCause.{OpenCause}
 use Rattle.session_engine.specs.Host.{HostView}
 use Rattle.session_engine.specs.World.{World}
-use Rattle.child_edge.specs.Faithful.{At, Beat, at}
-use Rattle.child_edge.specs.Together.{beats_behind}
-use Rattle.child_edge.specs.Told.{told}
+use Rattle.child_edge.specs.Faithful.{At, Entry, at}
+use Rattle.child_edge.specs.Together.{entries_after}
+use Rattle.child_edge.specs.Reported.{reported}
 use Rattle.offline_programs.specs.declared.fault.RunFault.{RunFault}
 use Rattle.offline_programs.specs.declared.fault.RunFault.TheVariants as fault
 use Rattle.tellings.specs.declared.note.Note.{Note}
@@ -146,33 +146,33 @@ module _ {C : Type 0} (o : Way C) where
   abbrev Spot : Type 0
   Spot = RunPlace (ByFields AllThere) C Marks
 
-  fails_own : (p q : Spot) (i : Item) (beats : List Beat) (why : RunFault) → Fails (copy_rules o) p i beats why q → IsOwn why
-  fails_own p q i beats why (step.unsaid now w a clock said) = of_saying p.agenda.stage _ p.agenda p.world now (Err why) a said
-  fails_own p q i beats why (step.uncounted many) = tt
-  fails_own p q i beats why (step.unwatched x c wakes) = tt
-  fails_own p q i beats why (step.unheard seat most) = tt
-  fails_own p q i beats why (step.too_many from events many) = tt
-  fails_own p q i beats why (step.untaken from events) = tt
-  fails_own p q i beats why (step.lost from events h l) = tt
-  fails_own p q i beats why (step.broken from events bs e f w c d h t stopped) = tt
-  fails_own p q i beats why (step.too_many_heard events many) = tt
-  fails_own p q i beats why (step.unjoined events) = tt
-  fails_own p q i beats why (step.lost_joined events all a h all_are l) = tt
-  fails_own p q i beats why (step.broken_joined events all a bs e f w c d h all_are t stopped) = tt
-  fails_own p q i beats why (step.untaken_whole first events bs w x fails) = fails_own p q (item.take (Some first) events) beats why fails
-  fails_own p q i beats why (step.unwritten line f h stopped) = tt
-  fails_own p q i beats why (step.unnumbered line many) = tt
-  fails_own p q i beats why step.unstalled = tt
-  fails_own p q i beats why (step.uncounted_line first outcomes many) = tt
-  fails_own p q i beats why (step.unprinted s w k (inl is) tries) = subst IsOwn (sym is) tt
-  fails_own p q i beats why (step.unprinted s w k (inr (is, takes)) tries) = subst IsOwn (sym is) tt
+  fails_own : (p q : Spot) (i : Item) (entries : List Entry) (why : RunFault) → Fails (copy_rules o) p i entries why q → IsOwn why
+  fails_own p q i entries why (step.unsaid now w a clock said) = of_saying p.agenda.stage _ p.agenda p.world now (Err why) a said
+  fails_own p q i entries why (step.uncounted many) = tt
+  fails_own p q i entries why (step.unwatched x c wakes) = tt
+  fails_own p q i entries why (step.unheard seat most) = tt
+  fails_own p q i entries why (step.too_many from events many) = tt
+  fails_own p q i entries why (step.untaken from events) = tt
+  fails_own p q i entries why (step.lost from events h l) = tt
+  fails_own p q i entries why (step.broken from events bs e f w c d h t stopped) = tt
+  fails_own p q i entries why (step.too_many_heard events many) = tt
+  fails_own p q i entries why (step.unjoined events) = tt
+  fails_own p q i entries why (step.lost_joined events all a h all_are l) = tt
+  fails_own p q i entries why (step.broken_joined events all a bs e f w c d h all_are t stopped) = tt
+  fails_own p q i entries why (step.untaken_whole first events bs w x fails) = fails_own p q (item.take (Some first) events) entries why fails
+  fails_own p q i entries why (step.unwritten line f h stopped) = tt
+  fails_own p q i entries why (step.unnumbered line many) = tt
+  fails_own p q i entries why step.unstalled = tt
+  fails_own p q i entries why (step.uncounted_line first outcomes many) = tt
+  fails_own p q i entries why (step.unprinted s w k (inl is) tries) = subst IsOwn (sym is) tt
+  fails_own p q i entries why (step.unprinted s w k (inr (is, takes)) tries) = subst IsOwn (sym is) tt
 
   step_own : (p mid : Spot) (todo next : List Item) (s : RunStep) → AreOwn todo → Goes (copy_rules o) p todo s next mid → AreOwn next
   step_own p mid todo next s all (step.asks now t a clock said) = turn_own t
   step_own p mid todo next s all (step.watches x w c a rest wakes turned) = all.1
   step_own p mid todo next s all (step.hears seat most events c rest h) = (tt, all.1)
   step_own p mid todo next s all (step.takes from events outcomes followed w c d rest t) = (tt, (tt, (tt, all.1)))
-  step_own p mid todo next s all (step.joins events outcomes first more later followed a w c d rest j t) = joined_own first outcomes later (told (beats_behind followed)) rest all.1
+  step_own p mid todo next s all (step.joins events outcomes first more later followed a w c d rest j t) = joined_own first outcomes later (reported (entries_after followed)) rest all.1
   step_own p mid todo next s all (step.takes_whole first events outcomes followed w c d rest t accepted) = (tt, (tt, (tt, all.1)))
   step_own p mid todo next s all (step.refuses_whole first events before last rest r) = (tt, (tt, (tt, all.1)))
   step_own p mid todo next s all (step.rewrites line one w d rest gives kept) = (tt, (tt, (tt, all.1)))
@@ -180,7 +180,7 @@ module _ {C : Type 0} (o : Way C) where
   step_own p mid todo next s all (step.interrupts name came c rest i) = (tt, all.1)
   step_own p mid todo next s all (step.prints t k rest tries) = all.1
   step_own p mid todo next s all (step.heeds c now n a rest clock h) = notes_own n rest all.1
-  step_own p mid todo next s all (step.breaks i beats why there rest fails) = fault_own why (fails_own p mid i beats why fails)
+  step_own p mid todo next s all (step.breaks i entries why there rest fails) = fault_own why (fails_own p mid i entries why fails)
   step_own p mid todo next s all (step.prints_fault why whole k tries) = (all.0, tt)
 
   run_own : (p q : Spot) (todo left : List Item) (steps : List RunStep) → AreOwn todo → Run (copy_rules o) p todo steps left q → AreOwn left

@@ -53,7 +53,7 @@ came_if true shown = shown
 abbrev pub took_between : World → Field → ℕ → ℕ → Took
 took_between w field begun ended = record { millis = ended - begun; started = not (is_some (life_of w field.session)) }
 
--- The fault of a check by that of a wait or an evaluation on its copy, whose disk lies in memory, so that it fails for lack of that alone. Nothing is
+-- The fault of a check by that of a run on its copy, whose disk lies in memory, so that it fails for lack of that alone. Nothing is
 -- printed, and what is kept in its place fails where memory is refused.
 abbrev pub fault_on_copy : RunFault → RunFault
 fault_on_copy (fault.Host hosts.Disk) = fault.OutOfMemory

@@ -35,12 +35,12 @@ reply_marks reply.Nothing = []
 
 -- the number of the field whose time was over, where that is noted
 abbrev pub note_marks : Note → List Mark
-note_marks (note.Over id told) = mark.Over id ∷ []
+note_marks (note.Over id reported) = mark.Over id ∷ []
 note_marks (note.Bad line) = []
 note_marks (note.Nothing line) = []
 note_marks (note.Waited line over) = []
-note_marks (note.Interrupted line name told) = []
-note_marks (note.Warned seat told) = []
+note_marks (note.Interrupted line name reported) = []
+note_marks (note.Warned seat reported) = []
 note_marks (note.Counted counts) = []
 note_marks (note.Undone first last) = []
 
@@ -70,9 +70,9 @@ step_marks (took events outcomes followed) = []
 step_marks (refused_whole events one) = []
 step_marks (rewrote b) = []
 step_marks (stalled seats) = []
-step_marks (interrupted name told) = []
+step_marks (interrupted name reported) = []
 step_marks (heeded c n) = []
-step_marks (broke beats why) = []
+step_marks (broke entries why) = []
 step_marks (printed_fault why whole) = []
 
 -- the marks of these steps, in the order in which they came

@@ -4,7 +4,7 @@ ghost use Rattle.session_engine.specs.World.{World};
 ghost use Rattle.session_engine.specs.Host.{IsHost};
 ghost use Rattle.check_report.specs.Verdicts.{total};
 ghost use Rattle.sheet_check.specs.Progress.{FieldsLeft, FieldsShow, LeavesLine, display};
-ghost use Rattle.sheet_check.specs.inside.Checking.{FieldShown, Untold};
+ghost use Rattle.sheet_check.specs.inside.Checking.{FieldShown, Withheld};
 ghost use Rattle.sheet_check.specs.inside.Comparing.{FieldReported, FieldsReported, ReportBroke, comparing};
 
 use crate::checking::{show_counts, tell_opening};
@@ -40,7 +40,7 @@ fn compare_field<D: Disk, W: Write, P: Progress>(
         (W.contents writer.old) (W.contents writer.new) counts) }
     ensures bound { IfOk result (λ after. total after ≤ total counts + 1) }
     ensures errors { IfOk result (λ after. after.errors ≤ total after) }
-    ensures err { IfErr result (Untold (W.contents writer.old) (W.contents writer.new)) }
+    ensures err { IfErr result (Withheld (W.contents writer.old) (W.contents writer.new)) }
     ensures shown { IfOk result (λ after.
         FieldShown (display request.now.format P.shows) all counts after progress.old progress.new) }
     ensures left { IfErr result (λ _. LeavesLine P.shows progress.old progress.new) }

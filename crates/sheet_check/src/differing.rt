@@ -9,7 +9,7 @@ ghost use Rattle.session_engine.specs.World.{World};
 ghost use Rattle.session_engine.specs.Host.{IsHost};
 ghost use Rattle.child_edge.specs.Faithful.{at};
 ghost use Rattle.sheet_check.specs.Kept.{Stores};
-ghost use Rattle.offline_programs.specs.declared.fault.RunFault.TheVariants as told;
+ghost use Rattle.offline_programs.specs.declared.fault.RunFault.TheVariants as reported;
 ghost use Rattle.journal.specs.declared.opening.OpenCause.TheVariants as opens;
 ghost use Rattle.check_report.specs.Verdicts.{total};
 ghost use Rattle.check_report.specs.declared.report.Format.TheVariants as formats;
@@ -337,11 +337,11 @@ pub fn check_accepting<D: Disk, C: Sources, W: Write, P: Progress>(
         progress.old progress.new result.answer }
 
     // That the disk can't be read is reported only where it failed.
-    ensures failed { result.answer ≡ Err (named.Run (told.Open opens.Disk))
+    ensures failed { result.answer ≡ Err (named.Run (reported.Open opens.Disk))
         → Rises (D.view disk).faults (D.view result.disk).faults }
 
     // Lack of memory at the opening is reported only where no call of the disk failed.
-    ensures memory { result.answer ≡ Err (named.Run (told.Open opens.OutOfMemory))
+    ensures memory { result.answer ≡ Err (named.Run (reported.Open opens.OutOfMemory))
         → (D.view result.disk).faults ≡ (D.view disk).faults }
 {
     match Store::open(alloc, disk) {

@@ -21,7 +21,7 @@ use sheet_json::Took;
 use std::alloc::{AllocError, Global};
 use worksheet::{Field, Name};
 
-/// The fault of a check by that of a wait within a limit, or of an evaluation, on the same disk.
+/// The fault of a check by that of a run on its copy.
 pub(crate) fn wait_fault(fault: RunFault) -> RunFault
     ensures { result ≡ fault_on_copy fault }
 {

@@ -8,7 +8,7 @@ ghost use Rattle.check_report.specs.Errors as errors;
 ghost use Rattle.check_report.specs.Reports.{case as case_of, case_text};
 ghost use Rattle.sheet_check.specs.Evaluated.{came_if, reason_shown_in, shown_in};
 ghost use Rattle.sheet_check.specs.Progress.{LeavesLine, MakesRoom};
-ghost use Rattle.sheet_check.specs.inside.Checking.{Untold};
+ghost use Rattle.sheet_check.specs.inside.Checking.{Withheld};
 
 use crate::progress::{Progress, Sight};
 use block_tree::Reason;
@@ -48,7 +48,7 @@ fn tell_case<W: Write>(
 ) -> Result<(), RunFault>
     ensures ok { OnOk result (Appends (W.contents writer.old) (W.contents writer.new)
         (case_text format number (case_of field.now came.now lost verdict took))) }
-    ensures err { IfErr result (Untold (W.contents writer.old) (W.contents writer.new)) }
+    ensures err { IfErr result (Withheld (W.contents writer.old) (W.contents writer.new)) }
 {
     match report_case(
         alloc, format, number, field, came, lost, verdict, took, writer,
@@ -74,7 +74,7 @@ fn tell_in_its_place<W: Write, P: Progress>(
 ) -> Result<(), RunFault>
     ensures ok { OnOk result (Appends (W.contents writer.old) (W.contents writer.new)
         (case_text format number (case_of field.now came.now lost verdict took))) }
-    ensures err { IfErr result (Untold (W.contents writer.old) (W.contents writer.new)) }
+    ensures err { IfErr result (Withheld (W.contents writer.old) (W.contents writer.new)) }
     ensures room { MakesRoom format P.shows verdict progress.old progress.new }
 {
     make_room(format, verdict, progress);
@@ -99,7 +99,7 @@ fn tell_verdict<W: Write, P: Progress>(
         × (j.error ≡ errors.brings_error came.now)
         × Appends (W.contents writer.old) (W.contents writer.new)
         (case_text request.now.format number (case_of field.now came.now lost j.verdict took))) }
-    ensures err { IfErr result (Untold (W.contents writer.old) (W.contents writer.new)) }
+    ensures err { IfErr result (Withheld (W.contents writer.old) (W.contents writer.new)) }
     ensures room { IfOk result (λ j.
         MakesRoom request.now.format P.shows j.verdict progress.old progress.new) }
     ensures left { IfErr result (λ _. LeavesLine P.shows progress.old progress.new) }
@@ -145,7 +145,7 @@ fn tell_shown<W: Write, P: Progress>(
         × Appends (W.contents writer.old) (W.contents writer.new)
         (case_text request.now.format number
         (case_of field.now (came_if asked now.now) lost j.verdict took))) }
-    ensures err { IfErr result (Untold (W.contents writer.old) (W.contents writer.new)) }
+    ensures err { IfErr result (Withheld (W.contents writer.old) (W.contents writer.new)) }
     ensures room { IfOk result (λ j.
         MakesRoom request.now.format P.shows j.verdict progress.old progress.new) }
     ensures left { IfErr result (λ _. LeavesLine P.shows progress.old progress.new) }
@@ -179,7 +179,7 @@ pub(crate) fn tell_what_came<D: Disk, W: Write, P: Progress>(
         × Appends (W.contents writer.old) (W.contents writer.new)
         (case_text request.now.format number
         (case_of field.now (came_if asked (shown_in w field.now.id)) (reason_shown_in w field.now.id) j.verdict took))) }
-    ensures err { IfErr result (Untold (W.contents writer.old) (W.contents writer.new)) }
+    ensures err { IfErr result (Withheld (W.contents writer.old) (W.contents writer.new)) }
     ensures room { IfOk result (λ j.
         MakesRoom request.now.format P.shows j.verdict progress.old progress.new) }
     ensures left { IfErr result (λ _. LeavesLine P.shows progress.old progress.new) }

@@ -6,7 +6,7 @@ ghost use Rattle.session_engine.specs.World.{World};
 ghost use Rattle.session_engine.specs.Host.{IsHost};
 ghost use Rattle.child_edge.specs.Faithful.{at};
 ghost use Rattle.disk_model.specs.Disk.{Rises};
-ghost use Rattle.offline_programs.specs.declared.fault.RunFault.TheVariants as told;
+ghost use Rattle.offline_programs.specs.declared.fault.RunFault.TheVariants as reported;
 ghost use Rattle.journal.specs.declared.opening.OpenCause.TheVariants as opens;
 ghost use Rattle.live.specs.Records.{left};
 ghost use Rattle.sheet_check.specs.Evaluated.{way};
@@ -301,11 +301,11 @@ pub fn check_together<D: Disk, C: Sources, W: Write, P: Progress>(
         progress.old progress.new result.answer }
 
     // That the disk failed is reported only where it did.
-    ensures failed { result.answer ≡ Err (named.Run (told.Open opens.Disk))
+    ensures failed { result.answer ≡ Err (named.Run (reported.Open opens.Disk))
         → Rises (D.view disk).faults (D.view result.disk).faults }
 
     // Where anything else is answered, no call of the disk failed.
-    ensures steady { (result.answer ≡ Err (named.Run (told.Open opens.Disk)) → ⊥)
+    ensures steady { (result.answer ≡ Err (named.Run (reported.Open opens.Disk)) → ⊥)
         → (D.view result.disk).faults ≡ (D.view disk).faults }
 {
     match Store::open(alloc, disk) {

@@ -23,6 +23,6 @@ pub not_opened : (format : Format) (disk : DiskView) (nothing : Type 0) (why : O
     → TellsProgramFault format disk nothing (run.Open why)
 not_opened format disk nothing why idle tells = opening why (unopened why idle tells)
 
-pub told_so : (format : Format) (sheet : Contents) (disk : DiskView) (nothing : Type 0) (why : ExportFault) → TellsText format sheet nothing why → TellsExport format disk nothing why
-told_so format sheet disk nothing fault.NoScript told = told.0
-told_so format sheet disk nothing (fault.Run why) told = writing why told
+pub reported_so : (format : Format) (sheet : Contents) (disk : DiskView) (nothing : Type 0) (why : ExportFault) → TellsText format sheet nothing why → TellsExport format disk nothing why
+reported_so format sheet disk nothing fault.NoScript reported = reported.0
+reported_so format sheet disk nothing (fault.Run why) reported = writing why reported

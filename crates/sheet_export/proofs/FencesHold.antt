@@ -17,9 +17,9 @@ stands_in [] (b ∷ rest) = omega arith
 stands_in (b ∷ front) rest = let so = stands_in front rest in omega (arith, so)
 
 pub fences_hold : NoTextClosesItsFence
-fences_hold lines front behind e =
+fences_hold lines front following e =
     let n = fence_length lines in
-    let long = begins_so n behind in
-    let stands = stands_in front (fence_of n ++ behind) in
-    let whole : longest_run lines ≡ longest_run (front ++ (fence_of n ++ behind)) = ap longest_run e in
+    let long = begins_so n following in
+    let stands = stands_in front (fence_of n ++ following) in
+    let whole : longest_run lines ≡ longest_run (front ++ (fence_of n ++ following)) = ap longest_run e in
     omega (arith, long, stands, whole)

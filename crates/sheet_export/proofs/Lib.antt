@@ -10,7 +10,7 @@ pub mod Spans
 pub mod ReadLines
 pub mod Scans
 pub mod FencesHold
-pub mod FieldsBehind
+pub mod FieldsAfter
 pub mod Replays
 pub mod SaysOps
 pub mod ScriptRuns

@@ -5,7 +5,7 @@ use Rattle.std.specs.List.{list_all}
 use Rattle.std.proofs.lemmas.List.Folds.{list_all-append}
 use Rattle.std.proofs.lemmas.Bool.Decides.{nat_tests}
 use Rattle.sheet_text.specs.Escape.{hex, is_plain, escaped_byte}
-use Rattle.sheet_export.specs.References.{belonging, reference, html_behind, html_byte}
+use Rattle.sheet_export.specs.References.{belonging, reference, html_after, html_byte}
 use Rattle.sheet_export.specs.Laws.{has_references_alone, is_mark, TextsHaveNoMarks}
 
 abbrev pub passes : ℕ → Bool
@@ -59,13 +59,13 @@ byte_passes keeps_lines belongs b = go (belongs && is_plain keeps_lines b)
     go true = reference_passes b
     go false = escaped_passes b
 
-pub unmarked_text : (keeps_lines : Bool) (left : ℕ) (bytes : List ℕ) → list_all passes (html_behind keeps_lines left bytes) ≡ true
-unfolding html_behind
+pub unmarked_text : (keeps_lines : Bool) (left : ℕ) (bytes : List ℕ) → list_all passes (html_after keeps_lines left bytes) ≡ true
+unfolding html_after
 unmarked_text keeps_lines left [] = refl
 unmarked_text keeps_lines left (b ∷ bytes) =
     let n = belonging left (b ∷ bytes) in
-    list_all-append passes (html_byte keeps_lines (nat_lt 0 n) b) (html_behind keeps_lines (n - 1) bytes)
-    ∙ both (list_all passes (html_byte keeps_lines (nat_lt 0 n) b)) (list_all passes (html_behind keeps_lines (n - 1) bytes)) (byte_passes keeps_lines (nat_lt 0 n) b) (unmarked_text keeps_lines (n - 1) bytes)
+    list_all-append passes (html_byte keeps_lines (nat_lt 0 n) b) (html_after keeps_lines (n - 1) bytes)
+    ∙ both (list_all passes (html_byte keeps_lines (nat_lt 0 n) b)) (list_all passes (html_after keeps_lines (n - 1) bytes)) (byte_passes keeps_lines (nat_lt 0 n) b) (unmarked_text keeps_lines (n - 1) bytes)
 
 -- References.
 
@@ -111,12 +111,12 @@ byte_keeps keeps_lines belongs b rest = go (belongs && is_plain keeps_lines b)
     go true = reference_keeps b rest
     go false = escaped_keeps b rest
 
-referenced_text : (keeps_lines : Bool) (left : ℕ) (bytes : List ℕ) → has_references_alone (html_behind keeps_lines left bytes) ≡ true
-unfolding html_behind
+referenced_text : (keeps_lines : Bool) (left : ℕ) (bytes : List ℕ) → has_references_alone (html_after keeps_lines left bytes) ≡ true
+unfolding html_after
 referenced_text keeps_lines left [] = refl
 referenced_text keeps_lines left (b ∷ bytes) =
     let n = belonging left (b ∷ bytes) in
-    byte_keeps keeps_lines (nat_lt 0 n) b (html_behind keeps_lines (n - 1) bytes) ∙ referenced_text keeps_lines (n - 1) bytes
+    byte_keeps keeps_lines (nat_lt 0 n) b (html_after keeps_lines (n - 1) bytes) ∙ referenced_text keeps_lines (n - 1) bytes
 
 pub no_marks : TextsHaveNoMarks
 no_marks keeps_lines bytes = (unmarked_text keeps_lines 0 bytes, referenced_text keeps_lines 0 bytes)

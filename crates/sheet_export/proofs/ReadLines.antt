@@ -10,7 +10,7 @@ use Rattle.std.proofs.lemmas.Bool.Decides.{nat_tests}
 use Rattle.std.proofs.lemmas.List.{take_at, drop_at}
 use Rattle.host_events.specs.declared.command.Command.TheVariants as command
 use Rattle.sheet_text.specs.Laws.{NumbersAreDecimals}
-use Rattle.sheet_text.specs.Script.{is_space, is_digit, is_numeral, before_space, behind_space, command_named, flag_of, greatest_number, line_of, most_digits, number_written, session_of, starts_with_zero}
+use Rattle.sheet_text.specs.Script.{is_space, is_digit, is_numeral, before_space, after_space, command_named, flag_of, greatest_number, line_of, most_digits, number_written, session_of, starts_with_zero}
 use Rattle.sheet_text.specs.declared.script.ScriptLine.TheVariants as line
 use Rattle.worksheet.specs.Checks.{are_words}
 use Rattle.worksheet.specs.Limits.{longest_name}
@@ -44,8 +44,8 @@ up_to_space (b ∷ bytes) rest h =
 pub part_before : (bytes rest : List ℕ) → has_no_space bytes ≡ true → before_space (bytes ++ 32 ∷ rest) ≡ bytes
 part_before bytes rest h = take_at bytes (32 ∷ rest) (position_or_len is_space (bytes ++ 32 ∷ rest)) (sym (up_to_space bytes rest h))
 
-pub part_behind : (bytes rest : List ℕ) → has_no_space bytes ≡ true → behind_space (bytes ++ 32 ∷ rest) ≡ Some rest
-part_behind bytes rest h =
+pub part_after : (bytes rest : List ℕ) → has_no_space bytes ≡ true → after_space (bytes ++ 32 ∷ rest) ≡ Some rest
+part_after bytes rest h =
     let at = up_to_space bytes rest h in
     let size = length-append bytes (32 ∷ rest) in
     let within : nat_lt (position_or_len is_space (bytes ++ 32 ∷ rest)) (length (bytes ++ 32 ∷ rest)) ≡ true = grind (arith, nat_tests, at, size) in
@@ -64,11 +64,11 @@ words_split (b ∷ word) words h e =
     let cut : slice_split is_space (b ∷ (word ++ words_text words)) ≡ onto_first b (slice_split is_space (word ++ words_text words)) = rw other refl in
     cut ∙ ap (onto_first b) (words_split word words parts.1 e)
 
-behind_words : (words : List (List ℕ)) → list_all has_no_space words ≡ true → slice_split is_space (words_text words) ≡ [] ∷ words
-behind_words [] h = refl
-behind_words (word ∷ words) h =
+after_words : (words : List (List ℕ)) → list_all has_no_space words ≡ true → slice_split is_space (words_text words) ≡ [] ∷ words
+after_words [] h = refl
+after_words (word ∷ words) h =
     let parts = both_of (has_no_space word) (list_all has_no_space words) h in
-    ap (λ ws. [] ∷ ws) (words_split word words parts.0 (behind_words words parts.1))
+    ap (λ ws. [] ∷ ws) (words_split word words parts.0 (after_words words parts.1))
 
 -- Names and numbers have no space.
 
@@ -134,27 +134,27 @@ session_grouped session =
     let words = words_text session.words in
     ap (λ t. codes "session " ++ t) (ap (λ t. t ++ words) (append_assoc name (32 ∷ []) flag) ∙ append_assoc name (32 ∷ flag) words)
 
-session_behind : (name : List ℕ) (tab : Bool) (word : List ℕ) (words : List (List ℕ)) → has_no_space name ≡ true → list_all has_no_space (word ∷ words) ≡ true
+session_after : (name : List ℕ) (tab : Bool) (word : List ℕ) (words : List (List ℕ)) → has_no_space name ≡ true → list_all has_no_space (word ∷ words) ≡ true
     → session_of (name ++ 32 ∷ (flag_text tab ++ words_text (word ∷ words))) ≡ Some (command.Session name tab (word ∷ words))
-session_behind name tab word words named h =
+session_after name tab word words named h =
     let parts = both_of (has_no_space word) (list_all has_no_space words) h in
     let given = word ++ words_text words in
-    let split = words_split word words parts.0 (behind_words words parts.1) in
+    let split = words_split word words parts.0 (after_words words parts.1) in
     let flag = flag_has_no_space tab in
-    rw (part_before name (flag_text tab ++ 32 ∷ given) named, part_behind name (flag_text tab ++ 32 ∷ given) named, part_before (flag_text tab) given flag, part_behind (flag_text tab) given flag, flag_is_read tab, split) refl
+    rw (part_before name (flag_text tab ++ 32 ∷ given) named, part_after name (flag_text tab ++ 32 ∷ given) named, part_before (flag_text tab) given flag, part_after (flag_text tab) given flag, flag_is_read tab, split) refl
 
 some_words : (name : List ℕ) (tab : Bool) (words : List (List ℕ)) → has_no_space name ≡ true → are_words words ≡ true → list_all has_no_space words ≡ true
     → session_of (name ++ 32 ∷ (flag_text tab ++ words_text words)) ≡ Some (command.Session name tab words)
 some_words name tab [] named h e = absurd (false≢true h)
-some_words name tab (word ∷ words) named h e = session_behind name tab word words named e
+some_words name tab (word ∷ words) named h e = session_after name tab word words named e
 
 pub session_lines : SessionLinesAreRead
 session_lines session is words =
     let named = name_has_no_space session.name is.named in
     let rest = session.name ++ 32 ∷ (flag_text session.tab ++ words_text session.words) in
     ap line_of (session_grouped session)
-    ∙ ap₂ (λ name behind. option_map (λ told. line.Command told) (command_named name behind)) (part_before (codes "session") rest refl) (part_behind (codes "session") rest refl)
-    ∙ ap (option_map (λ told. line.Command told)) (some_words session.name session.tab session.words named is.words words)
+    ∙ ap₂ (λ name following. option_map (λ reported. line.Command reported) (command_named name following)) (part_before (codes "session") rest refl) (part_after (codes "session") rest refl)
+    ∙ ap (option_map (λ reported. line.Command reported)) (some_words session.name session.tab session.words named is.words words)
 
 -- The line of a field.
 
@@ -174,5 +174,5 @@ field_lines_read decimals place field small is =
     let given = field.session ++ 32 ∷ field.input in
     let rest = decimal place ++ 32 ∷ given in
     ap line_of (field_grouped place field)
-    ∙ ap₂ (λ name behind. option_map (λ told. line.Command told) (command_named name behind)) (part_before (codes "new") rest refl) (part_behind (codes "new") rest refl)
-    ∙ (rw (part_before (decimal place) given digits, part_behind (decimal place) given digits, written, part_before field.session field.input named, part_behind field.session field.input named) refl)
+    ∙ ap₂ (λ name following. option_map (λ reported. line.Command reported) (command_named name following)) (part_before (codes "new") rest refl) (part_after (codes "new") rest refl)
+    ∙ (rw (part_before (decimal place) given digits, part_after (decimal place) given digits, written, part_before field.session field.input named, part_after field.session field.input named) refl)

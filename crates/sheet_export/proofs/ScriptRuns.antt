@@ -8,10 +8,10 @@ use Rattle.sheet_text.specs.declared.script.ScriptLine.TheVariants as line
 use Rattle.worksheet.specs.Checks.{AllowedFrom}
 use Rattle.worksheet.specs.Ops.{sheet_of}
 use Rattle.worksheet.specs.declared.op.Op.{Op}
-use Rattle.sheet_export.specs.Replay.{anew, more, none, SayOps, script_ops, ScriptsMakeThemAnew, ScriptsRun, ScriptsSayTheirOps}
+use Rattle.sheet_export.specs.Replay.{renumbered, more, none, SayOps, script_ops, ScriptsMakeThemAgain, ScriptsRun, ScriptsSayTheirOps}
 
 runs : (number : ℕ) (before : List Op) {lines : List (List ℕ)} {ops : List Op} → SayOps lines ops → AllowedFrom before ops → (last : List (List ℕ)) (text : List ℕ)
-    → ((n : ℕ) → LinesRan n (before ++ ops) last text) → (told : List ℕ) × LinesRan number before (lines ++ last) (told ++ text)
+    → ((n : ℕ) → LinesRan n (before ++ ops) last text) → (reported : List ℕ) × LinesRan number before (lines ++ last) (reported ++ text)
 runs number before none allowed last text h = ([], subst (λ (ops : List Op). LinesRan number ops last text) (append-nil before) (h number))
 runs number before (more given o lines os says others) allowed last text h =
     let answer = reply_to (sheet_of before) o in
@@ -21,10 +21,10 @@ runs number before (more given o lines os says others) allowed last text h =
     let one : LineRan number before (Some (line.Command says.0)) first after = replied says.0 o answer after says.2 (done allowed.0) in
     (first ++ rest.0, (first, after, rest.0 ++ text, subst (λ said. LineRan number before said first after) (sym says.1) one, rest.1, append_assoc first rest.0 text))
 
-pub scripts_run : ScriptsMakeThemAnew → ScriptsSayTheirOps → ScriptsRun
+pub scripts_run : ScriptsMakeThemAgain → ScriptsSayTheirOps → ScriptsRun
 scripts_run make says sheet is has =
     let made = make sheet is in
-    let text = sheet_text (anew sheet) in
+    let text = sheet_text (renumbered sheet) in
     let shows : sheet_text (sheet_of (script_ops sheet)) ≡ text = ap sheet_text made.1 in
     runs 1 [] (says sheet is has) made.0 (codes "print" ∷ []) text
     (λ n. (sheet_text (sheet_of (script_ops sheet)), script_ops sheet, [], printed, refl, sym (append-nil (sheet_text (sheet_of (script_ops sheet))) ∙ shows)))

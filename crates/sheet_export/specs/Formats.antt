@@ -67,13 +67,13 @@ format_name format.Notebook = codes "notebook"
 format_name format.Json = codes "json"
 
 -- what comes after the last slash of these bytes, and this part where they have none
-abbrev pub behind_slash : List ℕ → List ℕ → List ℕ
-behind_slash part [] = part
-behind_slash part (byte ∷ rest) = if byte == 47 then behind_slash rest rest else behind_slash part rest
+abbrev pub after_slash : List ℕ → List ℕ → List ℕ
+after_slash part [] = part
+after_slash part (byte ∷ rest) = if byte == 47 then after_slash rest rest else after_slash part rest
 
 -- the last part of a path
 abbrev pub last_part : List ℕ → List ℕ
-last_part path = behind_slash path path
+last_part path = after_slash path path
 
 -- the line that tells a fault
 abbrev pub export_fault_text : ExportFault → List ℕ

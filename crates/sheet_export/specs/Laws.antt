@@ -88,4 +88,4 @@ FieldLinesAreRead = (place : ℕ) (field : Field) → place ≤ greatest_number 
 
 -- Nowhere in a text stand as many backquotes as its fence has. (A line ends a code block only where it has at least as many.)
 abbrev pub NoTextClosesItsFence : Type 0
-NoTextClosesItsFence = (lines front behind : List ℕ) → lines ≡ front ++ (fence_of (fence_length lines) ++ behind) → ⊥
+NoTextClosesItsFence = (lines front following : List ℕ) → lines ≡ front ++ (fence_of (fence_length lines) ++ following) → ⊥

@@ -11,7 +11,7 @@ use Rattle.sheet_text.specs.InputLines.{lines_of_input, text_of_lines}
 use Rattle.sheet_text.specs.Replies.{reason_name}
 use Rattle.sheet_text.specs.Texts.{in_lines}
 use Rattle.sheet_export.specs.Fences.{fenced}
-use Rattle.sheet_notebook.specs.Formulas.{formula_behind, formula_of}
+use Rattle.sheet_notebook.specs.Formulas.{formula_after, formula_of}
 
 -- the lines of an input
 abbrev pub input_code : List ℕ → List ℕ
@@ -43,20 +43,20 @@ no_answer_markdown (Some reason) = codes "*no answer: " ++ reason_name reason ++
 -- the output, or that there is none
 abbrev pub output_markdown : Option Answer → Option Reason → List ℕ
 output_markdown None lost = no_answer_markdown lost
-output_markdown (Some answer) lost = answer_markdown (formula_behind answer.output) answer
+output_markdown (Some answer) lost = answer_markdown (formula_after answer.output) answer
 
 -- a field
 unfoldable pub field_markdown : Field → List ℕ
 field_markdown field = input_markdown field ++ 10 ∷ [] ++ output_markdown field.answer field.lost
 
 -- fields, each after an empty line
-abbrev pub fields_behind : List Field → List ℕ
-fields_behind fields = flat_map (λ field. 10 ∷ field_markdown field) fields
+abbrev pub fields_after : List Field → List ℕ
+fields_after fields = flat_map (λ field. 10 ∷ field_markdown field) fields
 
 -- the fields in order, with an empty line between each two
 abbrev pub fields_markdown : List Field → List ℕ
 fields_markdown [] = []
-fields_markdown (field ∷ fields) = field_markdown field ++ fields_behind fields
+fields_markdown (field ∷ fields) = field_markdown field ++ fields_after fields
 
 abbrev pub markdown : Contents → List ℕ
 markdown sheet = fields_markdown sheet.fields

@@ -27,11 +27,11 @@ abbrev pub belonging : ℕ → List ℕ → ℕ
 belonging left bytes = cond (nat_lt 0 left) left (character_length bytes)
 
 -- the bytes after a character of which so many are left
-unfoldable pub html_behind : Bool → ℕ → List ℕ → List ℕ
-html_behind keeps_lines left [] = []
-html_behind keeps_lines left (byte ∷ rest) =
-    html_byte keeps_lines (nat_lt 0 (belonging left (byte ∷ rest))) byte ++ html_behind keeps_lines (belonging left (byte ∷ rest) - 1) rest
+unfoldable pub html_after : Bool → ℕ → List ℕ → List ℕ
+html_after keeps_lines left [] = []
+html_after keeps_lines left (byte ∷ rest) =
+    html_byte keeps_lines (nat_lt 0 (belonging left (byte ∷ rest))) byte ++ html_after keeps_lines (belonging left (byte ∷ rest) - 1) rest
 
 -- a text on one line, or on as many lines as it has: its characters, and each byte that is part of none escaped
 abbrev pub html_text : Bool → List ℕ → List ℕ
-html_text keeps_lines bytes = html_behind keeps_lines 0 bytes
+html_text keeps_lines bytes = html_after keeps_lines 0 bytes

@@ -28,21 +28,21 @@ abbrev pub script_ops : Contents → List Op
 script_ops sheet = map session_op sheet.sessions ++ new_ops 0 sheet.fields
 
 -- the same fields with the numbers from this one on, and without answers
-abbrev pub fields_anew : ℕ → List Field → List Field
-fields_anew number [] = []
-fields_anew number (field ∷ fields) = record { id = number; session = field.session; input = field.input; answer = None; lost = None } ∷ fields_anew (number + 1) fields
+abbrev pub renumbered_fields : ℕ → List Field → List Field
+renumbered_fields number [] = []
+renumbered_fields number (field ∷ fields) = record { id = number; session = field.session; input = field.input; answer = None; lost = None } ∷ renumbered_fields (number + 1) fields
 
 -- the same sessions, and fields of the same sessions and inputs in the same order
-abbrev pub anew : Contents → Contents
-anew sheet = record { fields = fields_anew 1 sheet.fields; sessions = sheet.sessions; next = length sheet.fields + 1 }
+abbrev pub renumbered : Contents → Contents
+renumbered sheet = record { fields = renumbered_fields 1 sheet.fields; sessions = sheet.sessions; next = length sheet.fields + 1 }
 
 -- The ops of a worksheet's script are allowed from an empty worksheet on, and make that.
-abbrev pub ScriptsMakeThemAnew : Type 0
-ScriptsMakeThemAnew = (sheet : Contents) → IsWorksheet sheet → Allowed (script_ops sheet) × (sheet_of (script_ops sheet) ≡ anew sheet)
+abbrev pub ScriptsMakeThemAgain : Type 0
+ScriptsMakeThemAgain = (sheet : Contents) → IsWorksheet sheet → Allowed (script_ops sheet) × (sheet_of (script_ops sheet) ≡ renumbered sheet)
 
 -- a line is read as a command that gives this op
 abbrev pub SaysOp : List ℕ → Op → Type 0
-SaysOp text o = (told : Command) × (line_of text ≡ Some (line.Command told)) × (op_of told ≡ Some o)
+SaysOp text o = (reported : Command) × (line_of text ≡ Some (line.Command reported)) × (op_of reported ≡ Some o)
 
 -- each of these lines is, one for each op
 pub data SayOps : List (List ℕ) → List Op → Type 0 where
@@ -57,7 +57,7 @@ ScriptsSayTheirOps = (sheet : Contents) → IsWorksheet sheet → has_script she
 -- prints what they make.
 abbrev pub ScriptsRun : Type 0
 ScriptsRun = (sheet : Contents) → IsWorksheet sheet → has_script sheet ≡ true
-    → (told : List ℕ) × LinesRan 1 [] (script_of sheet ++ codes "print" ∷ []) (told ++ sheet_text (anew sheet))
+    → (reported : List ℕ) × LinesRan 1 [] (script_of sheet ++ codes "print" ∷ []) (reported ++ sheet_text (renumbered sheet))
 
 -- what is replied to these ops after those, where each is done
 abbrev pub replies_of : List Op → List Op → List ℕ
@@ -66,11 +66,11 @@ replies_of before (o ∷ os) = reply_text (reply_to (sheet_of before) o) ++ repl
 
 -- The first of these ops were done after those, and at the next one memory was refused.
 abbrev pub WantsMemory : List Op → List Op → List ℕ → Type 0
-WantsMemory before ops text = (first : List Op) × (o : Op) × (later : List Op) × (behind : List ℕ) × (ops ≡ first ++ o ∷ later)
-    × (text ≡ replies_of before first ++ (reply_text (reply.Refused refusal.OutOfMemory) ++ behind))
+WantsMemory before ops text = (first : List Op) × (o : Op) × (later : List Op) × (following : List ℕ) × (ops ≡ first ++ o ∷ later)
+    × (text ≡ replies_of before first ++ (reply_text (reply.Refused refusal.OutOfMemory) ++ following))
 
 -- Each run of these lines replies that its ops were done, and prints what they make; or at one of them memory was refused.
 abbrev pub ScriptsRunAlike : Type 0
 ScriptsRunAlike = (sheet : Contents) → IsWorksheet sheet → has_script sheet ≡ true
     → (text : List ℕ) → LinesRan 1 [] (script_of sheet ++ codes "print" ∷ []) text
-    → (text ≡ replies_of [] (script_ops sheet) ++ sheet_text (anew sheet)) ⊎ WantsMemory [] (script_ops sheet) text
+    → (text ≡ replies_of [] (script_ops sheet) ++ sheet_text (renumbered sheet)) ⊎ WantsMemory [] (script_ops sheet) text

@@ -137,13 +137,13 @@ fn write_lines<W: Write>(input: &str, out: &mut W) -> Result<(), WriteFault>
     ensures { OnOk result
         (Appends (W.contents out.old) (W.contents out.new) (html.lines_html input.now)) }
 {
-    let (first, mut behind) = next_line(input);
+    let (first, mut following) = next_line(input);
     write_text(first.as_bytes(), false, out)?;
-    while let Some(rest) = behind {
+    while let Some(rest) = following {
         write_bytes(b"\n", out)?;
         let (line, others) = next_line(rest);
         write_text(line.as_bytes(), false, out)?;
-        behind = others;
+        following = others;
     }
     Ok(())
 }

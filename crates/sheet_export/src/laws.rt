@@ -1,6 +1,6 @@
 //! Laws of the definitions that the contracts cite. Each function does nothing: its contract is the
 //! law.
-ghost use Rattle.sheet_export.specs.Replay.{ScriptsMakeThemAnew, ScriptsRun, ScriptsRunAlike, ScriptsSayTheirOps};
+ghost use Rattle.sheet_export.specs.Replay.{ScriptsMakeThemAgain, ScriptsRun, ScriptsRunAlike, ScriptsSayTheirOps};
 ghost use Rattle.sheet_export.specs.Laws.{FieldLinesAreRead, NoTextClosesItsFence, PicturesAreBase64, SessionLinesAreRead, SpansNest, TextsHaveNoMarks};
 
 /// No text of a page has `<`, `>`, `"` or an apostrophe, and each `&` in it begins a reference.
@@ -43,8 +43,8 @@ pub fn no_text_closes_its_fence()
 
 /// The ops of a script's lines are allowed from an empty worksheet on, and make the same sessions, and
 /// fields of the same sessions and inputs in the same order, numbered from 1.
-pub fn scripts_make_them_anew()
-    ensures { ScriptsMakeThemAnew }
+pub fn scripts_make_them_again()
+    ensures { ScriptsMakeThemAgain }
 {
     worksheet::laws::rewrite_makes_the_same();
 }
@@ -61,7 +61,7 @@ pub fn scripts_say_their_ops()
 pub fn scripts_run_alike()
     ensures { ScriptsRunAlike }
 {
-    scripts_make_them_anew();
+    scripts_make_them_again();
     scripts_say_their_ops();
 }
 
@@ -70,6 +70,6 @@ pub fn scripts_run_alike()
 pub fn scripts_run()
     ensures { ScriptsRun }
 {
-    scripts_make_them_anew();
+    scripts_make_them_again();
     scripts_say_their_ops();
 }

@@ -10,7 +10,7 @@ use crate::fences::{line_fence, output_fence, text_fence, write_fence};
 use crate::fixed::write_bytes;
 use crate::html::write_reason_name;
 use block_tree::Reason;
-use sheet_notebook::{formula_behind, formula_of};
+use sheet_notebook::{formula_after, formula_of};
 use sheet_text::{WriteFault, write_input_lines, write_output as write_lines, write_text};
 use std::io::Write;
 use worksheet::{Answer, Field, Sheet};
@@ -104,7 +104,7 @@ fn write_printed<W: Write>(length: usize, printed: &[u8], out: &mut W) -> Result
 
 /// Writes a text that was printed, and the formula after it.
 #[tactic(auto, using(crate::proofs::Appending::steps))]
-fn write_behind<W: Write>(printed: &[u8], formula: &[u8], out: &mut W) -> Result<(), WriteFault>
+fn write_after<W: Write>(printed: &[u8], formula: &[u8], out: &mut W) -> Result<(), WriteFault>
     ensures { OnOk result
         (Appends (W.contents out.old) (W.contents out.new)
         (markdown.printed_markdown printed.now formula.now)) }
@@ -152,8 +152,8 @@ fn write_output<W: Write>(
     let Some(given) = answer else {
         return write_no_answer(lost, out);
     };
-    if let Some((printed, formula)) = formula_behind(&given.output) {
-        return write_behind(printed, formula, out);
+    if let Some((printed, formula)) = formula_after(&given.output) {
+        return write_after(printed, formula, out);
     }
     if let Some(formula) = formula_of(&given.output) {
         return write_formula(formula, out);
@@ -189,7 +189,7 @@ fn write_next<W: Write>(field: &Field, out: &mut W) -> Result<(), WriteFault>
 /// code, or as the formula that it is, with the text that was printed in front of it, or a note that there is none.
 ///
 /// After a `WriteFault` a part of the text may have gone out.
-#[tactic(auto, using(crate::proofs::FieldsBehind::markdown_steps))]
+#[tactic(auto, using(crate::proofs::FieldsAfter::markdown_steps))]
 pub fn markdown_text<W: Write>(sheet: &Sheet, out: &mut W) -> Result<(), WriteFault>
     ensures { OnOk result
         (Appends (W.contents out.old) (W.contents out.new) (markdown.markdown sheet.now.contents)) }

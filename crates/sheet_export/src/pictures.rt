@@ -67,8 +67,8 @@ fn write_base64<W: Write>(bytes: &[u8], out: &mut W) -> Result<(), WriteFault>
         (Appends (W.contents out.old) (W.contents out.new) (page.in_base64 bytes.now)) }
 {
     let mut rest = bytes;
-    while let Some((a, behind)) = rest.split_first() {
-        let Some((b, further)) = behind.split_first() else {
+    while let Some((a, following)) = rest.split_first() {
+        let Some((b, further)) = following.split_first() else {
             return write_one(*a, out);
         };
         let Some((c, others)) = further.split_first() else {

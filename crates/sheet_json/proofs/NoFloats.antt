@@ -18,8 +18,8 @@ use Rattle.worksheet.specs.Contents.{Contents}
 use Rattle.block_tree.specs.declared.reason.Reason.{Reason}
 use Rattle.worksheet.specs.declared.field.Answer.{Answer}
 use Rattle.worksheet.specs.declared.field.Field.{Field}
-use Rattle.sheet_json.specs.Tellings.{CheckTold, EventTold, Reply, SessionShown, State, Telling}
-use Rattle.sheet_json.specs.Tellings as told
+use Rattle.sheet_json.specs.Tellings.{CheckReported, EventReported, Reply, SessionShown, State, Telling}
+use Rattle.sheet_json.specs.Tellings as reported
 use Rattle.sheet_json.specs.declared.checks.Took.{Took}
 
 bytes_none : (b : List ℕ) → has_float (bytes_data b) ≡ false
@@ -40,12 +40,12 @@ two : (a b c : Bool) → a ≡ false → b ≡ false → c ≡ false → (a || (
 two a b c p q r = ap₂ (λ x y. x || y) p (ap₂ (λ x y. x || y) q r)
 
 field_none : (id : ℕ) (session input : List ℕ) (state : State) → has_float (field_with id session input state) ≡ false
-field_none id session input (told.answered prompt output) =
+field_none id session input (reported.answered prompt output) =
     two (has_float (tree_data output)) (has_float (bytes_data prompt)) _ (tree_none output) (bytes_none prompt)
     (two (has_float (bytes_data session)) (has_float (shown_data output)) false (bytes_none session) (bytes_none _) refl)
-field_none id session input (told.lost why) = ap (λ b. b || false) (bytes_none session)
-field_none id session input told.waiting = ap (λ b. b || false) (bytes_none session)
-field_none id session input told.empty = ap (λ b. b || false) (bytes_none session)
+field_none id session input (reported.lost why) = ap (λ b. b || false) (bytes_none session)
+field_none id session input reported.waiting = ap (λ b. b || false) (bytes_none session)
+field_none id session input reported.empty = ap (λ b. b || false) (bytes_none session)
 
 row_none : {A : Type 0} (f : A → json.Data) → ((x : A) → has_float (f x) ≡ false) → (xs : List A) → items_have_float (items_of (map f xs)) ≡ false
 row_none f h [] = refl
@@ -58,7 +58,7 @@ life_none (Some life) = refl
 session_none : (s : SessionShown) → has_float (session_data s) ≡ false
 session_none s = two (has_float (life_data s.life)) (has_float (bytes_data s.name)) _ (life_none s.life) (bytes_none s.name) (ap (λ b. b || false) (row_none bytes_data bytes_none s.words))
 
-whole_none : (ids : List ℕ) (sessions : List SessionShown) (next : ℕ) → has_float (telling_data (told.whole ids next sessions)) ≡ false
+whole_none : (ids : List ℕ) (sessions : List SessionShown) (next : ℕ) → has_float (telling_data (reported.whole ids next sessions)) ≡ false
 whole_none ids sessions next = ap₂ (λ a b. a || (b || false)) (row_none count (λ x. refl) ids) (row_none session_data session_none sessions)
 
 lost_none : (i : Item) → has_float (lost_data i) ≡ false
@@ -70,33 +70,33 @@ completions_none None = refl
 completions_none (Some c) = ap₂ (λ a b. a || (b || false)) (row_none bytes_data bytes_none c.rest) (bytes_none c.root)
 
 reply_none : (line : ℕ) (r : Reply) → has_float (reply_data line r) ≡ false
-reply_none line told.done = refl
-reply_none line (told.made id) = refl
-reply_none line (told.asked life) = refl
-reply_none line (told.refused why) = refl
-reply_none line told.bad = refl
-reply_none line told.nothing = refl
-reply_none line (told.waited true) = refl
-reply_none line (told.waited false) = refl
-reply_none line (told.interrupted outcome) = refl
-reply_none line (told.undone first) = refl
+reply_none line reported.done = refl
+reply_none line (reported.made id) = refl
+reply_none line (reported.asked life) = refl
+reply_none line (reported.refused why) = refl
+reply_none line reported.bad = refl
+reply_none line reported.nothing = refl
+reply_none line (reported.waited true) = refl
+reply_none line (reported.waited false) = refl
+reply_none line (reported.interrupted outcome) = refl
+reply_none line (reported.undone first) = refl
 
 prompt_none : (next : Option (List ℕ)) → has_float (prompt_data next) ≡ false
 prompt_none None = refl
 prompt_none (Some prompt) = bytes_none prompt
 
-event_none : (session : List ℕ) (life : ℕ) (e : EventTold) → has_float (event_data session life e) ≡ false
-event_none session life (told.banner output next) =
+event_none : (session : List ℕ) (life : ℕ) (e : EventReported) → has_float (event_data session life e) ≡ false
+event_none session life (reported.banner output next) =
     two (has_float (prompt_data next)) (has_float (tree_data output)) _ (prompt_none next) (tree_none output)
     (two (has_float (bytes_data session)) (has_float (shown_data output)) false (bytes_none session) (bytes_none _) refl)
-event_none session life (told.answer id prompt output next) =
+event_none session life (reported.answer id prompt output next) =
     two (has_float (prompt_data next)) (has_float (tree_data output)) _ (prompt_none next) (tree_none output)
     (two (has_float (bytes_data prompt)) (has_float (bytes_data session)) _ (bytes_none prompt) (bytes_none session) (ap (λ b. b || false) (bytes_none _)))
-event_none session life (told.completed id given) = ap₂ (λ a b. a || (b || false)) (bytes_none session) (completions_none given)
-event_none session life (told.input line) = ap₂ (λ a b. a || (b || false)) (bytes_none session) (bytes_none line)
-event_none session life (told.ended why lost) = ap₂ (λ a b. a || (b || false)) (row_none lost_data lost_none lost) (bytes_none session)
-event_none session life (told.warned outcome) = ap (λ b. b || false) (bytes_none session)
-event_none session life (told.partial bytes) = ap₂ (λ a b. a || (b || false)) (bytes_none bytes) (bytes_none session)
+event_none session life (reported.completed id given) = ap₂ (λ a b. a || (b || false)) (bytes_none session) (completions_none given)
+event_none session life (reported.input line) = ap₂ (λ a b. a || (b || false)) (bytes_none session) (bytes_none line)
+event_none session life (reported.ended why lost) = ap₂ (λ a b. a || (b || false)) (row_none lost_data lost_none lost) (bytes_none session)
+event_none session life (reported.warned outcome) = ap (λ b. b || false) (bytes_none session)
+event_none session life (reported.partial bytes) = ap₂ (λ a b. a || (b || false)) (bytes_none bytes) (bytes_none session)
 
 answer_none : (answer : Option Answer) → has_float (answer_data answer) ≡ false
 answer_none None = refl
@@ -110,51 +110,51 @@ took_none : (took : Option Took) → has_float (took_data took) ≡ false
 took_none None = refl
 took_none (Some took) = refl
 
-checked_none : (id : ℕ) (session : List ℕ) (took : Option Took) (c : CheckTold) → has_float (checked_data id session took c) ≡ false
-checked_none id session took told.same = ap₂ (λ a b. a || (b || false)) (bytes_none session) (took_none took)
-checked_none id session took told.left_out = ap₂ (λ a b. a || (b || false)) (bytes_none session) (took_none took)
-checked_none id session took (told.differs input shows came) =
+checked_none : (id : ℕ) (session : List ℕ) (took : Option Took) (c : CheckReported) → has_float (checked_data id session took c) ≡ false
+checked_none id session took reported.same = ap₂ (λ a b. a || (b || false)) (bytes_none session) (took_none took)
+checked_none id session took reported.left_out = ap₂ (λ a b. a || (b || false)) (bytes_none session) (took_none took)
+checked_none id session took (reported.differs input shows came) =
     two (has_float (answer_data came)) (has_float (bytes_data session)) _ (answer_none came) (bytes_none session) (ap₂ (λ a b. a || (b || false)) (answer_none shows) (took_none took))
-checked_none id session took (told.unanswered input shows why) =
+checked_none id session took (reported.unanswered input shows why) =
     two (has_float (why_data why)) (has_float (bytes_data session)) _ (why_none why) (bytes_none session) (ap₂ (λ a b. a || (b || false)) (answer_none shows) (took_none took))
-checked_none id session took (told.new input came) =
+checked_none id session took (reported.new input came) =
     two (has_float (answer_data came)) (has_float (bytes_data session)) _ (answer_none came) (bytes_none session) (ap (λ b. b || false) (took_none took))
 
 export_none : (given : Option (List ℕ)) → (has_float (export_data given) || false) ≡ false
 export_none None = refl
 export_none (Some bytes) = ap (λ b. b || false) (bytes_none bytes)
 
-pub none_told : (t : Telling) → has_float (telling_data t) ≡ false
-none_told told.hello = refl
-none_told (told.reply line r) = reply_none line r
-none_told (told.stopped line session life lost) = ap₂ (λ a b. a || (b || false)) (row_none lost_data lost_none lost) (bytes_none session)
-none_told (told.event session life e) = event_none session life e
-none_told (told.field line f) = ap (λ b. b || false) (field_none f.id f.session f.input f.state)
-none_told (told.part line f) = ap (λ b. b || false) (field_none f.id f.session f.input f.state)
-none_told (told.shown f) = ap (λ b. b || false) (field_none f.id f.session f.input f.state)
-none_told (told.sheet line ids next sessions) = whole_none ids sessions next
-none_told (told.exported line format given) = export_none given
-none_told (told.whole ids next sessions) = whole_none ids sessions next
-none_told (told.fault n name None) = refl
-none_told (told.fault n name (Some offset)) = refl
-none_told (told.over id outcome) = refl
-none_told (told.counted answered unanswered) = refl
-none_told (told.counted_in_time answered unanswered over passed) = refl
-none_told (told.checked id session took c) = checked_none id session took c
-none_told (told.compared same differ unanswered left_out errors new) = refl
-none_told (told.no_field id) = refl
-none_told (told.no_program session) = ap (λ b. b || false) (bytes_none session)
-none_told told.end = refl
+pub none_reported : (t : Telling) → has_float (telling_data t) ≡ false
+none_reported reported.hello = refl
+none_reported (reported.reply line r) = reply_none line r
+none_reported (reported.stopped line session life lost) = ap₂ (λ a b. a || (b || false)) (row_none lost_data lost_none lost) (bytes_none session)
+none_reported (reported.event session life e) = event_none session life e
+none_reported (reported.field line f) = ap (λ b. b || false) (field_none f.id f.session f.input f.state)
+none_reported (reported.part line f) = ap (λ b. b || false) (field_none f.id f.session f.input f.state)
+none_reported (reported.shown f) = ap (λ b. b || false) (field_none f.id f.session f.input f.state)
+none_reported (reported.sheet line ids next sessions) = whole_none ids sessions next
+none_reported (reported.exported line format given) = export_none given
+none_reported (reported.whole ids next sessions) = whole_none ids sessions next
+none_reported (reported.fault n name None) = refl
+none_reported (reported.fault n name (Some offset)) = refl
+none_reported (reported.over id outcome) = refl
+none_reported (reported.counted answered unanswered) = refl
+none_reported (reported.counted_in_time answered unanswered over passed) = refl
+none_reported (reported.checked id session took c) = checked_none id session took c
+none_reported (reported.compared same differ unanswered left_out errors new) = refl
+none_reported (reported.no_field id) = refl
+none_reported (reported.no_program session) = ap (λ b. b || false) (bytes_none session)
+none_reported reported.end = refl
 
 -- a value that is printed has none
-pub told_has_none : (t : Telling) (d : json.Data) → d ≡ telling_data t → has_float d ≡ false
-told_has_none t d e = subst (λ (x : json.Data). has_float x ≡ false) (sym e) (none_told t)
+pub reported_has_none : (t : Telling) (d : json.Data) → d ≡ telling_data t → has_float d ≡ false
+reported_has_none t d e = subst (λ (x : json.Data). has_float x ≡ false) (sym e) (none_reported t)
 
 pub field_has_none : (field : Field) (d : json.Data) → d ≡ telling_data (still_field field) → has_float d ≡ false
-field_has_none field = told_has_none (still_field field)
+field_has_none field = reported_has_none (still_field field)
 
 pub whole_has_none : (sheet : Contents) (d : json.Data) → d ≡ telling_data (whole_of sheet) → has_float d ≡ false
-whole_has_none sheet = told_has_none (whole_of sheet)
+whole_has_none sheet = reported_has_none (whole_of sheet)
 
-pub told_line : (t : Telling) (d : json.Data) (bytes : List ℕ) → d ≡ telling_data t → bytes ≡ json_line d → bytes ≡ telling_line t
-told_line t d bytes e is = subst (λ (x : json.Data). bytes ≡ json_line x) e is
+pub reported_line : (t : Telling) (d : json.Data) (bytes : List ℕ) → d ≡ telling_data t → bytes ≡ json_line d → bytes ≡ telling_line t
+reported_line t d bytes e is = subst (λ (x : json.Data). bytes ≡ json_line x) e is

@@ -21,8 +21,8 @@ use Rattle.sheet_json.specs.Bytes.{base64_data, bytes_data}
 use Rattle.sheet_json.specs.Blocks.{block_object, items_data, tree_data}
 use Rattle.sheet_json.specs.Objects.{answer_data, checked_data, completions_data, count, event_data, export_data, field_with, ids_data, life_data, lost_data, losts_data, prompt_data, reply_data, session_data, sessions_data, telling_data, texts_data, took_data, typed, why_data}
 use Rattle.sheet_json.specs.Plain.{ArePlain, HasPlain, Is64, IsPlain, IsSoundAnswer, IsSoundCheck, IsSoundTelling, IsSoundEvent, IsSoundItem, IsSoundLife, IsSoundReply, IsSoundSession, IsSoundState, IsSoundTook}
-use Rattle.sheet_json.specs.Tellings.{CheckTold, Telling, Reply, EventTold, SessionShown, State}
-use Rattle.sheet_json.specs.Tellings as told
+use Rattle.sheet_json.specs.Tellings.{CheckReported, Telling, Reply, EventReported, SessionShown, State}
+use Rattle.sheet_json.specs.Tellings as reported
 use Rattle.sheet_json.specs.declared.checks.Took.{Took}
 
 a_text : {n : ℕ} {s : List ℕ} → IsPlain n (string s)
@@ -132,16 +132,16 @@ a_type : {n : ℕ} {name : List ℕ} → HasPlain n (typed name)
 a_type = a_member a_text no_more
 
 reply_plain : (line : ℕ) (r : Reply) → Is64 line → IsSoundReply r → IsPlain 1 (reply_data line r)
-reply_plain line told.done l s = an_object (a_member (a_count l) a_type)
-reply_plain line (told.made id) l s = an_object (a_member (a_count s) (a_member (a_count l) a_type))
-reply_plain line (told.asked life) l s = an_object (a_member (a_count s) (a_member (a_count l) a_type))
-reply_plain line (told.refused why) l s = an_object (a_member (a_count l) (a_member a_text (a_member (a_count (number_small why)) a_type)))
-reply_plain line told.bad l s = an_object (a_member (a_count l) a_type)
-reply_plain line told.nothing l s = an_object (a_member (a_count l) a_type)
-reply_plain line (told.waited true) l s = an_object (a_member (a_count l) (a_member a_text a_type))
-reply_plain line (told.waited false) l s = an_object (a_member (a_count l) (a_member a_text a_type))
-reply_plain line (told.interrupted outcome) l s = an_object (a_member (a_count l) (a_member a_text a_type))
-reply_plain line (told.undone first) l s = an_object (a_member (a_count s) (a_member (a_count l) a_type))
+reply_plain line reported.done l s = an_object (a_member (a_count l) a_type)
+reply_plain line (reported.made id) l s = an_object (a_member (a_count s) (a_member (a_count l) a_type))
+reply_plain line (reported.asked life) l s = an_object (a_member (a_count s) (a_member (a_count l) a_type))
+reply_plain line (reported.refused why) l s = an_object (a_member (a_count l) (a_member a_text (a_member (a_count (number_small why)) a_type)))
+reply_plain line reported.bad l s = an_object (a_member (a_count l) a_type)
+reply_plain line reported.nothing l s = an_object (a_member (a_count l) a_type)
+reply_plain line (reported.waited true) l s = an_object (a_member (a_count l) (a_member a_text a_type))
+reply_plain line (reported.waited false) l s = an_object (a_member (a_count l) (a_member a_text a_type))
+reply_plain line (reported.interrupted outcome) l s = an_object (a_member (a_count l) (a_member a_text a_type))
+reply_plain line (reported.undone first) l s = an_object (a_member (a_count s) (a_member (a_count l) a_type))
 
 lost_plain : (i : Item) → IsSoundItem i → IsPlain 2 (lost_data i)
 lost_plain (item.Line id line) s = an_object (a_member (a_count s) (a_member (some_bytes line) no_more))
@@ -158,25 +158,25 @@ prompt_plain : {n : ℕ} (next : Option (List ℕ)) → IsPlain (suc n) (prompt_
 prompt_plain None = no_value
 prompt_plain (Some prompt) = some_bytes prompt
 
-event_plain : (session : List ℕ) (life : ℕ) (e : EventTold) → Is64 life → IsSoundEvent e → IsPlain 67 (event_data session life e)
-event_plain session life (told.banner output next) l s =
+event_plain : (session : List ℕ) (life : ℕ) (e : EventReported) → Is64 life → IsSoundEvent e → IsPlain 67 (event_data session life e)
+event_plain session life (reported.banner output next) l s =
     an_object (a_member (a_count l) (a_member (prompt_plain next) (a_member (a_tree output s (omega arith)) (a_member (some_bytes session) (a_member (some_bytes _) a_type)))))
-event_plain session life (told.answer id prompt output next) l s =
+event_plain session life (reported.answer id prompt output next) l s =
     an_object (a_member (a_count s.0) (a_member (a_count l) (a_member (prompt_plain next) (a_member (a_tree output s.1 (omega arith)) (a_member (some_bytes prompt) (a_member (some_bytes session) (a_member (some_bytes _) a_type)))))))
-event_plain session life (told.completed id given) l s =
+event_plain session life (reported.completed id given) l s =
     an_object (a_member (a_count s) (a_member (a_count l) (a_member (some_bytes session) (a_member (completions_plain given) a_type))))
-event_plain session life (told.input line) l s = an_object (a_member (a_count l) (a_member (some_bytes session) (a_member (some_bytes line) a_type)))
-event_plain session life (told.ended why lost) l s =
+event_plain session life (reported.input line) l s = an_object (a_member (a_count l) (a_member (some_bytes session) (a_member (some_bytes line) a_type)))
+event_plain session life (reported.ended why lost) l s =
     an_object (a_member (a_count l) (a_member (losts_plain lost s (omega arith)) (a_member a_text (a_member (some_bytes session) a_type))))
-event_plain session life (told.warned outcome) l s = an_object (a_member (a_count l) (a_member a_text (a_member (some_bytes session) a_type)))
-event_plain session life (told.partial bytes) l s = an_object (a_member (some_bytes bytes) (a_member (a_count l) (a_member (some_bytes session) a_type)))
+event_plain session life (reported.warned outcome) l s = an_object (a_member (a_count l) (a_member a_text (a_member (some_bytes session) a_type)))
+event_plain session life (reported.partial bytes) l s = an_object (a_member (some_bytes bytes) (a_member (a_count l) (a_member (some_bytes session) a_type)))
 
 field_plain : (id : ℕ) (session input : List ℕ) (state : State) → Is64 id → IsSoundState state → IsPlain 66 (field_with id session input state)
-field_plain id session input (told.answered prompt output) i s =
+field_plain id session input (reported.answered prompt output) i s =
     an_object (a_member (a_count i) (a_member a_text (a_member (a_tree output s (omega arith)) (a_member (some_bytes prompt) (a_member (some_bytes session) (a_member (some_bytes _) (a_member a_text no_more)))))))
-field_plain id session input (told.lost why) i s = an_object (a_member (a_count i) (a_member a_text (a_member a_text (a_member (some_bytes session) (a_member a_text no_more)))))
-field_plain id session input told.waiting i s = an_object (a_member (a_count i) (a_member a_text (a_member (some_bytes session) (a_member a_text no_more))))
-field_plain id session input told.empty i s = an_object (a_member (a_count i) (a_member a_text (a_member (some_bytes session) (a_member a_text no_more))))
+field_plain id session input (reported.lost why) i s = an_object (a_member (a_count i) (a_member a_text (a_member a_text (a_member (some_bytes session) (a_member a_text no_more)))))
+field_plain id session input reported.waiting i s = an_object (a_member (a_count i) (a_member a_text (a_member (some_bytes session) (a_member a_text no_more))))
+field_plain id session input reported.empty i s = an_object (a_member (a_count i) (a_member a_text (a_member (some_bytes session) (a_member a_text no_more))))
 
 life_plain : {n : ℕ} (life : Option ℕ) → IsSoundLife life → IsPlain n (life_data life)
 life_plain None s = no_value
@@ -204,14 +204,14 @@ took_plain : (took : Option Took) → IsSoundTook took → IsPlain 66 (took_data
 took_plain None s = no_value
 took_plain (Some took) s = an_object (a_member (a_count s) (a_member a_flag no_more))
 
-checked_plain : (id : ℕ) (session : List ℕ) (took : Option Took) (c : CheckTold) → Is64 id → IsSoundTook took → IsSoundCheck c → IsPlain 67 (checked_data id session took c)
-checked_plain id session took told.same i k s = an_object (a_member (a_count i) (a_member (some_bytes session) (a_member (took_plain took k) (a_member a_text (a_member a_text no_more)))))
-checked_plain id session took told.left_out i k s = an_object (a_member (a_count i) (a_member (some_bytes session) (a_member (took_plain took k) (a_member a_text (a_member a_text no_more)))))
-checked_plain id session took (told.differs input shows came) i k s =
+checked_plain : (id : ℕ) (session : List ℕ) (took : Option Took) (c : CheckReported) → Is64 id → IsSoundTook took → IsSoundCheck c → IsPlain 67 (checked_data id session took c)
+checked_plain id session took reported.same i k s = an_object (a_member (a_count i) (a_member (some_bytes session) (a_member (took_plain took k) (a_member a_text (a_member a_text no_more)))))
+checked_plain id session took reported.left_out i k s = an_object (a_member (a_count i) (a_member (some_bytes session) (a_member (took_plain took k) (a_member a_text (a_member a_text no_more)))))
+checked_plain id session took (reported.differs input shows came) i k s =
     an_object (a_member (answer_plain came s.1) (a_member (a_count i) (a_member a_text (a_member (some_bytes session) (a_member (answer_plain shows s.0) (a_member (took_plain took k) (a_member a_text (a_member a_text no_more))))))))
-checked_plain id session took (told.unanswered input shows why) i k s =
+checked_plain id session took (reported.unanswered input shows why) i k s =
     an_object (a_member (a_count i) (a_member a_text (a_member (why_plain why) (a_member (some_bytes session) (a_member (answer_plain shows s) (a_member (took_plain took k) (a_member a_text (a_member a_text no_more))))))))
-checked_plain id session took (told.new input came) i k s =
+checked_plain id session took (reported.new input came) i k s =
     an_object (a_member (answer_plain came s) (a_member (a_count i) (a_member a_text (a_member (some_bytes session) (a_member (took_plain took k) (a_member a_text (a_member a_text no_more)))))))
 
 export_plain : (given : Option (List ℕ)) → IsPlain 66 (export_data given)
@@ -220,27 +220,27 @@ export_plain (Some bytes) = some_bytes bytes
 
 -- so its text is defined and one line, and reads back
 pub tellings_are_plain : (t : Telling) → IsSoundTelling t → IsPlain 67 (telling_data t)
-tellings_are_plain told.hello s = an_object (a_member (a_count (omega arith)) (a_member a_text (a_member (a_count (omega arith)) (a_member a_text (a_member a_text no_more)))))
-tellings_are_plain (told.reply line r) s = deeper (omega arith) (reply_plain line r s.0 s.1)
-tellings_are_plain (told.stopped line session life lost) s =
+tellings_are_plain reported.hello s = an_object (a_member (a_count (omega arith)) (a_member a_text (a_member (a_count (omega arith)) (a_member a_text (a_member a_text no_more)))))
+tellings_are_plain (reported.reply line r) s = deeper (omega arith) (reply_plain line r s.0 s.1)
+tellings_are_plain (reported.stopped line session life lost) s =
     an_object (a_member (a_count s.1) (a_member (a_count s.0) (a_member (losts_plain lost s.2 (omega arith)) (a_member (some_bytes session) a_type))))
-tellings_are_plain (told.event session life e) s = event_plain session life e s.0 s.1
-tellings_are_plain (told.field line f) s = an_object (a_member (field_plain f.id f.session f.input f.state s.1.0 s.1.1) (a_member (a_count s.0) a_type))
-tellings_are_plain (told.part line f) s = an_object (a_member (field_plain f.id f.session f.input f.state s.1.0 s.1.1) (a_member (a_count s.0) (a_member a_flag a_type)))
-tellings_are_plain (told.shown f) s = an_object (a_member (field_plain f.id f.session f.input f.state s.0 s.1) a_type)
-tellings_are_plain (told.sheet line ids next sessions) s =
+tellings_are_plain (reported.event session life e) s = event_plain session life e s.0 s.1
+tellings_are_plain (reported.field line f) s = an_object (a_member (field_plain f.id f.session f.input f.state s.1.0 s.1.1) (a_member (a_count s.0) a_type))
+tellings_are_plain (reported.part line f) s = an_object (a_member (field_plain f.id f.session f.input f.state s.1.0 s.1.1) (a_member (a_count s.0) (a_member a_flag a_type)))
+tellings_are_plain (reported.shown f) s = an_object (a_member (field_plain f.id f.session f.input f.state s.0 s.1) a_type)
+tellings_are_plain (reported.sheet line ids next sessions) s =
     an_object (a_member (ids_plain ids s.1) (a_member (a_count s.0) (a_member (a_count s.2) (a_member (sessions_plain sessions s.3) a_type))))
-tellings_are_plain (told.exported line format given) s = an_object (a_member a_text (a_member (a_count s) (a_member (export_plain given) a_type)))
-tellings_are_plain (told.whole ids next sessions) s = an_object (a_member (ids_plain ids s.0) (a_member (a_count s.1) (a_member (sessions_plain sessions s.2) a_type)))
-tellings_are_plain (told.fault n name None) s = an_object (a_member a_text (a_member (a_count s) a_type))
-tellings_are_plain (told.fault n name (Some offset)) s = an_object (a_member a_text (a_member (a_count s.0) (a_member (a_count s.1) a_type)))
-tellings_are_plain (told.over id outcome) s = an_object (a_member (a_count s) (a_member a_text a_type))
-tellings_are_plain (told.counted answered unanswered) s = an_object (a_member (a_count s.0) (a_member a_text (a_member (a_count s.1) no_more)))
-tellings_are_plain (told.counted_in_time answered unanswered over passed) s =
+tellings_are_plain (reported.exported line format given) s = an_object (a_member a_text (a_member (a_count s) (a_member (export_plain given) a_type)))
+tellings_are_plain (reported.whole ids next sessions) s = an_object (a_member (ids_plain ids s.0) (a_member (a_count s.1) (a_member (sessions_plain sessions s.2) a_type)))
+tellings_are_plain (reported.fault n name None) s = an_object (a_member a_text (a_member (a_count s) a_type))
+tellings_are_plain (reported.fault n name (Some offset)) s = an_object (a_member a_text (a_member (a_count s.0) (a_member (a_count s.1) a_type)))
+tellings_are_plain (reported.over id outcome) s = an_object (a_member (a_count s) (a_member a_text a_type))
+tellings_are_plain (reported.counted answered unanswered) s = an_object (a_member (a_count s.0) (a_member a_text (a_member (a_count s.1) no_more)))
+tellings_are_plain (reported.counted_in_time answered unanswered over passed) s =
     an_object (a_member (a_count s.0) (a_member (a_count s.2) (a_member (a_count s.3) (a_member a_text (a_member (a_count s.1) no_more)))))
-tellings_are_plain (told.checked id session took c) s = checked_plain id session took c s.0 s.1 s.2
-tellings_are_plain (told.compared same differ unanswered left_out errors new) s =
+tellings_are_plain (reported.checked id session took c) s = checked_plain id session took c s.0 s.1 s.2
+tellings_are_plain (reported.compared same differ unanswered left_out errors new) s =
     an_object (a_member (a_count s.1) (a_member (a_count s.4) (a_member (a_count s.3) (a_member (a_count s.5) (a_member (a_count s.0) (a_member a_text (a_member (a_count s.2) no_more)))))))
-tellings_are_plain (told.no_field id) s = an_object (a_member (a_count s) (a_member a_text (a_member (a_count (omega arith)) a_type)))
-tellings_are_plain (told.no_program session) s = an_object (a_member a_text (a_member (a_count (omega arith)) (a_member (some_bytes session) a_type)))
-tellings_are_plain told.end s = an_object a_type
+tellings_are_plain (reported.no_field id) s = an_object (a_member (a_count s) (a_member a_text (a_member (a_count (omega arith)) a_type)))
+tellings_are_plain (reported.no_program session) s = an_object (a_member a_text (a_member (a_count (omega arith)) (a_member (some_bytes session) a_type)))
+tellings_are_plain reported.end s = an_object a_type

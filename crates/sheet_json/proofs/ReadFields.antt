@@ -6,8 +6,8 @@ use Rattle.sheet_json.specs.Blocks.{tree_data}
 use Rattle.sheet_json.specs.Objects.{field_with, life_data, texts_data}
 use Rattle.sheet_json.specs.Reading.{bytes_in, tree_in}
 use Rattle.sheet_json.specs.Tellings.{FieldShown, SessionShown, State}
-use Rattle.sheet_json.specs.Tellings as told
-use Rattle.sheet_json.specs.Told.{count_in, field_read, list_in, of, option_in, StateHasBytes}
+use Rattle.sheet_json.specs.Tellings as reported
+use Rattle.sheet_json.specs.Reported.{count_in, field_read, list_in, of, option_in, StateHasBytes}
 use Rattle.sheet_json.specs.Laws.{FieldsReadBack, SessionsReadBack}
 use Rattle.sheet_json.proofs.Back.{bytes_back, blocks_read_back}
 use Rattle.sheet_json.proofs.Tellings.{reason_back, texts_back}
@@ -21,12 +21,12 @@ of_field id session input state r are is =
     ap (λ s. of (of (of (Some (λ t i u. whole_field id t i u)) s) (Some input)) r) (bytes_back session are) ∙ ap (of (Some (λ t. whole_field id session input t))) is
 
 field_back : (id : ℕ) (session input : List ℕ) (state : State) → IsBytes session → StateHasBytes state → field_read (field_with id session input state) ≡ Some (whole_field id session input state)
-field_back id session input (told.answered prompt output) are good =
-    of_field id session input (told.answered prompt output) _ are
-    (ap (λ r. of (option_map (λ p o. told.answered p o) r) (tree_in (tree_data output))) (bytes_back prompt good.0) ∙ ap (of (Some (λ o. told.answered prompt o))) (blocks_read_back output good.1))
-field_back id session input (told.lost why) are good = of_field id session input (told.lost why) _ are (ap (option_map (λ w. told.lost w)) (reason_back why))
-field_back id session input told.waiting are good = of_field id session input told.waiting (Some told.waiting) are refl
-field_back id session input told.empty are good = of_field id session input told.empty (Some told.empty) are refl
+field_back id session input (reported.answered prompt output) are good =
+    of_field id session input (reported.answered prompt output) _ are
+    (ap (λ r. of (option_map (λ p o. reported.answered p o) r) (tree_in (tree_data output))) (bytes_back prompt good.0) ∙ ap (of (Some (λ o. reported.answered prompt o))) (blocks_read_back output good.1))
+field_back id session input (reported.lost why) are good = of_field id session input (reported.lost why) _ are (ap (option_map (λ w. reported.lost w)) (reason_back why))
+field_back id session input reported.waiting are good = of_field id session input reported.waiting (Some reported.waiting) are refl
+field_back id session input reported.empty are good = of_field id session input reported.empty (Some reported.empty) are refl
 
 pub fields_read_back : FieldsReadBack
 fields_read_back f are good = field_back f.id f.session f.input f.state are good

@@ -20,9 +20,9 @@ use Rattle.sheet_json.specs.Bytes.{base64_data, bytes_data}
 use Rattle.sheet_json.specs.Blocks.{tree_data}
 use Rattle.sheet_json.specs.Objects.{completions_data, count, export_data, lost_data, losts_data, prompt_data, texts_data}
 use Rattle.sheet_json.specs.Reading.{bytes_in, tree_in, HasBytes}
-use Rattle.sheet_json.specs.Tellings.{EventTold}
-use Rattle.sheet_json.specs.Tellings as told
-use Rattle.sheet_json.specs.Told.{completions_in, each_in, list_in, lost_in, of, option_in, prompt_in, reason_named, refusal_in, CompletionsHaveBytes, ItemHasBytes, PromptHasBytes}
+use Rattle.sheet_json.specs.Tellings.{EventReported}
+use Rattle.sheet_json.specs.Tellings as reported
+use Rattle.sheet_json.specs.Reported.{completions_in, each_in, list_in, lost_in, of, option_in, prompt_in, reason_named, refusal_in, CompletionsHaveBytes, ItemHasBytes, PromptHasBytes}
 use Rattle.sheet_json.specs.Laws.{CountsReadBack, EventsReadBack, ExportsReadBack, RepliesReadBack}
 use Rattle.sheet_json.proofs.Back.{base64_back, bytes_back, blocks_read_back}
 
@@ -57,16 +57,16 @@ reason_back reason.TooLong = refl
 reason_back reason.Stopped = refl
 
 pub replies_read_back : RepliesReadBack
-replies_read_back line told.done = refl
-replies_read_back line (told.made id) = refl
-replies_read_back line (told.asked life) = refl
-replies_read_back line (told.refused why) = ap (λ r. option_map (λ x. told.reply line x) (option_map (λ x. told.refused x) r)) (refusal_back why)
-replies_read_back line told.bad = refl
-replies_read_back line told.nothing = refl
-replies_read_back line (told.waited true) = refl
-replies_read_back line (told.waited false) = refl
-replies_read_back line (told.interrupted outcome) = refl
-replies_read_back line (told.undone first) = refl
+replies_read_back line reported.done = refl
+replies_read_back line (reported.made id) = refl
+replies_read_back line (reported.asked life) = refl
+replies_read_back line (reported.refused why) = ap (λ r. option_map (λ x. reported.reply line x) (option_map (λ x. reported.refused x) r)) (refusal_back why)
+replies_read_back line reported.bad = refl
+replies_read_back line reported.nothing = refl
+replies_read_back line (reported.waited true) = refl
+replies_read_back line (reported.waited false) = refl
+replies_read_back line (reported.interrupted outcome) = refl
+replies_read_back line (reported.undone first) = refl
 
 pub counts_read_back : CountsReadBack
 counts_read_back = ((λ a u. refl), (λ a u over passed. refl), (λ id outcome. refl))
@@ -78,7 +78,7 @@ export_back (Some text) good =
     [ true ↦ refl | false ↦ ap (option_map (λ x. Some x)) (base64_back text good) ]
 
 pub exports_read_back : ExportsReadBack
-exports_read_back line format text good = ap (of (Some (λ t. told.exported line format t))) (export_back text good)
+exports_read_back line format text good = ap (of (Some (λ t. reported.exported line format t))) (export_back text good)
 
 tree_back : (b : Tree) → HasBytes b → tree_in (tree_data b) ≡ Some b
 tree_back = blocks_read_back
@@ -107,10 +107,10 @@ completions_back (Some c) good =
     ∙ ap (λ r. option_map (λ x. Some x) (of (Some (λ rest. record { root = c.root; rest = rest })) r)) (texts_back c.rest good.1)
 
 -- with its session and its life
-of_life : (session : List ℕ) (life : ℕ) (e : EventTold) (r : Option EventTold) → IsBytes session → r ≡ Some e
-    → of (of (option_map (λ s l x. told.event s l x) (bytes_in (bytes_data session))) (Some life)) r ≡ Some (told.event session life e)
+of_life : (session : List ℕ) (life : ℕ) (e : EventReported) (r : Option EventReported) → IsBytes session → r ≡ Some e
+    → of (of (option_map (λ s l x. reported.event s l x) (bytes_in (bytes_data session))) (Some life)) r ≡ Some (reported.event session life e)
 of_life session life e r are is =
-    ap (λ s. of (of (option_map (λ t l x. told.event t l x) s) (Some life)) r) (bytes_back session are) ∙ ap (of (Some (λ x. told.event session life x))) is
+    ap (λ s. of (of (option_map (λ t l x. reported.event t l x) s) (Some life)) r) (bytes_back session are) ∙ ap (of (Some (λ x. reported.event session life x))) is
 
 prompt_back : (next : Option (List ℕ)) → PromptHasBytes next → prompt_in (prompt_data next) ≡ Some next
 prompt_back None good = refl
@@ -119,19 +119,19 @@ prompt_back (Some prompt) good =
     [ true ↦ refl | false ↦ ap (option_map (λ x. Some x)) (base64_back prompt good) ]
 
 pub events_read_back : EventsReadBack
-events_read_back session life (told.banner output next) are good =
-    of_life session life (told.banner output next) _ are
-    (ap (λ r. of (option_map (λ o n. told.banner o n) r) (prompt_in (prompt_data next))) (tree_back output good.0) ∙ ap (of (Some (λ n. told.banner output n))) (prompt_back next good.1))
-events_read_back session life (told.answer id prompt output next) are good =
-    of_life session life (told.answer id prompt output next) _ are
-    (ap (λ r. of (of (of (Some (λ p o n. told.answer id p o n)) r) (tree_in (tree_data output))) (prompt_in (prompt_data next))) (bytes_back prompt good.0)
-    ∙ ap (λ r. of (of (Some (λ o n. told.answer id prompt o n)) r) (prompt_in (prompt_data next))) (tree_back output good.1)
-    ∙ ap (of (Some (λ n. told.answer id prompt output n))) (prompt_back next good.2))
-events_read_back session life (told.completed id given) are good =
-    of_life session life (told.completed id given) _ are (ap (of (Some (λ c. told.completed id c))) (completions_back given good))
-events_read_back session life (told.input line) are good = of_life session life (told.input line) _ are (ap (option_map (λ l. told.input l)) (bytes_back line good))
-events_read_back session life (told.ended why lost) are good =
-    of_life session life (told.ended why lost) _ are
-    (ap (λ r. of (option_map (λ w items. told.ended w items) r) (list_in lost_in (losts_data lost))) (reason_back why) ∙ ap (of (Some (λ items. told.ended why items))) (losts_back lost good))
-events_read_back session life (told.warned outcome) are good = of_life session life (told.warned outcome) (Some (told.warned outcome)) are refl
-events_read_back session life (told.partial bytes) are good = of_life session life (told.partial bytes) _ are (ap (option_map (λ b. told.partial b)) (bytes_back bytes good))
+events_read_back session life (reported.banner output next) are good =
+    of_life session life (reported.banner output next) _ are
+    (ap (λ r. of (option_map (λ o n. reported.banner o n) r) (prompt_in (prompt_data next))) (tree_back output good.0) ∙ ap (of (Some (λ n. reported.banner output n))) (prompt_back next good.1))
+events_read_back session life (reported.answer id prompt output next) are good =
+    of_life session life (reported.answer id prompt output next) _ are
+    (ap (λ r. of (of (of (Some (λ p o n. reported.answer id p o n)) r) (tree_in (tree_data output))) (prompt_in (prompt_data next))) (bytes_back prompt good.0)
+    ∙ ap (λ r. of (of (Some (λ o n. reported.answer id prompt o n)) r) (prompt_in (prompt_data next))) (tree_back output good.1)
+    ∙ ap (of (Some (λ n. reported.answer id prompt output n))) (prompt_back next good.2))
+events_read_back session life (reported.completed id given) are good =
+    of_life session life (reported.completed id given) _ are (ap (of (Some (λ c. reported.completed id c))) (completions_back given good))
+events_read_back session life (reported.input line) are good = of_life session life (reported.input line) _ are (ap (option_map (λ l. reported.input l)) (bytes_back line good))
+events_read_back session life (reported.ended why lost) are good =
+    of_life session life (reported.ended why lost) _ are
+    (ap (λ r. of (option_map (λ w items. reported.ended w items) r) (list_in lost_in (losts_data lost))) (reason_back why) ∙ ap (of (Some (λ items. reported.ended why items))) (losts_back lost good))
+events_read_back session life (reported.warned outcome) are good = of_life session life (reported.warned outcome) (Some (reported.warned outcome)) are refl
+events_read_back session life (reported.partial bytes) are good = of_life session life (reported.partial bytes) _ are (ap (option_map (λ b. reported.partial b)) (bytes_back bytes good))

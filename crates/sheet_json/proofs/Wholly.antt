@@ -5,7 +5,7 @@ use Rattle.worksheet.specs.declared.field.Field.{Field}
 use Rattle.sheet_json.specs.Sheets.{fields_text, sheet_lines, telling_line, tellings_text}
 use Rattle.sheet_json.specs.Shown.{still_field, whole_of}
 use Rattle.sheet_json.specs.Tellings.{Telling}
-use Rattle.sheet_json.specs.Tellings as told
+use Rattle.sheet_json.specs.Tellings as reported
 
 -- the fields of a front are added, and these are to come
 abbrev pub Writing : List ℕ → List ℕ → List Field → List Field → Type 0
@@ -24,11 +24,11 @@ texts_append : (xs ys : List Telling) → tellings_text (xs ++ ys) ≡ tellings_
 texts_append [] ys = refl
 texts_append (x ∷ xs) ys = ap (λ t. telling_line x ++ t) (texts_append xs ys) ∙ sym (append_assoc (telling_line x) (tellings_text xs) (tellings_text ys))
 
-pub sheet_made : (a b c d e : List ℕ) (sheet : Contents) → a ≡ [] → b ≡ a ++ telling_line told.hello → c ≡ b ++ fields_text sheet.fields → d ≡ c ++ telling_line (whole_of sheet) → e ≡ d ++ telling_line told.end → e ≡ sheet_lines sheet
+pub sheet_made : (a b c d e : List ℕ) (sheet : Contents) → a ≡ [] → b ≡ a ++ telling_line reported.hello → c ≡ b ++ fields_text sheet.fields → d ≡ c ++ telling_line (whole_of sheet) → e ≡ d ++ telling_line reported.end → e ≡ sheet_lines sheet
 sheet_made a b c d e sheet is_a is_b is_c is_d is_e =
-    let begun : b ≡ telling_line told.hello = is_b ∙ ap (λ x. x ++ telling_line told.hello) is_a in
-    is_e ∙ ap (λ x. x ++ telling_line told.end) is_d ∙ append_assoc c (telling_line (whole_of sheet)) (telling_line told.end)
-    ∙ ap (λ x. x ++ (telling_line (whole_of sheet) ++ telling_line told.end)) (is_c ∙ ap (λ x. x ++ fields_text sheet.fields) begun)
-    ∙ append_assoc (telling_line told.hello) (fields_text sheet.fields) (telling_line (whole_of sheet) ++ telling_line told.end)
-    ∙ ap (λ t. telling_line told.hello ++ (fields_text sheet.fields ++ (telling_line (whole_of sheet) ++ t))) (sym (append-nil (telling_line told.end)))
-    ∙ ap (λ t. telling_line told.hello ++ t) (sym (texts_append (map still_field sheet.fields) (whole_of sheet ∷ told.end ∷ [])))
+    let begun : b ≡ telling_line reported.hello = is_b ∙ ap (λ x. x ++ telling_line reported.hello) is_a in
+    is_e ∙ ap (λ x. x ++ telling_line reported.end) is_d ∙ append_assoc c (telling_line (whole_of sheet)) (telling_line reported.end)
+    ∙ ap (λ x. x ++ (telling_line (whole_of sheet) ++ telling_line reported.end)) (is_c ∙ ap (λ x. x ++ fields_text sheet.fields) begun)
+    ∙ append_assoc (telling_line reported.hello) (fields_text sheet.fields) (telling_line (whole_of sheet) ++ telling_line reported.end)
+    ∙ ap (λ t. telling_line reported.hello ++ (fields_text sheet.fields ++ (telling_line (whole_of sheet) ++ t))) (sym (append-nil (telling_line reported.end)))
+    ∙ ap (λ t. telling_line reported.hello ++ t) (sym (texts_append (map still_field sheet.fields) (whole_of sheet ∷ reported.end ∷ [])))

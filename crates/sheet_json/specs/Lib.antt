@@ -9,5 +9,5 @@ pub mod Plain
 pub mod Shown
 pub mod Replies
 pub mod Sheets
-pub mod Told
+pub mod Reported
 pub mod Laws

@@ -13,8 +13,8 @@ use Rattle.serde_json.specs.Data.{Data, Members, null, boolean, number, unsigned
 use Rattle.serde_json.specs.View.{items_of}
 use Rattle.sheet_json.specs.Bytes.{bytes_data}
 use Rattle.sheet_json.specs.Blocks.{tree_data}
-use Rattle.sheet_json.specs.Tellings.{CheckTold, Telling, Reply, EventTold, FieldShown, SessionShown, State}
-use Rattle.sheet_json.specs.Tellings as told
+use Rattle.sheet_json.specs.Tellings.{CheckReported, Telling, Reply, EventReported, FieldShown, SessionShown, State}
+use Rattle.sheet_json.specs.Tellings as reported
 use Rattle.sheet_json.specs.declared.checks.Took.{Took}
 
 abbrev pub count : ℕ → Data
@@ -38,16 +38,16 @@ losts_data lost = array (items_of (map lost_data lost))
 
 -- Replies to lines.
 abbrev pub reply_data : ℕ → Reply → Data
-reply_data line told.done = object (member (codes "line") (count line) (typed (codes "done")))
-reply_data line (told.made id) = object (member (codes "id") (count id) (member (codes "line") (count line) (typed (codes "made"))))
-reply_data line (told.asked life) = object (member (codes "life") (count life) (member (codes "line") (count line) (typed (codes "asked"))))
-reply_data line (told.refused why) = object (member (codes "line") (count line) (member (codes "name") (string (refusal_name why)) (member (codes "number") (count (refusal_number why)) (typed (codes "refused")))))
-reply_data line told.bad = object (member (codes "line") (count line) (typed (codes "bad")))
-reply_data line told.nothing = object (member (codes "line") (count line) (typed (codes "nothing")))
-reply_data line (told.waited true) = object (member (codes "line") (count line) (member (codes "over") (string (codes "time")) (typed (codes "waited"))))
-reply_data line (told.waited false) = object (member (codes "line") (count line) (member (codes "over") (string (codes "idle")) (typed (codes "waited"))))
-reply_data line (told.interrupted outcome) = object (member (codes "line") (count line) (member (codes "outcome") (string outcome) (typed (codes "interrupted"))))
-reply_data line (told.undone first) = object (member (codes "from") (count first) (member (codes "line") (count line) (typed (codes "undone"))))
+reply_data line reported.done = object (member (codes "line") (count line) (typed (codes "done")))
+reply_data line (reported.made id) = object (member (codes "id") (count id) (member (codes "line") (count line) (typed (codes "made"))))
+reply_data line (reported.asked life) = object (member (codes "life") (count life) (member (codes "line") (count line) (typed (codes "asked"))))
+reply_data line (reported.refused why) = object (member (codes "line") (count line) (member (codes "name") (string (refusal_name why)) (member (codes "number") (count (refusal_number why)) (typed (codes "refused")))))
+reply_data line reported.bad = object (member (codes "line") (count line) (typed (codes "bad")))
+reply_data line reported.nothing = object (member (codes "line") (count line) (typed (codes "nothing")))
+reply_data line (reported.waited true) = object (member (codes "line") (count line) (member (codes "over") (string (codes "time")) (typed (codes "waited"))))
+reply_data line (reported.waited false) = object (member (codes "line") (count line) (member (codes "over") (string (codes "idle")) (typed (codes "waited"))))
+reply_data line (reported.interrupted outcome) = object (member (codes "line") (count line) (member (codes "outcome") (string outcome) (typed (codes "interrupted"))))
+reply_data line (reported.undone first) = object (member (codes "from") (count first) (member (codes "line") (count line) (typed (codes "undone"))))
 
 abbrev pub stopped_data : ℕ → List ℕ → ℕ → List Item → Data
 stopped_data line session life lost =
@@ -62,44 +62,44 @@ texts_data texts = array (items_of (map bytes_data texts))
 -- the completions, or that the answer tells none
 abbrev pub completions_data : Option Completions → Data
 completions_data None = null
-completions_data (Some told) = object (member (codes "rest") (texts_data told.rest) (member (codes "root") (bytes_data told.root) no_members))
+completions_data (Some reported) = object (member (codes "rest") (texts_data reported.rest) (member (codes "root") (bytes_data reported.root) no_members))
 
 -- a prompt; null where it isn't known
 abbrev pub prompt_data : Option (List ℕ) → Data
 prompt_data None = null
 prompt_data (Some prompt) = bytes_data prompt
 
-abbrev pub event_data : List ℕ → ℕ → EventTold → Data
-event_data session life (told.banner output next) =
+abbrev pub event_data : List ℕ → ℕ → EventReported → Data
+event_data session life (reported.banner output next) =
     object (member (codes "life") (count life) (member (codes "next") (prompt_data next) (member (codes "output") (tree_data output) (member (codes "session") (bytes_data session)
     (member (codes "shown") (shown_data output) (typed (codes "banner")))))))
-event_data session life (told.answer id prompt output next) =
+event_data session life (reported.answer id prompt output next) =
     object (member (codes "id") (count id) (member (codes "life") (count life) (member (codes "next") (prompt_data next) (member (codes "output") (tree_data output) (member (codes "prompt") (bytes_data prompt)
     (member (codes "session") (bytes_data session) (member (codes "shown") (shown_data output) (typed (codes "answered")))))))))
-event_data session life (told.completed id completions) =
-    object (member (codes "id") (count id) (member (codes "life") (count life) (member (codes "session") (bytes_data session) (member (codes "told") (completions_data completions) (typed (codes "completed"))))))
-event_data session life (told.input line) =
+event_data session life (reported.completed id completions) =
+    object (member (codes "id") (count id) (member (codes "life") (count life) (member (codes "session") (bytes_data session) (member (codes "reported") (completions_data completions) (typed (codes "completed"))))))
+event_data session life (reported.input line) =
     object (member (codes "life") (count life) (member (codes "session") (bytes_data session) (member (codes "text") (bytes_data line) (typed (codes "default")))))
-event_data session life (told.ended why lost) =
+event_data session life (reported.ended why lost) =
     object (member (codes "life") (count life) (member (codes "lost") (losts_data lost) (member (codes "reason") (string (reason_name why)) (member (codes "session") (bytes_data session) (typed (codes "ended"))))))
-event_data session life (told.warned outcome) =
+event_data session life (reported.warned outcome) =
     object (member (codes "life") (count life) (member (codes "outcome") (string outcome) (member (codes "session") (bytes_data session) (typed (codes "interrupted")))))
-event_data session life (told.partial bytes) =
+event_data session life (reported.partial bytes) =
     object (member (codes "bytes") (bytes_data bytes) (member (codes "life") (count life) (member (codes "session") (bytes_data session) (typed (codes "partial")))))
 
 -- Worksheets.
 
 -- by its number, session and input, and by how it stands
 abbrev pub field_with : ℕ → List ℕ → List ℕ → State → Data
-field_with id session input (told.answered prompt output) =
+field_with id session input (reported.answered prompt output) =
     object (member (codes "id") (count id) (member (codes "input") (string input) (member (codes "output") (tree_data output) (member (codes "prompt") (bytes_data prompt)
     (member (codes "session") (bytes_data session) (member (codes "shown") (shown_data output) (member (codes "state") (string (codes "answered")) no_members)))))))
-field_with id session input (told.lost why) =
+field_with id session input (reported.lost why) =
     object (member (codes "id") (count id) (member (codes "input") (string input) (member (codes "reason") (string (reason_name why))
     (member (codes "session") (bytes_data session) (member (codes "state") (string (codes "lost")) no_members)))))
-field_with id session input told.waiting =
+field_with id session input reported.waiting =
     object (member (codes "id") (count id) (member (codes "input") (string input) (member (codes "session") (bytes_data session) (member (codes "state") (string (codes "waiting")) no_members))))
-field_with id session input told.empty =
+field_with id session input reported.empty =
     object (member (codes "id") (count id) (member (codes "input") (string input) (member (codes "session") (bytes_data session) (member (codes "state") (string (codes "empty")) no_members))))
 
 abbrev pub field_data : FieldShown → Data
@@ -140,16 +140,16 @@ took_data (Some took) = object (member (codes "millis") (count took.millis) (mem
 abbrev pub judged : Option Took → List ℕ → Members
 judged took verdict = member (codes "took") (took_data took) (member (codes "type") (string (codes "checked")) (member (codes "verdict") (string verdict) no_members))
 
-abbrev pub checked_data : ℕ → List ℕ → Option Took → CheckTold → Data
-checked_data id session took told.same = object (member (codes "id") (count id) (member (codes "session") (bytes_data session) (judged took (codes "same"))))
-checked_data id session took told.left_out = object (member (codes "id") (count id) (member (codes "session") (bytes_data session) (judged took (codes "left_out"))))
-checked_data id session took (told.differs input shows came) =
+abbrev pub checked_data : ℕ → List ℕ → Option Took → CheckReported → Data
+checked_data id session took reported.same = object (member (codes "id") (count id) (member (codes "session") (bytes_data session) (judged took (codes "same"))))
+checked_data id session took reported.left_out = object (member (codes "id") (count id) (member (codes "session") (bytes_data session) (judged took (codes "left_out"))))
+checked_data id session took (reported.differs input shows came) =
     object (member (codes "came") (answer_data came) (member (codes "id") (count id) (member (codes "input") (string input) (member (codes "session") (bytes_data session)
     (member (codes "shows") (answer_data shows) (judged took (codes "differs")))))))
-checked_data id session took (told.unanswered input shows why) =
+checked_data id session took (reported.unanswered input shows why) =
     object (member (codes "id") (count id) (member (codes "input") (string input) (member (codes "reason") (why_data why) (member (codes "session") (bytes_data session)
     (member (codes "shows") (answer_data shows) (judged took (codes "unanswered")))))))
-checked_data id session took (told.new input came) =
+checked_data id session took (reported.new input came) =
     object (member (codes "came") (answer_data came) (member (codes "id") (count id) (member (codes "input") (string input) (member (codes "session") (bytes_data session)
     (judged took (codes "new"))))))
 
@@ -166,26 +166,26 @@ exported_data line format text =
 
 -- All that is printed.
 abbrev pub telling_data : Telling → Data
-telling_data told.hello = object (member (codes "format") (count 1) (member (codes "program") (string (codes "tmhost")) (member (codes "protocol") (count 2) (member (codes "type") (string (codes "hello")) (member (codes "version") (string (codes "0.1.0")) no_members)))))
-telling_data (told.reply line r) = reply_data line r
-telling_data (told.stopped line session life lost) = stopped_data line session life lost
-telling_data (told.event session life e) = event_data session life e
-telling_data (told.field line f) = object (member (codes "field") (field_data f) (member (codes "line") (count line) (typed (codes "field"))))
-telling_data (told.part line f) = object (member (codes "field") (field_data f) (member (codes "line") (count line) (member (codes "more") (boolean true) (typed (codes "field")))))
-telling_data (told.shown f) = object (member (codes "field") (field_data f) (typed (codes "field")))
-telling_data (told.sheet line ids next sessions) = object (member (codes "fields") (ids_data ids) (member (codes "line") (count line) (member (codes "next") (count next) (member (codes "sessions") (sessions_data sessions) (typed (codes "sheet"))))))
-telling_data (told.exported line format text) = exported_data line format text
-telling_data (told.whole ids next sessions) = object (member (codes "fields") (ids_data ids) (member (codes "next") (count next) (member (codes "sessions") (sessions_data sessions) (typed (codes "sheet")))))
-telling_data (told.fault n name None) = object (member (codes "name") (string name) (member (codes "number") (count n) (typed (codes "fault"))))
-telling_data (told.fault n name (Some offset)) = object (member (codes "name") (string name) (member (codes "number") (count n) (member (codes "offset") (count offset) (typed (codes "fault")))))
-telling_data (told.over id outcome) = object (member (codes "id") (count id) (member (codes "outcome") (string outcome) (typed (codes "over"))))
-telling_data (told.counted answered unanswered) = object (member (codes "answered") (count answered) (member (codes "type") (string (codes "counted")) (member (codes "unanswered") (count unanswered) no_members)))
-telling_data (told.counted_in_time answered unanswered over passed) =
+telling_data reported.hello = object (member (codes "format") (count 1) (member (codes "program") (string (codes "tmhost")) (member (codes "protocol") (count 2) (member (codes "type") (string (codes "hello")) (member (codes "version") (string (codes "0.1.0")) no_members)))))
+telling_data (reported.reply line r) = reply_data line r
+telling_data (reported.stopped line session life lost) = stopped_data line session life lost
+telling_data (reported.event session life e) = event_data session life e
+telling_data (reported.field line f) = object (member (codes "field") (field_data f) (member (codes "line") (count line) (typed (codes "field"))))
+telling_data (reported.part line f) = object (member (codes "field") (field_data f) (member (codes "line") (count line) (member (codes "more") (boolean true) (typed (codes "field")))))
+telling_data (reported.shown f) = object (member (codes "field") (field_data f) (typed (codes "field")))
+telling_data (reported.sheet line ids next sessions) = object (member (codes "fields") (ids_data ids) (member (codes "line") (count line) (member (codes "next") (count next) (member (codes "sessions") (sessions_data sessions) (typed (codes "sheet"))))))
+telling_data (reported.exported line format text) = exported_data line format text
+telling_data (reported.whole ids next sessions) = object (member (codes "fields") (ids_data ids) (member (codes "next") (count next) (member (codes "sessions") (sessions_data sessions) (typed (codes "sheet")))))
+telling_data (reported.fault n name None) = object (member (codes "name") (string name) (member (codes "number") (count n) (typed (codes "fault"))))
+telling_data (reported.fault n name (Some offset)) = object (member (codes "name") (string name) (member (codes "number") (count n) (member (codes "offset") (count offset) (typed (codes "fault")))))
+telling_data (reported.over id outcome) = object (member (codes "id") (count id) (member (codes "outcome") (string outcome) (typed (codes "over"))))
+telling_data (reported.counted answered unanswered) = object (member (codes "answered") (count answered) (member (codes "type") (string (codes "counted")) (member (codes "unanswered") (count unanswered) no_members)))
+telling_data (reported.counted_in_time answered unanswered over passed) =
     object (member (codes "answered") (count answered) (member (codes "over") (count over) (member (codes "passed") (count passed) (member (codes "type") (string (codes "counted")) (member (codes "unanswered") (count unanswered) no_members)))))
-telling_data (told.checked id session took c) = checked_data id session took c
-telling_data (told.compared same differ unanswered left_out errors new) =
+telling_data (reported.checked id session took c) = checked_data id session took c
+telling_data (reported.compared same differ unanswered left_out errors new) =
     object (member (codes "differ") (count differ) (member (codes "errors") (count errors) (member (codes "left_out") (count left_out) (member (codes "new") (count new) (member (codes "same") (count same)
     (member (codes "type") (string (codes "compared")) (member (codes "unanswered") (count unanswered) no_members)))))))
-telling_data (told.no_field id) = object (member (codes "id") (count id) (member (codes "name") (string (codes "NoField")) (member (codes "number") (count 37) (typed (codes "fault")))))
-telling_data (told.no_program session) = object (member (codes "name") (string (codes "NoProgram")) (member (codes "number") (count 44) (member (codes "session") (bytes_data session) (typed (codes "fault")))))
-telling_data told.end = object (typed (codes "end"))
+telling_data (reported.no_field id) = object (member (codes "id") (count id) (member (codes "name") (string (codes "NoField")) (member (codes "number") (count 37) (typed (codes "fault")))))
+telling_data (reported.no_program session) = object (member (codes "name") (string (codes "NoProgram")) (member (codes "number") (count 44) (member (codes "session") (bytes_data session) (typed (codes "fault")))))
+telling_data reported.end = object (typed (codes "end"))

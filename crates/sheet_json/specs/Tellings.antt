@@ -46,26 +46,26 @@ pub data Reply : Type 0 where
   undone : ℕ → Reply
 
 -- What comes of an interpreter. Of a banner and an answer the last is the prompt of the line that would be asked next, where it is known.
-pub data EventTold : Type 0 where
-  banner : Tree → Option (List ℕ) → EventTold
-  answer : ℕ → List ℕ → Tree → Option (List ℕ) → EventTold
-  completed : ℕ → Option Completions → EventTold
-  input : List ℕ → EventTold
-  ended : Reason → List Item → EventTold
+pub data EventReported : Type 0 where
+  banner : Tree → Option (List ℕ) → EventReported
+  answer : ℕ → List ℕ → Tree → Option (List ℕ) → EventReported
+  completed : ℕ → Option Completions → EventReported
+  input : List ℕ → EventReported
+  ended : Reason → List Item → EventReported
   -- a limit of time was over, and it was interrupted: what came of that, as a word
-  warned : List ℕ → EventTold
+  warned : List ℕ → EventReported
   -- what it wrote that ends no block; it is kept nowhere, and no answer
-  partial : List ℕ → EventTold
+  partial : List ℕ → EventReported
 
 -- What another evaluation of a field came to. Where that isn't the same output: its input, the answer that it shows, and the one that
 -- came, or the reason that it shows for none.
-pub data CheckTold : Type 0 where
-  same : CheckTold
-  left_out : CheckTold
-  differs : List ℕ → Option Answer → Option Answer → CheckTold
-  unanswered : List ℕ → Option Answer → Option Reason → CheckTold
+pub data CheckReported : Type 0 where
+  same : CheckReported
+  left_out : CheckReported
+  differs : List ℕ → Option Answer → Option Answer → CheckReported
+  unanswered : List ℕ → Option Answer → Option Reason → CheckReported
   -- it showed none: its input, and the answer that came
-  new : List ℕ → Option Answer → CheckTold
+  new : List ℕ → Option Answer → CheckReported
 
 pub data Telling : Type 0 where
   hello : Telling
@@ -74,7 +74,7 @@ pub data Telling : Type 0 where
   -- of that line, which ended the life of this session that has this number
   stopped : ℕ → List ℕ → ℕ → List Item → Telling
   -- of the life of this session that has this number
-  event : List ℕ → ℕ → EventTold → Telling
+  event : List ℕ → ℕ → EventReported → Telling
   -- a field: asked for alone by a line, one of those that a line asks for, or of a worksheet that no line asks for
   field : ℕ → FieldShown → Telling
   part : ℕ → FieldShown → Telling
@@ -93,7 +93,7 @@ pub data Telling : Type 0 where
   -- the same, and for how many fields the limit of time was over, and how many were passed over
   counted_in_time : ℕ → ℕ → ℕ → ℕ → Telling
   -- a field with this number, of this session, that a check evaluated, and what that took, where it is known
-  checked : ℕ → List ℕ → Option Took → CheckTold → Telling
+  checked : ℕ → List ℕ → Option Took → CheckReported → Telling
   -- at the end of a check, how many outputs were the same, how many differed, how many fields were unanswered and left out, how many answers
   -- came that have an error, and how many to fields that showed none
   compared : ℕ → ℕ → ℕ → ℕ → ℕ → ℕ → Telling

@@ -4,7 +4,7 @@ ghost use Rattle.serde_json.specs.Data.{put as with_member};
 ghost use Rattle.serde_json.specs.View.{members_view, view};
 ghost use Rattle.sheet_json.specs.Objects.{telling_data};
 ghost use Rattle.sheet_json.specs.Objects as json;
-ghost use Rattle.sheet_json.specs.Tellings as told;
+ghost use Rattle.sheet_json.specs.Tellings as reported;
 ghost use Rattle.sheet_text.specs.InputLines.{unfolded};
 
 use crate::members::Members;
@@ -92,7 +92,7 @@ fn with_took(alloc: Global, members: Members, took: Option<Took>) -> Result<Memb
 /// A field to which the output came that it shows.
 pub fn same_value(alloc: Global, field: &Field, took: Option<Took>) -> Result<Value, AllocError>
     ensures { IfOk result (λ value. view value
-        ≡ telling_data (told.checked field.now.id field.now.session took told.same)) }
+        ≡ telling_data (reported.checked field.now.id field.now.session took reported.same)) }
 {
     let members = Members::new(alloc)
         .count("id", field.id as u64)?
@@ -105,7 +105,7 @@ pub fn same_value(alloc: Global, field: &Field, took: Option<Took>) -> Result<Va
 /// A field that isn't compared.
 pub fn left_out_value(alloc: Global, field: &Field, took: Option<Took>) -> Result<Value, AllocError>
     ensures { IfOk result (λ value. view value
-        ≡ telling_data (told.checked field.now.id field.now.session took told.left_out)) }
+        ≡ telling_data (reported.checked field.now.id field.now.session took reported.left_out)) }
 {
     let members = Members::new(alloc)
         .count("id", field.id as u64)?
@@ -123,8 +123,8 @@ pub fn differs_value(
     took: Option<Took>,
 ) -> Result<Value, AllocError>
     ensures { IfOk result (λ value. view value
-        ≡ telling_data (told.checked field.now.id field.now.session took
-        (told.differs (unfolded field.now.input) field.now.answer came.now))) }
+        ≡ telling_data (reported.checked field.now.id field.now.session took
+        (reported.differs (unfolded field.now.input) field.now.answer came.now))) }
 {
     let came = answer_value(alloc, came)?;
     let members = Members::new(alloc).with("came", came)?;
@@ -145,8 +145,8 @@ pub fn unanswered_value(
     took: Option<Took>,
 ) -> Result<Value, AllocError>
     ensures { IfOk result (λ value. view value
-        ≡ telling_data (told.checked field.now.id field.now.session took
-        (told.unanswered (unfolded field.now.input) field.now.answer why))) }
+        ≡ telling_data (reported.checked field.now.id field.now.session took
+        (reported.unanswered (unfolded field.now.input) field.now.answer why))) }
 {
     let reason = why_value(alloc, why)?;
     let members = Members::new(alloc).with("reason", reason)?;
@@ -167,8 +167,8 @@ pub fn new_value(
     took: Option<Took>,
 ) -> Result<Value, AllocError>
     ensures { IfOk result (λ value. view value
-        ≡ telling_data (told.checked field.now.id field.now.session took
-        (told.new (unfolded field.now.input) came.now))) }
+        ≡ telling_data (reported.checked field.now.id field.now.session took
+        (reported.new (unfolded field.now.input) came.now))) }
 {
     let came = answer_value(alloc, came)?;
     let members = Members::new(alloc)

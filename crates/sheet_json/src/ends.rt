@@ -2,7 +2,7 @@
 ghost use Rattle.std.specs.Prelude.{◌≡◌, IfOk};
 ghost use Rattle.serde_json.specs.View.{view};
 ghost use Rattle.sheet_json.specs.Objects.{telling_data};
-ghost use Rattle.sheet_json.specs.Tellings as told;
+ghost use Rattle.sheet_json.specs.Tellings as reported;
 
 use crate::members::Members;
 use serde_json::Value;
@@ -10,7 +10,7 @@ use std::alloc::{AllocError, Global};
 
 /// What comes first.
 pub fn hello_value(alloc: Global) -> Result<Value, AllocError>
-    ensures { IfOk result (λ value. view value ≡ telling_data told.hello) }
+    ensures { IfOk result (λ value. view value ≡ telling_data reported.hello) }
 {
     Members::new(alloc)
         .count("format", 1)?
@@ -22,14 +22,14 @@ pub fn hello_value(alloc: Global) -> Result<Value, AllocError>
 
 /// The last object, where the input came to its end.
 pub fn end_value(alloc: Global) -> Result<Value, AllocError>
-    ensures { IfOk result (λ value. view value ≡ telling_data told.end) }
+    ensures { IfOk result (λ value. view value ≡ telling_data reported.end) }
 {
     Members::new(alloc).typed("end")
 }
 
 /// The time of this field is over, and its interpreter was interrupted, or not: what came of it, as a word.
 pub fn over_value(alloc: Global, id: u32, outcome: &str) -> Result<Value, AllocError>
-    ensures { IfOk result (λ value. view value ≡ telling_data (told.over id outcome.now)) }
+    ensures { IfOk result (λ value. view value ≡ telling_data (reported.over id outcome.now)) }
 {
     Members::new(alloc)
         .count("id", id as u64)?
@@ -39,7 +39,7 @@ pub fn over_value(alloc: Global, id: u32, outcome: &str) -> Result<Value, AllocE
 
 /// How many fields of a worksheet show an answer at the end of an evaluation, and how many don't.
 pub fn counted_value(alloc: Global, answered: u64, unanswered: u64) -> Result<Value, AllocError>
-    ensures { IfOk result (λ value. view value ≡ telling_data (told.counted answered unanswered)) }
+    ensures { IfOk result (λ value. view value ≡ telling_data (reported.counted answered unanswered)) }
 {
     Members::new(alloc)
         .count("answered", answered)?
@@ -57,7 +57,7 @@ pub fn counted_in_time_value(
     passed: u64,
 ) -> Result<Value, AllocError>
     ensures { IfOk result (λ value. view value
-        ≡ telling_data (told.counted_in_time answered unanswered over passed)) }
+        ≡ telling_data (reported.counted_in_time answered unanswered over passed)) }
 {
     Members::new(alloc)
         .count("answered", answered)?
@@ -69,7 +69,7 @@ pub fn counted_in_time_value(
 
 /// The fault that no field has this number.
 pub fn no_field_value(alloc: Global, id: u32) -> Result<Value, AllocError>
-    ensures { IfOk result (λ value. view value ≡ telling_data (told.no_field id)) }
+    ensures { IfOk result (λ value. view value ≡ telling_data (reported.no_field id)) }
 {
     Members::new(alloc)
         .count("id", id as u64)?
@@ -80,7 +80,7 @@ pub fn no_field_value(alloc: Global, id: u32) -> Result<Value, AllocError>
 
 /// The fault that the program of this session isn't there.
 pub fn no_program_value(alloc: Global, session: &[u8]) -> Result<Value, AllocError>
-    ensures { IfOk result (λ value. view value ≡ telling_data (told.no_program session.now)) }
+    ensures { IfOk result (λ value. view value ≡ telling_data (reported.no_program session.now)) }
 {
     Members::new(alloc)
         .text("name", "NoProgram")?
@@ -96,7 +96,7 @@ pub fn fault_value(
     name: &str,
     offset: Option<u64>,
 ) -> Result<Value, AllocError>
-    ensures { IfOk result (λ value. view value ≡ telling_data (told.fault number name.now offset)) }
+    ensures { IfOk result (λ value. view value ≡ telling_data (reported.fault number name.now offset)) }
 {
     let members = Members::new(alloc)
         .text("name", name)?

@@ -5,7 +5,7 @@ ghost use Rattle.serde_json.specs.View.{items_of, view};
 ghost use Rattle.sheet_json.specs.Bytes.{bytes_data};
 ghost use Rattle.sheet_json.specs.Objects.{telling_data};
 ghost use Rattle.sheet_json.specs.Objects as json;
-ghost use Rattle.sheet_json.specs.Tellings as told;
+ghost use Rattle.sheet_json.specs.Tellings as reported;
 ghost use Rattle.sheet_text.specs.Blocks as printed;
 
 use crate::bytes::bytes_value;
@@ -55,7 +55,7 @@ pub fn banner_value(
     next: Option<&[u8]>,
 ) -> Result<Value, AllocError>
     ensures { IfOk result (λ value. view value
-        ≡ telling_data (told.event session.now life (told.banner output.now (option_copied next.entry)))) }
+        ≡ telling_data (reported.event session.now life (reported.banner output.now (option_copied next.entry)))) }
 {
     let next = prompt_value(alloc, next)?;
     Members::new(alloc)
@@ -79,7 +79,7 @@ pub fn answered_value(
     next: Option<&[u8]>,
 ) -> Result<Value, AllocError>
     ensures { IfOk result (λ value. view value
-        ≡ telling_data (told.event session.now life (told.answer id prompt.now output.now (option_copied next.entry)))) }
+        ≡ telling_data (reported.event session.now life (reported.answer id prompt.now output.now (option_copied next.entry)))) }
 {
     let next = prompt_value(alloc, next)?;
     Members::new(alloc)
@@ -131,11 +131,11 @@ pub fn completed_value(
     given: Option<&Completions>,
 ) -> Result<Value, AllocError>
     ensures { IfOk result (λ value. view value ≡ telling_data
-        (told.event session.now life (told.completed id (option_copied given.entry)))) }
+        (reported.event session.now life (reported.completed id (option_copied given.entry)))) }
 {
-    let told = completions_value(alloc, given)?;
+    let reported = completions_value(alloc, given)?;
     Members::new(alloc)
-        .with("told", told)?
+        .with("told", reported)?
         .count("id", id as u64)?
         .count("life", life as u64)?
         .bytes("session", session)?
@@ -150,7 +150,7 @@ pub fn default_value(
     text: &[u8],
 ) -> Result<Value, AllocError>
     ensures { IfOk result (λ value. view value
-        ≡ telling_data (told.event session.now life (told.input text.now))) }
+        ≡ telling_data (reported.event session.now life (reported.input text.now))) }
 {
     Members::new(alloc)
         .count("life", life as u64)?
@@ -204,7 +204,7 @@ pub fn ended_value(
     lost: &Queue<Item>,
 ) -> Result<Value, AllocError>
     ensures { IfOk result (λ value. view value
-        ≡ telling_data (told.event session.now life (told.ended why lost.now))) }
+        ≡ telling_data (reported.event session.now life (reported.ended why lost.now))) }
 {
     let items = losts_value(alloc, lost)?;
     Members::new(alloc)
@@ -223,7 +223,7 @@ pub fn warned_value(
     outcome: &str,
 ) -> Result<Value, AllocError>
     ensures { IfOk result (λ value. view value
-        ≡ telling_data (told.event session.now life (told.warned outcome.now))) }
+        ≡ telling_data (reported.event session.now life (reported.warned outcome.now))) }
 {
     Members::new(alloc)
         .count("life", life as u64)?
@@ -240,7 +240,7 @@ pub fn partial_value(
     bytes: &[u8],
 ) -> Result<Value, AllocError>
     ensures { IfOk result (λ value. view value
-        ≡ telling_data (told.event session.now life (told.partial bytes.now))) }
+        ≡ telling_data (reported.event session.now life (reported.partial bytes.now))) }
 {
     Members::new(alloc)
         .bytes("bytes", bytes)?
@@ -258,7 +258,7 @@ pub fn stopped_value(
     lost: &Queue<Item>,
 ) -> Result<Value, AllocError>
     ensures { IfOk result (λ value. view value
-        ≡ telling_data (told.stopped line session.now life lost.now)) }
+        ≡ telling_data (reported.stopped line session.now life lost.now)) }
 {
     let items = losts_value(alloc, lost)?;
     Members::new(alloc)

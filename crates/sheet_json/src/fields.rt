@@ -4,7 +4,7 @@ ghost use Rattle.serde_json.specs.View.{view};
 ghost use Rattle.sheet_json.specs.Objects.{telling_data};
 ghost use Rattle.sheet_json.specs.Objects as json;
 ghost use Rattle.sheet_json.specs.Shown as shown;
-ghost use Rattle.sheet_json.specs.Tellings as told;
+ghost use Rattle.sheet_json.specs.Tellings as reported;
 ghost use Rattle.sheet_text.specs.InputLines.{unfolded};
 
 use crate::members::Members;
@@ -17,7 +17,7 @@ use worksheet::{Answer, Field, Session, Sheet};
 /// A field that shows an answer; its input has a line feed for each U+2028, as in each of these.
 fn answered_field(alloc: Global, field: &Field, answer: &Answer) -> Result<Value, AllocError>
     ensures { IfOk result (λ value. view value ≡ json.field_with field.now.id field.now.session
-        (unfolded field.now.input) (told.answered answer.now.prompt answer.now.output)) }
+        (unfolded field.now.input) (reported.answered answer.now.prompt answer.now.output)) }
 {
     let members = Members::new(alloc)
         .count("id", field.id as u64)?
@@ -33,7 +33,7 @@ fn answered_field(alloc: Global, field: &Field, answer: &Answer) -> Result<Value
 /// A field whose line was lost.
 fn lost_field(alloc: Global, field: &Field, why: Reason) -> Result<Value, AllocError>
     ensures { IfOk result (λ value. view value ≡ json.field_with field.now.id field.now.session
-        (unfolded field.now.input) (told.lost why)) }
+        (unfolded field.now.input) (reported.lost why)) }
 {
     let members = Members::new(alloc)
         .count("id", field.id as u64)?
@@ -59,7 +59,7 @@ fn open_field(alloc: Global, field: &Field, waits: bool) -> Result<Value, AllocE
 
 /// A field, of which a host knows whether its line waits.
 fn field_value(alloc: Global, field: &Field, waits: bool) -> Result<Value, AllocError>
-    ensures { IfOk result (λ value. view value ≡ json.field_data (shown.field_told waits field.now)) }
+    ensures { IfOk result (λ value. view value ≡ json.field_data (shown.field_reported waits field.now)) }
 {
     match (&field.answer, field.lost) {
         (Some(answer), _) => answered_field(alloc, field, answer),
@@ -76,7 +76,7 @@ pub fn asked_field_value(
     waits: bool,
 ) -> Result<Value, AllocError>
     ensures { IfOk result (λ value. view value
-        ≡ telling_data (told.field line (shown.field_told waits field.now))) }
+        ≡ telling_data (reported.field line (shown.field_reported waits field.now))) }
 {
     let inside = field_value(alloc, field, waits)?;
     Members::new(alloc)
@@ -88,7 +88,7 @@ pub fn asked_field_value(
 /// One of the fields that a line asks for.
 pub fn part_value(alloc: Global, line: u64, field: &Field, waits: bool) -> Result<Value, AllocError>
     ensures { IfOk result (λ value. view value
-        ≡ telling_data (told.part line (shown.field_told waits field.now))) }
+        ≡ telling_data (reported.part line (shown.field_reported waits field.now))) }
 {
     let inside = field_value(alloc, field, waits)?;
     Members::new(alloc)
@@ -101,7 +101,7 @@ pub fn part_value(alloc: Global, line: u64, field: &Field, waits: bool) -> Resul
 /// A field of a worksheet that no host has.
 pub fn shown_field_value(alloc: Global, field: &Field) -> Result<Value, AllocError>
     ensures { IfOk result (λ value. view value
-        ≡ telling_data (told.shown (shown.field_told false field.now))) }
+        ≡ telling_data (reported.shown (shown.field_reported false field.now))) }
 {
     let inside = field_value(alloc, field, false)?;
     Members::new(alloc).with("field", inside)?.typed("field")

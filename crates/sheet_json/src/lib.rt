@@ -11,8 +11,8 @@ pub mod laws;
 mod lines;
 mod members;
 mod replies;
+mod reported;
 mod sheets;
-mod told;
 mod whole;
 
 pub use blocks::block_value;
@@ -27,11 +27,11 @@ pub use events::{
     stopped_value, warned_value,
 };
 pub use fields::{asked_field_value, part_value, shown_field_value};
-pub use lines::{line_bytes, told_bytes};
+pub use lines::{line_bytes, reported_bytes};
 pub use replies::{
     asked_value, bad_value, done_value, exported_value, interrupted_value, made_value,
     nothing_value, refused_value, undone_value, waited_value,
 };
+pub use reported::closed_value;
 pub use sheets::{session_value, sheet_value, whole_value};
-pub use told::closed_value;
 pub use whole::sheet_bytes;

@@ -28,7 +28,7 @@ pub fn line_bytes(alloc: Global, value: &Value) -> Result<Vec<u8>, AllocError>
 }
 
 /// The line of a message.
-pub fn told_bytes(alloc: Global, value: &Value) -> Result<Vec<u8>, AllocError>
+pub fn reported_bytes(alloc: Global, value: &Value) -> Result<Vec<u8>, AllocError>
     ensures { (t : Telling) → view value.now ≡ telling_data t → IfOk result (λ bytes. bytes.items ≡ telling_line t) }
 {
     line_bytes(alloc, value)

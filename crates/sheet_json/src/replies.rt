@@ -3,7 +3,7 @@ ghost use Rattle.std.specs.Prelude.{◌≡◌, IfOk};
 ghost use Rattle.std.specs.Option.{option_copied};
 ghost use Rattle.serde_json.specs.View.{view};
 ghost use Rattle.sheet_json.specs.Objects.{export_data, telling_data};
-ghost use Rattle.sheet_json.specs.Tellings as told;
+ghost use Rattle.sheet_json.specs.Tellings as reported;
 
 use crate::bytes::bytes_value;
 use crate::members::Members;
@@ -13,14 +13,14 @@ use worksheet::Refusal;
 
 /// A command was done.
 pub fn done_value(alloc: Global, line: u64) -> Result<Value, AllocError>
-    ensures { IfOk result (λ value. view value ≡ telling_data (told.reply line told.done)) }
+    ensures { IfOk result (λ value. view value ≡ telling_data (reported.reply line reported.done)) }
 {
     Members::new(alloc).count("line", line)?.typed("done")
 }
 
 /// A field was made, with this number.
 pub fn made_value(alloc: Global, line: u64, id: u32) -> Result<Value, AllocError>
-    ensures { IfOk result (λ value. view value ≡ telling_data (told.reply line (told.made id))) }
+    ensures { IfOk result (λ value. view value ≡ telling_data (reported.reply line (reported.made id))) }
 {
     Members::new(alloc)
         .count("id", id as u64)?
@@ -30,7 +30,7 @@ pub fn made_value(alloc: Global, line: u64, id: u32) -> Result<Value, AllocError
 
 /// The life with this number has the item.
 pub fn asked_value(alloc: Global, line: u64, life: u32) -> Result<Value, AllocError>
-    ensures { IfOk result (λ value. view value ≡ telling_data (told.reply line (told.asked life))) }
+    ensures { IfOk result (λ value. view value ≡ telling_data (reported.reply line (reported.asked life))) }
 {
     Members::new(alloc)
         .count("life", life as u64)?
@@ -40,7 +40,7 @@ pub fn asked_value(alloc: Global, line: u64, life: u32) -> Result<Value, AllocEr
 
 /// A command was refused.
 pub fn refused_value(alloc: Global, line: u64, why: Refusal) -> Result<Value, AllocError>
-    ensures { IfOk result (λ value. view value ≡ telling_data (told.reply line (told.refused why))) }
+    ensures { IfOk result (λ value. view value ≡ telling_data (reported.reply line (reported.refused why))) }
 {
     Members::new(alloc)
         .count("line", line)?
@@ -51,21 +51,21 @@ pub fn refused_value(alloc: Global, line: u64, why: Refusal) -> Result<Value, Al
 
 /// A line isn't known.
 pub fn bad_value(alloc: Global, line: u64) -> Result<Value, AllocError>
-    ensures { IfOk result (λ value. view value ≡ telling_data (told.reply line told.bad)) }
+    ensures { IfOk result (λ value. view value ≡ telling_data (reported.reply line reported.bad)) }
 {
     Members::new(alloc).count("line", line)?.typed("bad")
 }
 
 /// A line does nothing.
 pub fn nothing_value(alloc: Global, line: u64) -> Result<Value, AllocError>
-    ensures { IfOk result (λ value. view value ≡ telling_data (told.reply line told.nothing)) }
+    ensures { IfOk result (λ value. view value ≡ telling_data (reported.reply line reported.nothing)) }
 {
     Members::new(alloc).count("line", line)?.typed("nothing")
 }
 
 /// The interpreter of a session was interrupted, or not: what came of it, as a word.
 pub fn interrupted_value(alloc: Global, line: u64, outcome: &str) -> Result<Value, AllocError>
-    ensures { IfOk result (λ value. view value ≡ telling_data (told.reply line (told.interrupted outcome.now))) }
+    ensures { IfOk result (λ value. view value ≡ telling_data (reported.reply line (reported.interrupted outcome.now))) }
 {
     Members::new(alloc)
         .count("line", line)?
@@ -75,7 +75,7 @@ pub fn interrupted_value(alloc: Global, line: u64, outcome: &str) -> Result<Valu
 
 /// A transaction ends, from this first one on, of which nothing was done.
 pub fn undone_value(alloc: Global, first: u64, line: u64) -> Result<Value, AllocError>
-    ensures { IfOk result (λ value. view value ≡ telling_data (told.reply line (told.undone first))) }
+    ensures { IfOk result (λ value. view value ≡ telling_data (reported.reply line (reported.undone first))) }
 {
     Members::new(alloc)
         .count("from", first)?
@@ -85,7 +85,7 @@ pub fn undone_value(alloc: Global, first: u64, line: u64) -> Result<Value, Alloc
 
 /// A wait is over, since no item waits, or since its time is over.
 pub fn waited_value(alloc: Global, line: u64, timed_out: bool) -> Result<Value, AllocError>
-    ensures { IfOk result (λ value. view value ≡ telling_data (told.reply line (told.waited timed_out))) }
+    ensures { IfOk result (λ value. view value ≡ telling_data (reported.reply line (reported.waited timed_out))) }
 {
     Members::new(alloc)
         .count("line", line)?
@@ -111,7 +111,7 @@ pub fn exported_value(
     text: Option<&[u8]>,
 ) -> Result<Value, AllocError>
     ensures { IfOk result (λ value. view value
-        ≡ telling_data (told.exported line format.now (option_copied text.entry))) }
+        ≡ telling_data (reported.exported line format.now (option_copied text.entry))) }
 {
     let text = export_value(alloc, text)?;
     Members::new(alloc)

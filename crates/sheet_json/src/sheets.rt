@@ -7,7 +7,7 @@ ghost use Rattle.sheet_json.specs.Objects as json;
 ghost use Rattle.sheet_json.specs.Shown as shown;
 ghost use Rattle.sheet_json.specs.inside.Rows as rows;
 ghost use Rattle.sheet_json.specs.Tellings.{SessionShown};
-ghost use Rattle.sheet_json.specs.Tellings as told;
+ghost use Rattle.sheet_json.specs.Tellings as reported;
 
 use crate::events::texts_value;
 use crate::members::Members;
@@ -108,7 +108,7 @@ pub fn sheet_value(
 ) -> Result<Value, AllocError>
     ensures { (all : List SessionShown) → map view sessions.items ≡ map json.session_data all
         → IfOk result (λ value. view value ≡ telling_data
-        (told.sheet line (shown.ids_of sheet.now.contents) sheet.now.contents.next all)) }
+        (reported.sheet line (shown.ids_of sheet.now.contents) sheet.now.contents.next all)) }
 {
     let members = Members::new(alloc).with("sessions", Value::Array(sessions))?;
     with_ids(alloc, members, sheet)?

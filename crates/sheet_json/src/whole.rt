@@ -5,7 +5,7 @@ ghost use Rattle.serde_json.specs.Written.{has_float};
 ghost use Rattle.sheet_json.specs.Lines.{json_line};
 ghost use Rattle.sheet_json.specs.Sheets.{fields_text, sheet_lines, telling_line};
 ghost use Rattle.sheet_json.specs.Shown.{still_field, whole_of};
-ghost use Rattle.sheet_json.specs.Tellings as told;
+ghost use Rattle.sheet_json.specs.Tellings as reported;
 
 use crate::ends::{end_value, hello_value};
 use crate::fields::shown_field_value;
@@ -26,9 +26,9 @@ fn push_line(alloc: Global, value: &Value, bytes: &mut Vec<u8>) -> Result<(), Al
 }
 
 /// Adds the first object.
-#[tactic(auto, using(crate::proofs::NoFloats::told_has_none))]
+#[tactic(auto, using(crate::proofs::NoFloats::reported_has_none))]
 fn push_hello(alloc: Global, bytes: &mut Vec<u8>) -> Result<(), AllocError>
-    ensures { OnOk result (bytes.new.items ≡ bytes.old.items ++ telling_line told.hello) }
+    ensures { OnOk result (bytes.new.items ≡ bytes.old.items ++ telling_line reported.hello) }
 {
     let value = hello_value(alloc)?;
     push_line(alloc, &value, bytes)
@@ -67,9 +67,9 @@ fn push_whole(alloc: Global, sheet: &Sheet, bytes: &mut Vec<u8>) -> Result<(), A
 }
 
 /// Adds the last object.
-#[tactic(auto, using(crate::proofs::NoFloats::told_has_none))]
+#[tactic(auto, using(crate::proofs::NoFloats::reported_has_none))]
 fn push_end(alloc: Global, bytes: &mut Vec<u8>) -> Result<(), AllocError>
-    ensures { OnOk result (bytes.new.items ≡ bytes.old.items ++ telling_line told.end) }
+    ensures { OnOk result (bytes.new.items ≡ bytes.old.items ++ telling_line reported.end) }
 {
     let value = end_value(alloc)?;
     push_line(alloc, &value, bytes)

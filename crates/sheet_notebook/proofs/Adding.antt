@@ -2,7 +2,7 @@
 use Rattle.std.proofs.Common.{◌≡◌, ℕ, zero, suc, ◌-◌, ◌<◌, Bool, true, cond, List, [], ◌∷◌, ◌++◌, nat_lt, length, arith, refl, ap, sym, ◌∙◌, append_assoc, append-nil}
 use Rattle.std.proofs.lemmas.Bool.Decides.{nat_tests}
 use Rattle.bstr.specs.Utf8.{decoded}
-use Rattle.sheet_notebook.specs.Strings.{first_string, others_of, string_behind}
+use Rattle.sheet_notebook.specs.Strings.{first_string, others_of, string_after}
 use Rattle.sheet_notebook.specs.inside.Adds.{Adds}
 
 pub adds_trans : (a b c xs ys : List ℕ) → Adds a b xs → Adds b c ys → Adds a c (xs ++ ys)
@@ -24,25 +24,25 @@ pub all_added : (a b ahead all : List ℕ) → ahead ≡ [] → Adding a b ahead
 all_added a b ahead all e w = sym (append-nil b) ∙ ap (λ t. b ++ t) (sym e) ∙ w
 
 -- a byte of a character that was added
-pub byte_skipped : (keeps_lines : Bool) (left byte : ℕ) (bytes others a b all : List ℕ) → bytes ≡ byte ∷ others → 0 < left → Adding a b (string_behind keeps_lines left bytes) all
-    → Adding a b (string_behind keeps_lines (left - 1) others) all
-unfolding string_behind
+pub byte_skipped : (keeps_lines : Bool) (left byte : ℕ) (bytes others a b all : List ℕ) → bytes ≡ byte ∷ others → 0 < left → Adding a b (string_after keeps_lines left bytes) all
+    → Adding a b (string_after keeps_lines (left - 1) others) all
+unfolding string_after
 byte_skipped keeps_lines left byte bytes others a b all e more w =
     let test : nat_lt 0 left ≡ true = grind (arith, nat_tests, more) in
-    let skipped : string_behind keeps_lines left bytes ≡ string_behind keeps_lines (left - 1) others =
-    ap (string_behind keeps_lines left) e ∙ ap (λ t. cond t (string_behind keeps_lines (left - 1) others) (first_string keeps_lines byte (decoded (byte ∷ others)).char ++ string_behind keeps_lines (others_of (decoded (byte ∷ others))) others)) test in
+    let skipped : string_after keeps_lines left bytes ≡ string_after keeps_lines (left - 1) others =
+    ap (string_after keeps_lines left) e ∙ ap (λ t. cond t (string_after keeps_lines (left - 1) others) (first_string keeps_lines byte (decoded (byte ∷ others)).char ++ string_after keeps_lines (others_of (decoded (byte ∷ others))) others)) test in
     ap (λ t. b ++ t) (sym skipped) ∙ w
 
 -- the first byte of a character, or of none
-pub first_added : (keeps_lines : Bool) (left byte : ℕ) (bytes others a b c all : List ℕ) → bytes ≡ byte ∷ others → (0 < left → ⊥) → Adding a b (string_behind keeps_lines left bytes) all
-    → Adds b c (first_string keeps_lines byte (decoded bytes).char) → Adding a c (string_behind keeps_lines (others_of (decoded bytes)) others) all
-unfolding string_behind
+pub first_added : (keeps_lines : Bool) (left byte : ℕ) (bytes others a b c all : List ℕ) → bytes ≡ byte ∷ others → (0 < left → ⊥) → Adding a b (string_after keeps_lines left bytes) all
+    → Adds b c (first_string keeps_lines byte (decoded bytes).char) → Adding a c (string_after keeps_lines (others_of (decoded bytes)) others) all
+unfolding string_after
 first_added keeps_lines zero byte bytes others a b c all e none w p =
-    part_added a b c (string_behind keeps_lines 0 bytes) (first_string keeps_lines byte (decoded bytes).char) (string_behind keeps_lines (others_of (decoded bytes)) others) all (rw e refl) w p
+    part_added a b c (string_after keeps_lines 0 bytes) (first_string keeps_lines byte (decoded bytes).char) (string_after keeps_lines (others_of (decoded bytes)) others) all (rw e refl) w p
 first_added keeps_lines (suc left) byte bytes others a b c all e none w p = absurd (none (omega arith))
 
-pub text_added : (keeps_lines : Bool) (left : ℕ) (bytes a b all : List ℕ) → length bytes ≡ 0 → Adding a b (string_behind keeps_lines left bytes) all → Adds a b all
-unfolding string_behind
+pub text_added : (keeps_lines : Bool) (left : ℕ) (bytes a b all : List ℕ) → length bytes ≡ 0 → Adding a b (string_after keeps_lines left bytes) all → Adds a b all
+unfolding string_after
 text_added keeps_lines left [] a b all e w = all_added a b [] all refl w
 text_added keeps_lines left (byte ∷ bytes) a b all e w = absurd (omega (arith, e))
 

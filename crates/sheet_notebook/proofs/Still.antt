@@ -7,7 +7,7 @@ use Rattle.sheet_text.specs.Blocks.{block_text, framed, is_bare, items_block_tex
 use Rattle.sheet_text.specs.Escape.{on_lines}
 use Rattle.std.proofs.lemmas.Slice.Eq.{bytes_eq-Decides}
 use Rattle.sheet_notebook.specs.Formulas.{formula_in, formula_last, formula_named, formula_of, is_formula, is_still, text_and_formula}
-use Rattle.sheet_notebook.specs.Laws.{FormulasAreStill, FormulasBehindAreStill}
+use Rattle.sheet_notebook.specs.Laws.{FormulasAreStill, FormulasAfterAreStill}
 
 abbrev stays : Option (List ℕ) → Bool
 stays None = true
@@ -107,8 +107,8 @@ both_are (text given rest) printed formula e = go (formula_last rest) refl e
         record { still = last.still; shows = ap₂ (λ a b. on_lines a ++ b) same last.shows }
 both_are (block channel name inside rest) printed formula e = cc
 
-pub are_still_behind : FormulasBehindAreStill
-are_still_behind output printed formula e = go (is_bare output.channel output.name) refl e
+pub are_still_after : FormulasAfterAreStill
+are_still_after output printed formula e = go (is_bare output.channel output.name) refl e
   where
     go : (t : Bool) → is_bare output.channel output.name ≡ t → cond t (text_and_formula output.items) None ≡ Some (printed, formula)
         → (is_still formula ≡ true) × (block_text output ≡ on_lines printed ++ framed false (codes "latex") (on_lines formula))

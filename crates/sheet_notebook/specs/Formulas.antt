@@ -118,5 +118,5 @@ text_and_formula (text given rest) = option_map (λ formula. (given, formula)) (
 text_and_formula (block channel name inside rest) = None
 
 -- the text that an output prints and the formula after it, if it is those: of an interpreter that prints before it gives its value
-abbrev pub formula_behind : Tree → Option (List ℕ × List ℕ)
-formula_behind b = cond (is_bare b.channel b.name) (text_and_formula b.items) None
+abbrev pub formula_after : Tree → Option (List ℕ × List ℕ)
+formula_after b = cond (is_bare b.channel b.name) (text_and_formula b.items) None

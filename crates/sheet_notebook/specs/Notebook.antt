@@ -46,8 +46,8 @@ stream_data printed = object (member (codes "name") (string (codes "stdout")) (m
 
 -- what it reports as an error
 abbrev pub error_data : List ℕ → Data
-error_data told = object (member (codes "ename") (string (codes "Error")) (member (codes "evalue") (string told) (member (codes "output_type") (string (codes "error"))
-    (member (codes "traceback") (array (item (string told) no_items)) no_members))))
+error_data reported = object (member (codes "ename") (string (codes "Error")) (member (codes "evalue") (string reported) (member (codes "output_type") (string (codes "error"))
+    (member (codes "traceback") (array (item (string reported) no_items)) no_members))))
 
 -- a picture that isn't drawn, by its format
 abbrev pub undrawn_text : List ℕ → List ℕ

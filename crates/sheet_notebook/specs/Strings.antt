@@ -15,14 +15,14 @@ abbrev pub others_of : Decoded → ℕ
 others_of front = cond (is_some front.char) (front.size - 1) 0
 
 -- a text, the first bytes of which belong to a character that stands in front of them
-unfoldable pub string_behind : Bool → ℕ → List ℕ → List ℕ
-string_behind keeps_lines left [] = []
-string_behind keeps_lines left (byte ∷ rest) = cond (nat_lt 0 left) (string_behind keeps_lines (left - 1) rest)
-    (first_string keeps_lines byte (decoded (byte ∷ rest)).char ++ string_behind keeps_lines (others_of (decoded (byte ∷ rest))) rest)
+unfoldable pub string_after : Bool → ℕ → List ℕ → List ℕ
+string_after keeps_lines left [] = []
+string_after keeps_lines left (byte ∷ rest) = cond (nat_lt 0 left) (string_after keeps_lines (left - 1) rest)
+    (first_string keeps_lines byte (decoded (byte ∷ rest)).char ++ string_after keeps_lines (others_of (decoded (byte ∷ rest))) rest)
 
 -- a text, on one line or on as many as it has
 abbrev pub string_of : Bool → List ℕ → List ℕ
-string_of keeps_lines bytes = string_behind keeps_lines 0 bytes
+string_of keeps_lines bytes = string_after keeps_lines 0 bytes
 
 -- '{', the tag, what stands in it, '}'
 abbrev pub framed_string : Bool → List ℕ → List ℕ → List ℕ

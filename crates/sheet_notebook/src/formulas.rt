@@ -294,9 +294,9 @@ pub(crate) fn is_bare_tag(tag: &Tag) -> bool
 
 /// The text and the formula after it that a node is, if it is those.
 #[tactic(auto, using(crate::proofs::Pieces::item_rules))]
-fn formula_behind_node(node: &Node) -> Option<(&[u8], &[u8])>
+fn formula_after_node(node: &Node) -> Option<(&[u8], &[u8])>
     ensures { option_map (λ found. (found.0.now, found.1.now)) result
-        ≡ formula.formula_behind (tree_of node.now) }
+        ≡ formula.formula_after (tree_of node.now) }
 {
     if is_bare_tag(&node.tag) {
         text_and_formula(node.items.as_slice())
@@ -307,9 +307,9 @@ fn formula_behind_node(node: &Node) -> Option<(&[u8], &[u8])>
 
 /// The text that an output prints and the formula after it, if it is these two, of an interpreter that prints before
 /// it gives its value: a block without a tag in braces that has a text, and then a block that is a formula.
-pub fn formula_behind(output: &Block) -> Option<(&[u8], &[u8])>
+pub fn formula_after(output: &Block) -> Option<(&[u8], &[u8])>
     ensures { option_map (λ found. (found.0.now, found.1.now)) result
-        ≡ formula.formula_behind output.now }
+        ≡ formula.formula_after output.now }
 {
-    formula_behind_node(output.node())
+    formula_after_node(output.node())
 }

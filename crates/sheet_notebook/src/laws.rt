@@ -1,5 +1,5 @@
 //! Laws of the definitions. Each function does nothing: its contract is the law.
-ghost use Rattle.sheet_notebook.specs.Laws.{Base64IsItsAlone, FormulasAreStill, FormulasBehindAreStill};
+ghost use Rattle.sheet_notebook.specs.Laws.{Base64IsItsAlone, FormulasAreStill, FormulasAfterAreStill};
 
 /// What stands bare in Markdown for a formula is no more than text there: it has no control byte and no
 /// backquote, and nothing in it begins a link, an image, an element, a remark or an address.
@@ -8,8 +8,8 @@ pub fn formulas_are_still()
 {}
 
 /// The same of one after a text that was printed; and these two are all that `print` shows of such an output.
-pub fn formulas_behind_are_still()
-    ensures { FormulasBehindAreStill }
+pub fn formulas_after_are_still()
+    ensures { FormulasAfterAreStill }
 {}
 
 /// Base64 has letters, digits, `+`, `/` and `=` alone.

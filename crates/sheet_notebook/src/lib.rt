@@ -8,6 +8,6 @@ mod outputs;
 mod pictures;
 mod strings;
 
-pub use formulas::{formula_behind, formula_of};
+pub use formulas::{formula_after, formula_of};
 pub use notebook::notebook_bytes;
 pub use pictures::{PictureKind, is_error_tag, is_output_tag, picture_kind, picture_text};

@@ -81,9 +81,9 @@ fn error_of(alloc: Global, node: &Node) -> Result<Value, AllocError>
     ensures { IfOk result
         (λ value. view value ≡ notebook.error_data (shown.items_string (tree_of node.now).items)) }
 {
-    let told = inside_string(alloc, node)?;
+    let reported = inside_string(alloc, node)?;
     let line = inside_string(alloc, node)?;
-    json!(in alloc; {"ename": "Error", "evalue": told, "output_type": "error", "traceback": [line]})
+    json!(in alloc; {"ename": "Error", "evalue": reported, "output_type": "error", "traceback": [line]})
 }
 
 /// A picture that isn't drawn, by its format.

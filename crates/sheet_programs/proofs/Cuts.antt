@@ -17,37 +17,37 @@ use Rattle.worksheet.specs.Checks.{first_of}
 use Rattle.session_engine.specs.World.{World}
 use Rattle.session_engine.specs.Refused.{command_refusals}
 use Rattle.session_engine.specs.Does.{CommandDoes, Does, Gives, Runs}
-use Rattle.child_edge.specs.Faithful.{Beat}
-use Rattle.child_edge.specs.Told.{spoken, told}
+use Rattle.child_edge.specs.Faithful.{Entry}
+use Rattle.child_edge.specs.Reported.{spoken, reported}
 use Rattle.sheet_text.specs.Script.{line_of}
 use Rattle.sheet_text.specs.declared.script.ScriptLine.{ScriptLine}
 use Rattle.sheet_text.specs.declared.script.ScriptLine.TheVariants as line
 use Rattle.sheet_programs.specs.Strict.{is_bad, is_wrong}
 use Rattle.sheet_programs.specs.Together.{Joins, lines_events, line_events, may_join}
 use Rattle.sheet_programs.specs.inside.Grouping.{AllWait, counted_if, may_wait, outcome_wrong}
-use Rattle.session_engine.specs.Groups.{LastRefused, StopsAtRefusal, behind_one, is_refusal, is_refused, nowhere}
-use Rattle.sheet_programs.proofs.Grouped.{IsEdit, beats_from}
+use Rattle.session_engine.specs.Groups.{LastRefused, StopsAtRefusal, after_one, is_refusal, is_refused, nowhere}
+use Rattle.sheet_programs.proofs.Grouped.{IsEdit, entries_from}
 
 -- Such a command goes wrong where it is refused.
 
-does_told : (w : World) (c : Command) (r : Option Refusal) (d : Does) → is_some (op_of c) ≡ true → CommandDoes w c r d → is_wrong d.told.reply ≡ is_refused d.told.reply
-does_told w c (Some r) d edit is = subst (λ (x : Does). is_wrong x.told.reply ≡ is_refused x.told.reply) (sym is) refl
-does_told w c None d edit (inr refused) = subst (λ (x : Does). is_wrong x.told.reply ≡ is_refused x.told.reply) (sym refused.1) refl
-does_told w (command.Session name tab words) None d edit (inl is) = subst (λ (x : Does). is_wrong x.told.reply ≡ is_refused x.told.reply) (sym is) refl
-does_told w (command.New after session input) None d edit (inl is) = subst (λ (x : Does). is_wrong x.told.reply ≡ is_refused x.told.reply) (sym is) refl
-does_told w (command.Set id input) None d edit (inl is) = subst (λ (x : Does). is_wrong x.told.reply ≡ is_refused x.told.reply) (sym is) refl
-does_told w (command.Remove id) None d edit (inl is) = subst (λ (x : Does). is_wrong x.told.reply ≡ is_refused x.told.reply) (sym is) refl
-does_told w (command.Move id after) None d edit (inl is) = subst (λ (x : Does). is_wrong x.told.reply ≡ is_refused x.told.reply) (sym is) refl
-does_told w (command.Clear id) None d edit (inl is) = subst (λ (x : Does). is_wrong x.told.reply ≡ is_refused x.told.reply) (sym is) refl
-does_told w (command.Eval id) None d edit (inl is) = absurd (false≢true edit)
-does_told w (command.Complete id cursor) None d edit (inl is) = absurd (false≢true edit)
-does_told w (command.CompleteText id cursor text) None d edit (inl is) = absurd (false≢true edit)
-does_told w (command.Stop name) None d edit (inl is) = absurd (false≢true edit)
-does_told w command.Checkpoint None d edit (inl is) = absurd (false≢true edit)
+does_reported : (w : World) (c : Command) (r : Option Refusal) (d : Does) → is_some (op_of c) ≡ true → CommandDoes w c r d → is_wrong d.reported.reply ≡ is_refused d.reported.reply
+does_reported w c (Some r) d edit is = subst (λ (x : Does). is_wrong x.reported.reply ≡ is_refused x.reported.reply) (sym is) refl
+does_reported w c None d edit (inr refused) = subst (λ (x : Does). is_wrong x.reported.reply ≡ is_refused x.reported.reply) (sym refused.1) refl
+does_reported w (command.Session name tab words) None d edit (inl is) = subst (λ (x : Does). is_wrong x.reported.reply ≡ is_refused x.reported.reply) (sym is) refl
+does_reported w (command.New after session input) None d edit (inl is) = subst (λ (x : Does). is_wrong x.reported.reply ≡ is_refused x.reported.reply) (sym is) refl
+does_reported w (command.Set id input) None d edit (inl is) = subst (λ (x : Does). is_wrong x.reported.reply ≡ is_refused x.reported.reply) (sym is) refl
+does_reported w (command.Remove id) None d edit (inl is) = subst (λ (x : Does). is_wrong x.reported.reply ≡ is_refused x.reported.reply) (sym is) refl
+does_reported w (command.Move id after) None d edit (inl is) = subst (λ (x : Does). is_wrong x.reported.reply ≡ is_refused x.reported.reply) (sym is) refl
+does_reported w (command.Clear id) None d edit (inl is) = subst (λ (x : Does). is_wrong x.reported.reply ≡ is_refused x.reported.reply) (sym is) refl
+does_reported w (command.Eval id) None d edit (inl is) = absurd (false≢true edit)
+does_reported w (command.Complete id cursor) None d edit (inl is) = absurd (false≢true edit)
+does_reported w (command.CompleteText id cursor text) None d edit (inl is) = absurd (false≢true edit)
+does_reported w (command.Stop name) None d edit (inl is) = absurd (false≢true edit)
+does_reported w command.Checkpoint None d edit (inl is) = absurd (false≢true edit)
 
-gives_told : (w : World) (e : Event) (o : Outcome) (v : World) → IsEdit e → Gives w e o v → is_wrong o.reply ≡ is_refused o.reply
-gives_told w (event.Command c) o v edit gives = subst (λ (x : Outcome). is_wrong x.reply ≡ is_refused x.reply) (sym gives.2) (does_told w c (first_of (command_refusals w c)) gives.0 edit gives.1)
-gives_told w (event.Child name number e) o v edit gives = absurd edit
+gives_reported : (w : World) (e : Event) (o : Outcome) (v : World) → IsEdit e → Gives w e o v → is_wrong o.reply ≡ is_refused o.reply
+gives_reported w (event.Command c) o v edit gives = subst (λ (x : Outcome). is_wrong x.reply ≡ is_refused x.reply) (sym gives.2) (does_reported w c (first_of (command_refusals w c)) gives.0 edit gives.1)
+gives_reported w (event.Child name number e) o v edit gives = absurd edit
 
 spoken_wrong : (r : Reply) → is_wrong r ≡ is_refused r → list_any is_wrong (spoken r) ≡ is_refused r
 spoken_wrong reply.Done is = refl
@@ -57,13 +57,13 @@ spoken_wrong (reply.Refused why) is = refl
 spoken_wrong (reply.Child one) is = ap (λ (b : Bool). b || false) is
 spoken_wrong reply.Nothing is = refl
 
-pub wrong_from : (w : World) (es : List Event) (os : List Outcome) (v : World) → AllByRecursion IsEdit es → Runs w es os v → list_any is_wrong (told (beats_from es os)) ≡ list_any is_refusal os
+pub wrong_from : (w : World) (es : List Event) (os : List Outcome) (v : World) → AllByRecursion IsEdit es → Runs w es os v → list_any is_wrong (reported (entries_from es os)) ≡ list_any is_refusal os
 wrong_from w [] [] v all runs = refl
 wrong_from w [] (o ∷ os) v all runs = absurd runs
 wrong_from w (e ∷ es) [] v all runs = absurd runs
 wrong_from w (e ∷ es) (o ∷ os) v all runs =
-    list_any-append is_wrong (spoken o.reply) (told (beats_from es os))
-    ∙ ap (λ (b : Bool). b || list_any is_wrong (told (beats_from es os))) (spoken_wrong o.reply (gives_told w e o runs.0 all.0 runs.1))
+    list_any-append is_wrong (spoken o.reply) (reported (entries_from es os))
+    ∙ ap (λ (b : Bool). b || list_any is_wrong (reported (entries_from es os))) (spoken_wrong o.reply (gives_reported w e o runs.0 all.0 runs.1))
     ∙ ap (λ (b : Bool). is_refusal o || b) (wrong_from runs.0 es os v all.1 runs.2)
 
 -- so its outcome is wrong where it is a refusal
@@ -72,18 +72,18 @@ outcomes_wrong w [] [] v all runs = refl
 outcomes_wrong w [] (o ∷ os) v all runs = absurd runs
 outcomes_wrong w (e ∷ es) [] v all runs = absurd runs
 outcomes_wrong w (e ∷ es) (o ∷ os) v all runs =
-    ap (λ (b : Bool). b || list_any outcome_wrong os) (gives_told w e o runs.0 all.0 runs.1) ∙ ap (λ (b : Bool). is_refusal o || b) (outcomes_wrong runs.0 es os v all.1 runs.2)
+    ap (λ (b : Bool). b || list_any outcome_wrong os) (gives_reported w e o runs.0 all.0 runs.1) ∙ ap (λ (b : Bool). is_refusal o || b) (outcomes_wrong runs.0 es os v all.1 runs.2)
 
 -- The last of them.
 
-abbrev pub beat_of : Event → Outcome → Beat
-beat_of e o = record { event = e; outcome = o; answer = None }
+abbrev pub entry_of : Event → Outcome → Entry
+entry_of e o = record { event = e; outcome = o; answer = None }
 
 pub record LastRun (w : World) (events : List Event) (before : List Outcome) (last : Outcome) (v : World) : Type 0 where
   pub front : List Event
   pub at : Event
   pub split : events ≡ front ++ at ∷ []
-  pub beats : beats_from events (before ++ last ∷ []) ≡ beats_from front before ++ beat_of at last ∷ []
+  pub entries : entries_from events (before ++ last ∷ []) ≡ entries_from front before ++ entry_of at last ∷ []
   pub mid : World
   pub runs : Runs w front before mid
   pub gives : Gives mid at last v
@@ -92,7 +92,7 @@ pub record LastRun (w : World) (events : List Event) (before : List Outcome) (la
 pub last_run : (w : World) (events : List Event) (before : List Outcome) (last : Outcome) (v : World) → Runs w events (before ++ last ∷ []) v → LastRun w events before last v
 last_run w [] [] last v runs = absurd runs
 last_run w [] (o ∷ os) last v runs = absurd runs
-last_run w (e ∷ []) [] last v runs = record { front = []; at = e; split = refl; beats = refl; mid = w; runs = refl; gives = subst (λ (x : World). Gives w e last x) (sym runs.2) runs.1; count = refl }
+last_run w (e ∷ []) [] last v runs = record { front = []; at = e; split = refl; entries = refl; mid = w; runs = refl; gives = subst (λ (x : World). Gives w e last x) (sym runs.2) runs.1; count = refl }
 last_run w (e ∷ f ∷ es) [] last v runs = absurd runs.2
 last_run w (e ∷ es) (o ∷ os) last v runs =
     let r = last_run runs.0 es os last v runs.2 in
@@ -100,7 +100,7 @@ last_run w (e ∷ es) (o ∷ os) last v runs =
       front = e ∷ r.front;
       at = r.at;
       split = ap (λ (x : List Event). e ∷ x) r.split;
-      beats = ap (λ (x : List Beat). beat_of e o ∷ x) r.beats;
+      entries = ap (λ (x : List Entry). entry_of e o ∷ x) r.entries;
       mid = r.mid;
       runs = (runs.0, runs.1, r.runs);
       gives = r.gives;
@@ -214,6 +214,6 @@ pub refused_among : (before : List Outcome) (last : Outcome) → is_refusal last
 refused_among before last so =
     list_any-append is_refusal before (last ∷ []) ∙ ap (λ (b : Bool). list_any is_refusal before || (b || false)) so ∙ or_true (list_any is_refusal before)
 
-pub last_of : (told : List Outcome) (rest : List Event) → StopsAtRefusal told rest → LastRefused told
-last_of told rest (nowhere none is) = record { before = told; last = []; split = sym (append-nil told); one = omega arith; accepted = none }
-last_of told rest (behind_one before last is none refused) = record { before = before; last = last ∷ []; split = is; one = omega arith; accepted = none }
+pub last_of : (reported : List Outcome) (rest : List Event) → StopsAtRefusal reported rest → LastRefused reported
+last_of reported rest (nowhere none is) = record { before = reported; last = []; split = sym (append-nil reported); one = omega arith; accepted = none }
+last_of reported rest (after_one before last is none refused) = record { before = before; last = last ∷ []; split = is; one = omega arith; accepted = none }

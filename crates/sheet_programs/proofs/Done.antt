@@ -12,10 +12,10 @@ use Rattle.sheet_text.specs.declared.script.ScriptLine.{ScriptLine}
 use Rattle.sheet_text.specs.declared.script.ScriptLine.TheVariants as line
 use Rattle.offline_programs.specs.declared.fault.RunFault.{RunFault}
 use Rattle.sheet_programs.specs.Records.{Brought, Left, Manner, brought, joined, left}
-use Rattle.sheet_programs.specs.Lines.{LineDone, LinesDone, none, and_line, beats_text}
+use Rattle.sheet_programs.specs.Lines.{LineDone, LinesDone, none, and_line, entries_text}
 use Rattle.sheet_programs.specs.Run.{LinesBefore}
 use Rattle.sheet_programs.specs.Strict.{EachRight, LineTook, RightIf, goes_wrong}
-use Rattle.sheet_programs.specs.Told.{LineFailed, line_refused, line_stopped, line_unwritten}
+use Rattle.sheet_programs.specs.Reported.{LineFailed, line_refused, line_stopped, line_unwritten}
 use Rattle.sheet_programs.specs.inside.Grouping.{Standing, StandsOrStops, counted_if}
 use Rattle.sheet_programs.specs.inside.Taking.{LinesFailed, LinesTook}
 use Rattle.sheet_programs.specs.inside.Taking as inside
@@ -91,7 +91,7 @@ module _ {C : Type 0} (m : Manner C) (lines : List (List ℕ)) (l : List ℕ) (s
 
       right : (x : Bool) → RightIf x p.ran → (x && wrong) ≡ false → RightIf x ran
       right false so is = tt
-      right true so is = right_more wrong lines l p.it.beats q.0.beats so is q.5
+      right true so is = right_more wrong lines l p.it.entries q.0.entries so is q.5
 
   -- the run stops after it
   pub line_stops : (number : ℕ) (wrong : Bool) → number ≡ length lines + 1 → LineTook m.after number (line_of l) here (left g d b e) wrong → (m.strict && wrong) ≡ true → LinesTook m (lines ++ l ∷ []) s (left g d a e) (Some number)
@@ -127,14 +127,14 @@ module _ {C : Type 0} (m : Manner C) (lines : List (List ℕ)) (l : List ℕ) (s
       go true is = line_stops number wrong count q is
 
   pub line_fails : (rest : List (List ℕ)) (f : RunFault) → LineFailed m.after (line_of l) here (left g d b e) f → LinesFailed m (lines ++ l ∷ rest) s (left g d a e) f
-  line_fails rest f (line_stopped why beats x t disk broke stopped wrote) =
-      inside.failed_at why (joined p.it (brought beats (beats_text beats))) x t disk
-      (record { line = l; mid = here; earlier = p.it; beats = beats; before = before rest; broke = broke; took = refl; wrote = refl })
-      stopped (Appends-trans a b e p.it.text (beats_text beats) p.wrote wrote) p.right
-  line_fails rest f (line_refused beats t broke stands wrote) =
-      inside.failed_for_memory (joined p.it (brought beats (beats_text beats))) t
-      (record { line = l; mid = here; earlier = p.it; beats = beats; before = before rest; broke = broke; took = refl; wrote = refl })
-      stands (Appends-trans a b e p.it.text (beats_text beats) p.wrote wrote) p.right
+  line_fails rest f (line_stopped why entries x t disk broke stopped wrote) =
+      inside.failed_at why (joined p.it (brought entries (entries_text entries))) x t disk
+      (record { line = l; mid = here; earlier = p.it; entries = entries; before = before rest; broke = broke; took = refl; wrote = refl })
+      stopped (Appends-trans a b e p.it.text (entries_text entries) p.wrote wrote) p.right
+  line_fails rest f (line_refused entries t broke stands wrote) =
+      inside.failed_for_memory (joined p.it (brought entries (entries_text entries))) t
+      (record { line = l; mid = here; earlier = p.it; entries = entries; before = before rest; broke = broke; took = refl; wrote = refl })
+      stands (Appends-trans a b e p.it.text (entries_text entries) p.wrote wrote) p.right
   line_fails rest f (line_unwritten q) = inside.failed_to_write q.0 q.1 (record { line = l; mid = here; earlier = p.it; before = before rest; led = q.2 }) q.3 p.right
 
 -- A line that is skipped leaves where the run stands.

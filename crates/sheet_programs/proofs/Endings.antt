@@ -17,14 +17,14 @@ use Rattle.offline_programs.specs.Memory.{script_lines}
 use Rattle.offline_programs.specs.declared.fault.RunFault.{RunFault}
 use Rattle.offline_programs.specs.declared.fault.RunFault.TheVariants as fault
 use Rattle.sheet_programs.specs.Records.{Left, Manner, Outside, left, outside}
-use Rattle.sheet_programs.specs.Lines.{led_beats}
+use Rattle.sheet_programs.specs.Lines.{led_entries}
 use Rattle.sheet_programs.specs.Run.{OpenedOn, RunBroke, RunLed, RunSoFar, RunStopped, RunUnwritten}
 use Rattle.sheet_programs.specs.Strict.{GroupBy, LastIf, RightIf, RunDone, TellsRun}
 use Rattle.sheet_programs.specs.Strict as ends
 use Rattle.sheet_programs.specs.inside.Taking.{LinesEnded, LinesFailed, LinesStopped, LinesTook}
 use Rattle.sheet_programs.specs.inside.Taking as inside
 use Rattle.sheet_programs.proofs.Courses.{course_anyhow, course_on, course_up_to, either_moments, group_course, moments_on}
-use Rattle.sheet_programs.proofs.Runs.{StopsIn, StopsNumbered, min_since, stops_behind}
+use Rattle.sheet_programs.proofs.Runs.{StopsIn, StopsNumbered, min_since, stops_after}
 use Rattle.sheet_programs.proofs.Timelines.{lines-course, lines-led-course, lines-so-far-course, lines-up-to-course, taken-course}
 
 -- The lives are stopped after the lines.
@@ -37,7 +37,7 @@ module _ {C : Type 0} (m : Manner C) (lines : List (List ℕ)) (s : At C) (h : H
   lines_stopped f numbered (inside.failed_at why it e t disk p stopped wrote right) = inside.stopped_at_event why it e (at t c disk) p stopped (stops.1 t e disk why stopped) wrote right
   lines_stopped f numbered (inside.failed_in_group p) = inside.stopped_in_group c p (numbered p.broke.leads p.broke.contents p.broke.numbers)
   lines_stopped f numbered (inside.failed_for_memory it t p stands wrote right) = inside.stopped_for_memory it (at t c h.store.disk) p stands refl (stops.0 t stands) wrote right
-  lines_stopped f numbered (inside.failed_to_write t disk p stands right) = inside.stopped_at_writing (at t c disk) p stands (stops_behind m.after h c d t disk stops stands) right
+  lines_stopped f numbered (inside.failed_to_write t disk p stands right) = inside.stopped_at_writing (at t c disk) p stands (stops_after m.after h c d t disk stops stands) right
   lines_stopped f numbered (inside.failed_to_write_group t p stands) = inside.stopped_at_group (at t c h.store.disk) p refl (stops.0 t stands)
 
 -- it isn't reported that the disk wasn't opened
@@ -76,30 +76,30 @@ tells_of_stream m stream script first last nothing f is (ends.unopened why idle 
 tells_of_stream m stream script first last nothing f is (ends.stopped why it) =
     ends.stopped why (of-stream stream script (λ s. (q : RunStopped m.after s first last why) × RightIf m.strict q.lines.before.ran) is it)
 tells_of_stream m stream script first last nothing f is (ends.broke it) =
-    ends.broke (of-stream stream script (λ s. (q : RunBroke m.after s first last) × RightIf m.strict q.before.ran × LastIf m.strict q.broke.untold) is it)
+    ends.broke (of-stream stream script (λ s. (q : RunBroke m.after s first last) × RightIf m.strict q.before.ran × LastIf m.strict q.broke.withheld) is it)
 tells_of_stream m stream script first last nothing f is (ends.not_begun idle) = ends.not_begun idle
 tells_of_stream m stream script first last nothing f is (ends.refused it) =
     ends.refused (of-stream stream script (λ s. (q : RunSoFar m.after s first last) × RightIf m.strict q.lines.before.ran) is it)
 tells_of_stream m stream script first last nothing f is (ends.unwritten it) =
     ends.unwritten (of-stream stream script (λ s. (length s ≤ longest_standard_input) × (q : RunLed m.after s first last) × RightIf m.strict q.lines.before.ran) is it)
 tells_of_stream m stream script first last nothing f is (ends.group_unwritten it) =
-    ends.group_unwritten (of-stream stream script (λ s. (length s ≤ longest_standard_input) × (q : RunUnwritten m.after s first last) × RightIf m.strict q.before.ran × GroupBy m.strict q.beats) is it)
+    ends.group_unwritten (of-stream stream script (λ s. (length s ≤ longest_standard_input) × (q : RunUnwritten m.after s first last) × RightIf m.strict q.before.ran × GroupBy m.strict q.entries) is it)
 
 module _ {C : Type 0} (m : Manner C) (stream : Option (List ℕ)) (disk now : DiskView) (c d : C) (a b : Option (List ℕ)) (script : List ℕ) (start : World) (h : HostView)
     (is : IfSome stream (λ bytes. script ≡ bytes)) (opened : OpenedOn disk start now) (held : HoldsSheet start now) (back : DiskView) (same : back ≡ h.store.disk) where
   abbrev before : Outside C
   before = outside disk c a
 
-  abbrev behind : Outside C
-  behind = outside back d b
+  abbrev following : Outside C
+  following = outside back d b
 
   abbrev begun : At C
   begun = at start c now
 
-  pub done_run : (stopped : Option ℕ) → LinesEnded m (script_lines script) begun (left h d a b) stopped → IfSome stream (λ bytes. RunDone m bytes stopped before behind)
+  pub done_run : (stopped : Option ℕ) → LinesEnded m (script_lines script) begun (left h d a b) stopped → IfSome stream (λ bytes. RunDone m bytes stopped before following)
   done_run stopped p =
       let whole = (taken-course m (script_lines script) stopped begun p.0 p.1 p.2).moments held in
-      of-stream stream script (λ bytes. RunDone m bytes stopped before behind) is (record {
+      of-stream stream script (λ bytes. RunDone m bytes stopped before following) is (record {
         start = start;
         now = now;
         opened = opened;
@@ -110,12 +110,12 @@ module _ {C : Type 0} (m : Manner C) (stream : Option (List ℕ)) (disk now : Di
         wrote = p.6;
         back_is = same ∙ sym p.5;
         holds = subst (HoldsSheet p.1.world) (sym same) p.4.stands.images;
-        moments = subst (LeavesFronts start p.0.beats now) (p.5 ∙ sym same) whole;
+        moments = subst (LeavesFronts start p.0.entries now) (p.5 ∙ sym same) whole;
       })
 
-  pub broken_run : (short : length script ≤ longest_standard_input) (nothing : Type 0) (f : RunFault) → LinesStopped m (script_lines script) begun (left h d a b) f → TellsRun m stream before behind nothing f
+  pub broken_run : (short : length script ≤ longest_standard_input) (nothing : Type 0) (f : RunFault) → LinesStopped m (script_lines script) begun (left h d a b) f → TellsRun m stream before following nothing f
   broken_run short nothing f (inside.stopped_at_event why it e t p stopped stops wrote right) =
-      ends.stopped why (of-stream stream script (λ s. (q : RunStopped m.after s before behind why) × RightIf m.strict q.lines.before.ran) is (
+      ends.stopped why (of-stream stream script (λ s. (q : RunStopped m.after s before following why) × RightIf m.strict q.lines.before.ran) is (
         record {
           start = start;
           now = now;
@@ -127,14 +127,14 @@ module _ {C : Type 0} (m : Manner C) (stream : Option (List ℕ)) (disk now : Di
           host = h;
           back_is = same;
           stopped = stopped;
-          moments = course_up_to start now it.beats t.world t.disk e why h held (lines-up-to-course m.after (script_lines script) begun it e t p) stopped;
+          moments = course_up_to start now it.entries t.world t.disk e why h held (lines-up-to-course m.after (script_lines script) begun it e t p) stopped;
           stops = stops;
           wrote = wrote;
         },
         right,
       ))
   broken_run short nothing f (inside.stopped_in_group k p stops) =
-      ends.broke (of-stream stream script (λ s. (q : RunBroke m.after s before behind) × RightIf m.strict q.before.ran × LastIf m.strict q.broke.untold) is (
+      ends.broke (of-stream stream script (λ s. (q : RunBroke m.after s before following) × RightIf m.strict q.before.ran × LastIf m.strict q.broke.withheld) is (
         record {
           start = start;
           now = now;
@@ -146,10 +146,10 @@ module _ {C : Type 0} (m : Manner C) (stream : Option (List ℕ)) (disk now : Di
           host = h;
           back_is = same;
           broke = p.broke;
-          moments = subst (Moments start (events_of p.it.beats ++ p.broke.taken) (outcomes_of p.it.beats ++ p.broke.untold) now) (sym same)
+          moments = subst (Moments start (events_of p.it.entries ++ p.broke.taken) (outcomes_of p.it.entries ++ p.broke.withheld) now) (sym same)
               (let front = lines-course m.after 1 p.before.ran in
-              moments_on start (events_of p.it.beats) (outcomes_of p.it.beats) p.mid p.broke.taken p.broke.untold now p.old h.store.disk front.runs front.same (front.moments held)
-              (either_moments p.mid p.broke.taken p.broke.untold p.broke.leads p.old h.store.disk p.broke.runs p.broke.moments));
+              moments_on start (events_of p.it.entries) (outcomes_of p.it.entries) p.mid p.broke.taken p.broke.withheld now p.old h.store.disk front.runs front.same (front.moments held)
+              (either_moments p.mid p.broke.taken p.broke.withheld p.broke.leads p.old h.store.disk p.broke.runs p.broke.moments));
           stops = stops;
           wrote = p.wrote;
         },
@@ -157,7 +157,7 @@ module _ {C : Type 0} (m : Manner C) (stream : Option (List ℕ)) (disk now : Di
         p.last,
       ))
   broken_run short nothing f (inside.stopped_for_memory it t p stands there stops wrote right) =
-      ends.refused (of-stream stream script (λ s. (q : RunSoFar m.after s before behind) × RightIf m.strict q.lines.before.ran) is (
+      ends.refused (of-stream stream script (λ s. (q : RunSoFar m.after s before following) × RightIf m.strict q.lines.before.ran) is (
         record {
           start = start;
           now = now;
@@ -166,14 +166,14 @@ module _ {C : Type 0} (m : Manner C) (stream : Option (List ℕ)) (disk now : Di
           leads = t;
           lines = p;
           back_is = same ∙ sym there;
-          moments = subst (LeavesFronts start it.beats now) (there ∙ sym same) ((lines-so-far-course m.after (script_lines script) begun it t p).moments held);
+          moments = subst (LeavesFronts start it.entries now) (there ∙ sym same) ((lines-so-far-course m.after (script_lines script) begun it t p).moments held);
           stops = stops;
           wrote = wrote;
         },
         right,
       ))
   broken_run short nothing f (inside.stopped_at_writing t p stands stops right) =
-      ends.unwritten (of-stream stream script (λ s. (length s ≤ longest_standard_input) × (q : RunLed m.after s before behind) × RightIf m.strict q.lines.before.ran) is (
+      ends.unwritten (of-stream stream script (λ s. (length s ≤ longest_standard_input) × (q : RunLed m.after s before following) × RightIf m.strict q.lines.before.ran) is (
         short,
         record {
           start = start;
@@ -183,13 +183,13 @@ module _ {C : Type 0} (m : Manner C) (stream : Option (List ℕ)) (disk now : Di
           lines = p;
           host = h;
           back_is = same;
-          moments = course_anyhow start now (p.earlier.beats ++ led_beats p.led) t.world t.disk h held (lines-led-course m.after (script_lines script) begun t p) stands;
+          moments = course_anyhow start now (p.earlier.entries ++ led_entries p.led) t.world t.disk h held (lines-led-course m.after (script_lines script) begun t p) stands;
           stops = stops;
         },
         right,
       ))
   broken_run short nothing f (inside.stopped_at_group t p there stops) =
-      ends.group_unwritten (of-stream stream script (λ s. (length s ≤ longest_standard_input) × (q : RunUnwritten m.after s before behind) × RightIf m.strict q.before.ran × GroupBy m.strict q.beats) is (
+      ends.group_unwritten (of-stream stream script (λ s. (length s ≤ longest_standard_input) × (q : RunUnwritten m.after s before following) × RightIf m.strict q.before.ran × GroupBy m.strict q.entries) is (
         short,
         record {
           start = start;
@@ -199,12 +199,12 @@ module _ {C : Type 0} (m : Manner C) (stream : Option (List ℕ)) (disk now : Di
           earlier = p.it;
           mid = p.mid;
           before = p.before;
-          beats = p.beats;
+          entries = p.entries;
           leads = t;
           done = p.taken;
           back_is = same ∙ sym there;
-          moments = subst (LeavesFronts start (p.it.beats ++ p.beats) now) (there ∙ sym same)
-              ((course_on start now p.it.beats p.mid.world p.mid.disk p.beats t.world t.disk (lines-course m.after 1 p.before.ran) (group_course p.group p.mid p.beats t p.taken)).moments held);
+          moments = subst (LeavesFronts start (p.it.entries ++ p.entries) now) (there ∙ sym same)
+              ((course_on start now p.it.entries p.mid.world p.mid.disk p.entries t.world t.disk (lines-course m.after 1 p.before.ran) (group_course p.group p.mid p.entries t p.taken)).moments held);
           stops = stops;
         },
         p.right,

@@ -25,15 +25,15 @@ use Rattle.session_engine.specs.Host.{HostView, IsHost}
 use Rattle.session_engine.specs.Faults.{CauseOf}
 use Rattle.session_engine.specs.Gathers.{FlushesTo}
 use Rattle.session_engine.specs.Groups.{FailedGroup, HaltsGroup, StoppedGroup}
-use Rattle.child_edge.specs.Faithful.{at, Beat}
+use Rattle.child_edge.specs.Faithful.{at, Entry}
 use Rattle.child_edge.specs.Moments.{events_of, outcomes_of}
-use Rattle.child_edge.specs.Told.{spoken, told}
+use Rattle.child_edge.specs.Reported.{spoken, reported}
 use Rattle.offline_programs.specs.Memory.{replies_text}
 use Rattle.sheet_text.specs.Script.{line_of}
 use Rattle.sheet_text.specs.Texts.{reply_text}
 use Rattle.sheet_text.specs.declared.script.ScriptLine.{ScriptLine}
 use Rattle.sheet_text.specs.declared.script.ScriptLine.TheVariants as line
-use Rattle.sheet_programs.specs.Lines.{beats_text}
+use Rattle.sheet_programs.specs.Lines.{entries_text}
 use Rattle.sheet_programs.specs.Together.{Alone, GroupBroke, GroupDone, GroupTaken, Joins, LeavesEither, lines_events, line_events, may_join, most_commands}
 use Rattle.session_engine.specs.inside.Until.{HaltsBy, TookBy}
 use Rattle.session_engine.specs.declared.play.GroupFault.{GroupFault}
@@ -49,15 +49,15 @@ abbrev pub IsEdit : Event → Type 0
 IsEdit (event.Command c) = is_some (op_of c) ≡ true
 IsEdit (event.Child name number e) = ⊥
 
-does_alone : (w : World) (c : Command) (r : Option Refusal) (d : Does) → is_some (op_of c) ≡ true → CommandDoes w c r d → d.told.effect ≡ None
-does_alone w c (Some r) d edit is = ap (λ (x : Does). x.told.effect) is
-does_alone w c None d edit (inr refused) = ap (λ (x : Does). x.told.effect) refused.1
-does_alone w (command.Session name tab words) None d edit (inl is) = ap (λ (x : Does). x.told.effect) is
-does_alone w (command.New after session input) None d edit (inl is) = ap (λ (x : Does). x.told.effect) is
-does_alone w (command.Set id input) None d edit (inl is) = ap (λ (x : Does). x.told.effect) is
-does_alone w (command.Remove id) None d edit (inl is) = ap (λ (x : Does). x.told.effect) is
-does_alone w (command.Move id after) None d edit (inl is) = ap (λ (x : Does). x.told.effect) is
-does_alone w (command.Clear id) None d edit (inl is) = ap (λ (x : Does). x.told.effect) is
+does_alone : (w : World) (c : Command) (r : Option Refusal) (d : Does) → is_some (op_of c) ≡ true → CommandDoes w c r d → d.reported.effect ≡ None
+does_alone w c (Some r) d edit is = ap (λ (x : Does). x.reported.effect) is
+does_alone w c None d edit (inr refused) = ap (λ (x : Does). x.reported.effect) refused.1
+does_alone w (command.Session name tab words) None d edit (inl is) = ap (λ (x : Does). x.reported.effect) is
+does_alone w (command.New after session input) None d edit (inl is) = ap (λ (x : Does). x.reported.effect) is
+does_alone w (command.Set id input) None d edit (inl is) = ap (λ (x : Does). x.reported.effect) is
+does_alone w (command.Remove id) None d edit (inl is) = ap (λ (x : Does). x.reported.effect) is
+does_alone w (command.Move id after) None d edit (inl is) = ap (λ (x : Does). x.reported.effect) is
+does_alone w (command.Clear id) None d edit (inl is) = ap (λ (x : Does). x.reported.effect) is
 does_alone w (command.Eval id) None d edit (inl is) = absurd (false≢true edit)
 does_alone w (command.Complete id cursor) None d edit (inl is) = absurd (false≢true edit)
 does_alone w (command.CompleteText id cursor text) None d edit (inl is) = absurd (false≢true edit)
@@ -97,7 +97,7 @@ edit_fault w (event.Command c) old new faults.OutOfMemory edit kept cause = fals
 edit_fault w (event.Command c) old new faults.JournalFull edit kept cause = false≢true cause.1
 
 -- in a strict run the last of those that aren't reported alone may be a refusal
-pub halts_broke : (strict : Bool) (w : World) (events : List Event) (old new : HostView) → HaltsBy strict w events old new halt.Disk → (p : FailedGroup w events old new) × LastIf strict p.untold
+pub halts_broke : (strict : Bool) (w : World) (events : List Event) (old new : HostView) → HaltsBy strict w events old new halt.Disk → (p : FailedGroup w events old new) × LastIf strict p.withheld
 halts_broke false w events old new p = (p, tt)
 halts_broke true w events old new p = p
 
@@ -143,7 +143,7 @@ module _ (w : World) (old new : HostView) (before : old.store.real ≡ old.store
     taken = p.played.done;
     dropped = p.rest;
     joins = record { each = joins.each; are = sym p.played.split ∙ joins.are };
-    untold = p.untold;
+    withheld = p.withheld;
     leads = p.played.leads;
     runs = p.played.runs;
     closed = p.closed;
@@ -154,14 +154,14 @@ module _ (w : World) (old new : HostView) (before : old.store.real ≡ old.store
     moments = plain p.played.leads p.moments;
   }
 
-  pub kept_up_to : (strict : Bool) (events : List Event) (outcomes : List Outcome) → TookBy strict w events outcomes old new → (p : KeptUpTo strict w events old new) × (p.kept.told ≡ outcomes)
+  pub kept_up_to : (strict : Bool) (events : List Event) (outcomes : List Outcome) → TookBy strict w events outcomes old new → (p : KeptUpTo strict w events old new) × (p.kept.reported ≡ outcomes)
   kept_up_to false events outcomes p = (
     record {
       done = events;
       rest = [];
       split = sym (append-nil events);
       kept = record {
-        told = outcomes;
+        reported = outcomes;
         leads = p.played.leads;
         runs = subst (λ (es : List Event). Runs w es outcomes p.played.leads) (sym (append-nil p.played.done) ∙ sym p.played.split) p.played.runs;
         stands = p.played.stands;
@@ -176,7 +176,7 @@ module _ (w : World) (old new : HostView) (before : old.store.real ≡ old.store
       done = p.played.done;
       rest = p.rest;
       split = p.played.split;
-      kept = record { told = outcomes; leads = p.played.leads; runs = p.played.runs; stands = p.played.stands; moments = plain p.played.leads p.moments };
+      kept = record { reported = outcomes; leads = p.played.leads; runs = p.played.runs; stands = p.played.stands; moments = plain p.played.leads p.moments };
       ends = p.stops;
     },
     refl,
@@ -191,28 +191,28 @@ module _ (w : World) (old new : HostView) (before : old.store.real ≡ old.store
 
 -- The entries of events that have no effect.
 
-abbrev pub beats_from : List Event → List Outcome → List Beat
-beats_from [] os = []
-beats_from (e ∷ es) [] = []
-beats_from (e ∷ es) (o ∷ os) = record { event = e; outcome = o; answer = None } ∷ beats_from es os
+abbrev pub entries_from : List Event → List Outcome → List Entry
+entries_from [] os = []
+entries_from (e ∷ es) [] = []
+entries_from (e ∷ es) (o ∷ os) = record { event = e; outcome = o; answer = None } ∷ entries_from es os
 
-pub events_from : (w : World) (es : List Event) (os : List Outcome) (v : World) → Runs w es os v → events_of (beats_from es os) ≡ es
+pub events_from : (w : World) (es : List Event) (os : List Outcome) (v : World) → Runs w es os v → events_of (entries_from es os) ≡ es
 events_from w [] os v runs = refl
 events_from w (e ∷ es) [] v runs = absurd runs
 events_from w (e ∷ es) (o ∷ os) v runs = ap (λ (l : List Event). e ∷ l) (events_from runs.0 es os v runs.2)
 
-pub outcomes_from : (w : World) (es : List Event) (os : List Outcome) (v : World) → Runs w es os v → outcomes_of (beats_from es os) ≡ os
+pub outcomes_from : (w : World) (es : List Event) (os : List Outcome) (v : World) → Runs w es os v → outcomes_of (entries_from es os) ≡ os
 outcomes_from w [] [] v runs = refl
 outcomes_from w [] (o ∷ os) v runs = absurd runs
 outcomes_from w (e ∷ es) [] v runs = absurd runs
 outcomes_from w (e ∷ es) (o ∷ os) v runs = ap (λ (l : List Outcome). o ∷ l) (outcomes_from runs.0 es os v runs.2)
 
-alone_from : (w : World) (es : List Event) (os : List Outcome) (v : World) → AllByRecursion IsEdit es → Runs w es os v → AllByRecursion Alone (beats_from es os)
+alone_from : (w : World) (es : List Event) (os : List Outcome) (v : World) → AllByRecursion IsEdit es → Runs w es os v → AllByRecursion Alone (entries_from es os)
 alone_from w [] os v all runs = tt
 alone_from w (e ∷ es) [] v all runs = absurd runs
 alone_from w (e ∷ es) (o ∷ os) v all runs = ((gives_alone w e o runs.0 all.0 runs.1, refl), alone_from runs.0 es os v all.1 runs.2)
 
-length_from : (w : World) (es : List Event) (os : List Outcome) (v : World) → Runs w es os v → length (beats_from es os) ≡ length es
+length_from : (w : World) (es : List Event) (os : List Outcome) (v : World) → Runs w es os v → length (entries_from es os) ≡ length es
 length_from w [] os v runs = refl
 length_from w (e ∷ es) [] v runs = absurd runs
 length_from w (e ∷ es) (o ∷ os) v runs = let rest = length_from runs.0 es os v runs.2 in omega (arith, rest)
@@ -226,32 +226,32 @@ spoken_text (reply.Refused why) rs = refl
 spoken_text (reply.Child one) rs = refl
 spoken_text reply.Nothing rs = refl
 
-told_text : (bs : List Beat) → outcomes_text (outcomes_of bs) ≡ beats_text bs
-told_text [] = refl
-told_text (b ∷ bs) = ap (λ (x : List ℕ). outcome_text b.outcome ++ x) (told_text bs) ∙ sym (spoken_text b.outcome.reply (told bs))
+reported_text : (bs : List Entry) → outcomes_text (outcomes_of bs) ≡ entries_text bs
+reported_text [] = refl
+reported_text (b ∷ bs) = ap (λ (x : List ℕ). outcome_text b.outcome ++ x) (reported_text bs) ∙ sym (spoken_text b.outcome.reply (reported bs))
 
 module _ {C : Type 0} (lines : List (List ℕ)) (w : World) (events : List Event) (old new : HostView) (c : C) (joins : Joins lines events) (p : GroupKept w events old new) where
-  abbrev pub kept_beats : List Beat
-  kept_beats = beats_from events p.told
+  abbrev pub kept_entries : List Entry
+  kept_entries = entries_from events p.reported
 
-  pub kept_text : outcomes_text p.told ≡ beats_text kept_beats
-  kept_text = ap (λ (os : List Outcome). outcomes_text os) (sym (outcomes_from w events p.told p.leads p.runs)) ∙ told_text kept_beats
+  pub kept_text : outcomes_text p.reported ≡ entries_text kept_entries
+  kept_text = ap (λ (os : List Outcome). outcomes_text os) (sym (outcomes_from w events p.reported p.leads p.runs)) ∙ reported_text kept_entries
 
-  pub kept_taken : length events ≤ most_commands → SameDisk old.store.disk new.store.disk → GroupTaken lines (at w c old.store.disk) kept_beats (at p.leads c new.store.disk)
+  pub kept_taken : length events ≤ most_commands → SameDisk old.store.disk new.store.disk → GroupTaken lines (at w c old.store.disk) kept_entries (at p.leads c new.store.disk)
   kept_taken few same = record {
-    joins = subst (λ (es : List Event). Joins lines es) (sym (events_from w events p.told p.leads p.runs)) joins;
-    few = subst (λ (n : ℕ). n ≤ most_commands) (sym (length_from w events p.told p.leads p.runs)) few;
-    runs = subst (λ (es : List Event). Runs w es (outcomes_of kept_beats) p.leads) (sym (events_from w events p.told p.leads p.runs))
-        (subst (λ (os : List Outcome). Runs w events os p.leads) (sym (outcomes_from w events p.told p.leads p.runs)) p.runs);
-    alone = alone_from w events p.told p.leads (joined_edits lines events joins) p.runs;
+    joins = subst (λ (es : List Event). Joins lines es) (sym (events_from w events p.reported p.leads p.runs)) joins;
+    few = subst (λ (n : ℕ). n ≤ most_commands) (sym (length_from w events p.reported p.leads p.runs)) few;
+    runs = subst (λ (es : List Event). Runs w es (outcomes_of kept_entries) p.leads) (sym (events_from w events p.reported p.leads p.runs))
+        (subst (λ (os : List Outcome). Runs w events os p.leads) (sym (outcomes_from w events p.reported p.leads p.runs)) p.runs);
+    alone = alone_from w events p.reported p.leads (joined_edits lines events joins) p.runs;
     children = refl;
     same = same;
     moments = p.moments;
     holds = p.stands.stands.images;
   }
 
-  pub kept_many : 2 ≤ length events → 2 ≤ length kept_beats
-  kept_many many = subst (λ (n : ℕ). 2 ≤ n) (sym (length_from w events p.told p.leads p.runs)) many
+  pub kept_many : 2 ≤ length events → 2 ≤ length kept_entries
+  kept_many many = subst (λ (n : ℕ). 2 ≤ n) (sym (length_from w events p.reported p.leads p.runs)) many
 
-  pub kept_done : 2 ≤ length events → length events ≤ most_commands → SameDisk old.store.disk new.store.disk → GroupDone lines (at w c old.store.disk) kept_beats (at p.leads c new.store.disk)
+  pub kept_done : 2 ≤ length events → length events ≤ most_commands → SameDisk old.store.disk new.store.disk → GroupDone lines (at w c old.store.disk) kept_entries (at p.leads c new.store.disk)
   kept_done many few same = record { taken = kept_taken few same; many = kept_many many }

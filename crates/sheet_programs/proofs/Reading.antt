@@ -6,7 +6,7 @@ use Rattle.session_engine.specs.Host.{HostView, IsHost}
 use Rattle.child_edge.specs.Faithful.{Relation, At, at}
 use Rattle.offline_programs.specs.declared.fault.RunFault.{RunFault}
 use Rattle.sheet_programs.specs.Records.{Brought, Left, Manner, left}
-use Rattle.sheet_programs.specs.Strict.{StoppedBehind}
+use Rattle.sheet_programs.specs.Strict.{StoppedAfter}
 use Rattle.sheet_programs.specs.inside.Grouping.{Standing, StandsOrStops}
 use Rattle.sheet_programs.specs.inside.Taking.{LinesFailed, LinesTook}
 use Rattle.sheet_programs.proofs.Done.{all_took, none_done, standing}
@@ -14,7 +14,7 @@ use Rattle.sheet_programs.proofs.Stretches.{all_stand}
 
 -- What stopped in lines stopped in these and more.
 
-stopped_in : {C : Type 0} (R : Relation C) (lines rest : List (List ℕ)) (s : At C) (it : Brought) (t : At C) (number : ℕ) → StoppedBehind R lines s it t number → StoppedBehind R (lines ++ rest) s it t number
+stopped_in : {C : Type 0} (R : Relation C) (lines rest : List (List ℕ)) (s : At C) (it : Brought) (t : At C) (number : ℕ) → StoppedAfter R lines s it t number → StoppedAfter R (lines ++ rest) s it t number
 stopped_in R lines rest s it t number (inl p) = inl (record {
   line = p.line;
   mid = p.mid;

@@ -9,14 +9,14 @@ use Rattle.host_events.specs.declared.event.Event.{Event}
 use Rattle.host_events.specs.declared.outcome.HostFault.{HostFault}
 use Rattle.session_engine.specs.World.{World, life_of, sheet_in, world_at_opening}
 use Rattle.session_engine.specs.Host.{HostView, EndsAt, IsHost, number_in}
-use Rattle.child_edge.specs.Faithful.{Relation, At, Beat}
+use Rattle.child_edge.specs.Faithful.{Relation, At, Entry}
 use Rattle.child_edge.specs.Kept.{HoldsSheet}
 use Rattle.child_edge.specs.Edge.{Stopped}
 use Rattle.child_edge.specs.Seats.{running}
 use Rattle.child_edge.specs.Stops.{Stops}
 use Rattle.child_edge.proofs.Timeline.{Goes}
 use Rattle.sheet_programs.specs.Run.{OpenedOn}
-use Rattle.sheet_programs.specs.Told.{LeavesFrontsAnyhow, StandsOrStopped}
+use Rattle.sheet_programs.specs.Reported.{LeavesFrontsAnyhow, StandsOrStopped}
 use Rattle.sheet_programs.proofs.Courses.{course_anyhow, goes_course}
 
 -- The stops after a run.
@@ -29,22 +29,22 @@ StopsIn R h c d = ((w : World) → IsHost h w → Stops R (running w) c d)
 abbrev pub StopsNumbered : {C : Type 0} → Relation C → HostView → C → C → Type 0
 StopsNumbered R h c d = (w : World) → h.store.sheet.contents ≡ sheet_in w → ((name : List ℕ) → number_in h.lives name ≡ option_map (λ l. l.number) (life_of w name)) → Stops R (running w) c d
 
-pub stops_behind : {C : Type 0} (R : Relation C) (h : HostView) (c d : C) (t : World) (disk : DiskView) → StopsIn R h c d → StandsOrStopped h t disk → Stops R (running t) c d
-stops_behind R h c d t disk stops (inl stands) = stops.0 t stands.0
-stops_behind R h c d t disk stops (inr p) = stops.1 t p.0 disk p.1 p.2
+pub stops_after : {C : Type 0} (R : Relation C) (h : HostView) (c d : C) (t : World) (disk : DiskView) → StopsIn R h c d → StandsOrStopped h t disk → Stops R (running t) c d
+stops_after R h c d t disk stops (inl stands) = stops.0 t stands.0
+stops_after R h c d t disk stops (inr p) = stops.1 t p.0 disk p.1 p.2
 
 -- A timeline of the disk.
 
-pub no_beats : {C : Type 0} (s : At C) (beats : List Beat) (t : At C) → beats ≡ [] → t ≡ s → Goes s.world s.disk beats t.world t.disk
-no_beats s beats t e f = subst (λ (bs : List Beat). Goes s.world s.disk bs t.world t.disk) (sym e) (ap (λ (x : At _). x.world) f, ap (λ (x : At _). x.disk) f)
+pub no_entries : {C : Type 0} (s : At C) (entries : List Entry) (t : At C) → entries ≡ [] → t ≡ s → Goes s.world s.disk entries t.world t.disk
+no_entries s entries t e f = subst (λ (bs : List Entry). Goes s.world s.disk bs t.world t.disk) (sym e) (ap (λ (x : At _). x.world) f, ap (λ (x : At _). x.disk) f)
 
 -- A timeline at whose end the host goes on or has stopped leaves fronts.
-pub goes_anyhow : (w : World) (old : DiskView) (beats : List Beat) (v : World) (d : DiskView) (h : HostView) → HoldsSheet w old → Goes w old beats v d → StandsOrStopped h v d → LeavesFrontsAnyhow w beats old h v d
-goes_anyhow w old beats v d h held goes ends = course_anyhow w old beats v d h held (goes_course w old beats v d goes) ends
+pub goes_anyhow : (w : World) (old : DiskView) (entries : List Entry) (v : World) (d : DiskView) (h : HostView) → HoldsSheet w old → Goes w old entries v d → StandsOrStopped h v d → LeavesFrontsAnyhow w entries old h v d
+goes_anyhow w old entries v d h held goes ends = course_anyhow w old entries v d h held (goes_course w old entries v d goes) ends
 
 -- A disk that failed at the end of a timeline has failed since its beginning.
 
-pub goes_same : (w : World) (d : DiskView) (bs : List Beat) (v : World) (f : DiskView) → Goes w d bs v f → SameDisk d f
+pub goes_same : (w : World) (d : DiskView) (bs : List Entry) (v : World) (f : DiskView) → Goes w d bs v f → SameDisk d f
 goes_same w d bs v f p = (goes_course w d bs v f p).same
 
 pub min_since : (most a b c : ℕ) → a ≤ b → min (b + 1) most ≤ c → min (a + 1) most ≤ c

@@ -18,17 +18,17 @@ use Rattle.sheet_text.specs.declared.script.ScriptLine.TheVariants as line
 use Rattle.offline_programs.specs.declared.fault.RunFault.{RunFault}
 use Rattle.offline_programs.specs.declared.fault.RunFault.TheVariants as fault
 use Rattle.sheet_programs.specs.Records.{Left, Manner, brought, joined, left}
-use Rattle.sheet_programs.specs.Lines.{LineSoFar, LinesDone, and_group, beats_text, not_taken}
+use Rattle.sheet_programs.specs.Lines.{LineSoFar, LinesDone, and_group, entries_text, not_taken}
 use Rattle.sheet_programs.specs.Run.{GroupBefore}
 use Rattle.sheet_programs.specs.Strict.{LineTook, RightIf}
 use Rattle.sheet_programs.specs.Together.{Joins, lines_events, line_events, may_join, most_commands}
-use Rattle.sheet_programs.specs.Told.{LineFailed}
-use Rattle.sheet_programs.specs.inside.Grouping.{AllWait, GroupFailed, GroupKept, KeptUpTo, Standing, StandsOrStops, counted_if, group_lost, group_refused, group_untold, host_call, may_wait, outcomes_text}
+use Rattle.sheet_programs.specs.Reported.{LineFailed}
+use Rattle.sheet_programs.specs.inside.Grouping.{AllWait, GroupFailed, GroupKept, KeptUpTo, Standing, StandsOrStops, counted_if, group_lost, group_refused, group_withheld, host_call, may_wait, outcomes_text}
 use Rattle.sheet_programs.specs.inside.Taking.{LinesFailed, LinesTook, failed_for_memory, failed_in_group}
 use Rattle.sheet_programs.proofs.Cuts.{wait_joins}
 use Rattle.sheet_programs.proofs.Cuts as cuts
 use Rattle.sheet_programs.proofs.Done.{DoneTo, line_fails, line_more, line_stops, skip_more}
-use Rattle.sheet_programs.proofs.Grouped.{beats_from, kept_done, kept_text}
+use Rattle.sheet_programs.proofs.Grouped.{entries_from, kept_done, kept_text}
 use Rattle.sheet_programs.proofs.Stricts.{is_strict}
 
 -- What waits may be in a group.
@@ -186,22 +186,22 @@ module _ {C : Type 0} (m : Manner C) (lines : List (List ℕ)) (x : Event) (s : 
 
 module _ {C : Type 0} (m : Manner C) (lines : List (List ℕ)) (events : List Event) (s : At C) (h g : HostView) (c : C) (a b e : Option (List ℕ)) (p : Standing m lines events s (left h c a b))
     (many : 2 ≤ length events) (few : length events ≤ most_commands) (same : SameDisk h.store.disk g.store.disk) where
-  pub group_ran : (q : GroupKept p.leads events h g) → LinesDone m.after 1 lines s (joined p.it (brought (beats_from events q.told) (beats_text (beats_from events q.told)))) (at q.leads c g.store.disk)
+  pub group_ran : (q : GroupKept p.leads events h g) → LinesDone m.after 1 lines s (joined p.it (brought (entries_from events q.reported) (entries_text (entries_from events q.reported)))) (at q.leads c g.store.disk)
   group_ran q =
-      let more = beats_from events q.told in
-      subst (λ (ls : List (List ℕ)). LinesDone m.after 1 ls s (joined p.it (brought more (beats_text more))) (at q.leads c g.store.disk)) (sym p.split)
+      let more = entries_from events q.reported in
+      subst (λ (ls : List (List ℕ)). LinesDone m.after 1 ls s (joined p.it (brought more (entries_text more))) (at q.leads c g.store.disk)) (sym p.split)
       (and_group p.done p.held s p.it (at p.leads c h.store.disk) more (at q.leads c g.store.disk) p.ran (kept_done p.held p.leads events h g c p.joins q many few same))
 
   -- all of it
-  pub group_done : (q : GroupKept p.leads events h g) → RightIf m.strict (group_ran q) → Appends b e (outcomes_text q.told) → DoneTo m lines s (left g c a e) q.leads
+  pub group_done : (q : GroupKept p.leads events h g) → RightIf m.strict (group_ran q) → Appends b e (outcomes_text q.reported) → DoneTo m lines s (left g c a e) q.leads
   group_done q right wrote =
-      let more = beats_from events q.told in
+      let more = entries_from events q.reported in
       record {
-        it = joined p.it (brought more (beats_text more));
+        it = joined p.it (brought more (entries_text more));
         ran = group_ran q;
         right = right;
         stands = q.stands;
-        wrote = Appends-trans a b e p.it.text (beats_text more) p.wrote (subst (Appends b e) (kept_text {C = C} p.held p.leads events h g c p.joins q) wrote);
+        wrote = Appends-trans a b e p.it.text (entries_text more) p.wrote (subst (Appends b e) (kept_text {C = C} p.held p.leads events h g c p.joins q) wrote);
       }
 
   abbrev pub before_all : (rest : List (List ℕ)) → GroupBefore m.after (lines ++ rest) p.held s p.it (at p.leads c h.store.disk)
@@ -217,7 +217,7 @@ none_taken m lines rest first others s h g c a b e w x stands same wrote =
       line = x.next;
       mid = at w c h.store.disk;
       earlier = x.before.it;
-      beats = [];
+      entries = [];
       before = record { done = x.done; rest = x.more ++ rest; split = ap (λ (y : List (List ℕ)). y ++ rest) x.split ∙ append_assoc x.done (x.next ∷ x.more) rest; ran = x.before.ran };
       broke = subst (λ (l : Option ScriptLine). LineSoFar m.after (at w c h.store.disk) [] (at w c g.store.disk) l) (sym x.says) (not_taken x.said refl (ap (λ (d : DiskView). at w c d) same));
       took = refl;
@@ -233,7 +233,7 @@ module _ {C : Type 0} (m : Manner C) (lines : List (List ℕ)) (events : List Ev
     (many : 2 ≤ length events) (few : length events ≤ most_commands) (same : SameDisk h.store.disk g.store.disk) (rest : List (List ℕ)) where
   -- where the replies of those that were taken couldn't be written is for the caller to say
   pub group_fails : (KeptUpTo m.strict p.leads events h g → LinesFailed m (lines ++ rest) s (left g c a e) fault.Output) → (f : RunFault) → GroupFailed m.strict p.held p.leads events (host_call h g b e) f → LinesFailed m (lines ++ rest) s (left g c a e) f
-  group_fails untold f (group_lost broke last wrote) = failed_in_group (record {
+  group_fails withheld f (group_lost broke last wrote) = failed_in_group (record {
     group = p.held;
     it = p.it;
     mid = p.leads;
@@ -244,5 +244,5 @@ module _ {C : Type 0} (m : Manner C) (lines : List (List ℕ)) (events : List Ev
     right = p.right;
     last = last;
   })
-  group_fails untold f (group_refused stands there wrote) = refused m lines rest events s h g c a b e p many stands there wrote
-  group_fails untold f (group_untold kept) = untold kept
+  group_fails withheld f (group_refused stands there wrote) = refused m lines rest events s h g c a b e p many stands there wrote
+  group_fails withheld f (group_withheld kept) = withheld kept

@@ -1,7 +1,7 @@
 pub mod Records
 pub mod Together
 pub mod Lines
-pub mod Told
+pub mod Reported
 pub mod Run
 pub mod Strict
 pub mod inside

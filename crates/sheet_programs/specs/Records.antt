@@ -2,19 +2,19 @@
 use Rattle.std.specs.Prelude.{ℕ, Bool, List, ◌++◌, Option}
 use Rattle.disk_model.specs.Disk.{DiskView}
 use Rattle.session_engine.specs.Host.{HostView}
-use Rattle.child_edge.specs.Faithful.{Relation, Beat}
+use Rattle.child_edge.specs.Faithful.{Relation, Entry}
 
 -- What something brought: its entries, and what is written of them.
 pub record Brought : Type 0 where
-  pub beats : List Beat
+  pub entries : List Entry
   pub text : List ℕ
 
-abbrev pub brought : List Beat → List ℕ → Brought
-brought beats text = record { beats = beats; text = text }
+abbrev pub brought : List Entry → List ℕ → Brought
+brought entries text = record { entries = entries; text = text }
 
 -- what two things brought, one after the other
 abbrev pub joined : Brought → Brought → Brought
-joined first last = record { beats = first.beats ++ last.beats; text = first.text ++ last.text }
+joined first last = record { entries = first.entries ++ last.entries; text = first.text ++ last.text }
 
 -- What a call leaves: the host and the sources after it, the interpreters among them, and all that was written, before it and after it.
 pub record Left (C : Type 0) : Type 0 where

@@ -10,7 +10,7 @@ use Rattle.host_events.specs.declared.outcome.HostFault.{HostFault}
 use Rattle.session_engine.specs.World.{World, world_at_opening}
 use Rattle.session_engine.specs.Crash.{Moments}
 use Rattle.session_engine.specs.Host.{HostView, EndsAt}
-use Rattle.child_edge.specs.Faithful.{Relation, At, at, Beat}
+use Rattle.child_edge.specs.Faithful.{Relation, At, at, Entry}
 use Rattle.child_edge.specs.Kept.{HoldsSheet}
 use Rattle.child_edge.specs.Edge.{Stopped}
 use Rattle.child_edge.specs.Moments.{LeavesFronts, LeavesFrontsUpTo, events_of, outcomes_of}
@@ -19,9 +19,9 @@ use Rattle.child_edge.specs.Stops.{Stops}
 use Rattle.sheet_text.specs.Script.{line_of}
 use Rattle.offline_programs.specs.Memory.{script_lines}
 use Rattle.sheet_programs.specs.Records.{Brought, Outside}
-use Rattle.sheet_programs.specs.Lines.{LinesDone, LineUpTo, LineSoFar, LineLed, beats_text, led_beats}
+use Rattle.sheet_programs.specs.Lines.{LinesDone, LineUpTo, LineSoFar, LineLed, entries_text, led_entries}
 use Rattle.sheet_programs.specs.Together.{GroupBroke, GroupTaken}
-use Rattle.sheet_programs.specs.Told.{LeavesFrontsAnyhow}
+use Rattle.sheet_programs.specs.Reported.{LeavesFrontsAnyhow}
 
 -- The world of a host that was opened on this disk: that of the ops of the worksheet found there. The opening changed no byte, and
 -- no moment of it left an image that is new; this is the disk after it.
@@ -45,22 +45,22 @@ pub record LinesUpTo {C : Type 0} (R : Relation C) (lines : List (List ℕ)) (s 
   pub line : List ℕ
   pub mid : At C
   pub earlier : Brought
-  pub beats : List Beat
+  pub entries : List Entry
   pub before : LinesBefore R lines line s earlier mid
-  pub broke : LineUpTo R mid beats e t (line_of line)
-  pub took : all.beats ≡ earlier.beats ++ beats
-  pub wrote : all.text ≡ earlier.text ++ beats_text beats
+  pub broke : LineUpTo R mid entries e t (line_of line)
+  pub took : all.entries ≡ earlier.entries ++ entries
+  pub wrote : all.text ≡ earlier.text ++ entries_text entries
 
 -- The lines came so far when memory was refused.
 pub record LinesSoFar {C : Type 0} (R : Relation C) (lines : List (List ℕ)) (s : At C) (all : Brought) (t : At C) : Type 0 where
   pub line : List ℕ
   pub mid : At C
   pub earlier : Brought
-  pub beats : List Beat
+  pub entries : List Entry
   pub before : LinesBefore R lines line s earlier mid
-  pub broke : LineSoFar R mid beats t (line_of line)
-  pub took : all.beats ≡ earlier.beats ++ beats
-  pub wrote : all.text ≡ earlier.text ++ beats_text beats
+  pub broke : LineSoFar R mid entries t (line_of line)
+  pub took : all.entries ≡ earlier.entries ++ entries
+  pub wrote : all.text ≡ earlier.text ++ entries_text entries
 
 -- Some of the lines, the last of them or a part of it, led from here to there.
 pub record LinesLed {C : Type 0} (R : Relation C) (lines : List (List ℕ)) (s t : At C) : Type 0 where
@@ -91,7 +91,7 @@ pub record RunOf {C : Type 0} (R : Relation C) (Done : At C → Brought → At C
   pub wrote : Appends first.written last.written all.text
   pub back_is : last.disk ≡ leads.disk
   pub holds : HoldsSheet leads.world last.disk
-  pub moments : LeavesFronts start all.beats now last.disk
+  pub moments : LeavesFronts start all.entries now last.disk
 
 -- At an event the host had this fault, and its disk, which is given back, was left as the fault says. What was returned before is
 -- written, and each life that goes on was stopped.
@@ -106,7 +106,7 @@ pub record RunStopped {C : Type 0} (R : Relation C) (script : List ℕ) (first l
   pub host : HostView
   pub back_is : last.disk ≡ host.store.disk
   pub stopped : Stopped leads.disk host leads.world failed f
-  pub moments : LeavesFrontsUpTo start all.beats failed f now host.store.disk
+  pub moments : LeavesFrontsUpTo start all.entries failed f now host.store.disk
   pub stops : Stops R (running leads.world) leads.children last.sources
   pub wrote : Appends first.written last.written all.text
 
@@ -119,7 +119,7 @@ pub record RunSoFar {C : Type 0} (R : Relation C) (script : List ℕ) (first las
   pub leads : At C
   pub lines : LinesSoFar R (script_lines script) (at start first.sources now) all leads
   pub back_is : last.disk ≡ leads.disk
-  pub moments : LeavesFronts start all.beats now last.disk
+  pub moments : LeavesFronts start all.entries now last.disk
   pub stops : Stops R (running leads.world) leads.children last.sources
   pub wrote : Appends first.written last.written all.text
 
@@ -132,7 +132,7 @@ pub record RunLed {C : Type 0} (R : Relation C) (script : List ℕ) (first last 
   pub lines : LinesLed R (script_lines script) (at start first.sources now) leads
   pub host : HostView
   pub back_is : last.disk ≡ host.store.disk
-  pub moments : LeavesFrontsAnyhow start (lines.earlier.beats ++ led_beats lines.led) now host leads.world leads.disk
+  pub moments : LeavesFrontsAnyhow start (lines.earlier.entries ++ led_entries lines.led) now host leads.world leads.disk
   pub stops : Stops R (running leads.world) leads.children last.sources
 
 -- The disk failed in a group. Nothing of the group is written: the text is that of the lines before it. At every moment each image was one
@@ -148,7 +148,7 @@ pub record RunBroke {C : Type 0} (R : Relation C) (script : List ℕ) (first las
   pub host : HostView
   pub back_is : last.disk ≡ host.store.disk
   pub broke : GroupBroke group leads.world leads.disk host
-  pub moments : Moments start (events_of all.beats ++ broke.taken) (outcomes_of all.beats ++ broke.untold) now last.disk
+  pub moments : Moments start (events_of all.entries ++ broke.taken) (outcomes_of all.entries ++ broke.withheld) now last.disk
   pub stops : Stops R (running broke.leads) leads.children last.sources
   pub wrote : Appends first.written last.written all.text
 
@@ -161,9 +161,9 @@ pub record RunUnwritten {C : Type 0} (R : Relation C) (script : List ℕ) (first
   pub earlier : Brought
   pub mid : At C
   pub before : GroupBefore R (script_lines script) group (at start first.sources now) earlier mid
-  pub beats : List Beat
+  pub entries : List Entry
   pub leads : At C
-  pub done : GroupTaken group mid beats leads
+  pub done : GroupTaken group mid entries leads
   pub back_is : last.disk ≡ leads.disk
-  pub moments : LeavesFronts start (earlier.beats ++ beats) now last.disk
+  pub moments : LeavesFronts start (earlier.entries ++ entries) now last.disk
   pub stops : Stops R (running leads.world) leads.children last.sources

@@ -14,9 +14,9 @@ use Rattle.host_events.specs.declared.reply.Reply.TheVariants as reply
 use Rattle.session_engine.specs.World.{World}
 use Rattle.session_engine.specs.Groups.{LastRefused}
 use Rattle.session_engine.specs.Host.{IsHost}
-use Rattle.child_edge.specs.Faithful.{Relation, At, at, Beat}
+use Rattle.child_edge.specs.Faithful.{Relation, At, at, Entry}
 use Rattle.child_edge.specs.Moments.{outcomes_of}
-use Rattle.child_edge.specs.Told.{told}
+use Rattle.child_edge.specs.Reported.{reported}
 use Rattle.sheet_text.specs.Script.{line_of}
 use Rattle.sheet_text.specs.declared.script.ScriptLine.{ScriptLine}
 use Rattle.offline_programs.specs.Input.{longest_standard_input}
@@ -25,7 +25,7 @@ use Rattle.offline_programs.specs.declared.fault.RunFault.{RunFault}
 use Rattle.offline_programs.specs.declared.fault.RunFault.TheVariants as fault
 use Rattle.sheet_programs.specs.Records.{Brought, Left, Manner, Outside}
 use Rattle.sheet_programs.specs.Together.{GroupTaken, line_events}
-use Rattle.sheet_programs.specs.Lines.{LineDone, LinesDone, beats_text}
+use Rattle.sheet_programs.specs.Lines.{LineDone, LinesDone, entries_text}
 use Rattle.sheet_programs.specs.Run.{GroupBefore, LinesBefore, RunBroke, RunLed, RunOf, RunSoFar, RunStopped, RunUnwritten}
 
 -- items were lost at this end of a life
@@ -43,25 +43,25 @@ is_wrong (reply.Child one) = has_lost one.ended
 is_wrong reply.Nothing = false
 
 -- The line is bad, or one of the entries that came of it has such a reply.
-abbrev pub goes_wrong : Option ScriptLine → List Beat → Bool
-goes_wrong None beats = true
-goes_wrong (Some said) beats = list_any is_wrong (told beats)
+abbrev pub goes_wrong : Option ScriptLine → List Entry → Bool
+goes_wrong None entries = true
+goes_wrong (Some said) entries = list_any is_wrong (reported entries)
 
 -- The line was done, what it gave is written, and this says whether it went wrong.
 abbrev pub LineTook : {C : Type 0} → Relation C → ℕ → Option ScriptLine → At C → Left C → Bool → Type 0
 LineTook R number l s left wrong =
-    (it : Brought) × (t : World) × LineDone R number l s it (at t left.sources left.host.store.disk) × IsHost left.host t × Appends left.out left.now it.text × (wrong ≡ goes_wrong l it.beats)
+    (it : Brought) × (t : World) × LineDone R number l s it (at t left.sources left.host.store.disk) × IsHost left.host t × Appends left.out left.now it.text × (wrong ≡ goes_wrong l it.entries)
 
 abbrev pub is_bad : List ℕ → Bool
 is_bad line = not (is_some (line_of line))
 
 -- None of these lines is bad, and none of these entries, which came of them, has such a reply: none of the lines went wrong.
-abbrev pub GoRight : List (List ℕ) → List Beat → Type 0
-GoRight lines beats = (list_any is_bad lines ≡ false) × (list_any is_wrong (told beats) ≡ false)
+abbrev pub GoRight : List (List ℕ) → List Entry → Type 0
+GoRight lines entries = (list_any is_bad lines ≡ false) × (list_any is_wrong (reported entries) ≡ false)
 
 -- They were done so.
 abbrev pub EachRight : {C : Type 0} {R : Relation C} {number : ℕ} {lines : List (List ℕ)} {s : At C} {it : Brought} {t : At C} → LinesDone R number lines s it t → Type 0
-EachRight {lines = lines} {it = it} done = GoRight lines it.beats
+EachRight {lines = lines} {it = it} done = GoRight lines it.entries
 
 -- In a strict run none of these lines went wrong.
 abbrev pub RightIf : {C : Type 0} {R : Relation C} {number : ℕ} {lines : List (List ℕ)} {s : At C} {it : Brought} {t : At C} → Bool → LinesDone R number lines s it t → Type 0
@@ -78,8 +78,8 @@ pub record StoppedAtLine {C : Type 0} (R : Relation C) (lines : List (List ℕ))
   pub count : number ≡ length before.done + 1
   pub last : Brought
   pub ran : LineDone R number (line_of line) mid last t
-  pub wrong : goes_wrong (line_of line) last.beats ≡ true
-  pub took : all.beats ≡ earlier.beats ++ last.beats
+  pub wrong : goes_wrong (line_of line) last.entries ≡ true
+  pub took : all.entries ≡ earlier.entries ++ last.entries
   pub wrote : all.text ≡ earlier.text ++ last.text
 
 -- The lines were done up to the one with this number, the first that went wrong, whose command was the last that was taken of a group.
@@ -91,24 +91,24 @@ pub record StoppedInGroup {C : Type 0} (R : Relation C) (lines : List (List ℕ)
   pub before : GroupBefore R lines (group ++ line ∷ []) s earlier mid
   pub right : EachRight before.ran
   pub count : number ≡ length before.done + length group + 1
-  pub accepted : List Beat
-  pub last : Beat
+  pub accepted : List Entry
+  pub last : Entry
   pub ran : GroupTaken (group ++ line ∷ []) mid (accepted ++ last ∷ []) t
   pub asks : line_events (line_of line) ≡ last.event ∷ []
-  pub none : list_any is_wrong (told accepted) ≡ false
-  pub wrong : list_any is_wrong (told (last ∷ [])) ≡ true
-  pub took : all.beats ≡ earlier.beats ++ (accepted ++ last ∷ [])
-  pub wrote : all.text ≡ earlier.text ++ beats_text (accepted ++ last ∷ [])
+  pub none : list_any is_wrong (reported accepted) ≡ false
+  pub wrong : list_any is_wrong (reported (last ∷ [])) ≡ true
+  pub took : all.entries ≡ earlier.entries ++ (accepted ++ last ∷ [])
+  pub wrote : all.text ≡ earlier.text ++ entries_text (accepted ++ last ∷ [])
 
 -- The lines were done up to the one with this number, the first that went wrong.
-abbrev pub StoppedBehind : {C : Type 0} → Relation C → List (List ℕ) → At C → Brought → At C → ℕ → Type 0
-StoppedBehind R lines s it t number = StoppedAtLine R lines s it t number ⊎ StoppedInGroup R lines s it t number
+abbrev pub StoppedAfter : {C : Type 0} → Relation C → List (List ℕ) → At C → Brought → At C → ℕ → Type 0
+StoppedAfter R lines s it t number = StoppedAtLine R lines s it t number ⊎ StoppedInGroup R lines s it t number
 
 -- The lines of a run. All were done, and in a strict run none went wrong; or it is a strict run, in which they were done up to the first one
 -- that did, which has this number.
 abbrev pub LinesTaken : {C : Type 0} → Manner C → List (List ℕ) → Option ℕ → At C → Brought → At C → Type 0
 LinesTaken m lines None s it t = (done : LinesDone m.after 1 lines s it t) × RightIf m.strict done
-LinesTaken m lines (Some number) s it t = (m.strict ≡ true) × StoppedBehind m.after lines s it t number
+LinesTaken m lines (Some number) s it t = (m.strict ≡ true) × StoppedAfter m.after lines s it t number
 
 -- What a run leaves that had no fault. The worksheet has what was returned, and each life that goes on was stopped.
 abbrev pub RunDone : {C : Type 0} → Manner C → List ℕ → Option ℕ → Outside C → Outside C → Type 0
@@ -120,9 +120,9 @@ LastIf false outcomes = Unit {0}
 LastIf true outcomes = LastRefused outcomes
 
 -- A group has two entries or more; in a strict run it ends after the first that was refused.
-abbrev pub GroupBy : Bool → List Beat → Type 0
-GroupBy false beats = 2 ≤ length beats
-GroupBy true beats = LastRefused (outcomes_of beats)
+abbrev pub GroupBy : Bool → List Entry → Type 0
+GroupBy false entries = 2 ≤ length entries
+GroupBy true entries = LastRefused (outcomes_of entries)
 
 -- What a fault of a run tells, where the reader gives this stream. Where the script wasn't read, or the disk not opened, nothing was done.
 -- In a strict run no line went wrong before the one at which the fault came.
@@ -132,9 +132,9 @@ pub data TellsRun {C : Type 0} (m : Manner C) (stream : Option (List ℕ)) (firs
   unopened : (why : OpenCause) → nothing → InModel first.disk (TellsOfSheet (bytes_on first.disk) why) → TellsRun m stream first last nothing (fault.Open why)
   stopped : (f : HostFault) → IfSome stream (λ script. (it : RunStopped m.after script first last f) × RightIf m.strict it.lines.before.ran) → TellsRun m stream first last nothing (fault.Host f)
   -- the disk failed in a group
-  broke : IfSome stream (λ script. (it : RunBroke m.after script first last) × RightIf m.strict it.before.ran × LastIf m.strict it.broke.untold) → TellsRun m stream first last nothing (fault.Host hosts.Disk)
+  broke : IfSome stream (λ script. (it : RunBroke m.after script first last) × RightIf m.strict it.before.ran × LastIf m.strict it.broke.withheld) → TellsRun m stream first last nothing (fault.Host hosts.Disk)
   not_begun : nothing → TellsRun m stream first last nothing fault.OutOfMemory
   refused : IfSome stream (λ script. (it : RunSoFar m.after script first last) × RightIf m.strict it.lines.before.ran) → TellsRun m stream first last nothing fault.OutOfMemory
   unwritten : IfSome stream (λ script. (length script ≤ longest_standard_input) × (it : RunLed m.after script first last) × RightIf m.strict it.lines.before.ran) → TellsRun m stream first last nothing fault.Output
   group_unwritten : IfSome stream (λ script. (length script ≤ longest_standard_input)
-      × (it : RunUnwritten m.after script first last) × RightIf m.strict it.before.ran × GroupBy m.strict it.beats) → TellsRun m stream first last nothing fault.Output
+      × (it : RunUnwritten m.after script first last) × RightIf m.strict it.before.ran × GroupBy m.strict it.entries) → TellsRun m stream first last nothing fault.Output

@@ -9,7 +9,7 @@ use Rattle.host_events.specs.declared.outcome.Outcome.{Outcome}
 use Rattle.session_engine.specs.World.{World, life_of, sheet_in}
 use Rattle.session_engine.specs.Does.{Runs}
 use Rattle.session_engine.specs.Host.{HostView, number_in}
-use Rattle.child_edge.specs.Faithful.{At, Beat}
+use Rattle.child_edge.specs.Faithful.{At, Entry}
 use Rattle.child_edge.specs.Kept.{HoldsSheet}
 use Rattle.child_edge.specs.Moments.{events_of, outcomes_of}
 -- What a crash leaves of events that are taken together is the same wherever they come from.
@@ -49,25 +49,25 @@ abbrev pub most_commands : ℕ
 most_commands = 65536
 
 -- an event without an effect, so no child was called
-abbrev pub Alone : Beat → Type 0
+abbrev pub Alone : Entry → Type 0
 Alone b = (b.outcome.effect ≡ None) × (b.answer ≡ None)
 
 -- Lines with at most 65,536 commands were taken together. Their commands went through one after another, and no child was called. What they
 -- gave became durable at once: a crash left the worksheet from before them, or that after all of them.
-pub record GroupTaken {C : Type 0} (lines : List (List ℕ)) (s : At C) (beats : List Beat) (t : At C) : Type 0 where
-  pub joins : Joins lines (events_of beats)
-  pub few : length beats ≤ most_commands
-  pub runs : Runs s.world (events_of beats) (outcomes_of beats) t.world
-  pub alone : AllByRecursion Alone beats
+pub record GroupTaken {C : Type 0} (lines : List (List ℕ)) (s : At C) (entries : List Entry) (t : At C) : Type 0 where
+  pub joins : Joins lines (events_of entries)
+  pub few : length entries ≤ most_commands
+  pub runs : Runs s.world (events_of entries) (outcomes_of entries) t.world
+  pub alone : AllByRecursion Alone entries
   pub children : t.children ≡ s.children
   pub same : SameDisk s.disk t.disk
   pub moments : LeavesEither s.world t.world s.disk t.disk
   pub holds : HoldsSheet t.world t.disk
 
 -- They were, and there were two commands or more.
-pub record GroupDone {C : Type 0} (lines : List (List ℕ)) (s : At C) (beats : List Beat) (t : At C) : Type 0 where
-  pub taken : GroupTaken lines s beats t
-  pub many : 2 ≤ length beats
+pub record GroupDone {C : Type 0} (lines : List (List ℕ)) (s : At C) (entries : List Entry) (t : At C) : Type 0 where
+  pub taken : GroupTaken lines s entries t
+  pub many : 2 ≤ length entries
 
 -- The disk failed while lines were taken together. The first of their commands were taken, and of none anything is reported: a crash left
 -- the worksheet from before them, or that after those. The host is closed; in its memory the worksheet and the lives are as after them.
@@ -75,9 +75,9 @@ pub record GroupBroke (lines : List (List ℕ)) (w : World) (old : DiskView) (h 
   pub taken : List Event
   pub dropped : List Event
   pub joins : Joins lines (taken ++ dropped)
-  pub untold : List Outcome
+  pub withheld : List Outcome
   pub leads : World
-  pub runs : Runs w taken untold leads
+  pub runs : Runs w taken withheld leads
   pub closed : h.closed ≡ true
   pub contents : h.store.sheet.contents ≡ sheet_in leads
   pub numbers : (name : List ℕ) → number_in h.lives name ≡ option_map (λ l. l.number) (life_of leads name)

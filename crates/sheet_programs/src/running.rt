@@ -5,7 +5,7 @@ ghost use Rattle.offline_programs.specs.Faults.{Untouched};
 ghost use Rattle.offline_programs.specs.Input.{longest_standard_input};
 ghost use Rattle.sheet_programs.specs.Records.{manner, outside};
 ghost use Rattle.sheet_programs.specs.Strict.{RunDone, TellsRun};
-ghost use Rattle.offline_programs.specs.declared.fault.RunFault.TheVariants as told;
+ghost use Rattle.offline_programs.specs.declared.fault.RunFault.TheVariants as reported;
 ghost use Rattle.journal.specs.declared.opening.OpenCause.TheVariants as opens;
 ghost use Rattle.host_events.specs.declared.outcome.HostFault.TheVariants as hosts;
 
@@ -53,13 +53,13 @@ pub fn run_read<W: Write, D: Disk, C: Children>(
         × Untouched (D.view disk) (D.view result.disk))) }
 
     // That the disk failed, at the opening or later, is reported only where it did.
-    ensures unopened { IsErrOf result.answer (told.Open opens.Disk)
+    ensures unopened { IsErrOf result.answer (reported.Open opens.Disk)
         → Rises (D.view disk).faults (D.view result.disk).faults }
-    ensures failed { IsErrOf result.answer (told.Host hosts.Disk)
+    ensures failed { IsErrOf result.answer (reported.Host hosts.Disk)
         → Rises (D.view disk).faults (D.view result.disk).faults }
 
     // Lack of memory at the opening is reported only where no call of the disk failed.
-    ensures memory { IsErrOf result.answer (told.Open opens.OutOfMemory)
+    ensures memory { IsErrOf result.answer (reported.Open opens.OutOfMemory)
         → (D.view result.disk).faults ≡ (D.view disk).faults }
 {
     let mut host = match Host::open(alloc, disk) {
@@ -119,13 +119,13 @@ pub fn run<R: Read, W: Write, D: Disk, C: Children>(
         × Untouched (D.view disk) (D.view result.disk))) }
 
     // That the disk failed, at the opening or later, is reported only where it did.
-    ensures unopened { IsErrOf result.answer (told.Open opens.Disk)
+    ensures unopened { IsErrOf result.answer (reported.Open opens.Disk)
         → Rises (D.view disk).faults (D.view result.disk).faults }
-    ensures failed { IsErrOf result.answer (told.Host hosts.Disk)
+    ensures failed { IsErrOf result.answer (reported.Host hosts.Disk)
         → Rises (D.view disk).faults (D.view result.disk).faults }
 
     // Lack of memory at the opening is reported only where no call of the disk failed.
-    ensures memory { IsErrOf result.answer (told.Open opens.OutOfMemory)
+    ensures memory { IsErrOf result.answer (reported.Open opens.OutOfMemory)
         → (D.view result.disk).faults ≡ (D.view disk).faults }
 {
     match read_input(alloc, reader) {

@@ -10,7 +10,7 @@ ghost use Rattle.sheet_text.specs.declared.script.ScriptLine.TheVariants as said
 ghost use Rattle.sheet_programs.specs.Records.{left};
 ghost use Rattle.sheet_programs.specs.Strict as strictly;
 ghost use Rattle.sheet_programs.specs.Strict.{LineTook};
-ghost use Rattle.sheet_programs.specs.Told.{LineFailed, fault_of_cause};
+ghost use Rattle.sheet_programs.specs.Reported.{LineFailed, fault_of_cause};
 
 use bstr::ByteSlice;
 use child_calls::Children;
@@ -50,7 +50,7 @@ pub fn is_wrong(reply: &Reply) -> bool
 {
     match reply {
         Reply::Refused(_) => true,
-        Reply::Child(told) => has_lost(&told.ended),
+        Reply::Child(reported) => has_lost(&reported.ended),
         Reply::Done | Reply::Field(_) | Reply::Asked(_) | Reply::Nothing => false,
     }
 }

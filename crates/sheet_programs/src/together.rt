@@ -12,7 +12,7 @@ ghost use Rattle.sheet_text.specs.declared.script.ScriptLine.TheVariants as said
 ghost use Rattle.offline_programs.specs.Memory.{script_lines};
 ghost use Rattle.sheet_programs.specs.Records.{left, manner};
 ghost use Rattle.sheet_programs.specs.Strict.{LineTook};
-ghost use Rattle.sheet_programs.specs.Told.{LineFailed};
+ghost use Rattle.sheet_programs.specs.Reported.{LineFailed};
 ghost use Rattle.sheet_programs.specs.Together.{line_events, most_commands};
 ghost use Rattle.sheet_programs.specs.inside.Taking.{LinesFailed, LinesTook};
 ghost use Rattle.sheet_programs.specs.inside.Grouping.{Standing, StandsOrStops, may_wait};

@@ -6,16 +6,16 @@ use Rattle.std.specs.Str.Pattern.{FindsText, LacksTextAt, SplitsAroundMatch}
 use Rattle.std.proofs.lemmas.Slice.Eq.{bytes_eq-Decides}
 use Rattle.std.proofs.lemmas.List.{take-append-drop}
 use Rattle.std.specs.Io.KnownBytes.{Appends}
-use Rattle.sheet_text.specs.InputLines.{further_line, lines_of_input, line_end, lines_behind, text_of_lines}
+use Rattle.sheet_text.specs.InputLines.{further_line, lines_of_input, line_end, lines_after, text_of_lines}
 
 -- what is made of the lines that are done, and of those that are still to come
 abbrev pub Makes : (List ℕ → List ℕ) → List ℕ → List (List ℕ) → List ℕ → Type 0
 Makes f made lines all = made ++ flat_map f lines ≡ all
 
 -- how far a loop over lines has to go: no byte is left where nothing comes after a line
-abbrev pub left_behind : Option (List ℕ) → ℕ
-left_behind None = 0
-left_behind (Some rest) = length rest + 1
+abbrev pub left_beyond : Option (List ℕ) → ℕ
+left_beyond None = 0
+left_beyond (Some rest) = length rest + 1
 
 pub first_made : (f : List ℕ → List ℕ) (between : List ℕ) (lines others : List (List ℕ)) (line : List ℕ) → lines ≡ line ∷ others → Makes (further_line f between) (f line) others (text_of_lines f between lines)
 first_made f between lines others line e = rw e refl
@@ -53,37 +53,37 @@ all_written f between a b c lines others all line e none p w =
 
 -- an end of a line
 ends_here : (rest : List ℕ) → lines_of_input (line_end ++ rest) ≡ [] ∷ lines_of_input rest
-unfolding lines_behind
+unfolding lines_after
 ends_here rest = refl
 
 no_end_here : (byte : ℕ) (rest : List ℕ) → LacksTextAt line_end (byte ∷ rest) 0 → lines_of_input (byte ∷ rest) ≡ onto_first byte (lines_of_input rest)
-unfolding lines_behind
+unfolding lines_after
 no_end_here byte rest lacks = go (bytes_eq (take 3 (byte ∷ rest)) line_end) (bytes_eq-Decides (take 3 (byte ∷ rest)) line_end)
   where
-    go : (b : Bool) → Decides b (take 3 (byte ∷ rest) ≡ line_end) → cond b ([] ∷ lines_behind 2 rest) (onto_first byte (lines_of_input rest)) ≡ onto_first byte (lines_of_input rest)
+    go : (b : Bool) → Decides b (take 3 (byte ∷ rest) ≡ line_end) → cond b ([] ∷ lines_after 2 rest) (onto_first byte (lines_of_input rest)) ≡ onto_first byte (lines_of_input rest)
     go true is = absurd (lacks (drop 3 (byte ∷ rest)) (sym (take-append-drop 3 (byte ∷ rest)) ∙ ap (λ front. front ++ drop 3 (byte ∷ rest)) (is.0 refl)))
     go false is = refl
 
 no_end : (input : List ℕ) → ((i : ℕ) → i ≤ length input → LacksTextAt line_end input i) → lines_of_input input ≡ input ∷ []
-unfolding lines_behind
+unfolding lines_after
 no_end [] lacks = refl
 no_end (byte ∷ rest) lacks = no_end_here byte rest (lacks 0 (omega arith)) ∙ ap (onto_first byte) (no_end rest (λ i low. lacks (suc i) (omega arith)))
 
-first_end : (i : ℕ) (input behind : List ℕ) → ((k : ℕ) → k < i → LacksTextAt line_end input k) → drop i input ≡ line_end ++ behind → lines_of_input input ≡ take i input ∷ lines_of_input behind
-first_end zero input behind lacks at = ap lines_of_input at ∙ ends_here behind
-first_end (suc i) [] behind lacks at = cc
-first_end (suc i) (byte ∷ rest) behind lacks at =
-    no_end_here byte rest (lacks 0 (omega arith)) ∙ ap (onto_first byte) (first_end i rest behind (λ k low. lacks (suc k) (omega arith)) at)
+first_end : (i : ℕ) (input following : List ℕ) → ((k : ℕ) → k < i → LacksTextAt line_end input k) → drop i input ≡ line_end ++ following → lines_of_input input ≡ take i input ∷ lines_of_input following
+first_end zero input following lacks at = ap lines_of_input at ∙ ends_here following
+first_end (suc i) [] following lacks at = cc
+first_end (suc i) (byte ∷ rest) following lacks at =
+    no_end_here byte rest (lacks 0 (omega arith)) ∙ ap (onto_first byte) (first_end i rest following (λ k low. lacks (suc k) (omega arith)) at)
 
 -- what `split_once` gives
 pub line_alone : (input : List ℕ) → FindsText line_end input None → lines_of_input input ≡ input ∷ []
 line_alone input none = no_end input none
 
-pub line_cut : (input line behind : List ℕ) → SplitsAroundMatch (FindsText line_end) input line behind → (lines_of_input input ≡ line ∷ lines_of_input behind) × (length behind < length input)
-line_cut input line behind cut =
+pub line_cut : (input line following : List ℕ) → SplitsAroundMatch (FindsText line_end) input line following → (lines_of_input input ≡ line ∷ lines_of_input following) × (length following < length input)
+line_cut input line following cut =
     let i = cut.0 in
     let found = cut.2 in (
-      first_end i input behind found.0 (found.1.split ∙ ap (λ b. line_end ++ b) (sym cut.4)) ∙ ap (λ l. l ∷ lines_of_input behind) (sym cut.3),
+      first_end i input following found.0 (found.1.split ∙ ap (λ b. line_end ++ b) (sym cut.4)) ∙ ap (λ l. l ∷ lines_of_input following) (sym cut.3),
       omega (arith, found.1.ends, cut.7),
     )
 

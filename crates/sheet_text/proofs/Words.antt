@@ -5,7 +5,7 @@ use Rattle.std.specs.List.{position_or_len, slice_split, onto_first, after_first
 use Rattle.std.proofs.lemmas.Bool.Decides.{nat_tests}
 use Rattle.std.proofs.lemmas.List.{take_all, length-drop}
 use Rattle.std.proofs.lemmas.List.Splits.{slice_split_first}
-use Rattle.sheet_text.specs.Script.{is_space, before_space, behind_space}
+use Rattle.sheet_text.specs.Script.{is_space, before_space, after_space}
 
 none_left : (bytes : List ℕ) → length bytes ≤ position_or_len is_space bytes → slice_split is_space bytes ≡ bytes ∷ []
 none_left [] h = refl
@@ -18,43 +18,43 @@ none_left (x ∷ xs) h = go (is_space x) refl (none_left xs)
         let cut : slice_split is_space (x ∷ xs) ≡ onto_first x (slice_split is_space xs) = rw e refl in
         cut ∙ ap (onto_first x) (rest (omega (arith, more, h)))
 
-none_behind : (bytes : List ℕ) → behind_space bytes ≡ None → length bytes ≤ position_or_len is_space bytes
-none_behind bytes h = go (nat_lt (position_or_len is_space bytes) (length bytes)) refl (λ less. grind (arith, nat_tests))
+none_after : (bytes : List ℕ) → after_space bytes ≡ None → length bytes ≤ position_or_len is_space bytes
+none_after bytes h = go (nat_lt (position_or_len is_space bytes) (length bytes)) refl (λ less. grind (arith, nat_tests))
   where
     go : (b : Bool) → nat_lt (position_or_len is_space bytes) (length bytes) ≡ b → (b ≡ false → length bytes ≤ position_or_len is_space bytes) → length bytes ≤ position_or_len is_space bytes
     go true e less = let is : Some (after_first is_space bytes) ≡ None = rw e at h in cc
     go false e less = less refl
 
-some_behind : (bytes others : List ℕ) → behind_space bytes ≡ Some others → (position_or_len is_space bytes < length bytes) × (others ≡ after_first is_space bytes)
-some_behind bytes others h = go (nat_lt (position_or_len is_space bytes) (length bytes)) refl (λ less. grind (arith, nat_tests))
+some_after : (bytes others : List ℕ) → after_space bytes ≡ Some others → (position_or_len is_space bytes < length bytes) × (others ≡ after_first is_space bytes)
+some_after bytes others h = go (nat_lt (position_or_len is_space bytes) (length bytes)) refl (λ less. grind (arith, nat_tests))
   where
     go : (b : Bool) → nat_lt (position_or_len is_space bytes) (length bytes) ≡ b → (b ≡ true → position_or_len is_space bytes < length bytes) → (position_or_len is_space bytes < length bytes) × (others ≡ after_first is_space bytes)
     go true e less = let is : Some (after_first is_space bytes) ≡ Some others = rw e at h in (less refl, cc)
     go false e less = let is : None ≡ Some others = rw e at h in cc
 
 -- the first part is taken
-pub part_taken : (words : List (List ℕ)) (rest others all : List ℕ) → words ++ slice_split is_space rest ≡ slice_split is_space all → behind_space rest ≡ Some others
+pub part_taken : (words : List (List ℕ)) (rest others all : List ℕ) → words ++ slice_split is_space rest ≡ slice_split is_space all → after_space rest ≡ Some others
     → (words ++ before_space rest ∷ []) ++ slice_split is_space others ≡ slice_split is_space all
 part_taken words rest others all h e =
-    let p = some_behind rest others e in
+    let p = some_after rest others e in
     append_assoc words (before_space rest ∷ []) (slice_split is_space others)
     ∙ ap (λ k. words ++ before_space rest ∷ slice_split is_space k) p.1
     ∙ ap (λ parts. words ++ parts) (sym (slice_split_first is_space rest 0 p.0))
     ∙ h
 
 -- the last part is taken
-pub parts_taken : (words : List (List ℕ)) (rest all : List ℕ) → words ++ slice_split is_space rest ≡ slice_split is_space all → behind_space rest ≡ None
+pub parts_taken : (words : List (List ℕ)) (rest all : List ℕ) → words ++ slice_split is_space rest ≡ slice_split is_space all → after_space rest ≡ None
     → words ++ before_space rest ∷ [] ≡ slice_split is_space all
 parts_taken words rest all h e =
-    let none = none_behind rest e in
+    let none = none_after rest e in
     ap (λ part. words ++ part ∷ []) (take_all (position_or_len is_space rest) rest none)
     ∙ ap (λ parts. words ++ parts) (sym (none_left rest none))
     ∙ h
 
-pub fewer_behind : (rest others : List ℕ) → behind_space rest ≡ Some others → length others < length rest
-fewer_behind rest others e =
-    let p = some_behind rest others e in
+pub fewer_after : (rest others : List ℕ) → after_space rest ≡ Some others → length others < length rest
+fewer_after rest others e =
+    let p = some_after rest others e in
     let n = ap length p.1 in
     omega (arith, n, p.0, length-drop (position_or_len is_space rest + 1) rest)
 
-pub ruleset word_steps = (part_taken, parts_taken, fewer_behind)
+pub ruleset word_steps = (part_taken, parts_taken, fewer_after)

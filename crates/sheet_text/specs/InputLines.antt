@@ -8,14 +8,14 @@ abbrev pub line_end : List ℕ
 line_end = 226 ∷ 128 ∷ 168 ∷ []
 
 -- the lines after the bytes of an end of a line of which so many are left
-unfoldable pub lines_behind : ℕ → List ℕ → List (List ℕ)
-lines_behind left [] = [] ∷ []
-lines_behind (suc left) (byte ∷ rest) = lines_behind left rest
-lines_behind zero (byte ∷ rest) = cond (bytes_eq (take 3 (byte ∷ rest)) line_end) ([] ∷ lines_behind 2 rest) (onto_first byte (lines_behind 0 rest))
+unfoldable pub lines_after : ℕ → List ℕ → List (List ℕ)
+lines_after left [] = [] ∷ []
+lines_after (suc left) (byte ∷ rest) = lines_after left rest
+lines_after zero (byte ∷ rest) = cond (bytes_eq (take 3 (byte ∷ rest)) line_end) ([] ∷ lines_after 2 rest) (onto_first byte (lines_after 0 rest))
 
 -- the lines of an input: what stands before the first U+2028, between each two, and after the last
 abbrev pub lines_of_input : List ℕ → List (List ℕ)
-lines_of_input input = lines_behind 0 input
+lines_of_input input = lines_after 0 input
 
 -- the lines of what comes after a line, if it ends
 abbrev pub further_lines : Option (List ℕ) → List (List ℕ)

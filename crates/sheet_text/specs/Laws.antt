@@ -11,7 +11,7 @@ NumbersAreDecimals = (bytes : List ℕ) (n : ℕ) → (number_written bytes ≡ 
 
 -- no U+2028 stands in these bytes
 abbrev pub HasNoEnd : List ℕ → Type 0
-HasNoEnd line = (front behind : List ℕ) → line ≡ front ++ (line_end ++ behind) → ⊥
+HasNoEnd line = (front following : List ℕ) → line ≡ front ++ (line_end ++ following) → ⊥
 
 -- The lines of an input with U+2028 between each two are the input, and in none of them stands one.
 abbrev pub LinesAreTheInput : Type 0

@@ -33,7 +33,7 @@ spaced_texts texts = flat_map (λ text. 32 ∷ in_quotes text) texts
 
 -- 'completed', the field, and the root and the completions; or 'bad' where the answer tells none
 abbrev pub completed_line : ℕ → Result Completions BadCompletion → List ℕ
-completed_line id (Ok told) = codes "completed " ++ decimal id ++ spaced_texts (told.root ∷ told.rest) ++ 10 ∷ []
+completed_line id (Ok reported) = codes "completed " ++ decimal id ++ spaced_texts (reported.root ∷ reported.rest) ++ 10 ∷ []
 completed_line id (Err bad) = codes "completed " ++ decimal id ++ codes " bad" ++ 10 ∷ []
 
 -- the answer that closed: 'banner' and the session, or 'answered' or 'completed' and the field
@@ -41,7 +41,7 @@ abbrev pub closed_line : List ℕ → Option Closed → List ℕ
 closed_line name None = []
 closed_line name (Some (closed.Banner block)) = banner_line name
 closed_line name (Some (closed.Line id)) = codes "answered " ++ decimal id ++ 10 ∷ []
-closed_line name (Some (closed.Complete id told)) = completed_line id told
+closed_line name (Some (closed.Complete id reported)) = completed_line id reported
 
 -- 'default', the session, and the default input on one line
 abbrev pub default_line : List ℕ → Option (List ℕ) → List ℕ
@@ -55,4 +55,4 @@ ended_line name (Some ended) = codes "ended " ++ name ++ codes " " ++ reason_nam
 
 -- the lines of these that are there
 abbrev pub child_text : ChildReply → List ℕ
-child_text told = closed_line told.name told.closed ++ default_line told.name told.default_input ++ ended_line told.name told.ended
+child_text reported = closed_line reported.name reported.closed ++ default_line reported.name reported.default_input ++ ended_line reported.name reported.ended

@@ -19,8 +19,8 @@ abbrev pub before_space : List ℕ → List ℕ
 before_space bytes = before_first is_space bytes
 
 -- the bytes after that space, where there is one
-abbrev pub behind_space : List ℕ → Option (List ℕ)
-behind_space bytes = option_map (λ at. drop (at + 1) bytes) (position is_space bytes)
+abbrev pub after_space : List ℕ → Option (List ℕ)
+after_space bytes = option_map (λ at. drop (at + 1) bytes) (position is_space bytes)
 
 -- a text is all that follows its space, and empty where the space is missing
 abbrev pub text_given : Option (List ℕ) → List ℕ
@@ -69,34 +69,34 @@ session_with name (Some tab) words = Some (command.Session name tab words)
 -- FLAG WORDS
 abbrev pub session_flagged : List ℕ → Option (List ℕ) → Option Command
 session_flagged name None = None
-session_flagged name (Some rest) = session_with name (flag_of (before_space rest)) (words_of (behind_space rest))
+session_flagged name (Some rest) = session_with name (flag_of (before_space rest)) (words_of (after_space rest))
 
 -- NAME FLAG WORDS
 abbrev pub session_of : List ℕ → Option Command
-session_of rest = session_flagged (before_space rest) (behind_space rest)
+session_of rest = session_flagged (before_space rest) (after_space rest)
 
 -- NAME TEXT
-abbrev pub new_behind : Option ℕ → Option (List ℕ) → Option Command
-new_behind None rest = None
-new_behind (Some after) None = None
-new_behind (Some after) (Some rest) = Some (command.New after (before_space rest) (text_given (behind_space rest)))
+abbrev pub new_after : Option ℕ → Option (List ℕ) → Option Command
+new_after None rest = None
+new_after (Some after) None = None
+new_after (Some after) (Some rest) = Some (command.New after (before_space rest) (text_given (after_space rest)))
 
 -- AFTER NAME TEXT
 abbrev pub new_of : List ℕ → Option Command
-new_of rest = new_behind (number_written (before_space rest)) (behind_space rest)
+new_of rest = new_after (number_written (before_space rest)) (after_space rest)
 
 -- ID TEXT
 abbrev pub set_of : List ℕ → Option Command
-set_of rest = option_map (λ id. command.Set id (text_given (behind_space rest))) (number_written (before_space rest))
+set_of rest = option_map (λ id. command.Set id (text_given (after_space rest))) (number_written (before_space rest))
 
 -- two numbers, the second after the space that ends the first
-abbrev pub numbers_behind : Option ℕ → Option (List ℕ) → Option (ℕ × ℕ)
-numbers_behind None rest = None
-numbers_behind (Some first) None = None
-numbers_behind (Some first) (Some rest) = option_map (λ second. (first, second)) (number_written rest)
+abbrev pub numbers_after : Option ℕ → Option (List ℕ) → Option (ℕ × ℕ)
+numbers_after None rest = None
+numbers_after (Some first) None = None
+numbers_after (Some first) (Some rest) = option_map (λ second. (first, second)) (number_written rest)
 
 abbrev pub two_numbers : List ℕ → Option (ℕ × ℕ)
-two_numbers rest = numbers_behind (number_written (before_space rest)) (behind_space rest)
+two_numbers rest = numbers_after (number_written (before_space rest)) (after_space rest)
 
 -- ID AFTER
 abbrev pub move_of : List ℕ → Option Command
@@ -109,14 +109,14 @@ complete_at id (Some cursor) None = Some (command.Complete id cursor)
 complete_at id (Some cursor) (Some text) = Some (command.CompleteText id cursor text)
 
 -- CURSOR, or CURSOR TEXT
-abbrev pub complete_behind : Option ℕ → Option (List ℕ) → Option Command
-complete_behind None rest = None
-complete_behind (Some id) None = None
-complete_behind (Some id) (Some rest) = complete_at id (number_written (before_space rest)) (behind_space rest)
+abbrev pub complete_after : Option ℕ → Option (List ℕ) → Option Command
+complete_after None rest = None
+complete_after (Some id) None = None
+complete_after (Some id) (Some rest) = complete_at id (number_written (before_space rest)) (after_space rest)
 
 -- ID CURSOR, or ID CURSOR TEXT
 abbrev pub complete_of : List ℕ → Option Command
-complete_of rest = complete_behind (number_written (before_space rest)) (behind_space rest)
+complete_of rest = complete_after (number_written (before_space rest)) (after_space rest)
 
 -- the command of this name, with what comes after the space that ends the name
 abbrev pub command_of : List ℕ → List ℕ → Option Command
@@ -150,7 +150,7 @@ line_of bytes =
     else if bytes_eq bytes (codes "wait") then Some line.Wait
     else if bytes_eq bytes (codes "print") then Some line.Print
     else if bytes_eq bytes (codes "checkpoint") then Some (line.Command command.Checkpoint)
-    else option_map (λ told. line.Command told) (command_named (before_space bytes) (behind_space bytes))
+    else option_map (λ reported. line.Command reported) (command_named (before_space bytes) (after_space bytes))
 
 -- Memory.
 
@@ -170,9 +170,9 @@ keeps_bytes command.Checkpoint = false
 
 abbrev pub wants_memory_for : Option Command → Bool
 wants_memory_for None = false
-wants_memory_for (Some told) = keeps_bytes told
+wants_memory_for (Some reported) = keeps_bytes reported
 
 -- a line that says such a command
 abbrev pub wants_memory : Option ScriptLine → Bool
-wants_memory (Some (line.Command told)) = keeps_bytes told
+wants_memory (Some (line.Command reported)) = keeps_bytes reported
 wants_memory _ = false

@@ -25,7 +25,7 @@ reply_text reply.Done = codes "ok\n"
 reply_text (reply.Field id) = codes "field " ++ decimal id ++ 10 ∷ []
 reply_text (reply.Asked number) = codes "asked\n"
 reply_text (reply.Refused refusal) = refused_line refusal
-reply_text (reply.Child told) = child_text told
+reply_text (reply.Child reported) = child_text reported
 reply_text reply.Nothing = []
 
 -- '#', the number, the session's name

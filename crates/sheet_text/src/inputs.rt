@@ -35,13 +35,13 @@ pub fn write_input_lines<W: Write>(
         (Appends (W.contents out.old) (W.contents out.new)
         (inputs.text_of_lines on_line between.now (inputs.lines_of_input input.now))) }
 {
-    let (first, mut behind) = next_line(input);
+    let (first, mut following) = next_line(input);
     write_line(first.as_bytes(), out)?;
-    while let Some(rest) = behind {
+    while let Some(rest) = following {
         out.write_all(between).map_err(|_| WriteFault)?;
         let (line, others) = next_line(rest);
         write_line(line.as_bytes(), out)?;
-        behind = others;
+        following = others;
     }
     Ok(())
 }
@@ -52,13 +52,13 @@ pub fn unfolded(alloc: Global, input: &str) -> Result<String, AllocError>
     ensures { IfOk result (λ text. string_bytes text ≡ inputs.unfolded input.now) }
 {
     let mut text = String::new(alloc);
-    let (first, mut behind) = next_line(input);
+    let (first, mut following) = next_line(input);
     text.push_str(first)?;
-    while let Some(rest) = behind {
+    while let Some(rest) = following {
         text.push_str("\n")?;
         let (line, others) = next_line(rest);
         text.push_str(line)?;
-        behind = others;
+        following = others;
     }
     Ok(text)
 }

@@ -18,7 +18,7 @@ fn space_in(bytes: &[u8]) -> Option<usize>
 /// The bytes up to the next space, and those after it.
 pub fn split_space(bytes: &[u8]) -> (&[u8], Option<&[u8]>)
     ensures before { result.0.now ≡ said.before_space bytes.now }
-    ensures behind { option_copied result.1 ≡ said.behind_space bytes.now }
+    ensures following { option_copied result.1 ≡ said.after_space bytes.now }
 {
     match space_in(bytes) {
         None => (bytes, None),
@@ -34,9 +34,9 @@ pub(crate) fn split_words(alloc: Global, bytes: &[u8]) -> Result<Sequence<Octets
     let mut words = Vec::new(alloc);
     let mut rest = bytes;
     loop {
-        let (word, behind) = split_space(rest);
+        let (word, following) = split_space(rest);
         words.push(Octets::from_slice(alloc, word)?)?;
-        match behind {
+        match following {
             None => return Ok(Sequence::from_vec(words)),
             Some(others) => rest = others,
         }

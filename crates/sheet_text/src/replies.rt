@@ -69,17 +69,17 @@ fn write_spaced<W: Write>(text: &[u8], out: &mut W) -> Result<(), WriteFault>
 #[tactic(auto, using(crate::proofs::Appending::steps))]
 fn write_completed<W: Write>(
     id: u32,
-    told: &Result<Completions, BadCompletion>,
+    reported: &Result<Completions, BadCompletion>,
     out: &mut W,
 ) -> Result<(), WriteFault>
     ensures { OnOk result
-        (Appends (W.contents out.old) (W.contents out.new) (child.completed_line id told.now)) }
+        (Appends (W.contents out.old) (W.contents out.new) (child.completed_line id reported.now)) }
 {
     write!(out, "completed {id}").map_err(|_| WriteFault)?;
-    match told {
-        Ok(told) => {
-            write_spaced(told.root.as_slice(), out)?;
-            write_texts(told.rest.as_slice(), out)?;
+    match reported {
+        Ok(reported) => {
+            write_spaced(reported.root.as_slice(), out)?;
+            write_texts(reported.rest.as_slice(), out)?;
         }
         Err(_) => out.write_all(b" bad").map_err(|_| WriteFault)?,
     }
@@ -100,7 +100,7 @@ fn write_closed<W: Write>(
         None => Ok(()),
         Some(Closed::Banner(_)) => write_banner(name, out),
         Some(Closed::Line(id)) => writeln!(out, "answered {id}").map_err(|_| WriteFault),
-        Some(Closed::Complete(id, told)) => write_completed(*id, told, out),
+        Some(Closed::Complete(id, reported)) => write_completed(*id, reported, out),
     }
 }
 
@@ -148,13 +148,13 @@ fn write_ended<W: Write>(name: Name, ended: &Option<Ended>, out: &mut W) -> Resu
 
 /// Writes what is printed of a life.
 #[tactic(auto, using(crate::proofs::Appending::steps))]
-fn write_child<W: Write>(told: &ChildReply, out: &mut W) -> Result<(), WriteFault>
+fn write_child<W: Write>(reported: &ChildReply, out: &mut W) -> Result<(), WriteFault>
     ensures { OnOk result
-        (Appends (W.contents out.old) (W.contents out.new) (child.child_text told.now)) }
+        (Appends (W.contents out.old) (W.contents out.new) (child.child_text reported.now)) }
 {
-    write_closed(told.name, &told.closed, out)?;
-    write_default(told.name, &told.default_input, out)?;
-    write_ended(told.name, &told.ended, out)?;
+    write_closed(reported.name, &reported.closed, out)?;
+    write_default(reported.name, &reported.default_input, out)?;
+    write_ended(reported.name, &reported.ended, out)?;
     Ok(())
 }
 
@@ -177,7 +177,7 @@ pub fn reply_text<W: Write>(reply: &Reply, out: &mut W) -> Result<(), WriteFault
                 |_| WriteFault,
             )?
         }
-        Reply::Child(told) => write_child(told, out)?,
+        Reply::Child(reported) => write_child(reported, out)?,
         Reply::Nothing => {}
     }
     Ok(())

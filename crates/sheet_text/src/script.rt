@@ -87,7 +87,7 @@ fn is_tab(flag: &[u8]) -> Option<bool>
 
 /// `NAME FLAG WORDS`
 fn read_session(alloc: Global, rest: &[u8]) -> Result<Command, LineFault>
-    ensures ok { IfOk result (λ told. said.session_of rest.now ≡ Some told) }
+    ensures ok { IfOk result (λ reported. said.session_of rest.now ≡ Some reported) }
     ensures bad { IsErrOf result fault.BadLine → said.session_of rest.now ≡ None }
     ensures memory { IsErrOf result fault.OutOfMemory
         → said.wants_memory_for (said.session_of rest.now) ≡ true }
@@ -109,7 +109,7 @@ fn read_session(alloc: Global, rest: &[u8]) -> Result<Command, LineFault>
 
 /// `AFTER NAME TEXT`
 fn read_new(alloc: Global, rest: &[u8]) -> Result<Command, LineFault>
-    ensures ok { IfOk result (λ told. said.new_of rest.now ≡ Some told) }
+    ensures ok { IfOk result (λ reported. said.new_of rest.now ≡ Some reported) }
     ensures bad { IsErrOf result fault.BadLine → said.new_of rest.now ≡ None }
     ensures memory { IsErrOf result fault.OutOfMemory
         → said.wants_memory_for (said.new_of rest.now) ≡ true }
@@ -129,7 +129,7 @@ fn read_new(alloc: Global, rest: &[u8]) -> Result<Command, LineFault>
 
 /// `ID TEXT`
 fn read_set(alloc: Global, rest: &[u8]) -> Result<Command, LineFault>
-    ensures ok { IfOk result (λ told. said.set_of rest.now ≡ Some told) }
+    ensures ok { IfOk result (λ reported. said.set_of rest.now ≡ Some reported) }
     ensures bad { IsErrOf result fault.BadLine → said.set_of rest.now ≡ None }
     ensures memory { IsErrOf result fault.OutOfMemory
         → said.wants_memory_for (said.set_of rest.now) ≡ true }
@@ -157,7 +157,7 @@ fn two_numbers(rest: &[u8]) -> Result<(u32, u32), LineFault>
 
 /// `ID AFTER`
 fn read_move(rest: &[u8]) -> Result<Command, LineFault>
-    ensures ok { IfOk result (λ told. said.move_of rest.now ≡ Some told) }
+    ensures ok { IfOk result (λ reported. said.move_of rest.now ≡ Some reported) }
     ensures bad { IsErrOf result fault.BadLine → said.move_of rest.now ≡ None }
     ensures held { IsErrOf result fault.OutOfMemory → ⊥ }
 {
@@ -167,11 +167,11 @@ fn read_move(rest: &[u8]) -> Result<Command, LineFault>
 
 /// `CURSOR`, or `CURSOR TEXT`
 fn read_cursor(alloc: Global, id: u32, rest: &[u8]) -> Result<Command, LineFault>
-    ensures ok { IfOk result (λ told. said.complete_behind (Some id) (Some rest.now) ≡ Some told) }
+    ensures ok { IfOk result (λ reported. said.complete_after (Some id) (Some rest.now) ≡ Some reported) }
     ensures bad { IsErrOf result fault.BadLine
-        → said.complete_behind (Some id) (Some rest.now) ≡ None }
+        → said.complete_after (Some id) (Some rest.now) ≡ None }
     ensures memory { IsErrOf result fault.OutOfMemory
-        → said.wants_memory_for (said.complete_behind (Some id) (Some rest.now)) ≡ true }
+        → said.wants_memory_for (said.complete_after (Some id) (Some rest.now)) ≡ true }
 {
     let (cursor, text) = split_space(rest);
     let cursor = number(cursor)?;
@@ -187,7 +187,7 @@ fn read_cursor(alloc: Global, id: u32, rest: &[u8]) -> Result<Command, LineFault
 
 /// `ID CURSOR`, or `ID CURSOR TEXT`
 fn read_complete(alloc: Global, rest: &[u8]) -> Result<Command, LineFault>
-    ensures ok { IfOk result (λ told. said.complete_of rest.now ≡ Some told) }
+    ensures ok { IfOk result (λ reported. said.complete_of rest.now ≡ Some reported) }
     ensures bad { IsErrOf result fault.BadLine → said.complete_of rest.now ≡ None }
     ensures memory { IsErrOf result fault.OutOfMemory
         → said.wants_memory_for (said.complete_of rest.now) ≡ true }
@@ -202,8 +202,8 @@ fn read_complete(alloc: Global, rest: &[u8]) -> Result<Command, LineFault>
 
 /// `ID`
 fn read_remove(rest: &[u8]) -> Result<Command, LineFault>
-    ensures ok { IfOk result (λ told. option_map (λ id. command.Remove id) (said.number_written rest.now)
-        ≡ Some told) }
+    ensures ok { IfOk result (λ reported. option_map (λ id. command.Remove id) (said.number_written rest.now)
+        ≡ Some reported) }
     ensures bad { IsErrOf result fault.BadLine
         → option_map (λ id. command.Remove id) (said.number_written rest.now) ≡ None }
     ensures held { IsErrOf result fault.OutOfMemory → ⊥ }
@@ -214,8 +214,8 @@ fn read_remove(rest: &[u8]) -> Result<Command, LineFault>
 
 /// `ID`
 fn read_clear(rest: &[u8]) -> Result<Command, LineFault>
-    ensures ok { IfOk result (λ told. option_map (λ id. command.Clear id) (said.number_written rest.now)
-        ≡ Some told) }
+    ensures ok { IfOk result (λ reported. option_map (λ id. command.Clear id) (said.number_written rest.now)
+        ≡ Some reported) }
     ensures bad { IsErrOf result fault.BadLine
         → option_map (λ id. command.Clear id) (said.number_written rest.now) ≡ None }
     ensures held { IsErrOf result fault.OutOfMemory → ⊥ }
@@ -226,8 +226,8 @@ fn read_clear(rest: &[u8]) -> Result<Command, LineFault>
 
 /// `ID`
 fn read_eval(rest: &[u8]) -> Result<Command, LineFault>
-    ensures ok { IfOk result (λ told. option_map (λ id. command.Eval id) (said.number_written rest.now)
-        ≡ Some told) }
+    ensures ok { IfOk result (λ reported. option_map (λ id. command.Eval id) (said.number_written rest.now)
+        ≡ Some reported) }
     ensures bad { IsErrOf result fault.BadLine
         → option_map (λ id. command.Eval id) (said.number_written rest.now) ≡ None }
     ensures held { IsErrOf result fault.OutOfMemory → ⊥ }
@@ -238,7 +238,7 @@ fn read_eval(rest: &[u8]) -> Result<Command, LineFault>
 
 /// `NAME`
 fn read_stop(alloc: Global, rest: &[u8]) -> Result<Command, LineFault>
-    ensures ok { IfOk result (λ told. told ≡ command.Stop rest.now) }
+    ensures ok { IfOk result (λ reported. reported ≡ command.Stop rest.now) }
     ensures good { IsErrOf result fault.BadLine → ⊥ }
 {
     let name = copied(alloc, rest)?;
@@ -247,7 +247,7 @@ fn read_stop(alloc: Global, rest: &[u8]) -> Result<Command, LineFault>
 
 /// The command of this name, with what comes after the space that ends the name.
 fn read_command(alloc: Global, name: &[u8], rest: &[u8]) -> Result<Command, LineFault>
-    ensures ok { IfOk result (λ told. said.command_of name.now rest.now ≡ Some told) }
+    ensures ok { IfOk result (λ reported. said.command_of name.now rest.now ≡ Some reported) }
     ensures bad { IsErrOf result fault.BadLine → said.command_of name.now rest.now ≡ None }
     ensures memory { IsErrOf result fault.OutOfMemory
         → said.wants_memory_for (said.command_of name.now rest.now) ≡ true }
@@ -291,7 +291,7 @@ fn is_skipped(line: &[u8]) -> bool
 ///
 /// `BadLine` exactly where no form fits. `OutOfMemory` only where the line is a command with bytes of
 /// its own.
-#[tactic(auto, using(crate::proofs::Scripts::told_wants))]
+#[tactic(auto, using(crate::proofs::Scripts::reported_wants))]
 pub fn read_line(alloc: Global, line: &[u8]) -> Result<ScriptLine, LineFault>
     ensures ok { IfOk result (λ read. said.line_of line.now ≡ Some read) }
     ensures bad { IsErrOf result fault.BadLine → said.line_of line.now ≡ None }

@@ -5,7 +5,7 @@ ghost use Rattle.block_tree.specs.Tree.{Tree};
 ghost use Rattle.meta_format.specs.Limits.{limits};
 ghost use Rattle.meta_format.specs.Spelling.{Spells};
 ghost use Rattle.sheet_text.specs.Blocks.{tree_text};
-ghost use Rattle.sheet_text.specs.inside.Spelled.{behind_escape, spelled_byte, PrintsTo};
+ghost use Rattle.sheet_text.specs.inside.Spelled.{after_escape, spelled_byte, PrintsTo};
 
 use crate::WriteFault;
 use crate::escape::{MOST_PRINTED, ROOM, put_byte, write_byte, write_run};
@@ -29,11 +29,11 @@ fn write_spelled<W: Write>(byte: u8, out: &mut W) -> Result<(), WriteFault>
 fn put_escaped(byte: u8, room: &mut [u8; ROOM], used: usize) -> usize
     requires { used + 2 * MOST_PRINTED ≤ ROOM }
     ensures within { result ≤ used + 2 * MOST_PRINTED }
-    ensures text { take result room.new ≡ take used room.old ++ behind_escape byte }
+    ensures text { take result room.new ≡ take used room.old ++ after_escape byte }
 {
     if byte != 2 && byte != 5 && byte != 27 {
-        let behind = put_byte(27, room, used);
-        return put_byte(byte, room, behind);
+        let following = put_byte(27, room, used);
+        return put_byte(byte, room, following);
     }
     put_byte(byte, room, used)
 }

@@ -14,10 +14,10 @@ use Rattle.sheet_json.specs.Bytes.{bytes_data}
 use Rattle.sheet_json.specs.Lines.{IsOneLine, json_line}
 use Rattle.sheet_json.specs.Objects.{count, shown_data}
 use Rattle.sheet_json.specs.Plain.{HasPlain, Is64, IsPlain}
-use Rattle.sheet_json.specs.Tellings as told
-use Rattle.sheet_json.specs.Told.{of}
+use Rattle.sheet_json.specs.Tellings as reported
+use Rattle.sheet_json.specs.Reported.{of}
 use Rattle.sheet_json.proofs.Back.{blocks_read_back}
-use Rattle.sheet_json.proofs.NoFloats.{none_told}
+use Rattle.sheet_json.proofs.NoFloats.{none_reported}
 use Rattle.sheet_json.proofs.PlainValues.{tellings_are_plain}
 use Rattle.sheet_json.proofs.Within.{text_within}
 use Rattle.stream_json.specs.Laws.{IsSoundEnd, IsSoundOuter, OutersReadBack, StreamsAreLines}
@@ -30,10 +30,10 @@ first_false true y e = e
 
 -- bytes and trees have no float, since the events that have them have none
 bytes_none : (bytes : List ℕ) → has_float (bytes_data bytes) ≡ false
-bytes_none bytes = first_false (has_float (bytes_data bytes)) _ (none_told (told.event bytes 0 (told.input [])))
+bytes_none bytes = first_false (has_float (bytes_data bytes)) _ (none_reported (reported.event bytes 0 (reported.input [])))
 
 tree_none : (b : Tree) → has_float (tree_data b) ≡ false
-tree_none b = first_false (has_float (tree_data b)) _ (none_told (told.event [] 0 (told.banner b None)))
+tree_none b = first_false (has_float (tree_data b)) _ (none_reported (reported.event [] 0 (reported.banner b None)))
 
 channel_none : (text : Option (List ℕ)) → has_float (channel_data text) ≡ false
 channel_none None = refl
@@ -62,12 +62,12 @@ none_fits = omega arith
 
 plain_bytes : (bytes : List ℕ) → IsPlain 66 (bytes_data bytes)
 plain_bytes bytes =
-    let p = tellings_are_plain (told.event bytes 0 (told.input [])) (none_fits, tt) in
+    let p = tellings_are_plain (reported.event bytes 0 (reported.input [])) (none_fits, tt) in
     record { floats = bytes_none bytes; nests = second_within _ _ _ 66 p.nests; counts = p.counts.1.0 }
 
 plain_tree : (b : Tree) → is_block b ≡ true → IsPlain 66 (tree_data b)
 plain_tree b is =
-    let p = tellings_are_plain (told.event [] 0 (told.banner b None)) (none_fits, is) in
+    let p = tellings_are_plain (reported.event [] 0 (reported.banner b None)) (none_fits, is) in
     record { floats = tree_none b; nests = third_within _ _ _ _ 66 p.nests; counts = p.counts.1.1.0 }
 
 plain_text : {s : List ℕ} → IsPlain 66 (string s)
@@ -101,18 +101,18 @@ on_line : (d : Data) → IsPlain 67 d → OnLine d
 on_line d p = (p, (compact_text d, refl, text_within d p.counts))
 
 ends_on_lines : (end : StreamEnd) → IsSoundEnd end → AllByRecursion OnLine (end_data end)
-ends_on_lines outside s = (on_line _ (tellings_are_plain told.end tt), tt)
-ends_on_lines (inside start) s = (on_line (unfinished_data start) (an_object (a_member (plain_count s) (a_member plain_text no_more))), (on_line _ (tellings_are_plain told.end tt), tt))
-ends_on_lines (broken bad_tag at) s = (on_line _ (tellings_are_plain (told.fault 1 (codes "BadTag") (Some at)) (omega arith, s)), tt)
-ends_on_lines (broken too_deep at) s = (on_line _ (tellings_are_plain (told.fault 2 (codes "TooDeep") (Some at)) (omega arith, s)), tt)
-ends_on_lines (broken too_long at) s = (on_line _ (tellings_are_plain (told.fault 3 (codes "TooLong") (Some at)) (omega arith, s)), tt)
+ends_on_lines outside s = (on_line _ (tellings_are_plain reported.end tt), tt)
+ends_on_lines (inside start) s = (on_line (unfinished_data start) (an_object (a_member (plain_count s) (a_member plain_text no_more))), (on_line _ (tellings_are_plain reported.end tt), tt))
+ends_on_lines (broken bad_tag at) s = (on_line _ (tellings_are_plain (reported.fault 1 (codes "BadTag") (Some at)) (omega arith, s)), tt)
+ends_on_lines (broken too_deep at) s = (on_line _ (tellings_are_plain (reported.fault 2 (codes "TooDeep") (Some at)) (omega arith, s)), tt)
+ends_on_lines (broken too_long at) s = (on_line _ (tellings_are_plain (reported.fault 3 (codes "TooLong") (Some at)) (omega arith, s)), tt)
 
 outers_on_lines : (blocks : List Outer) (more : List Data) → AllByRecursion IsSoundOuter blocks → AllByRecursion OnLine more → AllByRecursion OnLine (map outer_data blocks ++ more)
 outers_on_lines [] more s lines = lines
 outers_on_lines (o ∷ blocks) more s lines = (on_line (outer_data o) (plain_outer o s.0), outers_on_lines blocks more s.1 lines)
 
 pub streams_are_lines : StreamsAreLines
-streams_are_lines blocks end s e = (on_line _ (tellings_are_plain told.hello tt), outers_on_lines blocks (end_data end) s (ends_on_lines end e))
+streams_are_lines blocks end s e = (on_line _ (tellings_are_plain reported.hello tt), outers_on_lines blocks (end_data end) s (ends_on_lines end e))
 
 pub outers_read_back : OutersReadBack
 outers_read_back o good = ap (of (Some (λ (b : Tree). let it : Outer = record { start = o.start; stop = o.stop; block = b } in it))) (blocks_read_back o.block good)

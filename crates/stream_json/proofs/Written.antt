@@ -11,7 +11,7 @@ use Rattle.meta_format.specs.Ahead.{IsReadTo, ComesNext}
 use Rattle.meta_format.specs.declared.ahead.Seen.TheVariants as seen
 use Rattle.sheet_json.specs.Lines.{json_line}
 use Rattle.sheet_json.specs.Sheets.{telling_line}
-use Rattle.sheet_json.specs.Tellings as told
+use Rattle.sheet_json.specs.Tellings as reported
 use Rattle.stream_json.specs.StreamObjects.{end_data, kind_named, kind_number, later_objects, outer_data, unfinished_data}
 use Rattle.stream_json.specs.Streams.{StreamEnd, StreamHas, broken, faulty, inside, is_whole, outside, unfinished, whole}
 
@@ -52,15 +52,15 @@ with_end most s blocks end a b c has p q =
 alone : (a b : Option (List ℕ)) (line : List ℕ) → Appends a b line → Appends a b (line ++ [])
 alone a b line p = subst (Appends a b) (sym (append-nil line)) p
 
-pub end_written : (most : Limits) (s : List ℕ) (blocks : List Outer) (a b c : Option (List ℕ)) → ComesNext most s blocks seen.End → Appends a b (outers_text blocks) → Appends b c (telling_line told.end) → Later most s a c true
-end_written most s blocks a b c next p q = with_end most s blocks outside a b c (whole next.1 next.0) p (alone b c (telling_line told.end) q)
+pub end_written : (most : Limits) (s : List ℕ) (blocks : List Outer) (a b c : Option (List ℕ)) → ComesNext most s blocks seen.End → Appends a b (outers_text blocks) → Appends b c (telling_line reported.end) → Later most s a c true
+end_written most s blocks a b c next p q = with_end most s blocks outside a b c (whole next.1 next.0) p (alone b c (telling_line reported.end) q)
 
 pub open_written : (most : Limits) (s : List ℕ) (blocks : List Outer) (start : ℕ) (a b c : Option (List ℕ)) → ComesNext most s blocks (seen.Open start) → Appends a b (outers_text blocks)
-    → Appends b c (json_line (unfinished_data start) ++ telling_line told.end) → Later most s a c false
+    → Appends b c (json_line (unfinished_data start) ++ telling_line reported.end) → Later most s a c false
 open_written most s blocks start a b c (tail, stream, sound, (some, size)) p q =
-    with_end most s blocks (inside start) a b c (unfinished tail start sound stream some size) p (subst (Appends b c) (ap (λ t. json_line (unfinished_data start) ++ t) (sym (append-nil (telling_line told.end)))) q)
+    with_end most s blocks (inside start) a b c (unfinished tail start sound stream some size) p (subst (Appends b c) (ap (λ t. json_line (unfinished_data start) ++ t) (sym (append-nil (telling_line reported.end)))) q)
 
 pub fault_written : (most : Limits) (s : List ℕ) (at : ℕ) (kind : Kind) (blocks : List Outer) (a b c : Option (List ℕ)) → Faults most s at kind blocks → Appends a b (outers_text blocks)
-    → Appends b c (telling_line (told.fault (kind_number kind) (kind_named kind) (Some at))) → Later most s a c false
+    → Appends b c (telling_line (reported.fault (kind_number kind) (kind_named kind) (Some at))) → Later most s a c false
 fault_written most s at kind blocks a b c h p q =
-    with_end most s blocks (broken kind at) a b c (faulty kind at h.front h.rest h.tail h.first h.is h.at_is h.stream) p (alone b c (telling_line (told.fault (kind_number kind) (kind_named kind) (Some at))) q)
+    with_end most s blocks (broken kind at) a b c (faulty kind at h.front h.rest h.tail h.first h.is h.at_is h.stream) p (alone b c (telling_line (reported.fault (kind_number kind) (kind_named kind) (Some at))) q)

@@ -7,7 +7,7 @@ use Rattle.serde_json.specs.Data.{Data}
 use Rattle.sheet_json.specs.Lines.{IsOneLine, json_line}
 use Rattle.sheet_json.specs.Plain.{Is64, IsPlain}
 use Rattle.sheet_json.specs.Reading.{tree_in, HasBytes}
-use Rattle.sheet_json.specs.Told.{count_in, member_in, of}
+use Rattle.sheet_json.specs.Reported.{count_in, member_in, of}
 use Rattle.stream_json.specs.Streams.{StreamEnd, broken, inside, outside}
 use Rattle.stream_json.specs.StreamObjects.{outer_data, stream_objects}
 

@@ -13,7 +13,7 @@ use Rattle.sheet_json.specs.Blocks.{tree_data}
 use Rattle.sheet_json.specs.Bytes.{bytes_data}
 use Rattle.sheet_json.specs.Lines.{json_line}
 use Rattle.sheet_json.specs.Objects.{count, shown_data, telling_data, typed}
-use Rattle.sheet_json.specs.Tellings as told
+use Rattle.sheet_json.specs.Tellings as reported
 use Rattle.stream_json.specs.Streams.{StreamEnd, StreamHas, broken, inside, is_whole, outside}
 
 -- the text of a channel, or that there is none
@@ -45,9 +45,9 @@ kind_named too_long = codes "TooLong"
 
 -- what stands after the blocks
 abbrev pub end_data : StreamEnd → List Data
-end_data outside = telling_data told.end ∷ []
-end_data (inside start) = unfinished_data start ∷ telling_data told.end ∷ []
-end_data (broken kind at) = telling_data (told.fault (kind_number kind) (kind_named kind) (Some at)) ∷ []
+end_data outside = telling_data reported.end ∷ []
+end_data (inside start) = unfinished_data start ∷ telling_data reported.end ∷ []
+end_data (broken kind at) = telling_data (reported.fault (kind_number kind) (kind_named kind) (Some at)) ∷ []
 
 -- the objects of a stream after `hello`, in order
 abbrev pub later_objects : List Outer → StreamEnd → List Data
@@ -55,7 +55,7 @@ later_objects blocks end = map outer_data blocks ++ end_data end
 
 -- all its objects: first `hello`, then these
 abbrev pub stream_objects : List Outer → StreamEnd → List Data
-stream_objects blocks end = telling_data told.hello ∷ later_objects blocks end
+stream_objects blocks end = telling_data reported.hello ∷ later_objects blocks end
 
 abbrev pub objects_text : List Outer → StreamEnd → List ℕ
 objects_text blocks end = flat_map json_line (stream_objects blocks end)

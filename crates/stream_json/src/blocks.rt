@@ -9,7 +9,7 @@ ghost use Rattle.meta_format.specs.Stream.{Outer};
 ghost use Rattle.offline_programs.specs.Input.{IsStreamFault, longest_standard_input};
 ghost use Rattle.sheet_json.specs.Lines.{json_line};
 ghost use Rattle.sheet_json.specs.Sheets.{telling_line};
-ghost use Rattle.sheet_json.specs.Tellings as told;
+ghost use Rattle.sheet_json.specs.Tellings as reported;
 ghost use Rattle.stream_json.specs.StreamObjects.{IsUnwritten, ObjectsOf, later_objects, outer_data, unfinished_data};
 ghost use Rattle.stream_json.specs.Streams.{StreamEnd, StreamHas, is_whole};
 
@@ -24,7 +24,7 @@ use std::io::{Read, Write};
 /// Writes what stands first.
 fn write_hello<W: Write>(alloc: Global, out: &mut W) -> Result<(), RunFault>
     ensures ok { OnOk result
-        (Appends (W.contents out.old) (W.contents out.new) (telling_line told.hello)) }
+        (Appends (W.contents out.old) (W.contents out.new) (telling_line reported.hello)) }
     ensures err { IfErr result IsUnwritten }
 {
     write_made(alloc, hello_value(alloc), out)
@@ -33,7 +33,7 @@ fn write_hello<W: Write>(alloc: Global, out: &mut W) -> Result<(), RunFault>
 /// Writes what stands last, where the stream came to its end.
 fn write_end<W: Write>(alloc: Global, out: &mut W) -> Result<(), RunFault>
     ensures ok { OnOk result
-        (Appends (W.contents out.old) (W.contents out.new) (telling_line told.end)) }
+        (Appends (W.contents out.old) (W.contents out.new) (telling_line reported.end)) }
     ensures err { IfErr result IsUnwritten }
 {
     write_made(alloc, end_value(alloc), out)
@@ -63,7 +63,7 @@ fn write_outer<W: Write>(
 /// Writes the object of an open outer block, and what stands last.
 fn write_unfinished<W: Write>(alloc: Global, start: usize, out: &mut W) -> Result<(), RunFault>
     ensures ok { OnOk result (Appends (W.contents out.old) (W.contents out.new)
-        (json_line (unfinished_data start) ++ telling_line told.end)) }
+        (json_line (unfinished_data start) ++ telling_line reported.end)) }
     ensures err { IfErr result IsUnwritten }
 {
     write_made(alloc, unfinished_value(alloc, start), out)?;
@@ -79,7 +79,7 @@ fn write_fault<W: Write>(
     out: &mut W,
 ) -> Result<(), RunFault>
     ensures ok { OnOk result (Appends (W.contents out.old) (W.contents out.new)
-        (telling_line (told.fault number name.now (Some offset)))) }
+        (telling_line (reported.fault number name.now (Some offset)))) }
     ensures err { IfErr result IsUnwritten }
 {
     write_made(

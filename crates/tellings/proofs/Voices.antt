@@ -14,21 +14,21 @@ use Rattle.offline_programs.specs.declared.fault.RunFault.{RunFault}
 use Rattle.serde_json.specs.Data.{Data}
 use Rattle.sheet_json.specs.Objects.{event_data, telling_data}
 use Rattle.sheet_json.specs.Sheets.{telling_line}
-use Rattle.sheet_json.specs.Tellings.{EventTold, Telling}
-use Rattle.sheet_json.specs.Tellings as told
+use Rattle.sheet_json.specs.Tellings.{EventReported, Telling}
+use Rattle.sheet_json.specs.Tellings as reported
 use Rattle.tellings.specs.Json.{event_line, in_json, reply_json}
 use Rattle.tellings.specs.Voice.{Voice, came_text, numbered_text, replied_text}
 use Rattle.tellings.specs.Words.{in_words}
 use Rattle.tellings.proofs.Rows.{Written, part_written}
 
 -- a value of a life, where there is one, is on its line
-pub line_if : (r : Result (Unit {0}) RunFault) (a b : Option (List ℕ)) (d : Data) (session : List ℕ) (life : ℕ) (e : Option EventTold) → Some d ≡ option_map (event_data session life) e
+pub line_if : (r : Result (Unit {0}) RunFault) (a b : Option (List ℕ)) (d : Data) (session : List ℕ) (life : ℕ) (e : Option EventReported) → Some d ≡ option_map (event_data session life) e
     → ((t : Telling) → d ≡ telling_data t → OnOk r (Appends a b (telling_line t))) → OnOk r (Appends a b (event_line session life e))
 line_if r a b d session life None is wrote = absurd (no is)
   where
     no : Some d ≡ None → ⊥
     no h = cc h
-line_if r a b d session life (Some e) is wrote = wrote (told.event session life e) (same is)
+line_if r a b d session life (Some e) is wrote = wrote (reported.event session life e) (same is)
   where
     same : Some d ≡ Some (event_data session life e) → d ≡ event_data session life e
     same h = cc h

@@ -18,9 +18,9 @@ use Rattle.child_edge.specs.declared.interrupting.Interrupted.TheVariants as int
 use Rattle.offline_programs.specs.declared.fault.RunFault.{RunFault}
 use Rattle.sheet_json.specs.Replies.{closed_event, ended_event}
 use Rattle.sheet_json.specs.Sheets.{telling_line}
-use Rattle.sheet_json.specs.Shown.{field_told, ids_of, session_shown}
-use Rattle.sheet_json.specs.Tellings.{EventTold, SessionShown, Telling}
-use Rattle.sheet_json.specs.Tellings as told
+use Rattle.sheet_json.specs.Shown.{field_reported, ids_of, session_shown}
+use Rattle.sheet_json.specs.Tellings.{EventReported, SessionShown, Telling}
+use Rattle.sheet_json.specs.Tellings as reported
 use Rattle.sheet_export.specs.Formats.{format_name, has_text, text_in}
 use Rattle.sheet_export.specs.declared.formats.Format.{Format}
 use Rattle.tellings.specs.Voice.{Voice, page_title}
@@ -32,17 +32,17 @@ use Rattle.tellings.specs.declared.note.Overs.{Overs}
 use Rattle.tellings.specs.declared.note.Note.TheVariants as note
 
 abbrev pub frame_json : Frame → List ℕ
-frame_json frame.Hello = telling_line told.hello
-frame_json frame.End = telling_line told.end
-frame_json (frame.NoField id) = telling_line (told.no_field id)
-frame_json (frame.NoProgram name) = telling_line (told.no_program name)
+frame_json frame.Hello = telling_line reported.hello
+frame_json frame.End = telling_line reported.end
+frame_json (frame.NoField id) = telling_line (reported.no_field id)
+frame_json (frame.NoProgram name) = telling_line (reported.no_program name)
 
 -- what came of the wish to interrupt an interpreter
 abbrev pub interrupt_json : ℕ → Interrupted → List ℕ
-interrupt_json line interrupted.NoSession = telling_line (told.reply line (told.refused refusal.NoSession))
-interrupt_json line interrupted.Idle = telling_line (told.reply line (told.interrupted (codes "idle")))
-interrupt_json line interrupted.Sent = telling_line (told.reply line (told.interrupted (codes "sent")))
-interrupt_json line interrupted.Failed = telling_line (told.reply line (told.interrupted (codes "failed")))
+interrupt_json line interrupted.NoSession = telling_line (reported.reply line (reported.refused refusal.NoSession))
+interrupt_json line interrupted.Idle = telling_line (reported.reply line (reported.interrupted (codes "idle")))
+interrupt_json line interrupted.Sent = telling_line (reported.reply line (reported.interrupted (codes "sent")))
+interrupt_json line interrupted.Failed = telling_line (reported.reply line (reported.interrupted (codes "failed")))
 
 -- what came of an interrupt, as a word
 abbrev pub outcome_name : Interrupted → List ℕ
@@ -53,34 +53,34 @@ outcome_name interrupted.Failed = codes "failed"
 
 -- a life was interrupted, since the time of a wait was over
 abbrev pub warned_json : Seat → Interrupted → List ℕ
-warned_json seat told_of = telling_line (told.event seat.name seat.life (told.warned (outcome_name told_of)))
+warned_json seat reported_of = telling_line (reported.event seat.name seat.life (reported.warned (outcome_name reported_of)))
 
 -- what an evaluation came to, with what its limit of time came to where it had one
 abbrev pub counted_json : ℕ → ℕ → Option Overs → List ℕ
-counted_json answered unanswered None = telling_line (told.counted answered unanswered)
-counted_json answered unanswered (Some overs) = telling_line (told.counted_in_time answered unanswered overs.over overs.passed)
+counted_json answered unanswered None = telling_line (reported.counted answered unanswered)
+counted_json answered unanswered (Some overs) = telling_line (reported.counted_in_time answered unanswered overs.over overs.passed)
 
 abbrev pub note_json : Note → List ℕ
-note_json (note.Bad line) = telling_line (told.reply line told.bad)
-note_json (note.Nothing line) = telling_line (told.reply line told.nothing)
-note_json (note.Waited line timed) = telling_line (told.reply line (told.waited timed))
-note_json (note.Interrupted line name told_of) = interrupt_json line told_of
-note_json (note.Over id told_of) = telling_line (told.over id (outcome_name told_of))
-note_json (note.Warned seat told_of) = warned_json seat told_of
+note_json (note.Bad line) = telling_line (reported.reply line reported.bad)
+note_json (note.Nothing line) = telling_line (reported.reply line reported.nothing)
+note_json (note.Waited line timed) = telling_line (reported.reply line (reported.waited timed))
+note_json (note.Interrupted line name reported_of) = interrupt_json line reported_of
+note_json (note.Over id reported_of) = telling_line (reported.over id (outcome_name reported_of))
+note_json (note.Warned seat reported_of) = warned_json seat reported_of
 note_json (note.Counted counts) = counted_json counts.answered counts.unanswered counts.overs
-note_json (note.Undone first last) = telling_line (told.reply last (told.undone first))
+note_json (note.Undone first last) = telling_line (reported.reply last (reported.undone first))
 
 -- what is printed of a life, if anything
-abbrev pub event_line : List ℕ → ℕ → Option EventTold → List ℕ
+abbrev pub event_line : List ℕ → ℕ → Option EventReported → List ℕ
 event_line session life None = []
-event_line session life (Some e) = telling_line (told.event session life e)
+event_line session life (Some e) = telling_line (reported.event session life e)
 
 -- what closed, with the prompt of the line that would be asked next, the default input of that, and the end of the life
 abbrev pub closed_json : Contents → Option (List ℕ) → ChildReply → List ℕ
 closed_json sheet next child = event_line child.name child.life (option_and_then (closed_event sheet next) child.closed)
 
 abbrev pub default_json : ChildReply → List ℕ
-default_json child = event_line child.name child.life (option_map (λ text. told.input text) child.default_input)
+default_json child = event_line child.name child.life (option_map (λ text. reported.input text) child.default_input)
 
 abbrev pub ended_json : ChildReply → List ℕ
 ended_json child = event_line child.name child.life (option_map ended_event child.ended)
@@ -111,24 +111,24 @@ event_json sheet reply.Nothing = []
 
 -- the life that a line stopped, with the items that were lost
 abbrev pub stopped_with : ℕ → ChildReply → Option Ended → List ℕ
-stopped_with line child None = telling_line (told.reply line told.done)
-stopped_with line child (Some ended) = telling_line (told.stopped line child.name child.life ended.lost)
+stopped_with line child None = telling_line (reported.reply line reported.done)
+stopped_with line child (Some ended) = telling_line (reported.stopped line child.name child.life ended.lost)
 
 abbrev pub stopped_json : ℕ → ChildReply → List ℕ
 stopped_json line child = stopped_with line child child.ended
 
 -- the reply to a line; what comes of a life is one where the line stopped it
 abbrev pub reply_json : ℕ → Reply → List ℕ
-reply_json line reply.Done = telling_line (told.reply line told.done)
-reply_json line (reply.Field id) = telling_line (told.reply line (told.made id))
-reply_json line (reply.Asked life) = telling_line (told.reply line (told.asked life))
-reply_json line (reply.Refused why) = telling_line (told.reply line (told.refused why))
+reply_json line reply.Done = telling_line (reported.reply line reported.done)
+reply_json line (reply.Field id) = telling_line (reported.reply line (reported.made id))
+reply_json line (reply.Asked life) = telling_line (reported.reply line (reported.asked life))
+reply_json line (reply.Refused why) = telling_line (reported.reply line (reported.refused why))
 reply_json line (reply.Child child) = stopped_json line child
-reply_json line reply.Nothing = telling_line (told.reply line told.nothing)
+reply_json line reply.Nothing = telling_line (reported.reply line reported.nothing)
 
 -- a field of a print, by whether its line waits
 abbrev pub part_line : ℕ → World → Field → List ℕ
-part_line line w field = telling_line (told.part line (field_told (in_flight w field.id) field))
+part_line line w field = telling_line (reported.part line (field_reported (in_flight w field.id) field))
 
 abbrev pub parts_text : ℕ → World → List Field → List ℕ
 parts_text line w fields = flat_map (part_line line w) fields
@@ -142,26 +142,26 @@ abbrev pub session_at : World → Session → SessionShown
 session_at w s = session_shown (option_map (λ l. l.number) (life_of w s.name)) (waiting_count (life_of w s.name)) s
 
 -- what the fields and sessions are together
-abbrev pub whole_told : ℕ → World → Telling
-whole_told line w = told.sheet line (ids_of (sheet_in w)) (sheet_in w).next (map (session_at w) (sheet_in w).sessions)
+abbrev pub whole_reported : ℕ → World → Telling
+whole_reported line w = reported.sheet line (ids_of (sheet_in w)) (sheet_in w).next (map (session_at w) (sheet_in w).sessions)
 
 abbrev pub sheet_json : ℕ → World → List ℕ
-sheet_json line w = parts_text line w (sheet_in w).fields ++ telling_line (whole_told line w)
+sheet_json line w = parts_text line w (sheet_in w).fields ++ telling_line (whole_reported line w)
 
 -- the field that a line asks for, or that there is none
 abbrev pub field_json : ℕ → World → Option Field → List ℕ
-field_json line w None = telling_line (told.reply line (told.refused refusal.NoField))
-field_json line w (Some field) = telling_line (told.field line (field_told (in_flight w field.id) field))
+field_json line w None = telling_line (reported.reply line (reported.refused refusal.NoField))
+field_json line w (Some field) = telling_line (reported.field line (field_reported (in_flight w field.id) field))
 
 abbrev pub fault_json : RunFault → List ℕ
-fault_json why = telling_line (told.fault (fault_number why) (fault_name why) (fault_offset why))
+fault_json why = telling_line (reported.fault (fault_number why) (fault_name why) (fault_offset why))
 
 -- the text of a worksheet in a format, where it has one
-abbrev pub text_told : Format → Contents → Option (List ℕ)
-text_told format sheet = cond (has_text format sheet) (Some (text_in format page_title sheet)) None
+abbrev pub text_reported : Format → Contents → Option (List ℕ)
+text_reported format sheet = cond (has_text format sheet) (Some (text_in format page_title sheet)) None
 
 abbrev pub exported_json : ℕ → Format → Contents → List ℕ
-exported_json line format sheet = telling_line (told.exported line (format_name format) (text_told format sheet))
+exported_json line format sheet = telling_line (reported.exported line (format_name format) (text_reported format sheet))
 
 -- Lines of JSON, which programs read.
 abbrev pub in_json : Voice

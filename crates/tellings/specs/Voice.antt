@@ -55,5 +55,5 @@ numbered_text V line sheet [] = []
 numbered_text V line sheet (o ∷ outcomes) = V.reply line sheet o.reply ++ numbered_text V (line + 1) sheet outcomes
 
 -- Why something isn't printed: the writer failed, or there was no memory for it.
-abbrev pub IsUntold : Voice → RunFault → Type 0
-IsUntold V why = (why ≡ fault.Output) ⊎ ((why ≡ fault.OutOfMemory) × (V.takes_memory ≡ true))
+abbrev pub IsWithheld : Voice → RunFault → Type 0
+IsWithheld V why = (why ≡ fault.Output) ⊎ ((why ≡ fault.OutOfMemory) × (V.takes_memory ≡ true))

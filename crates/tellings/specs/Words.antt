@@ -55,9 +55,9 @@ abbrev pub note_words : Note → List ℕ
 note_words (note.Bad line) = bad_line line
 note_words (note.Nothing line) = []
 note_words (note.Waited line timed) = []
-note_words (note.Interrupted line name told) = interrupt_text name told
-note_words (note.Over id told) = over_line id
-note_words (note.Warned seat told) = interrupt_text seat.name told
+note_words (note.Interrupted line name reported) = interrupt_text name reported
+note_words (note.Over id reported) = over_line id
+note_words (note.Warned seat reported) = interrupt_text seat.name reported
 note_words (note.Counted counts) = evaluation_text counts
 note_words (note.Undone first last) = undone_line first last
 

@@ -3,8 +3,8 @@ ghost use Rattle.std.specs.Prelude.{◌≡◌, ◌++◌, ◌∷◌, [], IfErr, I
 ghost use Rattle.std.specs.Option.{option_map};
 ghost use Rattle.std.specs.Io.KnownBytes.{Appends};
 ghost use Rattle.sheet_export.specs.Formats as exports;
-ghost use Rattle.tellings.specs.Json.{exported_json, in_json, text_told};
-ghost use Rattle.tellings.specs.Voice.{IsUntold};
+ghost use Rattle.tellings.specs.Json.{exported_json, in_json, text_reported};
+ghost use Rattle.tellings.specs.Voice.{IsWithheld};
 ghost use Rattle.tellings.specs.Words.{exported_words, needs_json};
 
 use crate::writing::write_made;
@@ -95,7 +95,7 @@ pub(crate) fn tell_words<W: Write>(
 /// The text of a worksheet in a format, made whole, where it has one.
 fn whole_text(alloc: Global, format: Format, sheet: &Sheet) -> Result<Option<Vec<u8>>, RunFault>
     ensures ok { IfOk result (λ text. option_map (λ bytes. bytes.items) text
-        ≡ text_told format sheet.now.contents) }
+        ≡ text_reported format sheet.now.contents) }
     ensures err { IfErr result (λ fault. fault ≡ RunFault.OutOfMemory) }
 {
     let mut bytes = Vec::new(alloc);
@@ -116,7 +116,7 @@ pub(crate) fn write_exported<W: Write>(
 ) -> Result<(), RunFault>
     ensures ok { OnOk result (Appends (W.contents writer.old) (W.contents writer.new)
         (exported_json line format sheet.now.contents)) }
-    ensures err { IfErr result (IsUntold in_json) }
+    ensures err { IfErr result (IsWithheld in_json) }
 {
     let name = format_name(format);
     match whole_text(alloc, format, sheet) {

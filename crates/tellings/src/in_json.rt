@@ -5,7 +5,7 @@ ghost use Rattle.std.specs.Io.KnownBytes.{Appends};
 ghost use Rattle.tellings.specs.Json as texts;
 ghost use Rattle.session_engine.specs.World.{World};
 ghost use Rattle.session_engine.specs.Host.{IsHost};
-ghost use Rattle.tellings.specs.Voice.{IsUntold, came_text, lives_text, numbered_text, replied_text};
+ghost use Rattle.tellings.specs.Voice.{IsWithheld, came_text, lives_text, numbered_text, replied_text};
 ghost use Rattle.worksheet.specs.Contents.{Contents};
 
 use crate::exports::write_exported;
@@ -44,7 +44,7 @@ fn write_closed<W: Write>(
 ) -> Result<(), RunFault>
     ensures ok { OnOk result (Appends (W.contents writer.old) (W.contents writer.new)
         (texts.closed_json sheet.now.contents (option_copied next.entry) child.now)) }
-    ensures err { IfErr result (IsUntold texts.in_json) }
+    ensures err { IfErr result (IsWithheld texts.in_json) }
 {
     match &child.closed {
         None => Ok(()),
@@ -67,7 +67,7 @@ fn write_default<W: Write>(
 ) -> Result<(), RunFault>
     ensures ok { OnOk result (Appends (W.contents writer.old) (W.contents writer.new)
         (texts.default_json child.now)) }
-    ensures err { IfErr result (IsUntold texts.in_json) }
+    ensures err { IfErr result (IsWithheld texts.in_json) }
 {
     match &child.default_input {
         None => Ok(()),
@@ -86,7 +86,7 @@ fn write_default<W: Write>(
 fn write_ended<W: Write>(alloc: Global, child: &ChildReply, writer: &mut W) -> Result<(), RunFault>
     ensures ok { OnOk result (Appends (W.contents writer.old) (W.contents writer.new)
         (texts.ended_json child.now)) }
-    ensures err { IfErr result (IsUntold texts.in_json) }
+    ensures err { IfErr result (IsWithheld texts.in_json) }
 {
     match &child.ended {
         None => Ok(()),
@@ -108,7 +108,7 @@ fn write_child<W: Write>(
 ) -> Result<(), RunFault>
     ensures ok { OnOk result (Appends (W.contents writer.old) (W.contents writer.new)
         (texts.child_json sheet.now.contents (option_copied next.entry) child.now)) }
-    ensures err { IfErr result (IsUntold texts.in_json) }
+    ensures err { IfErr result (IsWithheld texts.in_json) }
 {
     write_closed(alloc, sheet, next, child, writer)?;
     write_default(alloc, child, writer)?;
@@ -125,7 +125,7 @@ fn write_event<W: Write>(
 ) -> Result<(), RunFault>
     ensures ok { OnOk result (Appends (W.contents writer.old) (W.contents writer.new)
         (texts.event_json sheet.now.contents reply.now)) }
-    ensures err { IfErr result (IsUntold texts.in_json) }
+    ensures err { IfErr result (IsWithheld texts.in_json) }
 {
     match reply {
         Reply::Child(child) => write_child(alloc, sheet, None, child, writer),
@@ -144,7 +144,7 @@ fn write_events<W: Write>(
 ) -> Result<(), RunFault>
     ensures ok { OnOk result (Appends (W.contents writer.old) (W.contents writer.new)
         (came_text texts.in_json sheet.now.contents replies.now)) }
-    ensures err { IfErr result (IsUntold texts.in_json) }
+    ensures err { IfErr result (IsWithheld texts.in_json) }
 {
     for reply in replies {
         write_event(alloc, sheet, reply, writer)?;
@@ -161,7 +161,7 @@ fn write_came<D: Disk, W: Write>(
 ) -> Result<(), RunFault>
     ensures ok { (w : World) → IsHost host.now w → OnOk result (Appends (W.contents writer.old) (W.contents writer.new)
         (texts.came_json w reply.now)) }
-    ensures err { IfErr result (IsUntold texts.in_json) }
+    ensures err { IfErr result (IsWithheld texts.in_json) }
 {
     match reply {
         Reply::Child(child) => {
@@ -182,7 +182,7 @@ fn write_lives<D: Disk, W: Write>(
 ) -> Result<(), RunFault>
     ensures ok { (w : World) → IsHost host.now w → OnOk result (Appends (W.contents writer.old) (W.contents writer.new)
         (lives_text texts.in_json w replies.now)) }
-    ensures err { IfErr result (IsUntold texts.in_json) }
+    ensures err { IfErr result (IsWithheld texts.in_json) }
 {
     for reply in replies {
         write_came(alloc, host, reply, writer)?;
@@ -199,7 +199,7 @@ fn write_stopped<W: Write>(
 ) -> Result<(), RunFault>
     ensures ok { OnOk result (Appends (W.contents writer.old) (W.contents writer.new)
         (texts.stopped_json line child.now)) }
-    ensures err { IfErr result (IsUntold texts.in_json) }
+    ensures err { IfErr result (IsWithheld texts.in_json) }
 {
     let name = child.name.as_slice();
     match &child.ended {
@@ -220,7 +220,7 @@ fn write_reply<W: Write>(
 ) -> Result<(), RunFault>
     ensures ok { OnOk result (Appends (W.contents writer.old) (W.contents writer.new)
         (texts.reply_json line reply.now)) }
-    ensures err { IfErr result (IsUntold texts.in_json) }
+    ensures err { IfErr result (IsWithheld texts.in_json) }
 {
     match reply {
         Reply::Done => write_made(alloc, done_value(alloc, line), writer),
@@ -242,7 +242,7 @@ fn write_replies<W: Write>(
 ) -> Result<(), RunFault>
     ensures ok { OnOk result (Appends (W.contents writer.old) (W.contents writer.new)
         (replied_text texts.in_json line sheet.now.contents replies.now)) }
-    ensures err { IfErr result (IsUntold texts.in_json) }
+    ensures err { IfErr result (IsWithheld texts.in_json) }
 {
     match replies {
         [] => Ok(()),
@@ -263,7 +263,7 @@ fn write_outcomes<W: Write>(
     requires { first + length outcomes.now < 2 ^ 64 }
     ensures ok { (sheet : Contents) → OnOk result (Appends (W.contents writer.old) (W.contents writer.new)
         (numbered_text texts.in_json first sheet outcomes.now)) }
-    ensures err { IfErr result (IsUntold texts.in_json) }
+    ensures err { IfErr result (IsWithheld texts.in_json) }
 {
     let mut line = first;
     for outcome in outcomes {
@@ -276,7 +276,7 @@ fn write_outcomes<W: Write>(
 /// What stands first or last.
 fn write_frame<W: Write>(alloc: Global, frame: Frame, writer: &mut W) -> Result<(), RunFault>
     ensures ok { OnOk result (Appends (W.contents writer.old) (W.contents writer.new) (texts.frame_json frame)) }
-    ensures err { IfErr result (IsUntold texts.in_json) }
+    ensures err { IfErr result (IsWithheld texts.in_json) }
 {
     match frame {
         Frame::Hello => write_made(alloc, hello_value(alloc), writer),

@@ -108,12 +108,16 @@ pub fn write_named<W: Write>(word: &[u8], name: Name, writer: &mut W) -> Result<
 }
 
 /// Writes what came of the wish to interrupt the interpreter of this session.
-fn show_interrupt<W: Write>(name: Name, told: Interrupted, writer: &mut W) -> Result<(), RunFault>
+fn show_interrupt<W: Write>(
+    name: Name,
+    reported: Interrupted,
+    writer: &mut W,
+) -> Result<(), RunFault>
     ensures ok { OnOk result (Appends (W.contents writer.old) (W.contents writer.new)
-        (interrupt_text name told)) }
+        (interrupt_text name reported)) }
     ensures err { IfErr result (λ fault. fault ≡ RunFault.Output) }
 {
-    match told {
+    match reported {
         Interrupted::NoSession => reply_text(&Reply::Refused(Refusal::NoSession), writer).map_err(
             |_| RunFault::Output,
         ),
@@ -124,12 +128,16 @@ fn show_interrupt<W: Write>(name: Name, told: Interrupted, writer: &mut W) -> Re
 }
 
 /// The same, and brings it out.
-fn tell_interrupt<W: Write>(name: Name, told: Interrupted, writer: &mut W) -> Result<(), RunFault>
+fn tell_interrupt<W: Write>(
+    name: Name,
+    reported: Interrupted,
+    writer: &mut W,
+) -> Result<(), RunFault>
     ensures ok { OnOk result (Appends (W.contents writer.old) (W.contents writer.new)
-        (interrupt_text name told)) }
+        (interrupt_text name reported)) }
     ensures err { IfErr result (λ fault. fault ≡ RunFault.Output) }
 {
-    show_interrupt(name, told, writer)?;
+    show_interrupt(name, reported, writer)?;
     writer.flush().map_err(|_| RunFault::Output)?;
     Ok(())
 }
@@ -207,9 +215,9 @@ impl Tells for InWords {
         match note {
             Note::Bad(line) => tell_bad_line(line, writer),
             Note::Nothing(_) | Note::Waited(_, _) => Ok(()),
-            Note::Interrupted(_, name, told) => tell_interrupt(name, told, writer),
+            Note::Interrupted(_, name, reported) => tell_interrupt(name, reported, writer),
             Note::Over(id, _) => tell_over(id, writer),
-            Note::Warned(seat, told) => tell_interrupt(seat.name, told, writer),
+            Note::Warned(seat, reported) => tell_interrupt(seat.name, reported, writer),
             Note::Counted(counts) => tell_counts(counts, writer),
             Note::Undone(first, last) => tell_undone(first, last, writer),
         }

@@ -2,7 +2,7 @@
 ghost use Rattle.std.specs.Prelude.{◌≡◌, IfErr, OnOk};
 ghost use Rattle.std.specs.Io.KnownBytes.{Appends};
 ghost use Rattle.tellings.specs.Json as texts;
-ghost use Rattle.tellings.specs.Voice.{IsUntold};
+ghost use Rattle.tellings.specs.Voice.{IsWithheld};
 
 use crate::writing::write_made;
 use crate::{Counts, Note};
@@ -18,10 +18,10 @@ use std::io::Write;
 use worksheet::Refusal;
 
 /// What came of an interrupt, as a word: where there was no session, there was nothing to interrupt.
-fn outcome(told: Interrupted) -> &'static str
-    ensures { result.now ≡ texts.outcome_name told }
+fn outcome(reported: Interrupted) -> &'static str
+    ensures { result.now ≡ texts.outcome_name reported }
 {
-    match told {
+    match reported {
         Interrupted::NoSession | Interrupted::Idle => "idle",
         Interrupted::Sent => "sent",
         Interrupted::Failed => "failed",
@@ -32,14 +32,14 @@ fn outcome(told: Interrupted) -> &'static str
 fn write_warned<W: Write>(
     alloc: Global,
     seat: Seat,
-    told: Interrupted,
+    reported: Interrupted,
     writer: &mut W,
 ) -> Result<(), RunFault>
     ensures ok { OnOk result (Appends (W.contents writer.old) (W.contents writer.new)
-        (texts.warned_json seat told)) }
-    ensures err { IfErr result (IsUntold texts.in_json) }
+        (texts.warned_json seat reported)) }
+    ensures err { IfErr result (IsWithheld texts.in_json) }
 {
-    let value = warned_value(alloc, seat.name.as_slice(), seat.life, outcome(told));
+    let value = warned_value(alloc, seat.name.as_slice(), seat.life, outcome(reported));
     write_made(alloc, value, writer)
 }
 
@@ -47,14 +47,14 @@ fn write_warned<W: Write>(
 fn write_interrupt<W: Write>(
     alloc: Global,
     line: u64,
-    told: Interrupted,
+    reported: Interrupted,
     writer: &mut W,
 ) -> Result<(), RunFault>
     ensures ok { OnOk result (Appends (W.contents writer.old) (W.contents writer.new)
-        (texts.interrupt_json line told)) }
-    ensures err { IfErr result (IsUntold texts.in_json) }
+        (texts.interrupt_json line reported)) }
+    ensures err { IfErr result (IsWithheld texts.in_json) }
 {
-    match told {
+    match reported {
         Interrupted::NoSession => {
             write_made(
                 alloc,
@@ -72,7 +72,7 @@ fn write_interrupt<W: Write>(
 fn write_counts<W: Write>(alloc: Global, counts: Counts, writer: &mut W) -> Result<(), RunFault>
     ensures ok { OnOk result (Appends (W.contents writer.old) (W.contents writer.new)
         (texts.counted_json counts.answered counts.unanswered counts.overs)) }
-    ensures err { IfErr result (IsUntold texts.in_json) }
+    ensures err { IfErr result (IsWithheld texts.in_json) }
 {
     let (answered, unanswered) = (counts.answered as u64, counts.unanswered as u64);
     match counts.overs {
@@ -92,15 +92,19 @@ pub(crate) fn write_note<W: Write>(
     writer: &mut W,
 ) -> Result<(), RunFault>
     ensures ok { OnOk result (Appends (W.contents writer.old) (W.contents writer.new) (texts.note_json note)) }
-    ensures err { IfErr result (IsUntold texts.in_json) }
+    ensures err { IfErr result (IsWithheld texts.in_json) }
 {
     match note {
         Note::Bad(line) => write_made(alloc, bad_value(alloc, line), writer),
         Note::Nothing(line) => write_made(alloc, nothing_value(alloc, line), writer),
         Note::Waited(line, timed) => write_made(alloc, waited_value(alloc, line, timed), writer),
-        Note::Interrupted(line, _, told) => write_interrupt(alloc, line, told, writer),
-        Note::Over(id, told) => write_made(alloc, over_value(alloc, id, outcome(told)), writer),
-        Note::Warned(seat, told) => write_warned(alloc, seat, told, writer),
+        Note::Interrupted(line, _, reported) => write_interrupt(alloc, line, reported, writer),
+        Note::Over(id, reported) => write_made(
+            alloc,
+            over_value(alloc, id, outcome(reported)),
+            writer,
+        ),
+        Note::Warned(seat, reported) => write_warned(alloc, seat, reported, writer),
         Note::Counted(counts) => write_counts(alloc, counts, writer),
         Note::Undone(first, last) => write_made(alloc, undone_value(alloc, first, last), writer),
     }

@@ -9,7 +9,7 @@ ghost use Rattle.session_engine.specs.Host.{IsHost};
 ghost use Rattle.worksheet.specs.Checks.{field_in};
 ghost use Rattle.sheet_json.specs.Objects.{session_data, telling_data};
 ghost use Rattle.tellings.specs.Json as texts;
-ghost use Rattle.tellings.specs.Voice.{IsUntold};
+ghost use Rattle.tellings.specs.Voice.{IsWithheld};
 
 use crate::writing::write_made;
 use disk_model::Disk;
@@ -32,7 +32,7 @@ fn write_part<D: Disk, W: Write>(
 ) -> Result<(), RunFault>
     ensures ok { (w : World) → IsHost host.now w
         → OnOk result (Appends (W.contents writer.old) (W.contents writer.new) (texts.part_line line w field.now)) }
-    ensures err { IfErr result (IsUntold texts.in_json) }
+    ensures err { IfErr result (IsWithheld texts.in_json) }
 {
     let waits = host.is_waiting(field.id);
     write_made(alloc, part_value(alloc, line, field, waits), writer)
@@ -48,7 +48,7 @@ fn write_parts<D: Disk, W: Write>(
 ) -> Result<(), RunFault>
     ensures ok { (w : World) → IsHost host.now w → OnOk result (Appends (W.contents writer.old) (W.contents writer.new)
         (texts.parts_text line w sheet.now.contents.fields)) }
-    ensures err { IfErr result (IsUntold texts.in_json) }
+    ensures err { IfErr result (IsWithheld texts.in_json) }
 {
     let mut fields = sheet.fields();
     while let Some(field) = fields.next() {
@@ -101,7 +101,7 @@ fn session_rows<D: Disk>(
 
 /// What the fields and sessions are together.
 fn whole<D: Disk>(alloc: Global, line: u64, host: &Host<D>) -> Result<Value, AllocError>
-    ensures { (w : World) → IsHost host.now w → IfOk result (λ value. view value ≡ telling_data (texts.whole_told line w)) }
+    ensures { (w : World) → IsHost host.now w → IfOk result (λ value. view value ≡ telling_data (texts.whole_reported line w)) }
 {
     let rows = session_rows(alloc, host, host.sheet())?;
     sheet_value(alloc, line, host.sheet(), rows)
@@ -116,7 +116,7 @@ pub(crate) fn write_sheet<D: Disk, W: Write>(
 ) -> Result<(), RunFault>
     ensures ok { (w : World) → IsHost host.now w
         → OnOk result (Appends (W.contents writer.old) (W.contents writer.new) (texts.sheet_json line w)) }
-    ensures err { IfErr result (IsUntold texts.in_json) }
+    ensures err { IfErr result (IsWithheld texts.in_json) }
 {
     write_parts(alloc, line, host, host.sheet(), writer)?;
     write_made(alloc, whole(alloc, line, host), writer)?;
@@ -133,7 +133,7 @@ pub(crate) fn write_field<D: Disk, W: Write>(
 ) -> Result<(), RunFault>
     ensures ok { (w : World) → IsHost host.now w → OnOk result (Appends (W.contents writer.old) (W.contents writer.new)
         (texts.field_json line w (field_in (sheet_in w).fields id))) }
-    ensures err { IfErr result (IsUntold texts.in_json) }
+    ensures err { IfErr result (IsWithheld texts.in_json) }
 {
     match host.sheet().field(id) {
         Some(field) => {

@@ -17,7 +17,7 @@ pub trait Tells {
     ghost use Rattle.std.specs.Io.KnownBytes.{Appends};
     ghost use Rattle.session_engine.specs.World.{World};
     ghost use Rattle.session_engine.specs.Host.{IsHost};
-    ghost use Rattle.tellings.specs.Voice.{IsUntold, Voice, came_text, lives_text, numbered_text, replied_text};
+    ghost use Rattle.tellings.specs.Voice.{IsWithheld, Voice, came_text, lives_text, numbered_text, replied_text};
 
     /// The texts that it writes.
     ghost voice: { Voice };
@@ -26,12 +26,12 @@ pub trait Tells {
     fn frame<W: Write>(&self, frame: Frame, writer: &mut W) -> Result<(), RunFault>
         ensures ok { OnOk result (Appends (W.contents writer.old) (W.contents writer.new) (voice.frame frame)) }
         ensures still { voice.takes_memory ≡ false → writer.new ≡ writer.old }
-        ensures err { IfErr result (λ why. (voice.takes_memory ≡ true) × IsUntold voice why) };
+        ensures err { IfErr result (λ why. (voice.takes_memory ≡ true) × IsWithheld voice why) };
 
     /// Tells what comes of a line, or of a wait, apart from replies.
     fn note<W: Write>(&self, note: Note, writer: &mut W) -> Result<(), RunFault>
         ensures ok { OnOk result (Appends (W.contents writer.old) (W.contents writer.new) (voice.note note)) }
-        ensures err { IfErr result (IsUntold voice) };
+        ensures err { IfErr result (IsWithheld voice) };
 
     /// Tells what the command on this line gave, where this is the worksheet after it.
     fn replies<W: Write>(
@@ -43,7 +43,7 @@ pub trait Tells {
     ) -> Result<(), RunFault>
         ensures ok { OnOk result (Appends (W.contents writer.old) (W.contents writer.new)
             (replied_text voice line sheet.now.contents replies.now)) }
-        ensures err { IfErr result (IsUntold voice) };
+        ensures err { IfErr result (IsWithheld voice) };
 
     /// Tells what commands gave that were taken together, one on each line from this one on, where this is the
     /// worksheet after them.
@@ -57,7 +57,7 @@ pub trait Tells {
         requires { first + length outcomes.now < 2 ^ 64 }
         ensures ok { OnOk result (Appends (W.contents writer.old) (W.contents writer.new)
             (numbered_text voice first sheet.now.contents outcomes.now)) }
-        ensures err { IfErr result (IsUntold voice) };
+        ensures err { IfErr result (IsWithheld voice) };
 
     /// Tells what came of lives, where this is the worksheet after it, and flushes nothing: `events` of what
     /// followed is called next.
@@ -69,7 +69,7 @@ pub trait Tells {
     ) -> Result<(), RunFault>
         ensures ok { OnOk result (Appends (W.contents writer.old) (W.contents writer.new)
             (came_text voice sheet.now.contents replies.now)) }
-        ensures err { IfErr result (IsUntold voice) };
+        ensures err { IfErr result (IsWithheld voice) };
 
     /// Tells what came of lives, where this is the worksheet after it.
     fn events<W: Write>(
@@ -80,7 +80,7 @@ pub trait Tells {
     ) -> Result<(), RunFault>
         ensures ok { OnOk result (Appends (W.contents writer.old) (W.contents writer.new)
             (came_text voice sheet.now.contents replies.now)) }
-        ensures err { IfErr result (IsUntold voice) };
+        ensures err { IfErr result (IsWithheld voice) };
 
     /// Tells what came of lives, with what this host knows of each, and flushes nothing: `events_of` of what followed
     /// is called next.
@@ -92,7 +92,7 @@ pub trait Tells {
     ) -> Result<(), RunFault>
         ensures ok { (w : World) → IsHost host.now w
             → OnOk result (Appends (W.contents writer.old) (W.contents writer.new) (lives_text voice w replies.now)) }
-        ensures err { IfErr result (IsUntold voice) };
+        ensures err { IfErr result (IsWithheld voice) };
 
     /// Tells what came of lives, with what this host knows of each.
     fn events_of<D: Disk, W: Write>(
@@ -103,7 +103,7 @@ pub trait Tells {
     ) -> Result<(), RunFault>
         ensures ok { (w : World) → IsHost host.now w
             → OnOk result (Appends (W.contents writer.old) (W.contents writer.new) (lives_text voice w replies.now)) }
-        ensures err { IfErr result (IsUntold voice) };
+        ensures err { IfErr result (IsWithheld voice) };
 
     /// Tells the worksheet, for which this line asks.
     fn sheet<D: Disk, W: Write>(
@@ -114,7 +114,7 @@ pub trait Tells {
     ) -> Result<(), RunFault>
         ensures ok { (w : World) → IsHost host.now w
             → OnOk result (Appends (W.contents writer.old) (W.contents writer.new) (voice.sheet line w)) }
-        ensures err { IfErr result (IsUntold voice) };
+        ensures err { IfErr result (IsWithheld voice) };
 
     /// Tells the field with this number, for which this line asks, or that there is none.
     fn field<D: Disk, W: Write>(
@@ -126,7 +126,7 @@ pub trait Tells {
     ) -> Result<(), RunFault>
         ensures ok { (w : World) → IsHost host.now w
             → OnOk result (Appends (W.contents writer.old) (W.contents writer.new) (voice.field line id w)) }
-        ensures err { IfErr result (IsUntold voice) };
+        ensures err { IfErr result (IsWithheld voice) };
 
     /// Tells this worksheet in a format, for which this line asks, or that it isn't written in it.
     fn export<W: Write>(
@@ -138,10 +138,10 @@ pub trait Tells {
     ) -> Result<(), RunFault>
         ensures ok { OnOk result (Appends (W.contents writer.old) (W.contents writer.new)
             (voice.exported line format sheet.now.contents)) }
-        ensures err { IfErr result (IsUntold voice) };
+        ensures err { IfErr result (IsWithheld voice) };
 
     /// Tells a fault, last of all, and whether that went out.
     fn fault<W: Write>(&self, why: RunFault, writer: &mut W) -> bool
-        ensures told { result ≡ true → Appends (W.contents writer.old) (W.contents writer.new) (voice.fault why) }
+        ensures reported { result ≡ true → Appends (W.contents writer.old) (W.contents writer.new) (voice.fault why) }
         ensures still { voice.takes_memory ≡ false → writer.new ≡ writer.old };
 }

@@ -4,13 +4,13 @@ ghost use Rattle.std.specs.Io.KnownBytes.{Appends};
 ghost use Rattle.serde_json.specs.View.{view};
 ghost use Rattle.sheet_json.specs.Objects.{event_data, telling_data};
 ghost use Rattle.sheet_json.specs.Sheets.{telling_line};
-ghost use Rattle.sheet_json.specs.Tellings.{EventTold, Telling};
+ghost use Rattle.sheet_json.specs.Tellings.{EventReported, Telling};
 ghost use Rattle.tellings.specs.Json.{event_line, in_json};
-ghost use Rattle.tellings.specs.Voice.{IsUntold};
+ghost use Rattle.tellings.specs.Voice.{IsWithheld};
 
 use offline_programs::RunFault;
 use serde_json::Value;
-use sheet_json::told_bytes;
+use sheet_json::reported_bytes;
 use std::alloc::{AllocError, Global};
 use std::io::Write;
 
@@ -18,9 +18,9 @@ use std::io::Write;
 fn write_line<W: Write>(alloc: Global, value: &Value, writer: &mut W) -> Result<(), RunFault>
     ensures ok { (t : Telling) → view value.now ≡ telling_data t
         → OnOk result (Appends (W.contents writer.old) (W.contents writer.new) (telling_line t)) }
-    ensures err { IfErr result (IsUntold in_json) }
+    ensures err { IfErr result (IsWithheld in_json) }
 {
-    match told_bytes(alloc, value) {
+    match reported_bytes(alloc, value) {
         Ok(bytes) => writer
             .write_all(bytes.as_slice())
             .map_err(|_| RunFault::Output),
@@ -36,7 +36,7 @@ pub(crate) fn write_made<W: Write>(
 ) -> Result<(), RunFault>
     ensures ok { (t : Telling) → IfOk made (λ value. view value ≡ telling_data t)
         → OnOk result (Appends (W.contents writer.old) (W.contents writer.new) (telling_line t)) }
-    ensures err { IfErr result (IsUntold in_json) }
+    ensures err { IfErr result (IsWithheld in_json) }
 {
     match made {
         Ok(value) => write_line(alloc, &value, writer),
@@ -50,10 +50,10 @@ pub(crate) fn write_if<W: Write>(
     made: Result<Option<Value>, AllocError>,
     writer: &mut W,
 ) -> Result<(), RunFault>
-    ensures ok { (session : List ℕ) (life : ℕ) (e : Option EventTold)
+    ensures ok { (session : List ℕ) (life : ℕ) (e : Option EventReported)
         → IfOk made (λ value. option_map view value ≡ option_map (event_data session life) e)
         → OnOk result (Appends (W.contents writer.old) (W.contents writer.new) (event_line session life e)) }
-    ensures err { IfErr result (IsUntold in_json) }
+    ensures err { IfErr result (IsWithheld in_json) }
 {
     match made {
         Ok(Some(value)) => write_line(alloc, &value, writer),

@@ -16,7 +16,7 @@ use Rattle.host_laws.specs.Turns.{Has, HostsInTurn}
 use Rattle.theorem.specs.Story.{CrashedSince}
 use Rattle.theorem.specs.Acts.{Act, CameIn, Did, Files, HasFirst, KeepFieldOn, PutAfter, StaysIn, Uses, WasPut, no_use, turns_of, filing, has_filed, nothing_done, by_hosts, by_filing}
 use Rattle.host_laws.proofs.FieldLaws.{by_op}
-use Rattle.theorem.proofs.Told.{at_crash}
+use Rattle.theorem.proofs.Reported.{at_crash}
 use Rattle.theorem.proofs.Visits.{invocations_left}
 
 -- an answer of a worksheet with ops more was there before and has stayed, or one of them put it in
@@ -55,7 +55,7 @@ from_front os (o ∷ done) rest from = (from.0, from_front (os ++ o ∷ []) done
 -- What a filing left.
 module _ (before : Image) (sheet : Contents) (image : IsSheetImage sheet before) (one : OneSheet) (mid : Image) (disk back : DiskView) (ops put : List Op) (f : Files before disk ops put back) where
   abbrev Filed : List Op → Type 0
-  Filed told = (t : Contents) × PutAfter sheet put told t × IsSheetImage t mid
+  Filed reported = (t : Contents) × PutAfter sheet put reported t × IsSheetImage t mid
 
   is : sheet ≡ sheet_of ops
   is = one sheet (sheet_of ops) before image f.found
@@ -73,7 +73,7 @@ module _ (before : Image) (sheet : Contents) (image : IsSheetImage sheet before)
       taken = among.done;
       lost = among.rest;
       split = among.split;
-      untold = among.done;
+      withheld = among.done;
       has = refl;
       from = from_front ops among.done among.rest (subst (λ (l : List Op). AllowedFrom ops l) among.split f.from);
       now = refl;
@@ -94,7 +94,7 @@ module _ (before : Image) (sheet : Contents) (image : IsSheetImage sheet before)
       taken = put;
       lost = [];
       split = sym (append-nil put);
-      untold = [];
+      withheld = [];
       has = sym (append-nil put);
       from = f.from;
       now = refl;

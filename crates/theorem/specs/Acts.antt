@@ -20,7 +20,7 @@ use Rattle.theorem.specs.Programs.{Invocations}
 -- What was done by one invocation or several: hosts had turns; or answers were put in, of which these were reported.
 pub data Act : Type 0 where
   hosted : List HostTurn → Act
-  filed : (put told : List Op) → Act
+  filed : (put reported : List Op) → Act
 
 -- An image of the worksheet of these ops and of some of the first of more.
 pub record HasFirst (ops more : List Op) (i : Image) : Type 0 where
@@ -54,15 +54,15 @@ pub data Uses (room : ℕ) : Image → List Act → Image → Type 0 where
       → CrashedSince back.history back.history mid → Uses room mid acts after → Uses room before (filed put put ∷ acts) after
 
 -- Some of the first of these ops were put after a worksheet, all of them that were reported.
-pub record PutAfter (before : Contents) (put told : List Op) (after : Contents) : Type 0 where
+pub record PutAfter (before : Contents) (put reported : List Op) (after : Contents) : Type 0 where
   pub ops : List Op
   pub is : before ≡ sheet_of ops
   pub allowed : Allowed ops
   pub taken : List Op
   pub lost : List Op
   pub split : put ≡ taken ++ lost
-  pub untold : List Op
-  pub has : taken ≡ told ++ untold
+  pub withheld : List Op
+  pub has : taken ≡ reported ++ withheld
   pub from : AllowedFrom ops taken
   pub now : after ≡ sheet_of (ops ++ taken)
 
@@ -71,8 +71,8 @@ pub data Did (room : ℕ) : Image → Contents → List Act → Image → Conten
   nothing_done : {i : Image} {s : Contents} → Did room i s [] i s
   by_hosts : {before mid after : Image} {s t u : Contents} {turns : List HostTurn} {acts : List Act} (first : List Op) → s ≡ sheet_of first
       → (l : LeftInTurn room first before mid turns) → t ≡ sheet_of l.kept → Did room mid t acts after u → Did room before s (hosted turns ∷ acts) after u
-  by_filing : {before mid after : Image} {s t u : Contents} {put told : List Op} {acts : List Act} → (p : PutAfter s put told t)
-      → IsSheetImage t mid → Did room mid t acts after u → Did room before s (filed put told ∷ acts) after u
+  by_filing : {before mid after : Image} {s t u : Contents} {put reported : List Op} {acts : List Act} → (p : PutAfter s put reported t)
+      → IsSheetImage t mid → Did room mid t acts after u → Did room before s (filed put reported ∷ acts) after u
 
 -- Where an answer comes from.
 

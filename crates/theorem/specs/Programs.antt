@@ -42,7 +42,7 @@ pub record Course (w : World) (d : DiskView) (events : List Event) (outcomes : L
 pub data EndedAs (w : World) (d : DiskView) : List Event → DiskView → Type 0 where
   well : EndedAs w d [] d
   at_event : (e : Event) (f : HostFault) (back : DiskView) → SameDisk d back → CauseOf w e d back f → EndedAs w d (e ∷ []) back
-  in_group : (taken dropped : List Event) (untold : List Outcome) (leads : World) (back : DiskView) → Runs w taken untold leads → SameDisk d back
+  in_group : (taken dropped : List Event) (withheld : List Outcome) (leads : World) (back : DiskView) → Runs w taken withheld leads → SameDisk d back
       → InModel d (LeavesOnly (IsSheetOf (sheet_in w) (sheet_in leads)) d.history back.history) → EndedAs w d (taken ++ dropped) back
 
 -- An invocation that opened the worksheet, with these events, of which these outcomes are what its output reports where it came to an end.
@@ -54,19 +54,19 @@ pub record Visit (before : Image) (disk : DiskView) (turn : HostTurn) (back : Di
   pub events : List Event
   pub leads : World
   pub mid : DiskView
-  pub course : Course (world_at_opening ops disk.room end) now events turn.told leads mid
+  pub course : Course (world_at_opening ops disk.room end) now events turn.reported leads mid
   pub unreported : List Event
   pub ended : EndedAs leads mid unreported back
   pub is : turn.events ≡ events ++ unreported
 
 -- An image of the worksheet after some of the first of these events, with all those among them of which these are the outcomes.
-pub record HasTold (w : World) (events : List Event) (told : List Outcome) (i : Image) : Type 0 where
+pub record HasReported (w : World) (events : List Event) (reported : List Outcome) (i : Image) : Type 0 where
   pub taken : List Event
   pub lost : List Event
   pub split : events ≡ taken ++ lost
-  pub untold : List Outcome
+  pub withheld : List Outcome
   pub leads : World
-  pub runs : Runs w taken (told ++ untold) leads
+  pub runs : Runs w taken (reported ++ withheld) leads
   pub image : IsSheetImage (sheet_in leads) i
 
 -- One invocation after another on the same files, each on the image that the one before it left (A3), all with the same room (A4).
@@ -78,13 +78,13 @@ pub data Invocations (room : ℕ) : Image → List HostTurn → Image → Type 0
   -- A crash came at a moment of it (A5), and what it had reported by then isn't known.
   cut_off : {before mid after : Image} {turn : HostTurn} {turns : List HostTurn} (disk back : DiskView) → disk.room ≡ room → (v : Visit before disk turn back)
       → CrashedSince v.now.history back.history mid → Invocations room mid turns after
-      → Invocations room before (record { events = turn.events; told = [] } ∷ turns) after
+      → Invocations room before (record { events = turn.events; reported = [] } ∷ turns) after
   -- A crash came at or after a moment of the disk from which on each image has what these outcomes say, and they were reported no earlier (A6).
   -- Of what is driven a law says which moment that is (crate `driver_visits`); of other scripts no contract does.
   cut_since : {before mid after : Image} {turn : HostTurn} {turns : List HostTurn} (disk back : DiskView) → disk.room ≡ room → (v : Visit before disk turn back)
-      → (told : List Outcome) (at : History) → LeavesOnly (HasTold (world_at_opening v.ops disk.room v.end) turn.events told) at back.history
+      → (reported : List Outcome) (at : History) → LeavesOnly (HasReported (world_at_opening v.ops disk.room v.end) turn.events reported) at back.history
       → CrashedSince at back.history mid → Invocations room mid turns after
-      → Invocations room before (record { events = turn.events; told = told } ∷ turns) after
+      → Invocations room before (record { events = turn.events; reported = reported } ∷ turns) after
   -- it ended, with all reported, and a crash came later or none at all
   ended : {before mid after : Image} {turn : HostTurn} {turns : List HostTurn} (disk back : DiskView) → disk.room ≡ room → Visit before disk turn back
       → CrashedSince back.history back.history mid → Invocations room mid turns after

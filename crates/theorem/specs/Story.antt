@@ -37,23 +37,23 @@ PlaysGroup group old answer new = GroupMeets group old answer new ⊎ UpToMeets 
 -- What a host did last, that had taken these events and returned these outcomes. With that call the events that it was given, and the
 -- outcomes that it returned, are those of the turn; and the crash came between this disk and that one. A call that was under way is one
 -- that would have returned so (A5).
-pub data Doing (old : HostView) (events : List Event) (told : List Outcome) : HostTurn → DiskView → DiskView → Type 0 where
+pub data Doing (old : HostView) (events : List Event) (reported : List Outcome) : HostTurn → DiskView → DiskView → Type 0 where
   -- nothing more: it was closed, or the crash came between two calls
-  nothing : Doing old events told (record { events = events; told = told }) old.store.disk old.store.disk
+  nothing : Doing old events reported (record { events = events; reported = reported }) old.store.disk old.store.disk
   -- the crash came within a step, or after one that had a fault
   a_step : (e : Event) (answer : Result Outcome HostFault) (new : HostView) → StepMeets e old answer new
-      → Doing old events told (record { events = events ++ e ∷ []; told = told }) old.store.disk new.store.disk
+      → Doing old events reported (record { events = events ++ e ∷ []; reported = reported }) old.store.disk new.store.disk
   -- within a group
   a_group : (group : List Event) (answer : Result (Vec Outcome Global) GroupFault) (new : HostView) → PlaysGroup group old answer new
-      → Doing old events told (record { events = events ++ group; told = told }) old.store.disk new.store.disk
+      → Doing old events reported (record { events = events ++ group; reported = reported }) old.store.disk new.store.disk
   -- after a group, which a refusal or a fault may have stopped, and which returned these outcomes
   after_group : (group : List Event) (answer : Result (Vec Outcome Global) GroupFault) (new : HostView) → PlaysGroup group old answer new
-      → Doing old events told (record { events = events ++ group; told = told ++ returned answer }) new.store.disk new.store.disk
+      → Doing old events reported (record { events = events ++ group; reported = reported ++ returned answer }) new.store.disk new.store.disk
   -- within commands that were to be taken as a whole, and after them
   a_whole : (edits : List Event) (answer : Result Whole WholeFault) (new : HostView) → WholeMeets edits old answer new
-      → Doing old events told (record { events = events ++ edits; told = told }) old.store.disk new.store.disk
+      → Doing old events reported (record { events = events ++ edits; reported = reported }) old.store.disk new.store.disk
   after_whole : (edits : List Event) (answer : Result Whole WholeFault) (new : HostView) → WholeMeets edits old answer new
-      → Doing old events told (record { events = events ++ edits; told = told ++ whole_returned answer }) new.store.disk new.store.disk
+      → Doing old events reported (record { events = events ++ edits; reported = reported ++ whole_returned answer }) new.store.disk new.store.disk
 
 -- A host was opened on this image, was given events by steps, by groups and as a whole, returned the outcomes of those, and ended: a crash at any
 -- moment of what it did last left that image. Its disk kept the model (A1).
@@ -62,13 +62,13 @@ pub record HostLived (room : ℕ) (before : Image) (turn : HostTurn) (after : Im
   pub opened : HostView
   pub begun : JustOpened room before found opened
   pub events : List Event
-  pub told : List Outcome
+  pub reported : List Outcome
   pub old : HostView
-  pub took : TookByCalls opened events told old
+  pub took : TookByCalls opened events reported old
   pub keeps_model : IsTrue old.store.disk.keeps_model
   pub from : DiskView
   pub to : DiskView
-  pub doing : Doing old events told turn from to
+  pub doing : Doing old events reported turn from to
   pub crashed : CrashedSince from.history to.history after
 
 -- From one image of a disk to another: hosts lived one after another, each on the image that the one before it left (A3), all with the same

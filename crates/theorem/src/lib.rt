@@ -47,7 +47,7 @@ pub fn took_one<D: Disk>(
 ) -> Result<(Host<D>, Result<Outcome, HostFault>), OpenFault<D>>
     ensures lived { InModel (D.view disk) (IfOk result (λ r. (opened : HostView) × SameDisk (D.view disk) opened.store.disk
         × ((after : Image) → CrashedSince opened.store.disk.history r.0.store.disk.history after
-        → HostLived (D.view disk).room (bytes_on (D.view disk)) (record { events = event ∷ []; told = [] }) after))) }
+        → HostLived (D.view disk).room (bytes_on (D.view disk)) (record { events = event ∷ []; reported = [] }) after))) }
 {
     let mut host = opened_after(alloc, disk)?;
     let answer = host.step(event);
@@ -63,9 +63,9 @@ pub fn took_group<D: Disk>(
     ensures lived { InModel (D.view disk) (IfOk result (λ r. (opened : HostView) × SameDisk (D.view disk) opened.store.disk
         × ((after : Image)
         → (CrashedSince opened.store.disk.history r.0.store.disk.history after
-        → HostLived (D.view disk).room (bytes_on (D.view disk)) (record { events = events.items; told = [] }) after)
+        → HostLived (D.view disk).room (bytes_on (D.view disk)) (record { events = events.items; reported = [] }) after)
         × (CrashedSince r.0.store.disk.history r.0.store.disk.history after
-        → HostLived (D.view disk).room (bytes_on (D.view disk)) (record { events = events.items; told = returned r.1 }) after)))) }
+        → HostLived (D.view disk).room (bytes_on (D.view disk)) (record { events = events.items; reported = returned r.1 }) after)))) }
 {
     let mut host = opened_after(alloc, disk)?;
     let answer = played_group(&mut host, events);

@@ -14,8 +14,8 @@ use Rattle.plugin_core.specs.Steps.{Reads, step_of}
 use Rattle.recovery.specs.Sheets.{codes_of}
 use Rattle.host_events.specs.declared.command.Command.TheVariants as command
 use Rattle.session_engine.specs.World.{World, Going, world_at_opening}
-use Rattle.session_engine.specs.Does.{Does, does, behind, steps, Runs}
-use Rattle.worked_run.specs.Run.{name_a, line_x, banner_bytes, answer_bytes, six_events, verbatim_of, told_outcomes, lost_outcome, opened_ops, WorkedRun}
+use Rattle.session_engine.specs.Does.{Does, does, following, steps, Runs}
+use Rattle.worked_run.specs.Run.{name_a, line_x, banner_bytes, answer_bytes, six_events, verbatim_of, reported_outcomes, lost_outcome, opened_ops, WorkedRun}
 use Rattle.worked_run.proofs.Images.{makes_found, stands_found, opens_found, before_calls, after_write, after_sync, after_gate, after_all, closed_left, open_left}
 
 -- The worlds.
@@ -24,10 +24,10 @@ abbrev at_first : World
 at_first = world_at_opening opened_ops greatest_room 24
 
 abbrev made : World
-made = behind at_first (does at_first (command.New 0 name_a line_x))
+made = following at_first (does at_first (command.New 0 name_a line_x))
 
 abbrev asked : World
-asked = behind made (does made (command.Eval 1))
+asked = following made (does made (command.Eval 1))
 
 -- the life before the banner, and after it
 abbrev begun : Going
@@ -57,15 +57,15 @@ abbrev third : Does
 third = steps asked begun banner_bytes (banner_block ∷ []) (step_of begun.past [] banner_bytes (banner_block ∷ []) None)
 
 abbrev shown : World
-shown = behind asked third
+shown = following asked third
 
 abbrev fourth : Does
 fourth = steps shown greeted answer_bytes (banner_block ∷ answer_block ∷ []) (step_of greeted.past (banner_block ∷ []) answer_bytes (banner_block ∷ answer_block ∷ []) None)
 
 abbrev answered : World
-answered = behind shown fourth
+answered = following shown fourth
 
-run_three : Runs at_first (take 3 six_events) told_outcomes shown
+run_three : Runs at_first (take 3 six_events) reported_outcomes shown
 unfolding is_utf8 chars encode
 run_three = (
   made,
@@ -77,7 +77,7 @@ run_three = (
   ),
 )
 
-run_four : Runs at_first (take 4 six_events) (told_outcomes ++ lost_outcome ∷ []) answered
+run_four : Runs at_first (take 4 six_events) (reported_outcomes ++ lost_outcome ∷ []) answered
 unfolding is_utf8 chars encode
 run_four = (
   made,

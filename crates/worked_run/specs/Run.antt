@@ -65,8 +65,8 @@ abbrev pub reply_closed : Closed → Reply
 reply_closed c = reply.Child (record { name = name_a; life = 1; closed = Some c; default_input = None; ended = None })
 
 -- the outcomes of the first three events, which are acknowledged when the fourth is given
-abbrev pub told_outcomes : List Outcome
-told_outcomes = record { reply = reply.Field 1; effect = None }
+abbrev pub reported_outcomes : List Outcome
+reported_outcomes = record { reply = reply.Field 1; effect = None }
     ∷ record { reply = reply.Asked 1; effect = Some (effect.Start name_a 1 (codes "sh" ∷ [])) }
     ∷ record { reply = reply_closed (closed.Banner no_text); effect = Some (effect.Send name_a 1 (line_x ++ 10 ∷ [])) }
     ∷ []
@@ -187,8 +187,8 @@ pub record WorkedRun : Type 0 where
   pub opens : IsSheetImage (sheet_of opened_ops) (only_first bytes_found)
   pub ends : EndsAt (only_first bytes_found) 24
   -- what three events do, and four
-  pub three : LeadsTo (take 3 six_events) told_outcomes without_answer
-  pub four : LeadsTo (take 4 six_events) (told_outcomes ++ lost_outcome ∷ []) with_answer
+  pub three : LeadsTo (take 3 six_events) reported_outcomes without_answer
+  pub four : LeadsTo (take 4 six_events) (reported_outcomes ++ lost_outcome ∷ []) with_answer
   -- to which worksheet each image opens that a crash may leave after each call on the disk, or within the next
   pub before_calls : Leaves IsWithout before_all
   pub after_write : Leaves IsWithout record_written

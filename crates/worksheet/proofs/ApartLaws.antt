@@ -10,7 +10,7 @@ use Rattle.worksheet.specs.declared.op.Op.TheVariants as op
 use Rattle.worksheet.specs.declared.field.Field.{Field}
 use Rattle.worksheet.specs.declared.field.Session.{Session}
 use Rattle.worksheet.specs.Contents.{Contents}
-use Rattle.worksheet.specs.Ops.{sheet_of, sessions_of, put_behind}
+use Rattle.worksheet.specs.Ops.{sheet_of, sessions_of, put_after}
 use Rattle.worksheet.specs.Edits.{edited, at_field, with_input, with_outcome, placed_field, fields_without, moved}
 use Rattle.worksheet.specs.Checks.{Allowed, AllowedFrom, first_refusal, refusals, session_named, has_session, field_in}
 use Rattle.worksheet.specs.Laws.{AreNamedApart, BelongToSessions}
@@ -102,18 +102,18 @@ all_found_push : (ss : List Session) (t : Session) (fs : List Field) → AllByRe
 all_found_push ss t [] all = tt
 all_found_push ss t (f ∷ fs) all = (found_push ss t f.session all.0, all_found_push ss t fs all.1)
 
-pub all_put : (P : Field → Type 0) (test : Field → Bool) (x : Field) (fs : List Field) → P x → AllByRecursion P fs → AllByRecursion P (put_behind test x fs)
+pub all_put : (P : Field → Type 0) (test : Field → Bool) (x : Field) (fs : List Field) → P x → AllByRecursion P fs → AllByRecursion P (put_after test x fs)
 all_put P test x [] p all = tt
 all_put P test x (f ∷ fs) p all = go (test f) (all_put P test x fs p all.1)
   where
-    go : (b : Bool) → AllByRecursion P (put_behind test x fs) → AllByRecursion P (if b then f ∷ x ∷ fs else f ∷ put_behind test x fs)
+    go : (b : Bool) → AllByRecursion P (put_after test x fs) → AllByRecursion P (if b then f ∷ x ∷ fs else f ∷ put_after test x fs)
     go true rest = (all.0, (p, all.1))
     go false rest = (all.0, rest)
 
 pub all_placed : (P : Field → Type 0) (after : ℕ) (x : Field) (fs : List Field) → P x → AllByRecursion P fs → AllByRecursion P (placed_field after x fs)
 all_placed P after x fs p all = go (after == 0)
   where
-    go : (b : Bool) → AllByRecursion P (if b then x ∷ fs else put_behind (λ other. other.id == after) x fs)
+    go : (b : Bool) → AllByRecursion P (if b then x ∷ fs else put_after (λ other. other.id == after) x fs)
     go true = (p, all)
     go false = all_put P (λ other. other.id == after) x fs p all
 

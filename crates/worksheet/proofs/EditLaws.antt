@@ -3,7 +3,7 @@ use Rattle.std.proofs.Common.{◌≡◌, ℕ, ◌<◌, List, [], ◌∷◌, leng
 use Rattle.std.specs.Prelude.{◌==◌}
 use Rattle.std.proofs.lemmas.Bool.Decides.{nat_tests}
 use Rattle.worksheet.specs.declared.field.Field.{Field}
-use Rattle.worksheet.specs.Ops.{put_behind}
+use Rattle.worksheet.specs.Ops.{put_after}
 use Rattle.worksheet.specs.Checks.{numbers, field_in}
 use Rattle.worksheet.specs.Edits.{Lacks, AreApart, at_field, fields_without}
 
@@ -54,9 +54,9 @@ find-at id (f ∷ fs) zero d a h e = let t : (f.id == id) ≡ true = grind (arit
 find-at id (f ∷ fs) (suc i) d a h e =
     rw (not_first id f fs i d a.0 (omega arith) e) (find-at id fs i d a.1 (omega arith) e)
 
-pub insert-put_behind : (id : ℕ) (x : Field) (fs : List Field) (i : ℕ) (d : Field) → AreApart (numbers fs) → i < length fs → (get_or fs i d).id ≡ id
-    → insert fs (suc i) x ≡ put_behind (λ other. other.id == id) x fs
-insert-put_behind id x [] i d a h e = absurd (omega arith)
-insert-put_behind id x (f ∷ fs) zero d a h e = let t : (f.id == id) ≡ true = grind (arith, nat_tests) in rw t refl
-insert-put_behind id x (f ∷ fs) (suc i) d a h e =
-    rw (not_first id f fs i d a.0 (omega arith) e) (ap (λ (gs : List Field). f ∷ gs) (insert-put_behind id x fs i d a.1 (omega arith) e))
+pub insert-put_after : (id : ℕ) (x : Field) (fs : List Field) (i : ℕ) (d : Field) → AreApart (numbers fs) → i < length fs → (get_or fs i d).id ≡ id
+    → insert fs (suc i) x ≡ put_after (λ other. other.id == id) x fs
+insert-put_after id x [] i d a h e = absurd (omega arith)
+insert-put_after id x (f ∷ fs) zero d a h e = let t : (f.id == id) ≡ true = grind (arith, nat_tests) in rw t refl
+insert-put_after id x (f ∷ fs) (suc i) d a h e =
+    rw (not_first id f fs i d a.0 (omega arith) e) (ap (λ (gs : List Field). f ∷ gs) (insert-put_after id x fs i d a.1 (omega arith) e))

@@ -6,7 +6,7 @@ use Rattle.std.proofs.lemmas.Bool.Decides.{nat_tests}
 use Rattle.std.proofs.lemmas.List.{append-nil}
 use Rattle.worksheet.specs.declared.op.Op.{Op}
 use Rattle.worksheet.specs.declared.op.Op.TheVariants as op
-use Rattle.worksheet.specs.Ops.{next_after, next_from, next_of, is_about, last_of, makes_or_ends, is_making, exists, field_of, put_behind, placed, sheet_of}
+use Rattle.worksheet.specs.Ops.{next_after, next_from, next_of, is_about, last_of, makes_or_ends, is_making, exists, field_of, put_after, placed, sheet_of}
 use Rattle.worksheet.specs.inside.Words.{about, without, order_of}
 use Rattle.worksheet.specs.Checks.{Allowed, AllowedFrom, field_in, first_refusal, refusals}
 use Rattle.worksheet.specs.Laws.{HasNoIds, is_new}
@@ -64,9 +64,9 @@ lists-without out id (n ∷ ids) = go (n == out) (n == id) (out == id) refl refl
     go false false true e f g rest = rw f (rest ∙ rw g refl)
     go false false false e f g rest = rw f (rest ∙ rw g refl)
 
-lists-put_behind : (after x id : ℕ) (ids : List ℕ) → lists ids after ≡ true → lists (put_behind (λ other. other == after) x ids) id ≡ ((x == id) || lists ids id)
-lists-put_behind after x id [] there = cc
-lists-put_behind after x id (n ∷ ids) there = go (n == after) there (lists-put_behind after x id ids)
+lists-put_after : (after x id : ℕ) (ids : List ℕ) → lists ids after ≡ true → lists (put_after (λ other. other == after) x ids) id ≡ ((x == id) || lists ids id)
+lists-put_after after x id [] there = cc
+lists-put_after after x id (n ∷ ids) there = go (n == after) there (lists-put_after after x id ids)
   where
     swap : (a b c : Bool) → (a || (b || c)) ≡ (b || (a || c))
     swap true true c = refl
@@ -74,18 +74,18 @@ lists-put_behind after x id (n ∷ ids) there = go (n == after) there (lists-put
     swap false true c = refl
     swap false false c = refl
 
-    go : (b : Bool) → (b || lists ids after) ≡ true → (lists ids after ≡ true → lists (put_behind (λ other. other == after) x ids) id ≡ ((x == id) || lists ids id))
-        → lists (if b then n ∷ x ∷ ids else n ∷ put_behind (λ other. other == after) x ids) id ≡ ((x == id) || ((n == id) || lists ids id))
+    go : (b : Bool) → (b || lists ids after) ≡ true → (lists ids after ≡ true → lists (put_after (λ other. other == after) x ids) id ≡ ((x == id) || lists ids id))
+        → lists (if b then n ∷ x ∷ ids else n ∷ put_after (λ other. other == after) x ids) id ≡ ((x == id) || ((n == id) || lists ids id))
     go true h rest = swap (n == id) (x == id) (lists ids id)
     go false h rest = ap (λ b. (n == id) || b) (rest h) ∙ swap (n == id) (x == id) (lists ids id)
 
 lists-placed : (after x id : ℕ) (ids : List ℕ) → ((after == 0) || lists ids after) ≡ true → lists (placed after x ids) id ≡ ((x == id) || lists ids id)
-lists-placed after x id ids place = go (after == 0) place (lists-put_behind after x id ids)
+lists-placed after x id ids place = go (after == 0) place (lists-put_after after x id ids)
   where
-    go : (b : Bool) → (b || lists ids after) ≡ true → (lists ids after ≡ true → lists (put_behind (λ other. other == after) x ids) id ≡ ((x == id) || lists ids id))
-        → lists (if b then x ∷ ids else put_behind (λ other. other == after) x ids) id ≡ ((x == id) || lists ids id)
-    go true h behind = refl
-    go false h behind = behind h
+    go : (b : Bool) → (b || lists ids after) ≡ true → (lists ids after ≡ true → lists (put_after (λ other. other == after) x ids) id ≡ ((x == id) || lists ids id))
+        → lists (if b then x ∷ ids else put_after (λ other. other == after) x ids) id ≡ ((x == id) || lists ids id)
+    go true h following = refl
+    go false h following = following h
 
 -- a number that goes elsewhere is listed as before
 lists-moved : (after out id : ℕ) (ids : List ℕ) → lists ids out ≡ true → ((after == 0) || lists ids after) ≡ true → (after == out) ≡ false
@@ -181,8 +181,8 @@ lists-after os (op.Ids number) allowed known id =
 lists-all : (before os : List Op) → AllowedFrom before os → ListsWhatExists before → ListsWhatExists (before ++ os)
 lists-all before [] allowed known = subst ListsWhatExists (sym (append-nil before)) known
 lists-all before (o ∷ os) allowed known =
-    let behind = lists-all (before ++ o ∷ []) os allowed.1 (lists-after before o allowed.0 known) in
-    subst ListsWhatExists (append_assoc before (o ∷ []) os) behind
+    let following = lists-all (before ++ o ∷ []) os allowed.1 (lists-after before o allowed.0 known) in
+    subst ListsWhatExists (append_assoc before (o ∷ []) os) following
 
 -- Looking a number up in the fields of an order.
 field_in-order : (os : List Op) (ids : List ℕ) (id : ℕ) → field_in (map (field_of os) ids) id ≡ (if lists ids id then Some (field_of os id) else None)

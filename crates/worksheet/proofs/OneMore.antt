@@ -61,8 +61,8 @@ last_or-push test first (p ∷ os) o = go (test p) (last_or-push test (Some p) o
         → last_or first (filter test (os ++ o ∷ [])) ≡ (if test o then Some o else last_or first (filter test os))
         → last_or first (if b then p ∷ filter test (os ++ o ∷ []) else filter test (os ++ o ∷ []))
         ≡ (if test o then Some o else last_or first (if b then p ∷ filter test os else filter test os))
-    go true behind front = behind
-    go false behind front = front
+    go true following front = following
+    go false following front = front
 
 pub last_of-push : (test : Op → Bool) (os : List Op) (o : Op) → last_of test (os ++ o ∷ []) ≡ (if test o then Some o else last_of test os)
 last_of-push test os o = last_or-push test None os o

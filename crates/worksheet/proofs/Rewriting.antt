@@ -14,7 +14,7 @@ use Rattle.worksheet.specs.declared.field.Session.{Session}
 use Rattle.worksheet.specs.Limits.{last_number, longest_kept_prompt, most_fields, most_sessions}
 use Rattle.worksheet.specs.Names.{is_name}
 use Rattle.worksheet.specs.Contents.{Contents}
-use Rattle.worksheet.specs.Ops.{put_behind, sheet_of}
+use Rattle.worksheet.specs.Ops.{put_after, sheet_of}
 use Rattle.worksheet.specs.Edits.{Lacks, AreApart, AllBelow, contents_with, edited, at_field, with_outcome, placed_field}
 use Rattle.worksheet.specs.Checks.{Allowed, are_words, field_in, first_of, first_refusal, has_session, is_input, numbers, refusals, session_named}
 use Rattle.worksheet.specs.Laws.{AreNamedApart, IsField, IsSession, IsWorksheet, HasOneOutcome, HasShortPrompt}
@@ -148,7 +148,7 @@ fewer id (g ∷ gs) f h = go (g.id == id) refl h (fewer id gs f)
 
 -- directly after a number, and first where that is the one in front
 abbrev placed_from : ℕ → ℕ → Field → List Field → List Field
-placed_from found after x fs = if after == found then x ∷ fs else put_behind (λ other. other.id == after) x fs
+placed_from found after x fs = if after == found then x ∷ fs else put_after (λ other. other.id == after) x fs
 
 -- what is found isn't what none of them is
 found_other : (m found id : ℕ) (ns : List ℕ) → (found == m) ≡ false → Lacks m ns → (smaller_before found id ns == m) ≡ false
@@ -192,11 +192,11 @@ module _ (id : ℕ) (f : Field) where
       go false true e l h near far =
           let in_it : nat_lt g.id (id + 1) ≡ true = grind (arith, nat_tests) in
           let other : (smaller_before g.id id (numbers gs) == found) ≡ false = found_other found g.id id (numbers gs) lacks.0 lacks.1 in
-          let behind = near h apart.1 apart.0 in
-          rw (other, in_it, flip g.id (smaller_before g.id id (numbers gs))) (set (smaller_before g.id id (numbers gs) == g.id) behind)
+          let following = near h apart.1 apart.0 in
+          rw (other, in_it, flip g.id (smaller_before g.id id (numbers gs))) (set (smaller_before g.id id (numbers gs) == g.id) following)
         where
-          set : (b : Bool) → (if b then f ∷ below id gs else put_behind (λ other. other.id == smaller_before g.id id (numbers gs)) f (below id gs)) ≡ below (id + 1) gs
-              → (if b then g ∷ f ∷ below id gs else g ∷ put_behind (λ other. other.id == smaller_before g.id id (numbers gs)) f (below id gs)) ≡ g ∷ below (id + 1) gs
+          set : (b : Bool) → (if b then f ∷ below id gs else put_after (λ other. other.id == smaller_before g.id id (numbers gs)) f (below id gs)) ≡ below (id + 1) gs
+              → (if b then g ∷ f ∷ below id gs else g ∷ put_after (λ other. other.id == smaller_before g.id id (numbers gs)) f (below id gs)) ≡ g ∷ below (id + 1) gs
           set true same = ap (λ (l : List Field). g ∷ l) same
           set false same = ap (λ (l : List Field). g ∷ l) same
       go false false e l h near far =
@@ -342,10 +342,10 @@ module _ (sheet : Contents) (w : IsWorksheet sheet) where
           let made_it = new_run f there (omega (arith, is, last, w.to_last)) (os ++ ids_to next f.id) named in
           let one : Reached (os ++ field_ops sheet.fields next f) (so_far (f.id + 1) (f.id + 1)) =
           subst (λ (qs : List Op). Reached qs (so_far (f.id + 1) (f.id + 1))) (append_assoc os (ids_to next f.id) (op.New (smaller_before 0 f.id (numbers sheet.fields)) f.session f.input ∷ outcome_ops f.id f.answer f.lost)) made_it in
-          let behind : Reached ((os ++ field_ops sheet.fields next f) ++ fields_ops sheet.fields count (number + 1) (number + 1)) sheet =
+          let following : Reached ((os ++ field_ops sheet.fields next f) ++ fields_ops sheet.fields count (number + 1) (number + 1)) sheet =
           on (number + 1) (os ++ field_ops sheet.fields next f) (omega (arith, last)) (omega arith)
           (subst (λ (n : ℕ). Reached (os ++ field_ops sheet.fields next f) (so_far (n + 1) (n + 1))) is one) in
-          subst (λ (qs : List Op). Reached qs sheet) (append_assoc os (field_ops sheet.fields next f) (fields_ops sheet.fields count (number + 1) (number + 1))) behind
+          subst (λ (qs : List Op). Reached qs sheet) (append_assoc os (field_ops sheet.fields next f) (fields_ops sheet.fields count (number + 1) (number + 1))) following
 
   whole : Reached (rewrite_of sheet) sheet
   whole =

@@ -7,7 +7,7 @@ use Rattle.worksheet.specs.declared.op.Op.{Op}
 use Rattle.worksheet.specs.declared.op.Op.TheVariants as op
 use Rattle.worksheet.specs.declared.field.Field.{Field}
 use Rattle.worksheet.specs.declared.field.Session.{Session}
-use Rattle.worksheet.specs.Ops.{next_after, next_of, field_of, put_behind, placed, sessions_of, sheet_of}
+use Rattle.worksheet.specs.Ops.{next_after, next_of, field_of, put_after, placed, sessions_of, sheet_of}
 use Rattle.worksheet.specs.inside.Words.{without, order_of}
 use Rattle.worksheet.specs.Checks.{numbers, field_in, first_refusal, refusals}
 use Rattle.worksheet.specs.Edits.{AllBelow, HasNumbersApart, contents_with, at_field, with_input, with_outcome, fields_without, placed_field, moved, edited}
@@ -16,24 +16,24 @@ use Rattle.worksheet.proofs.OneMore.{next_from-push, order_from-push, sessions_o
 
 -- The fields of an order, and edits of the order.
 
-map-put_behind : (os : List Op) (after x : ℕ) (ids : List ℕ)
-    → map (field_of os) (put_behind (λ other. other == after) x ids) ≡ put_behind (λ other. other.id == after) (field_of os x) (map (field_of os) ids)
-map-put_behind os after x [] = refl
-map-put_behind os after x (y ∷ ids) = go (y == after) (map-put_behind os after x ids)
+map-put_after : (os : List Op) (after x : ℕ) (ids : List ℕ)
+    → map (field_of os) (put_after (λ other. other == after) x ids) ≡ put_after (λ other. other.id == after) (field_of os x) (map (field_of os) ids)
+map-put_after os after x [] = refl
+map-put_after os after x (y ∷ ids) = go (y == after) (map-put_after os after x ids)
   where
-    go : (b : Bool) → map (field_of os) (put_behind (λ other. other == after) x ids) ≡ put_behind (λ other. other.id == after) (field_of os x) (map (field_of os) ids)
-        → map (field_of os) (if b then y ∷ x ∷ ids else y ∷ put_behind (λ other. other == after) x ids)
-        ≡ (if b then field_of os y ∷ field_of os x ∷ map (field_of os) ids else field_of os y ∷ put_behind (λ other. other.id == after) (field_of os x) (map (field_of os) ids))
+    go : (b : Bool) → map (field_of os) (put_after (λ other. other == after) x ids) ≡ put_after (λ other. other.id == after) (field_of os x) (map (field_of os) ids)
+        → map (field_of os) (if b then y ∷ x ∷ ids else y ∷ put_after (λ other. other == after) x ids)
+        ≡ (if b then field_of os y ∷ field_of os x ∷ map (field_of os) ids else field_of os y ∷ put_after (λ other. other.id == after) (field_of os x) (map (field_of os) ids))
     go true rest = refl
     go false rest = ap (λ (fs : List Field). field_of os y ∷ fs) rest
 
 map-placed : (os : List Op) (after x : ℕ) (ids : List ℕ) → map (field_of os) (placed after x ids) ≡ placed_field after (field_of os x) (map (field_of os) ids)
 map-placed os after x ids = go (after == 0)
   where
-    go : (b : Bool) → map (field_of os) (if b then x ∷ ids else put_behind (λ other. other == after) x ids)
-        ≡ (if b then field_of os x ∷ map (field_of os) ids else put_behind (λ other. other.id == after) (field_of os x) (map (field_of os) ids))
+    go : (b : Bool) → map (field_of os) (if b then x ∷ ids else put_after (λ other. other == after) x ids)
+        ≡ (if b then field_of os x ∷ map (field_of os) ids else put_after (λ other. other.id == after) (field_of os x) (map (field_of os) ids))
     go true = refl
-    go false = map-put_behind os after x ids
+    go false = map-put_after os after x ids
 
 map-without : (os : List Op) (id : ℕ) (ids : List ℕ) → map (field_of os) (without id ids) ≡ fields_without id (map (field_of os) ids)
 map-without os id [] = refl

@@ -6,7 +6,7 @@ use Rattle.worksheet.specs.declared.op.Op.{Op}
 use Rattle.worksheet.specs.declared.op.Op.TheVariants as op
 use Rattle.worksheet.specs.declared.field.Field.{Field}
 use Rattle.worksheet.specs.Contents.{Contents}
-use Rattle.worksheet.specs.Ops.{put_behind}
+use Rattle.worksheet.specs.Ops.{put_after}
 use Rattle.worksheet.specs.Checks.{numbers, field_in, first_refusal, refusals}
 use Rattle.worksheet.specs.Edits.{Lacks, AreApart, AllBelow, HasNumbersApart, at_field, with_input, with_outcome, fields_without, placed_field, moved, edited}
 use Rattle.worksheet.proofs.Finds.{field_in-id, none_applies}
@@ -57,46 +57,46 @@ AllBelow-without n id (f ∷ fs) a = go (f.id == id) (AllBelow-without n id fs a
 
 -- Putting in.
 
-Lacks-put_behind : (n : ℕ) (test : Field → Bool) (x : Field) (fs : List Field) → (x.id == n) ≡ false → Lacks n (numbers fs) → Lacks n (numbers (put_behind test x fs))
-Lacks-put_behind n test x [] o a = tt
-Lacks-put_behind n test x (f ∷ fs) o a = go (test f) (Lacks-put_behind n test x fs o a.1)
+Lacks-put_after : (n : ℕ) (test : Field → Bool) (x : Field) (fs : List Field) → (x.id == n) ≡ false → Lacks n (numbers fs) → Lacks n (numbers (put_after test x fs))
+Lacks-put_after n test x [] o a = tt
+Lacks-put_after n test x (f ∷ fs) o a = go (test f) (Lacks-put_after n test x fs o a.1)
   where
-    go : (b : Bool) → Lacks n (numbers (put_behind test x fs)) → Lacks n (numbers (if b then f ∷ x ∷ fs else f ∷ put_behind test x fs))
+    go : (b : Bool) → Lacks n (numbers (put_after test x fs)) → Lacks n (numbers (if b then f ∷ x ∷ fs else f ∷ put_after test x fs))
     go true rest = (a.0, (o, a.1))
     go false rest = (a.0, rest)
 
-AreApart-put_behind : (test : Field → Bool) (x : Field) (fs : List Field) → AreApart (numbers fs) → Lacks x.id (numbers fs) → AreApart (numbers (put_behind test x fs))
-AreApart-put_behind test x [] a l = tt
-AreApart-put_behind test x (f ∷ fs) a l = go (test f) (AreApart-put_behind test x fs a.1 l.1)
+AreApart-put_after : (test : Field → Bool) (x : Field) (fs : List Field) → AreApart (numbers fs) → Lacks x.id (numbers fs) → AreApart (numbers (put_after test x fs))
+AreApart-put_after test x [] a l = tt
+AreApart-put_after test x (f ∷ fs) a l = go (test f) (AreApart-put_after test x fs a.1 l.1)
   where
     there : (f.id == x.id) ≡ false → (x.id == f.id) ≡ false
     there h = grind (arith, nat_tests)
 
-    go : (b : Bool) → AreApart (numbers (put_behind test x fs)) → AreApart (numbers (if b then f ∷ x ∷ fs else f ∷ put_behind test x fs))
+    go : (b : Bool) → AreApart (numbers (put_after test x fs)) → AreApart (numbers (if b then f ∷ x ∷ fs else f ∷ put_after test x fs))
     go true rest = ((there l.0, a.0), (l.1, a.1))
-    go false rest = (Lacks-put_behind f.id test x fs (there l.0) a.0, rest)
+    go false rest = (Lacks-put_after f.id test x fs (there l.0) a.0, rest)
 
-AllBelow-put_behind : (n : ℕ) (test : Field → Bool) (x : Field) (fs : List Field) → AllBelow n (numbers fs) → x.id < n → AllBelow n (numbers (put_behind test x fs))
-AllBelow-put_behind n test x [] a l = tt
-AllBelow-put_behind n test x (f ∷ fs) a l = go (test f) (AllBelow-put_behind n test x fs a.1 l)
+AllBelow-put_after : (n : ℕ) (test : Field → Bool) (x : Field) (fs : List Field) → AllBelow n (numbers fs) → x.id < n → AllBelow n (numbers (put_after test x fs))
+AllBelow-put_after n test x [] a l = tt
+AllBelow-put_after n test x (f ∷ fs) a l = go (test f) (AllBelow-put_after n test x fs a.1 l)
   where
-    go : (b : Bool) → AllBelow n (numbers (put_behind test x fs)) → AllBelow n (numbers (if b then f ∷ x ∷ fs else f ∷ put_behind test x fs))
+    go : (b : Bool) → AllBelow n (numbers (put_after test x fs)) → AllBelow n (numbers (if b then f ∷ x ∷ fs else f ∷ put_after test x fs))
     go true rest = (a.0, (l, a.1))
     go false rest = (a.0, rest)
 
 AreApart-placed : (after : ℕ) (x : Field) (fs : List Field) → AreApart (numbers fs) → Lacks x.id (numbers fs) → AreApart (numbers (placed_field after x fs))
 AreApart-placed after x fs a l = go (after == 0)
   where
-    go : (b : Bool) → AreApart (numbers (if b then x ∷ fs else put_behind (λ other. other.id == after) x fs))
+    go : (b : Bool) → AreApart (numbers (if b then x ∷ fs else put_after (λ other. other.id == after) x fs))
     go true = (l, a)
-    go false = AreApart-put_behind (λ other. other.id == after) x fs a l
+    go false = AreApart-put_after (λ other. other.id == after) x fs a l
 
 AllBelow-placed : (n after : ℕ) (x : Field) (fs : List Field) → AllBelow n (numbers fs) → x.id < n → AllBelow n (numbers (placed_field after x fs))
 AllBelow-placed n after x fs a l = go (after == 0)
   where
-    go : (b : Bool) → AllBelow n (numbers (if b then x ∷ fs else put_behind (λ other. other.id == after) x fs))
+    go : (b : Bool) → AllBelow n (numbers (if b then x ∷ fs else put_after (λ other. other.id == after) x fs))
     go true = (l, a)
-    go false = AllBelow-put_behind n (λ other. other.id == after) x fs a l
+    go false = AllBelow-put_after n (λ other. other.id == after) x fs a l
 
 -- Changing.
 

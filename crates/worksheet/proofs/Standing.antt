@@ -5,12 +5,12 @@ use Rattle.std.specs.Map.{lookup, values_of}
 use Rattle.std.proofs.lemmas.Bool.Decides.{nat_tests}
 use Rattle.worksheet.specs.declared.field.Field.{Field}
 use Rattle.worksheet.specs.Checks.{field_in, numbers, in_front, is_number}
-use Rattle.worksheet.specs.inside.Words.{stands_behind}
+use Rattle.worksheet.specs.inside.Words.{stands_after}
 use Rattle.worksheet.specs.Edits.{AllBelow, AreApart, at_field, fields_without, moved, placed_field}
-use Rattle.worksheet.proofs.EditLaws.{not_first, insert-put_behind, remove-fields_without, find-at, set-at_field}
+use Rattle.worksheet.proofs.EditLaws.{not_first, insert-put_after, remove-fields_without, find-at, set-at_field}
 use Rattle.worksheet.proofs.MoveLaws.{put_either}
 use Rattle.worksheet.proofs.Finds.{field_in-id}
-use Rattle.worksheet.specs.inside.Entries.{shown, reserved, AreFields, IsBehind}
+use Rattle.worksheet.specs.inside.Entries.{shown, reserved, AreFields, IsAfter}
 use Rattle.worksheet.proofs.Lookup.{flat, is_reserved, lookup-shown, lookup-absent, value_at, shown_at}
 use Rattle.worksheet.proofs.EntryLaws.{entry_at, shown-set, Fits-set, shown-fill, Fits-fill, shown-move, Fits-move}
 use Rattle.indexmap.specs.IndexMap.{set_value_at, move_index}
@@ -72,9 +72,9 @@ gone fs id at a t h found = go (field_in fs id) t
 
 -- and comes after another, or first
 pub moves : (fs : List Field) (id after from to : ℕ) → AreApart (numbers fs) → IsSome (field_in fs id) → from < length fs → ((d : Field) → (get_or fs from d).id ≡ id) → (after == id) ≡ false
-    → (behind : ℕ) → (after ≡ 0 → behind ≡ 0) → (after ≢ 0 → (d : Field) → IsBehind after behind d fs) → (from < behind → suc to ≡ behind) → (behind ≤ from → to ≡ behind)
+    → (following : ℕ) → (after ≡ 0 → following ≡ 0) → (after ≢ 0 → (d : Field) → IsAfter after following d fs) → (from < following → suc to ≡ following) → (following ≤ from → to ≡ following)
     → (d : Field) → insert (remove fs from) to (get_or fs from d) ≡ moved id after fs (field_in fs id)
-moves fs id after from to a t h found other behind first later down up d =
+moves fs id after from to a t h found other following first later down up d =
     rw (find-at id fs from d a h (found d)) (go after refl)
   where
     go : (n : ℕ) → after ≡ n → insert (remove fs from) to (get_or fs from d) ≡ placed_field after (get_or fs from d) (fields_without id fs)
@@ -116,13 +116,13 @@ module _ (es : List (ℕ × Option Field)) (id at : ℕ) (change : Field → Fie
 -- the move of a field
 module _ (es : List (ℕ × Option Field)) (id from to : ℕ) (f : AreFields es) (t : IsSome (field_in (shown es) id)) (h : from < length (shown es)) (g : to < length (shown es)) where
   pub moved-shown : (after : ℕ) → AreApart (numbers (shown es)) → ((d : Field) → (get_or (shown es) from d).id ≡ id) → (after == id) ≡ false
-      → (behind : ℕ) → (after ≡ 0 → behind ≡ 0) → (after ≢ 0 → (d : Field) → IsBehind after behind d (shown es)) → (from < behind → suc to ≡ behind) → (behind ≤ from → to ≡ behind)
+      → (following : ℕ) → (after ≡ 0 → following ≡ 0) → (after ≢ 0 → (d : Field) → IsAfter after following d (shown es)) → (from < following → suc to ≡ following) → (following ≤ from → to ≡ following)
       → shown (move_index es from to) ≡ moved id after (shown es) (field_in (shown es) id)
-  moved-shown after a found other behind first later down up = go (field_in (shown es) id) t
+  moved-shown after a found other following first later down up = go (field_in (shown es) id) t
     where
       go : (o : Option Field) → IsSome o → shown (move_index es from to) ≡ moved id after (shown es) (field_in (shown es) id)
       go None t = cc
-      go (Some d) s = shown-move key_of es from to d f h g ∙ moves (shown es) id after from to a t h found other behind first later down up d
+      go (Some d) s = shown-move key_of es from to d f h g ∙ moves (shown es) id after from to a t h found other following first later down up d
 
   pub moved-fields : AreFields (move_index es from to)
   moved-fields = go (field_in (shown es) id) t
@@ -140,7 +140,7 @@ get_or-end : {X : Type 0} (xs : List X) (x d : X) → get_or (xs ++ x ∷ []) (l
 get_or-end [] x d = refl
 get_or-end (y ∷ xs) x d = get_or-end xs x d
 
-placed-at : (fs : List Field) (after to : ℕ) (x : Field) → AreApart (numbers fs) → (after ≡ 0 → to ≡ 0) → (after ≢ 0 → (d : Field) → IsBehind after to d fs) → insert fs to x ≡ placed_field after x fs
+placed-at : (fs : List Field) (after to : ℕ) (x : Field) → AreApart (numbers fs) → (after ≡ 0 → to ≡ 0) → (after ≢ 0 → (d : Field) → IsAfter after to d fs) → insert fs to x ≡ placed_field after x fs
 placed-at fs after to x a first later = go after refl
   where
     go : (n : ℕ) → after ≡ n → insert fs to x ≡ placed_field after x fs
@@ -148,7 +148,7 @@ placed-at fs after to x a first later = go after refl
     go (suc n) z =
         let isnt : (after == 0) ≡ false = grind (arith, nat_tests) in
         let w = later (λ y. absurd (omega (arith, y, z))) x in
-        rw (isnt, w.1) (insert-put_behind after x fs w.0 x a w.2 w.3)
+        rw (isnt, w.1) (insert-put_after after x fs w.0 x a w.2 w.3)
 
 module _ (es : List (ℕ × Option Field)) (x : Field) (to : ℕ) (f : AreFields es) (h : reserved es ≡ Some x.id) (within : to ≤ length (shown es)) where
   there : is_some (reserved es) ≡ true
@@ -166,7 +166,7 @@ module _ (es : List (ℕ × Option Field)) (x : Field) (to : ℕ) (f : AreFields
   longer : length (shown filled) ≡ suc (length (shown es))
   longer = let n = ap length seen ∙ length-append (shown es) (x ∷ []) in omega (arith, n)
 
-  pub put-shown : (after : ℕ) → AreApart (numbers (shown es)) → (after ≡ 0 → to ≡ 0) → (after ≢ 0 → (d : Field) → IsBehind after to d (shown es))
+  pub put-shown : (after : ℕ) → AreApart (numbers (shown es)) → (after ≡ 0 → to ≡ 0) → (after ≢ 0 → (d : Field) → IsAfter after to d (shown es))
       → shown (move_index (set_value_at es (length (shown es)) (Some x)) (length (shown es)) to) ≡ placed_field after x (shown es)
   put-shown after a first later =
       shown-move key_of filled (length (shown es)) to x fits (omega (arith, longer)) (omega (arith, longer, within))
@@ -192,17 +192,17 @@ in_front-at id before (f ∷ fs) (suc i) d a h e = rw (not_first id f fs i d a.0
 
 module _ (es : List (ℕ × Option Field)) (id after at : ℕ) (f : AreFields es) (a : AreApart (numbers (shown es))) (t : IsSome (field_in (shown es) id))
     (h : at < length (shown es)) (found : (d : Field) → (get_or (shown es) at d).id ≡ id) where
-  pub stands-first : at ≡ 0 → (after == 0) ≡ stands_behind after id (numbers (shown es))
+  pub stands-first : at ≡ 0 → (after == 0) ≡ stands_after after id (numbers (shown es))
   stands-first z = go (field_in (shown es) id) t
     where
-      go : (o : Option Field) → IsSome o → (after == 0) ≡ stands_behind after id (numbers (shown es))
+      go : (o : Option Field) → IsSome o → (after == 0) ≡ stands_after after id (numbers (shown es))
       go None t = cc
       go (Some d) s = rw (in_front-at id 0 (shown es) at d a h (found d), z) (flips after 0)
 
-  pub stands-later : (before : ℕ) (slot : Option Field) → at ≢ 0 → slice_get es (at - 1) ≡ Some (before, slot) → (before == after) ≡ stands_behind after id (numbers (shown es))
+  pub stands-later : (before : ℕ) (slot : Option Field) → at ≢ 0 → slice_get es (at - 1) ≡ Some (before, slot) → (before == after) ≡ stands_after after id (numbers (shown es))
   stands-later before slot n e = go (field_in (shown es) id) t
     where
-      go : (o : Option Field) → IsSome o → (before == after) ≡ stands_behind after id (numbers (shown es))
+      go : (o : Option Field) → IsSome o → (before == after) ≡ stands_after after id (numbers (shown es))
       go None t = cc
       go (Some d) s = rw (in_front-at id 0 (shown es) at d a h (found d)) (by at refl)
         where

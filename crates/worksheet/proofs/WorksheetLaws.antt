@@ -11,7 +11,7 @@ use Rattle.worksheet.specs.declared.field.Session.{Session}
 use Rattle.worksheet.specs.Limits.{last_number, longest_kept_prompt, most_fields, most_sessions}
 use Rattle.worksheet.specs.Names.{is_name}
 use Rattle.worksheet.specs.Contents.{Contents}
-use Rattle.worksheet.specs.Ops.{next_of, next_after, put_behind, sheet_of}
+use Rattle.worksheet.specs.Ops.{next_of, next_after, put_after, sheet_of}
 use Rattle.worksheet.specs.Edits.{edited, at_field, with_input, with_outcome, placed_field, fields_without, moved}
 use Rattle.worksheet.specs.Checks.{Allowed, AllowedFrom, are_words, field_in, first_refusal, is_input, refusals, session_named}
 use Rattle.worksheet.specs.Laws.{AreNamedApart, IsField, IsSession, IsWorksheet}
@@ -55,26 +55,26 @@ pub no_number_twice : (os more : List Op) (after : ℕ) (session input : List �
 no_number_twice os more after session input allowed =
     let o = op.New after session input in
     let here = back_from [] os (o ∷ more) allowed in
-    let behind : next_of (os ++ o ∷ []) ≤ next_of (os ++ o ∷ more) = subst (λ (qs : List Op). next_of (os ++ o ∷ []) ≤ next_of qs) (append_assoc os (o ∷ []) more) (rises (os ++ o ∷ []) more here.1) in
+    let following : next_of (os ++ o ∷ []) ≤ next_of (os ++ o ∷ more) = subst (λ (qs : List Op). next_of (os ++ o ∷ []) ≤ next_of qs) (append_assoc os (o ∷ []) more) (rises (os ++ o ∷ []) more here.1) in
     let one : next_of (os ++ o ∷ []) ≡ next_of os + 1 = next_from-push 1 os o in
-    omega (arith, behind, one)
+    omega (arith, following, one)
 
 -- How many fields.
 
-length-put_behind : (test : Field → Bool) (x : Field) (fs : List Field) → length (put_behind test x fs) ≤ length fs + 1
-length-put_behind test x [] = omega arith
-length-put_behind test x (f ∷ fs) = go (test f) (length-put_behind test x fs)
+length-put_after : (test : Field → Bool) (x : Field) (fs : List Field) → length (put_after test x fs) ≤ length fs + 1
+length-put_after test x [] = omega arith
+length-put_after test x (f ∷ fs) = go (test f) (length-put_after test x fs)
   where
-    go : (b : Bool) → length (put_behind test x fs) ≤ length fs + 1 → length (if b then f ∷ x ∷ fs else f ∷ put_behind test x fs) ≤ length (f ∷ fs) + 1
+    go : (b : Bool) → length (put_after test x fs) ≤ length fs + 1 → length (if b then f ∷ x ∷ fs else f ∷ put_after test x fs) ≤ length (f ∷ fs) + 1
     go true rest = omega arith
     go false rest = omega arith
 
 length-placed_field : (after : ℕ) (x : Field) (fs : List Field) → length (placed_field after x fs) ≤ length fs + 1
 length-placed_field after x fs = go (after == 0)
   where
-    go : (b : Bool) → length (if b then x ∷ fs else put_behind (λ other. other.id == after) x fs) ≤ length fs + 1
+    go : (b : Bool) → length (if b then x ∷ fs else put_after (λ other. other.id == after) x fs) ≤ length fs + 1
     go true = omega arith
-    go false = length-put_behind (λ other. other.id == after) x fs
+    go false = length-put_after (λ other. other.id == after) x fs
 
 length-fields_without : (id : ℕ) (fs : List Field) → length (fields_without id fs) ≤ length fs
 length-fields_without id [] = omega arith

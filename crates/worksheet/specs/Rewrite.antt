@@ -41,10 +41,10 @@ field_ops fields next field = ids_to next field.id
     ++ (op.New (smaller_before 0 field.id (numbers fields)) field.session field.input
     ∷ outcome_ops field.id field.answer field.lost)
 
--- the field under a number, if there is one, and then the ops `behind`; else the ops `without`
+-- the field under a number, if there is one, and then the ops `following`; else the ops `without`
 abbrev pub found_ops : List Field → ℕ → Option Field → List Op → List Op → List Op
-found_ops fields next None behind without = without
-found_ops fields next (Some field) behind without = field_ops fields next field ++ behind
+found_ops fields next None following without = without
+found_ops fields next (Some field) following without = field_ops fields next field ++ following
 
 -- Those of the fields that have one of so many numbers from this one on, where this is the next number. At the end the next number is the
 -- one after them all.

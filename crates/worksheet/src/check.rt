@@ -18,7 +18,7 @@ use crate::limits::{
 };
 use crate::name::{Name, is_name};
 use crate::op::Op;
-use crate::places::{count_fields, field_with, stands_behind};
+use crate::places::{count_fields, field_with, stands_after};
 use crate::refusal::Refusal;
 use crate::session_map::{count_sessions, session_with};
 use crate::slot::Slot;
@@ -260,7 +260,7 @@ fn check_move(fields: &IndexMap<u32, Slot>, id: u32, after: u32) -> Result<(), R
 {
     if !has_field(fields, id) || !has_place(fields, after) {
         Err(Refusal::NoField)
-    } else if after == id || stands_behind(fields, after, id) {
+    } else if after == id || stands_after(fields, after, id) {
         Err(Refusal::SamePlace)
     } else {
         Ok(())

@@ -7,7 +7,7 @@ ghost use Rattle.worksheet.specs.inside.Entries.{AreFields, shown, reserved};
 ghost use Rattle.indexmap.specs.IndexMap.{get};
 
 use crate::field::{Answer, Field};
-use crate::places::{count_fields, place_behind, place_of, reserved_number};
+use crate::places::{count_fields, place_after, place_of, reserved_number};
 use crate::slot::Slot;
 use block_tree::{OutOfMemory, Reason, Text};
 use indexmap::IndexMap;
@@ -56,7 +56,7 @@ pub(crate) fn put_field(fields: &mut IndexMap<u32, Slot>, after: u32, field: Fie
     ensures fields { AreFields fields.new.entries }
 {
     let from = count_fields(fields);
-    let to = place_behind(fields, after);
+    let to = place_after(fields, after);
     fields[from].put(field);
     fields.move_index(from, to);
 }
@@ -85,8 +85,12 @@ pub(crate) fn move_field(fields: &mut IndexMap<u32, Slot>, id: u32, after: u32)
     ensures fields { AreFields fields.new.entries }
 {
     let from = place_of(fields, id);
-    let behind = place_behind(fields, after);
-    let to = if from < behind { behind - 1 } else { behind };
+    let following = place_after(fields, after);
+    let to = if from < following {
+        following - 1
+    } else {
+        following
+    };
     fields.move_index(from, to);
 }
 

@@ -3,9 +3,9 @@ ghost use Rattle.std.specs.Prelude.{◌≡◌, ◌≢◌, ◌+◌, ◌<◌, ◌�
 ghost use Rattle.std.specs.Option.{option_copied};
 ghost use Rattle.worksheet.specs.declared.field.Field.{Field};
 ghost use Rattle.worksheet.specs.Checks.{field_in, numbers, is_number};
-ghost use Rattle.worksheet.specs.inside.Words.{stands_behind as place_test};
+ghost use Rattle.worksheet.specs.inside.Words.{stands_after as place_test};
 ghost use Rattle.worksheet.specs.Edits.{AreApart};
-ghost use Rattle.worksheet.specs.inside.Entries.{AreFields, IsBehind, shown, reserved};
+ghost use Rattle.worksheet.specs.inside.Entries.{AreFields, IsAfter, shown, reserved};
 
 use crate::field::Field;
 use crate::slot::Slot;
@@ -70,11 +70,11 @@ pub(crate) fn place_of(fields: &IndexMap<u32, Slot>, id: u32) -> usize
 }
 
 /// The place directly after the field with this number, or the first for 0.
-pub(crate) fn place_behind(fields: &IndexMap<u32, Slot>, after: u32) -> usize
+pub(crate) fn place_after(fields: &IndexMap<u32, Slot>, after: u32) -> usize
     requires fields { AreFields fields.now.entries }
     requires place { ((after == 0) || is_some (field_in (shown fields.now.entries) after)) ≡ true }
     ensures first { after ≡ 0 → result ≡ 0 }
-    ensures behind { after ≢ 0 → (d : Field) → IsBehind after result d (shown fields.now.entries) }
+    ensures following { after ≢ 0 → (d : Field) → IsAfter after result d (shown fields.now.entries) }
     ensures within { result ≤ length (shown fields.now.entries) }
 {
     // A map is no longer than `usize` counts: the place after its last is one more at most.
@@ -87,7 +87,7 @@ pub(crate) fn place_behind(fields: &IndexMap<u32, Slot>, after: u32) -> usize
 }
 
 /// Whether a field stands directly after another, first for 0.
-pub(crate) fn stands_behind(fields: &IndexMap<u32, Slot>, after: u32, id: u32) -> bool
+pub(crate) fn stands_after(fields: &IndexMap<u32, Slot>, after: u32, id: u32) -> bool
     requires fields { AreFields fields.now.entries }
     requires apart { AreApart (numbers (shown fields.now.entries)) }
     requires there { IsSome (field_in (shown fields.now.entries) id) }

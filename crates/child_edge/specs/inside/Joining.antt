@@ -5,7 +5,7 @@ use Rattle.session_engine.specs.World.{World}
 use Rattle.session_engine.specs.Host.{HostView, IsHost}
 use Rattle.session_engine.specs.Joining.{Asking, JoinsAfter, ToBeTaken}
 use Rattle.session_engine.specs.declared.joining.Joint.{Joint}
-use Rattle.child_edge.specs.Faithful.{Relation, At, Beat}
+use Rattle.child_edge.specs.Faithful.{Relation, At, Entry}
 use Rattle.child_edge.specs.Together.{LostTogether}
 use Rattle.child_edge.specs.declared.together.TogetherFault.{TogetherFault}
 use Rattle.child_edge.specs.declared.together.TogetherFault.TheVariants as halt
@@ -24,9 +24,9 @@ HaltsWithJoined A w events old new halt.Lost = (all : List Event) × ToBeTaken A
 HaltsWithJoined A w events old new (halt.Host f) = (all : List Event) × ToBeTaken A w events all × HaltsAtOnce w all old new (halt.Host f)
 
 -- the effects of all of them were carried out, and these entries came of it
-abbrev pub JointCarried : {C : Type 0} → Relation C → Joint → At C → List Beat → At C → Type 0
-JointCarried R joint s beats t = CarriedSoFar R (joint.outcomes.items ++ joint.later.items) (length (joint.outcomes.items ++ joint.later.items)) s beats t
+abbrev pub JointCarried : {C : Type 0} → Relation C → Joint → At C → List Entry → At C → Type 0
+JointCarried R joint s entries t = CarriedSoFar R (joint.outcomes.items ++ joint.later.items) (length (joint.outcomes.items ++ joint.later.items)) s entries t
 
 -- the first effects were carried out, up to where this event is due
-abbrev pub JointUpTo : {C : Type 0} → Relation C → Joint → At C → List Beat → Event → At C → Type 0
-JointUpTo R joint s beats e t = EachUpTo R (joint.outcomes.items ++ joint.later.items) s beats e t
+abbrev pub JointUpTo : {C : Type 0} → Relation C → Joint → At C → List Entry → Event → At C → Type 0
+JointUpTo R joint s entries e t = EachUpTo R (joint.outcomes.items ++ joint.later.items) s entries e t

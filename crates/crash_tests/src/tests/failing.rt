@@ -1,6 +1,6 @@
 //! A disk whose calls fail, each in turn, and checkpoints while memory is short.
 use super::desk::{calls_of_create, created, open};
-use super::stories::{Step, Story, calls_behind, shows, take, take_from, takes};
+use super::stories::{Step, Story, calls_after, shows, take, take_from, takes};
 use disk_model::{FuseDisk, FuseMode, MemoryDisk};
 use host_events::{Command, Event, HostFault, Reply};
 use journal::OpenCause;
@@ -12,12 +12,12 @@ use worksheet::Refusal;
 // What is missing after so many events is taken, and then all is there.
 fn is_completed(alloc: Global, host: &mut Host<MemoryDisk>, story: Story, count: u32) -> bool {
     let taken = takes(alloc, host, story, (story.missing(count), story.len()));
-    taken && shows(alloc, host, story.behind(story.len()))
+    taken && shows(alloc, host, story.following(story.len()))
 }
 
 fn is_complete_on(alloc: Global, disk: MemoryDisk, story: Story) -> bool {
     match open(alloc, disk) {
-        Some(host) => shows(alloc, &host, story.behind(story.len())),
+        Some(host) => shows(alloc, &host, story.following(story.len())),
         None => false,
     }
 }
@@ -28,12 +28,12 @@ fn is_mended(alloc: Global, disk: MemoryDisk, story: Story, (number, end): (u32,
     let Some(mut host) = open(alloc, disk) else {
         return false;
     };
-    let count = if shows(alloc, &host, story.behind(number)) {
+    let count = if shows(alloc, &host, story.following(number)) {
         number
     } else {
         end
     };
-    shows(alloc, &host, story.behind(count))
+    shows(alloc, &host, story.following(count))
         && is_completed(alloc, &mut host, story, count)
         && is_complete_on(alloc, host.close(), story)
 }
@@ -57,7 +57,9 @@ fn came_of(alloc: Global, host: &mut Host<FuseDisk<MemoryDisk>>, story: Story) -
         (_, Step::Taken) => Came::Done,
         (count, Step::Failed(HostFault::Disk)) => {
             let again = take(alloc, host, story, count);
-            if again == Step::Failed(HostFault::Closed) && shows(alloc, host, story.behind(count)) {
+            if again == Step::Failed(HostFault::Closed)
+                && shows(alloc, host, story.following(count))
+            {
                 Came::Closed(count)
             } else {
                 Came::Other
@@ -117,7 +119,7 @@ fn comes(alloc: Global, story: Story, k: u64, mode: FuseMode) -> Came {
 /// How many calls the opening of a new worksheet and so many events make.
 pub fn calls_of(alloc: Global, story: Story, count: u32) -> Option<u64> {
     let before = calls_of_create(alloc)?;
-    calls_behind(alloc, story, count)?.checked_sub(before)
+    calls_after(alloc, story, count)?.checked_sub(before)
 }
 
 // The first of these calls whose failure brings the story elsewhere.
@@ -221,11 +223,11 @@ fn refusals(alloc: Global, host: &mut Host<MemoryDisk>) -> Option<u32> {
 // Some are refused, and each of them leaves the worksheet and the disk as they were.
 fn is_kept_without_memory(alloc: Global) -> Option<bool> {
     let story = Story::Fields;
-    let before = calls_behind(alloc, story, 4)?;
+    let before = calls_after(alloc, story, 4)?;
     let mut host = open(alloc, created(alloc)?)?;
     let is_taken = takes(alloc, &mut host, story, (0, 4));
     let refused = refusals(alloc, &mut host)?;
-    let is_same = shows(alloc, &host, story.behind(4));
+    let is_same = shows(alloc, &host, story.following(4));
     let disk = host.close();
     let is_written = disk.calls() > before;
     Some(is_taken && refused > 0 && is_same && is_written && is_mended(alloc, disk, story, (4, 5)))

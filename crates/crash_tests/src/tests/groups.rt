@@ -3,7 +3,7 @@
 use super::desk::{created, line, open};
 use super::failing::calls_of;
 use super::moments::{each_choice_leaves, moments_leave};
-use super::stories::{Step, Story, calls_behind, disk_behind, shows, take, takes, tells_each};
+use super::stories::{Step, Story, calls_after, opening_disk, shows, take, takes, tells_each};
 use disk_model::{Area, Disk, FuseDisk, FuseMode, MemoryDisk};
 use host_events::{Event, HostFault, Outcome, Reply};
 use journal::create;
@@ -40,8 +40,8 @@ fn disk_of_group(alloc: Global, count: u32) -> Option<MemoryDisk> {
 
 // How many calls it made, where its areas have the bytes that single steps leave.
 fn calls_of_group(alloc: Global, count: u32) -> Option<u64> {
-    let start = calls_behind(alloc, Story::Example, 0)?;
-    let single = disk_behind(alloc, Story::Example, 5)?;
+    let start = calls_after(alloc, Story::Example, 0)?;
+    let single = opening_disk(alloc, Story::Example, 5)?;
     let disk = disk_of_group(alloc, count)?;
     let is_same = disk.content(Area::First) == single.content(Area::First)
         && disk.content(Area::Second) == single.content(Area::Second);
@@ -67,7 +67,7 @@ fn a_group_is_written_as_one(rt: HostRuntime) {
 // A crash leaves none of its events or all; none before the gate was written, and all once the call has ended.
 fn is_whole_or_absent(alloc: Global) -> Option<bool> {
     let story = Story::Example;
-    let start = calls_behind(alloc, story, 0)?;
+    let start = calls_after(alloc, story, 0)?;
     let disk = disk_of_group(alloc, 5)?;
     let (written, end) = (start.saturating_add(2), start.saturating_add(4));
     Some(
@@ -96,7 +96,7 @@ fn shows_none_or_all(alloc: Global, disk: MemoryDisk) -> bool {
     let story = Story::Example;
     match open(alloc, disk) {
         Some(host) => {
-            shows(alloc, &host, story.behind(0)) || shows(alloc, &host, story.behind(5))
+            shows(alloc, &host, story.following(0)) || shows(alloc, &host, story.following(5))
         }
         None => false,
     }
@@ -139,9 +139,9 @@ fn hands_back(alloc: Global, host: &mut Host<MemoryDisk>) -> bool {
 }
 
 fn leaves_a_checkpoint(alloc: Global) -> Option<bool> {
-    let start = calls_behind(alloc, Story::Example, 0)?;
+    let start = calls_after(alloc, Story::Example, 0)?;
     let mut host = open(alloc, created(alloc)?)?;
-    let is_back = hands_back(alloc, &mut host) && shows(alloc, &host, Story::Example.behind(0));
+    let is_back = hands_back(alloc, &mut host) && shows(alloc, &host, Story::Example.following(0));
     Some(is_back && host.close().calls() == start)
 }
 
@@ -161,7 +161,7 @@ fn is_refused(outcome: &Outcome) -> bool {
 fn fills(alloc: Global, host: &mut Host<MemoryDisk>) -> bool {
     match host.play_group(first_events(alloc, 2)) {
         Ok(outcomes) => match outcomes.as_slice() {
-            [_, second] => is_refused(second) && shows(alloc, host, Story::Example.behind(1)),
+            [_, second] => is_refused(second) && shows(alloc, host, Story::Example.following(1)),
             _ => false,
         },
         Err(_) => false,
@@ -173,7 +173,7 @@ fn keeps_what_fits(alloc: Global) -> Option<bool> {
     let mut host = open(alloc, disk)?;
     let is_filled = fills(alloc, &mut host);
     let kept = open(alloc, host.close())?;
-    Some(is_filled && shows(alloc, &kept, Story::Example.behind(1)))
+    Some(is_filled && shows(alloc, &kept, Story::Example.following(1)))
 }
 
 #[test]

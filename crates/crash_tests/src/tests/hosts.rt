@@ -1,7 +1,7 @@
 //! A host in front of a test: events in short, and what it tells of them in lines.
 use super::desk::open;
 use super::events::{Step, event};
-use super::told::{fields, told};
+use super::reported::{fields, reported};
 use disk_model::MemoryDisk;
 use host_events::Event;
 use journal::create;
@@ -21,7 +21,7 @@ pub fn opened(alloc: Global, room: u64) -> Option<Host<MemoryDisk>> {
 }
 
 fn tells_of(alloc: Global, host: &mut Host<MemoryDisk>, event: Event, want: &str) -> bool {
-    match told(alloc, host, event) {
+    match reported(alloc, host, event) {
         Ok(text) => text.as_str() == want,
         Err(_) => false,
     }

@@ -1,8 +1,8 @@
 //! How many lives a host begins, and events of a play.
 use super::events::event;
 use super::hosts::{opened, shows};
+use super::reported::played;
 use super::scripts::{Script, tells};
-use super::told::played;
 use block_tree::Octets;
 use disk_model::MemoryDisk;
 use host_events::{Command, Event, Reply};
@@ -12,41 +12,41 @@ use worksheet::Refusal;
 
 // What is reported of a request at the end of field 1.
 #[derive(Clone, Copy, Debug, PartialEq, Eq)]
-enum Told {
+enum Reported {
     Accepted,
     Refused(Refusal),
     Fault,
 }
 
-fn told_by(reply: &Reply) -> Told {
+fn reported_by(reply: &Reply) -> Reported {
     match reply {
-        Reply::Refused(refusal) => Told::Refused(*refusal),
-        _ => Told::Accepted,
+        Reply::Refused(refusal) => Reported::Refused(*refusal),
+        _ => Reported::Accepted,
     }
 }
 
-fn give(host: &mut Host<MemoryDisk>, command: Command) -> Told {
+fn give(host: &mut Host<MemoryDisk>, command: Command) -> Reported {
     match host.step(Event::Command(command)) {
-        Ok(outcome) => told_by(&outcome.reply),
-        Err(_) => Told::Fault,
+        Ok(outcome) => reported_by(&outcome.reply),
+        Err(_) => Reported::Fault,
     }
 }
 
-fn request(host: &mut Host<MemoryDisk>) -> Told {
+fn request(host: &mut Host<MemoryDisk>) -> Reported {
     give(host, Command::Complete { id: 1, cursor: 1 })
 }
 
-fn stop(alloc: Global, host: &mut Host<MemoryDisk>) -> Told {
+fn stop(alloc: Global, host: &mut Host<MemoryDisk>) -> Reported {
     match Octets::from_slice(alloc, b"a") {
         Ok(name) => give(host, Command::Stop { name }),
-        Err(_) => Told::Fault,
+        Err(_) => Reported::Fault,
     }
 }
 
 // How many requests are accepted, each of which begins a life that is stopped then, up to so many.
 fn lives(alloc: Global, host: &mut Host<MemoryDisk>, most: u32) -> u32 {
     for number in 0..most {
-        if request(host) != Told::Accepted || stop(alloc, host) != Told::Accepted {
+        if request(host) != Reported::Accepted || stop(alloc, host) != Reported::Accepted {
             return number;
         }
     }
@@ -56,7 +56,7 @@ fn lives(alloc: Global, host: &mut Host<MemoryDisk>, most: u32) -> u32 {
 fn spends_all(alloc: Global, host: &mut Host<MemoryDisk>) -> bool {
     let is_ready = tells(alloc, host, Script::Request, 2);
     let lives = lives(alloc, host, 100_000);
-    is_ready && lives == 100_000 && request(host) == Told::Refused(Refusal::LivesSpent)
+    is_ready && lives == 100_000 && request(host) == Reported::Refused(Refusal::LivesSpent)
 }
 
 #[test]

@@ -1,6 +1,6 @@
 //! A crash at each moment, with each choice of what the pending writes left.
 use super::desk::{CHOICES, choice, created, left, open};
-use super::stories::{Story, calls_behind, disk_behind, disk_of, shows};
+use super::stories::{Story, calls_after, disk_of, opening_disk, shows};
 use disk_model::{Choice, MemoryDisk};
 use host_events::Event;
 use session_engine::Host;
@@ -12,7 +12,7 @@ fn shows_either(
     story: Story,
     (start, stop): (u32, u32),
 ) -> bool {
-    shows(alloc, host, story.behind(start)) || shows(alloc, host, story.behind(stop))
+    shows(alloc, host, story.following(start)) || shows(alloc, host, story.following(stop))
 }
 
 // Whether this crash leaves the worksheet after one of two counts of events.
@@ -67,8 +67,8 @@ pub fn moments_leave(
 // A crash within this event leaves the worksheet before it, or with it; after its `Ok` with it alone.
 fn is_whole_or_absent(alloc: Global, story: Story, number: u32) -> Option<bool> {
     let end = number.saturating_add(1);
-    let first = calls_behind(alloc, story, number)?;
-    let disk = disk_behind(alloc, story, end)?;
+    let first = calls_after(alloc, story, number)?;
+    let disk = opening_disk(alloc, story, end)?;
     let last = disk.calls();
     let within = moments_leave(alloc, &disk, (first, last), story, (number, end));
     Some(within && each_choice_leaves(alloc, &disk, last, story, (end, end)))
@@ -93,8 +93,8 @@ fn a_crash_within_each_event(rt: HostRuntime) {
 
 // How many calls so many events make after the opening.
 fn calls_of(alloc: Global, story: Story, count: u32) -> Option<u64> {
-    let start = calls_behind(alloc, story, 0)?;
-    calls_behind(alloc, story, count)?.checked_sub(start)
+    let start = calls_after(alloc, story, 0)?;
+    calls_after(alloc, story, count)?.checked_sub(start)
 }
 
 // A record is written and synced, and then its gate is; the banner makes no call, nor does half an answer, and the
@@ -128,7 +128,7 @@ fn is_kept_in_the_opening(alloc: Global, disk: MemoryDisk, count: u32) -> Option
 
 fn openings_keep(alloc: Global) -> Option<bool> {
     let empty = is_kept_in_the_opening(alloc, created(alloc)?, 0)?;
-    let answered = disk_behind(alloc, Story::Example, 5)?;
+    let answered = opening_disk(alloc, Story::Example, 5)?;
     Some(empty && is_kept_in_the_opening(alloc, answered, 5)?)
 }
 
@@ -187,7 +187,7 @@ fn each_change_leaves(alloc: Global, disk: &MemoryDisk, start: u64) -> bool {
 }
 
 fn is_whole_in_a_play(alloc: Global) -> Option<bool> {
-    let start = calls_behind(alloc, Story::Example, 0)?;
+    let start = calls_after(alloc, Story::Example, 0)?;
     let disk = disk_of_play(alloc)?;
     Some(each_change_leaves(alloc, &disk, start))
 }

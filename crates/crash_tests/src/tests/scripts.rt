@@ -119,9 +119,9 @@ fn leaves(
     (length, fields): (usize, &str),
 ) -> bool {
     let mut host = host;
-    let is_told = tells(alloc, &mut host, script, count) && shows(alloc, &host, fields);
+    let is_reported = tells(alloc, &mut host, script, count) && shows(alloc, &host, fields);
     let disk = host.close();
-    is_told && has_length(&disk, length) && keeps(alloc, disk, fields)
+    is_reported && has_length(&disk, length) && keeps(alloc, disk, fields)
 }
 
 // The same of a new worksheet on a disk of this room.
@@ -144,7 +144,7 @@ fn rooms_of_40_50_and_60_bytes(rt: HostRuntime) {
 // The area of the next life has the session, the field and a clearing with a reason and one more; that of
 // the request its session, a field, an input and a removal.
 #[test]
-fn a_life_behind_one_that_did_not_start_and_a_request(rt: HostRuntime) {
+fn a_life_after_one_that_did_not_start_and_a_request(rt: HostRuntime) {
     let alloc = rt.alloc();
     let next = (71, "1 x ?\n");
     assert!(rt; leaves_in(alloc, 1_000, Script::NextLife, 7, next));

@@ -64,7 +64,7 @@ fn line_event(alloc: Global, number: u32) -> Option<Event> {
 
 /// What a host tells of an event, in short.
 #[derive(Clone, Copy, PartialEq, Eq)]
-pub enum Told {
+pub enum Reported {
     Done,
     Field(u32),
     /// The first life has the line.
@@ -76,30 +76,30 @@ pub enum Told {
     Other,
 }
 
-fn told_of_example(number: u32) -> Told {
+fn reported_of_example(number: u32) -> Reported {
     match number {
-        0 => Told::Done,
-        1 => Told::Field(1),
-        2 | 5 => Told::Asked,
-        3 => Told::Banner,
-        _ => Told::Answer,
+        0 => Reported::Done,
+        1 => Reported::Field(1),
+        2 | 5 => Reported::Asked,
+        3 => Reported::Banner,
+        _ => Reported::Answer,
     }
 }
 
-fn told_of_lost(number: u32) -> Told {
+fn reported_of_lost(number: u32) -> Reported {
     match number {
-        4 => Told::Nothing,
-        5 => Told::Ended,
-        _ => told_of_example(number),
+        4 => Reported::Nothing,
+        5 => Reported::Ended,
+        _ => reported_of_example(number),
     }
 }
 
-fn told_of_field(number: u32) -> Told {
+fn reported_of_field(number: u32) -> Reported {
     match number {
-        1 => Told::Field(1),
-        3 => Told::Field(2),
-        7 => Told::Field(3),
-        _ => Told::Done,
+        1 => Reported::Field(1),
+        3 => Reported::Field(2),
+        7 => Reported::Field(3),
+        _ => Reported::Done,
     }
 }
 
@@ -125,7 +125,7 @@ const NOTHING: Has = Has {
     text: b"",
 };
 
-fn example_behind(count: u32) -> Has {
+fn example_after(count: u32) -> Has {
     match count {
         0 => NOTHING,
         1 => with(1, b""),
@@ -134,15 +134,15 @@ fn example_behind(count: u32) -> Has {
     }
 }
 
-fn lost_behind(count: u32) -> Has {
+fn lost_after(count: u32) -> Has {
     match count {
-        0..=4 => example_behind(count),
+        0..=4 => example_after(count),
         5 => with(2, b"#1 a\n> x\n?\n"),
         _ => with(2, b"#1 a\n> x\n? Ended\n"),
     }
 }
 
-fn field_behind(count: u32) -> Has {
+fn field_after(count: u32) -> Has {
     match count {
         0 => NOTHING,
         1 => with(1, b""),
@@ -156,7 +156,7 @@ fn field_behind(count: u32) -> Has {
     }
 }
 
-fn line_behind(count: u32) -> Has {
+fn line_after(count: u32) -> Has {
     match count {
         0 => NOTHING,
         1 | 2 => with(1, b""),
@@ -185,23 +185,23 @@ impl Story {
         }
     }
 
-    fn told(self, number: u32) -> Told {
+    fn reported(self, number: u32) -> Reported {
         match self {
-            Story::Example => told_of_example(number),
-            Story::Lost => told_of_lost(number),
-            Story::Fields => told_of_field(number),
-            Story::Line if number % 2 == 1 => Told::Done,
-            Story::Line => told_of_example(number / 2),
+            Story::Example => reported_of_example(number),
+            Story::Lost => reported_of_lost(number),
+            Story::Fields => reported_of_field(number),
+            Story::Line if number % 2 == 1 => Reported::Done,
+            Story::Line => reported_of_example(number / 2),
         }
     }
 
     /// What a worksheet has after so many events.
-    pub fn behind(self, count: u32) -> Has {
+    pub fn following(self, count: u32) -> Has {
         match self {
-            Story::Example => example_behind(count),
-            Story::Lost => lost_behind(count),
-            Story::Fields => field_behind(count),
-            Story::Line => line_behind(count),
+            Story::Example => example_after(count),
+            Story::Lost => lost_after(count),
+            Story::Fields => field_after(count),
+            Story::Line => line_after(count),
         }
     }
 
@@ -215,19 +215,19 @@ impl Story {
     }
 }
 
-fn told_by(reply: &Reply) -> Told {
+fn reported_by(reply: &Reply) -> Reported {
     match reply {
-        Reply::Done => Told::Done,
-        Reply::Field(id) => Told::Field(*id),
-        Reply::Asked(1) => Told::Asked,
-        Reply::Nothing => Told::Nothing,
-        Reply::Child(told) => match (&told.closed, &told.ended) {
-            (Some(Closed::Banner(_)), None) => Told::Banner,
-            (Some(Closed::Line(1)), None) => Told::Answer,
-            (None, Some(_)) => Told::Ended,
-            _ => Told::Other,
+        Reply::Done => Reported::Done,
+        Reply::Field(id) => Reported::Field(*id),
+        Reply::Asked(1) => Reported::Asked,
+        Reply::Nothing => Reported::Nothing,
+        Reply::Child(reported) => match (&reported.closed, &reported.ended) {
+            (Some(Closed::Banner(_)), None) => Reported::Banner,
+            (Some(Closed::Line(1)), None) => Reported::Answer,
+            (None, Some(_)) => Reported::Ended,
+            _ => Reported::Other,
         },
-        _ => Told::Other,
+        _ => Reported::Other,
     }
 }
 
@@ -240,16 +240,16 @@ pub enum Step {
     Wrong,
 }
 
-fn give<D: Disk>(host: &mut Host<D>, event: Event, wanted: Told) -> Step {
+fn give<D: Disk>(host: &mut Host<D>, event: Event, wanted: Reported) -> Step {
     match host.step(event) {
-        Ok(outcome) if told_by(&outcome.reply) == wanted => Step::Taken,
+        Ok(outcome) if reported_by(&outcome.reply) == wanted => Step::Taken,
         Ok(_) => Step::Wrong,
         Err(fault) => Step::Failed(fault),
     }
 }
 
 /// Whether a host tells this of an event, where there is one.
-pub fn tells(host: &mut Host<MemoryDisk>, event: Option<Event>, wanted: Told) -> bool {
+pub fn tells(host: &mut Host<MemoryDisk>, event: Option<Event>, wanted: Reported) -> bool {
     match event {
         Some(event) => give(host, event, wanted) == Step::Taken,
         None => false,
@@ -260,7 +260,7 @@ pub fn tells(host: &mut Host<MemoryDisk>, event: Option<Event>, wanted: Told) ->
 pub fn tells_each(story: Story, outcomes: &[Outcome], count: u32) -> bool {
     let mut number = 0u32;
     for outcome in outcomes {
-        if told_by(&outcome.reply) != story.told(number) {
+        if reported_by(&outcome.reply) != story.reported(number) {
             return false;
         }
         number = number.saturating_add(1);
@@ -271,7 +271,7 @@ pub fn tells_each(story: Story, outcomes: &[Outcome], count: u32) -> bool {
 /// A host takes one event of a story.
 pub fn take<D: Disk>(alloc: Global, host: &mut Host<D>, story: Story, number: u32) -> Step {
     match story.event(alloc, number) {
-        Some(event) => give(host, event, story.told(number)),
+        Some(event) => give(host, event, story.reported(number)),
         None => Step::Wrong,
     }
 }
@@ -324,12 +324,12 @@ pub fn disk_of(
 }
 
 /// The disk of a host on a new worksheet that has taken so many events.
-pub fn disk_behind(alloc: Global, story: Story, count: u32) -> Option<MemoryDisk> {
+pub fn opening_disk(alloc: Global, story: Story, count: u32) -> Option<MemoryDisk> {
     disk_of(alloc, created(alloc)?, story, (0, count))
 }
 
 /// How many calls it has on record.
-pub fn calls_behind(alloc: Global, story: Story, count: u32) -> Option<u64> {
-    let disk = disk_behind(alloc, story, count)?;
+pub fn calls_after(alloc: Global, story: Story, count: u32) -> Option<u64> {
+    let disk = opening_disk(alloc, story, count)?;
     Some(disk.calls())
 }

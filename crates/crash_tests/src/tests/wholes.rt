@@ -3,7 +3,7 @@
 use super::desk::{created, line, open};
 use super::failing::calls_of;
 use super::moments::{each_choice_leaves, moments_leave};
-use super::stories::{Step, Story, calls_behind, disk_behind, shows, take, tells_each};
+use super::stories::{Step, Story, calls_after, opening_disk, shows, take, tells_each};
 use disk_model::{Area, Disk, FuseDisk, FuseMode, MemoryDisk};
 use host_events::{Event, HostFault, Outcome, Reply};
 use journal::create;
@@ -66,8 +66,8 @@ fn disk_of_whole(alloc: Global, count: u32) -> Option<MemoryDisk> {
 
 // How many calls it made, where its areas have the bytes that single steps leave.
 fn calls_of_whole(alloc: Global, count: u32) -> Option<u64> {
-    let start = calls_behind(alloc, STORY, 0)?;
-    let single = disk_behind(alloc, STORY, count)?;
+    let start = calls_after(alloc, STORY, 0)?;
+    let single = opening_disk(alloc, STORY, count)?;
     let disk = disk_of_whole(alloc, count)?;
     let is_same = disk.content(Area::First) == single.content(Area::First)
         && disk.content(Area::Second) == single.content(Area::Second);
@@ -91,7 +91,7 @@ fn a_whole_is_written_as_one(rt: HostRuntime) {
 
 // A crash leaves none of them or all; none before the gate was written, and all once the call has ended.
 fn is_whole_or_absent(alloc: Global) -> Option<bool> {
-    let start = calls_behind(alloc, STORY, 0)?;
+    let start = calls_after(alloc, STORY, 0)?;
     let disk = disk_of_whole(alloc, ALL)?;
     let (written, end) = (start.saturating_add(2), start.saturating_add(4));
     Some(
@@ -123,7 +123,7 @@ fn fails(alloc: Global, host: &mut Host<FuseDisk<MemoryDisk>>) -> Option<bool> {
 fn shows_none_or_all(alloc: Global, disk: MemoryDisk) -> bool {
     match open(alloc, disk) {
         Some(host) => {
-            shows(alloc, &host, STORY.behind(0)) || shows(alloc, &host, STORY.behind(ALL))
+            shows(alloc, &host, STORY.following(0)) || shows(alloc, &host, STORY.following(ALL))
         }
         None => false,
     }
@@ -172,15 +172,15 @@ fn refuses(host: &mut Host<MemoryDisk>, edits: Edits, count: u32, wanted: Refusa
 
 // A refusal after so many commands: none is taken and no call is made, and after it all are taken.
 fn leaves_all(alloc: Global, count: u32) -> Option<bool> {
-    let start = calls_behind(alloc, STORY, 0)?;
+    let start = calls_after(alloc, STORY, 0)?;
     let mut host = open(alloc, created(alloc)?)?;
     let is_refused = refuses(
         &mut host,
         with_refusal(alloc, count)?,
         count,
         Refusal::NoField,
-    ) && shows(alloc, &host, STORY.behind(0));
-    let is_taken = plays(alloc, &mut host, ALL)? && shows(alloc, &host, STORY.behind(ALL));
+    ) && shows(alloc, &host, STORY.following(0));
+    let is_taken = plays(alloc, &mut host, ALL)? && shows(alloc, &host, STORY.following(ALL));
     Some(is_refused && is_taken && host.close().calls() == start.saturating_add(4))
 }
 
@@ -200,10 +200,10 @@ fn is_full_for_two(alloc: Global) -> Option<bool> {
     let disk = create(MemoryDisk::new(alloc, 30)).ok()?;
     let mut host = open(alloc, disk)?;
     let is_refused = refuses(&mut host, first_edits(alloc, 2)?, 1, Refusal::JournalFull)
-        && shows(alloc, &host, STORY.behind(0));
+        && shows(alloc, &host, STORY.following(0));
     let is_taken = plays(alloc, &mut host, 1)?;
     let kept = open(alloc, host.close())?;
-    Some(is_refused && is_taken && shows(alloc, &kept, STORY.behind(1)))
+    Some(is_refused && is_taken && shows(alloc, &kept, STORY.following(1)))
 }
 
 #[test]

@@ -1,6 +1,6 @@
 //! Children of which each byte counts, with what is reported typed in. Whole examples and real interpreters
 //! are cases of `programs`, `data/children.sh`.
-use crate::tests::desk::{Asked, tells, told};
+use crate::tests::desk::{Asked, reported, tells};
 use crate::tests::talkers::{Silent, Turned};
 use block_tree::{OutOfMemory, Queue};
 use child_calls::{Got, Part, PieceBytes, Scripted};
@@ -78,7 +78,7 @@ fn single_bytes<'a>(alloc: Global, all: &[&'a [u8]]) -> Result<Vec<&'a [u8]>, Ou
 }
 
 // Whether the same is reported of a banner and an answer that come byte by byte as of whole ones.
-fn is_told_by_bytes(alloc: Global) -> Option<bool> {
+fn is_reported_by_bytes(alloc: Global) -> Option<bool> {
     let pieces = single_bytes(alloc, &[BANNER, ANSWER]).ok()?;
     let mut children = scripted(alloc, pieces.as_slice())?;
     Some(tells(
@@ -91,19 +91,19 @@ fn is_told_by_bytes(alloc: Global) -> Option<bool> {
 
 #[test]
 fn prompts_in_pieces_of_one_byte(rt: HostRuntime) {
-    assert!(rt; is_told_by_bytes(rt.alloc()) == Some(true));
+    assert!(rt; is_reported_by_bytes(rt.alloc()) == Some(true));
 }
 
 // How often a child that never answers is received from, and how often it is stopped, if this is reported.
 fn stalled(alloc: Global) -> Option<(u32, u32)> {
     let mut children = Silent::new(alloc);
-    let is_told = tells(
+    let is_reported = tells(
         alloc,
         &mut children,
         &[asked("a", "sh", "p", "x")],
         "ok, field 1, asked, wait: ended a Stalled lost 1, stop: ok, fields: 1: > x, Stalled, ",
     );
-    if is_told {
+    if is_reported {
         Some((children.receives, children.stops))
     } else {
         None
@@ -119,8 +119,8 @@ fn a_session_that_stalls(rt: HostRuntime) {
 fn turned(alloc: Global) -> Option<u32> {
     let mut children = Turned::new(alloc);
     let all = [asked("a", "p", "p", "x"), asked("b", "p", "p", "x")];
-    let is_told = tells_in_turn(alloc, &mut children, &all);
-    if is_told {
+    let is_reported = tells_in_turn(alloc, &mut children, &all);
+    if is_reported {
         Some(children.receives)
     } else {
         None
@@ -128,7 +128,7 @@ fn turned(alloc: Global) -> Option<u32> {
 }
 
 fn tells_in_turn(alloc: Global, children: &mut Turned, all: &[Asked<'_>]) -> bool {
-    match told(alloc, children, all) {
+    match reported(alloc, children, all) {
         Some(text) => {
             text.as_str()
                 .contains("wait: banner b, banner a, answered 2, answered 1, stop: ")

@@ -206,7 +206,7 @@ fn tell<C: Children>(
 
 /// What a host on a new worksheet tells in short: sessions with a field each, which are evaluated; a wait
 /// for them; a stop of each; and the fields that it has then.
-pub fn told<C: Children>(alloc: Global, children: &mut C, all: &[Asked<'_>]) -> Option<String> {
+pub fn reported<C: Children>(alloc: Global, children: &mut C, all: &[Asked<'_>]) -> Option<String> {
     let mut host = opened(alloc)?;
     let mut text = String::new(alloc);
     match tell(alloc, &mut host, children, &mut text, all) {
@@ -217,7 +217,7 @@ pub fn told<C: Children>(alloc: Global, children: &mut C, all: &[Asked<'_>]) -> 
 
 /// Whether it tells this.
 pub fn tells<C: Children>(alloc: Global, children: &mut C, all: &[Asked<'_>], want: &str) -> bool {
-    match told(alloc, children, all) {
+    match reported(alloc, children, all) {
         Some(text) => text.as_str() == want,
         None => false,
     }

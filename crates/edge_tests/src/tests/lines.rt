@@ -86,7 +86,7 @@ fn a_line_may_have_65_536_bytes(rt: HostRuntime) {
 }
 
 #[test]
-fn a_longer_line_is_told_once(rt: HostRuntime) {
+fn a_longer_line_is_reported_once(rt: HostRuntime) {
     assert!(rt; gives(rt.alloc(), 65_537, b"\n", LAST));
     assert!(rt; gives(rt.alloc(), 65_536, b"\r\r\n", LAST));
     assert!(rt; gives(rt.alloc(), 400_000, b"\r\n", LAST));

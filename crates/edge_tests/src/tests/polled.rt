@@ -75,7 +75,7 @@ fn two_children(rt: &HostRuntime) -> Option<[u8; 5]> {
 
 // The quick one is returned first, its end at once though nothing was asked of it, and then the slow one.
 #[test]
-fn each_child_is_told_when_it_has_something(rt: HostRuntime) {
+fn each_child_is_reported_when_it_has_something(rt: HostRuntime) {
     assert!(rt; two_children(&rt) == Some(*b"qQ-sS"));
 }
 
@@ -83,16 +83,16 @@ fn each_child_is_told_when_it_has_something(rt: HostRuntime) {
 // line: 10, or fewer where two come in a row.
 fn alternating(real: &mut Real<'_>) -> u32 {
     let mut pieces: u32 = 0;
-    let mut is_behind_piece = false;
+    let mut is_after_piece = false;
     for _ in 0..10_000_000u32 {
         let is_piece = turn(real, Input::Ready, None) == b'f';
-        if is_piece && is_behind_piece || pieces >= 10 {
+        if is_piece && is_after_piece || pieces >= 10 {
             return pieces;
         }
         if is_piece {
             pieces = pieces.wrapping_add(1);
         }
-        is_behind_piece = is_piece;
+        is_after_piece = is_piece;
     }
     pieces
 }
@@ -214,7 +214,7 @@ fn piped(rt: &HostRuntime) -> Option<[u8; 3]> {
 
 // The line is there before the next is written, and the end of the input is reported.
 #[test]
-fn an_input_is_told_and_read_to_its_end(rt: HostRuntime) {
+fn an_input_is_reported_and_read_to_its_end(rt: HostRuntime) {
     assert!(rt; piped(&rt) == Some(*b"ot-"));
 }
 
@@ -252,6 +252,6 @@ fn interrupted(rt: &HostRuntime) -> Option<[u8; 6]> {
 
 // The one with a handler writes and goes on, the one without is at its end, and nothing else is touched.
 #[test]
-fn an_interrupt_is_told_to_its_life_alone(rt: HostRuntime) {
+fn an_interrupt_is_reported_to_its_life_alone(rt: HostRuntime) {
     assert!(rt; interrupted(&rt) == Some(*b"ohhnN-"));
 }

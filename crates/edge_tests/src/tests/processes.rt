@@ -115,7 +115,7 @@ fn a_life_gets_all_that_is_sent_to_it(rt: HostRuntime) {
 }
 
 // What is received of a child whose next reads are interrupted so many times.
-fn received_behind(alloc: Global, calls: &Calls, interrupts: u32) -> Option<usize> {
+fn received_after(alloc: Global, calls: &Calls, interrupts: u32) -> Option<usize> {
     let mut children = Processes::new(calls.runtime(), alloc);
     let is_started = starts(alloc, &mut children, &WORDS);
     calls.interrupts.set(interrupts);
@@ -128,7 +128,7 @@ fn a_read_is_tried_again_a_thousand_times(rt: HostRuntime) {
     let calls = Calls::none(rt.alloc());
     for (interrupts, piece) in [(0, Some(65_536)), (1_000, Some(65_536)), (1_001, None)] {
         assert!(rt;
-            received_behind(rt.alloc(), &calls, interrupts) == piece,
+            received_after(rt.alloc(), &calls, interrupts) == piece,
             "{interrupts} times"
         );
     }

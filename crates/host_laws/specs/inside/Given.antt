@@ -21,7 +21,7 @@ use Rattle.host_events.specs.declared.event.Event.TheVariants as event
 use Rattle.host_events.specs.declared.outcome.Outcome.{Outcome}
 use Rattle.host_events.specs.declared.reply.Reply.TheVariants as reply
 use Rattle.session_engine.specs.World.{World, Going, sheet_in, life_of, with_number, session_of_field, with_op_if, kept_at_end}
-use Rattle.session_engine.specs.inside.Words.{line_of_field, request_of_field, with_op, renewed, told_of, with_piece}
+use Rattle.session_engine.specs.inside.Words.{line_of_field, request_of_field, with_op, renewed, reported_of, with_piece}
 use Rattle.session_engine.specs.Refused.{command_refusals, command_takes_memory}
 use Rattle.session_engine.specs.Does.{replies, refused, ends, op_by}
 use Rattle.session_engine.specs.inside.Parts.{asks, with_item, without_life, goes_on}
@@ -75,7 +75,7 @@ step_at l r = step_of l.past l.blocks r.piece r.blocks r.fault
 abbrev pub IsPieced : World → Going → PieceRead → Outcome → World → Type 0
 IsPieced w l r o v =
     Reads (stream_of (l.past ++ received r.piece ∷ [])) r.blocks r.fault
-    × (o ≡ told_of l (step_at l r))
+    × (o ≡ reported_of l (step_at l r))
     × (v ≡ with_op_if (op_by w.room w.end (step_at l r).answered (step_at l r).ended) (goes_on (with_piece l r.piece r.blocks) (step_at l r).ended w))
 
 -- nothing comes of it

@@ -178,9 +178,9 @@ fn call_failed(failed: Option<Kind>) -> Came {
 fn fails_on(alloc: Global, host: Host<MemoryDisk>, k: u32) -> Came {
     let mut host = host;
     let mut children = Broken::new(alloc, k);
-    let is_told = plays(alloc, &mut host, &mut children);
+    let is_reported = plays(alloc, &mut host, &mut children);
     let is_kept = is_kept(alloc, host);
-    if is_told && is_kept {
+    if is_reported && is_kept {
         call_failed(children.failed)
     } else {
         Came::Wrong

@@ -276,7 +276,7 @@ pub fn keeps(alloc: Global, disk: MemoryDisk, want: &str) -> bool {
 }
 
 /// Whether a script on a new worksheet tells this, over these children.
-pub fn is_told<C: Children>(alloc: Global, children: &mut C, script: &str, want: &str) -> bool {
+pub fn is_reported<C: Children>(alloc: Global, children: &mut C, script: &str, want: &str) -> bool {
     match opened(alloc) {
         Some(mut host) => tells(alloc, &mut host, children, script, want),
         None => false,

@@ -1,6 +1,6 @@
 //! Commands and waits while no memory is left, and children of which nothing can be read.
 use super::children::{answering, unreadable};
-use super::desk::{is_told, opened, tells};
+use super::desk::{is_reported, opened, tells};
 use child_calls::Scripted;
 use child_edge::stop_all;
 use disk_model::MemoryDisk;
@@ -12,7 +12,7 @@ use worksheet::Name;
 // Whether a script tells this over a child that answers one line.
 fn is_answered(alloc: Global, script: &str, want: &str) -> bool {
     match answering(alloc) {
-        Some(mut children) => is_told(alloc, &mut children, script, want),
+        Some(mut children) => is_reported(alloc, &mut children, script, want),
         None => false,
     }
 }
@@ -20,7 +20,7 @@ fn is_answered(alloc: Global, script: &str, want: &str) -> bool {
 // The same over one of which nothing can be read.
 fn is_lost(alloc: Global, script: &str, want: &str) -> bool {
     match unreadable(alloc) {
-        Some(mut children) => is_told(alloc, &mut children, script, want),
+        Some(mut children) => is_reported(alloc, &mut children, script, want),
         None => false,
     }
 }

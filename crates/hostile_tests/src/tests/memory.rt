@@ -26,7 +26,7 @@ fn script_of(waiting: Waiting) -> &'static str {
     }
 }
 
-fn told_of(waiting: Waiting) -> &'static str {
+fn reported_of(waiting: Waiting) -> &'static str {
     match waiting {
         Waiting::Request => "ok\nfield 1\nasked\nasked\n",
         Waiting::Lines => "ok\nfield 1\nfield 2\nfield 3\nasked\nasked\n",
@@ -41,7 +41,7 @@ fn is_ready(alloc: Global, host: &mut Host<MemoryDisk>, waiting: Waiting) -> boo
         host,
         &mut children,
         script_of(waiting),
-        told_of(waiting),
+        reported_of(waiting),
     )
 }
 
@@ -108,7 +108,7 @@ fn ends_so(alloc: Global, waiting: Waiting, number: u32, want: &str) -> bool {
 }
 
 // What is reported of the first nine events where a request waits first: an end gives no op.
-fn told(number: u32) -> &'static str {
+fn reported(number: u32) -> &'static str {
     match number {
         0 => "ended a Stopped lost 2\n",
         1 => "ended a StartRefused lost 2\n",
@@ -125,7 +125,7 @@ fn told(number: u32) -> &'static str {
 fn ends_take_no_memory(rt: HostRuntime) {
     for number in 0..10u32 {
         assert!(rt;
-            ends_so(rt.alloc(), Waiting::Request, number, told(number)),
+            ends_so(rt.alloc(), Waiting::Request, number, reported(number)),
             "event {number}"
         );
     }
@@ -136,7 +136,7 @@ fn wants(number: u32) -> &'static str {
     match number {
         0 => "refused 17 OutOfMemory\n",
         1..=5 => "no memory\n",
-        _ => told(number),
+        _ => reported(number),
     }
 }
 
@@ -164,7 +164,7 @@ fn refused_and_done(number: u32) -> &'static str {
 }
 
 // It is refused, and changes nothing.
-fn told_of_both(number: u32) -> &'static str {
+fn reported_of_both(number: u32) -> &'static str {
     match number {
         1 => { "refused 17 OutOfMemory\n#1 a\n> x\n?\n#2 a\n> y\n?\n#3 a\n> z\n?\nfield 4\n" }
         5 => { "refused 17 OutOfMemory\n#1 a\n> x\n?\n#2 a\n> y\n?\n#3 a\n> z\n?\nasked\n" }
@@ -179,7 +179,7 @@ fn is_done_later(alloc: Global, host: &mut Host<MemoryDisk>, number: u32) -> boo
         host,
         &mut children,
         refused_and_done(number),
-        told_of_both(number),
+        reported_of_both(number),
     )
 }
 

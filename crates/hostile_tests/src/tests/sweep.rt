@@ -46,7 +46,7 @@ impl Tally {
             Reply::Field(_) => count(&mut self.fields),
             Reply::Asked(1) => count(&mut self.asked),
             Reply::Nothing => count(&mut self.nothing),
-            Reply::Child(told) => match &told.closed {
+            Reply::Child(reported) => match &reported.closed {
                 Some(Closed::Banner(_)) => count(&mut self.banners),
                 Some(Closed::Line(_)) => count(&mut self.answers),
                 Some(Closed::Complete(_, Ok(_))) => count(&mut self.completed),

@@ -106,8 +106,8 @@ fn spent(alloc: Global, k: u64, mode: FuseMode) -> ([bool; 3], u64) {
     let mut disk = FuseDisk::new(MemoryDisk::new(alloc, 16), k, mode);
     let written = disk.write_at(Area::First, 0, b"a").is_ok();
     let synced = disk.sync(Area::First).is_ok();
-    let told = disk.len(Area::First).is_ok();
-    ([written, synced, told], disk.into_inner().calls())
+    let reported = disk.len(Area::First).is_ok();
+    ([written, synced, reported], disk.into_inner().calls())
 }
 
 #[test]
@@ -127,7 +127,7 @@ fn fuse_fails_the_kth_call_alone(rt: HostRuntime) {
 }
 
 // A disk with a write that no sync follows, under a fuse that never blows.
-fn behind_a_fuse(alloc: Global) -> Option<FuseDisk<MemoryDisk>> {
+fn after_a_fuse(alloc: Global) -> Option<FuseDisk<MemoryDisk>> {
     Some(FuseDisk::new(half_written(alloc)?, 0, FuseMode::Only))
 }
 
@@ -147,12 +147,12 @@ fn leaves_first(disk: &MemoryDisk, fill: Fill, grown: bool, first: &[u8]) -> boo
 // Whether so many calls are on record, and a crash still leaves the pending write or not.
 fn is_still_pending(disk: Option<FuseDisk<MemoryDisk>>, calls: u64) -> bool {
     match disk {
-        Some(disk) => is_pending_behind(&disk.into_inner(), calls),
+        Some(disk) => is_pending_after(&disk.into_inner(), calls),
         None => false,
     }
 }
 
-fn is_pending_behind(disk: &MemoryDisk, calls: u64) -> bool {
+fn is_pending_after(disk: &MemoryDisk, calls: u64) -> bool {
     disk.calls() == calls
         && leaves_first(disk, Fill::Old, false, b"abcd")
         && leaves_first(disk, Fill::New, true, b"abcXY")
@@ -160,7 +160,7 @@ fn is_pending_behind(disk: &MemoryDisk, calls: u64) -> bool {
 
 // The same after each of the four calls.
 fn looked(alloc: Global) -> Option<FuseDisk<MemoryDisk>> {
-    let mut disk = behind_a_fuse(alloc)?;
+    let mut disk = after_a_fuse(alloc)?;
     if disk.len(Area::First) == Ok(5) {
         Some(disk)
     } else {
@@ -180,7 +180,7 @@ fn first_four(disk: &mut FuseDisk<MemoryDisk>) -> Option<[u8; 4]> {
 }
 
 fn read(alloc: Global) -> Option<FuseDisk<MemoryDisk>> {
-    let mut disk = behind_a_fuse(alloc)?;
+    let mut disk = after_a_fuse(alloc)?;
     if first_four(&mut disk) == Some(*b"abcX") {
         Some(disk)
     } else {
@@ -189,7 +189,7 @@ fn read(alloc: Global) -> Option<FuseDisk<MemoryDisk>> {
 }
 
 fn written(alloc: Global) -> Option<FuseDisk<MemoryDisk>> {
-    let mut disk = behind_a_fuse(alloc)?;
+    let mut disk = after_a_fuse(alloc)?;
     if disk.room() >= 1 && disk.write_at(Area::Second, 0, b"a").is_ok() {
         Some(disk)
     } else {
@@ -198,7 +198,7 @@ fn written(alloc: Global) -> Option<FuseDisk<MemoryDisk>> {
 }
 
 fn synced(alloc: Global) -> Option<FuseDisk<MemoryDisk>> {
-    let mut disk = behind_a_fuse(alloc)?;
+    let mut disk = after_a_fuse(alloc)?;
     if disk.sync(Area::Second).is_ok() {
         Some(disk)
     } else {
@@ -315,7 +315,7 @@ fn longest_reads() -> ([bool; 3], [u64; 4]) {
 }
 
 #[test]
-fn the_longest_read_is_told(rt: HostRuntime) {
+fn the_longest_read_is_reported(rt: HostRuntime) {
     assert!(rt; longest_reads() == ([true, true, false], [0, 4, 4, 8]));
 }
 

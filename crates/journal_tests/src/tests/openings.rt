@@ -61,7 +61,7 @@ fn opened(alloc: Global, k: u64, mode: FuseMode) -> Given {
     }
 }
 
-fn told_if(fails: bool) -> Given {
+fn reported_if(fails: bool) -> Given {
     if fails {
         Given::Disk
     } else {
@@ -74,7 +74,7 @@ fn told_if(fails: bool) -> Given {
 fn an_opening_over_a_failing_disk(rt: HostRuntime) {
     let alloc = rt.alloc();
     for k in 0..6u64 {
-        assert!(rt; opened(alloc, k, FuseMode::From) == told_if(k <= 3));
-        assert!(rt; opened(alloc, k, FuseMode::Only) == told_if(k >= 1 && k <= 3));
+        assert!(rt; opened(alloc, k, FuseMode::From) == reported_if(k <= 3));
+        assert!(rt; opened(alloc, k, FuseMode::Only) == reported_if(k >= 1 && k <= 3));
     }
 }

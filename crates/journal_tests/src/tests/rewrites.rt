@@ -68,6 +68,6 @@ fn ends_at_the_gate(alloc: Global) -> Option<bool> {
 
 // The second area has the older and longer journal after the last gate of the newer one.
 #[test]
-fn what_is_behind_the_last_gate_is_no_record(rt: HostRuntime) {
+fn what_is_after_the_last_gate_is_no_record(rt: HostRuntime) {
     assert!(rt; ends_at_the_gate(rt.alloc()) == Some(true));
 }

@@ -16,11 +16,11 @@ fn is(payload: &Payload, gate: u64, bytes: &[u8]) -> bool {
 }
 
 // The opening after its next payload, which follows this gate and has these bytes.
-fn behind<D: Disk>(opening: Opening<D>, gate: u64, bytes: &[u8]) -> Option<Opening<D>> {
+fn following<D: Disk>(opening: Opening<D>, gate: u64, bytes: &[u8]) -> Option<Opening<D>> {
     match opening.next() {
-        Ok(Next::Payload(behind, payload)) => {
+        Ok(Next::Payload(following, payload)) => {
             if is(&payload, gate, bytes) {
-                Some(behind)
+                Some(following)
             } else {
                 None
             }
@@ -40,10 +40,10 @@ fn ended<D: Disk>(opening: Opening<D>) -> Option<Journal<D>> {
 
 fn come_in_order(alloc: Global) -> Option<bool> {
     let opening = begun(alloc, holding(alloc, &AREA)?)?;
-    let opening = behind(opening, 10, &SESSION)?;
-    let opening = behind(opening, 24, &AREA[29..39])?;
-    let opening = behind(opening, 39, &[6, 0, 0, 0, 1])?;
-    let opening = behind(opening, 49, &AREA[54..75])?;
+    let opening = following(opening, 10, &SESSION)?;
+    let opening = following(opening, 24, &AREA[29..39])?;
+    let opening = following(opening, 39, &[6, 0, 0, 0, 1])?;
+    let opening = following(opening, 49, &AREA[54..75])?;
     Some(ended(opening)?.fits(18))
 }
 
@@ -62,7 +62,7 @@ fn has_four(alloc: Global, disk: MemoryDisk) -> bool {
 
 fn gives_back(alloc: Global) -> Option<bool> {
     let opening = begun(alloc, holding(alloc, &AREA)?)?;
-    let disk = behind(opening, 10, &SESSION)?.into_disk();
+    let disk = following(opening, 10, &SESSION)?.into_disk();
     Some(has_four(alloc, disk))
 }
 
@@ -226,7 +226,7 @@ fn opened_by_windows(alloc: Global, k: u64, mode: FuseMode) -> Given {
     }
 }
 
-fn told_if(fails: bool) -> Given {
+fn reported_if(fails: bool) -> Given {
     if fails { Given::Disk } else { Given::Payload }
 }
 
@@ -235,8 +235,8 @@ fn told_if(fails: bool) -> Given {
 fn an_opening_by_windows_over_a_failing_disk(rt: HostRuntime) {
     let alloc = rt.alloc();
     for k in 0..10u64 {
-        assert!(rt; opened_by_windows(alloc, k, FuseMode::From) == told_if(k <= 7));
-        assert!(rt; opened_by_windows(alloc, k, FuseMode::Only) == told_if(k >= 1 && k <= 7));
+        assert!(rt; opened_by_windows(alloc, k, FuseMode::From) == reported_if(k <= 7));
+        assert!(rt; opened_by_windows(alloc, k, FuseMode::Only) == reported_if(k >= 1 && k <= 7));
     }
 }
 
@@ -316,9 +316,9 @@ fn disk_that_changes() -> Changing {
 }
 
 fn give_single_bytes(alloc: Global) -> Option<bool> {
-    let opening = behind(begun(alloc, disk_that_changes())?, 10, b"R")?;
-    let opening = behind(opening, 16, b"R")?;
-    Some(behind(opening, 22, b"R").is_some())
+    let opening = following(begun(alloc, disk_that_changes())?, 10, b"R")?;
+    let opening = following(opening, 16, b"R")?;
+    Some(following(opening, 22, b"R").is_some())
 }
 
 fn count_of_changing(alloc: Global) -> usize {
@@ -330,7 +330,7 @@ fn count_of_changing(alloc: Global) -> usize {
 
 // No length that it tells then is a payload's: each payload has one byte, and they come to the end.
 #[test]
-fn a_disk_that_changes_behind_the_walk(rt: HostRuntime) {
+fn a_disk_that_changes_after_the_walk(rt: HostRuntime) {
     assert!(rt; give_single_bytes(rt.alloc()) == Some(true));
     assert!(rt; count_of_changing(rt.alloc()) == 25_000);
 }

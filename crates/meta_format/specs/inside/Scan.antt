@@ -85,13 +85,13 @@ Scans most from bytes (Err stop.OutOfMemory) new found = Unit {0}
 abbrev pub unbounded : Limits
 unbounded = record { tag = longest_tag; levels = most_levels; block = 18446744073709551615; stream = 18446744073709551615 }
 
-abbrev pub last_behind : Outer → List Outer → Outer
-last_behind o [] = o
-last_behind o (p ∷ os) = last_behind p os
+abbrev pub last_after : Outer → List Outer → Outer
+last_after o [] = o
+last_after o (p ∷ os) = last_after p os
 
 abbrev pub last_outer : List Outer → Option Outer
 last_outer [] = None
-last_outer (o ∷ os) = Some (last_behind o os)
+last_outer (o ∷ os) = Some (last_after o os)
 
 -- the block, where it begins the bytes and ends them
 abbrev pub filling : ℕ → Option Outer → Option Tree

@@ -9,7 +9,7 @@ use Rattle.plugin_core.specs.declared.step.Ended.{Ended}
 use Rattle.plugin_core.specs.Limits.{longest_prompt}
 use Rattle.plugin_core.specs.Past.{Event, items_of}
 use Rattle.plugin_core.specs.Answers.{answers_of}
-use Rattle.plugin_core.specs.Items.{waiting_of, prompt_of, answer_behind}
+use Rattle.plugin_core.specs.Items.{waiting_of, prompt_of, answer_following}
 use Rattle.plugin_core.specs.Steps.{reason_of}
 
 -- the prompt of a block, cut to its first bytes
@@ -25,12 +25,12 @@ abbrev pub first_prompt : List ℕ
 first_prompt = codes "> "
 
 -- the element of the second list that stands after as many as the first one has
-abbrev pub next_behind : {T : Type 0} → List T → List T → Option T
-next_behind before after = slice_get after (length before)
+abbrev pub next_beyond : {T : Type 0} → List T → List T → Option T
+next_beyond before after = slice_get after (length before)
 
 -- what is returned for a block that is the next answer after this past
 abbrev pub answered_with : List Event → List Outer → Outer → Option Answered
-answered_with past before b = answer_behind (answers_of past before) (items_of past) (prompt_of past before) b.block
+answered_with past before b = answer_following (answers_of past before) (items_of past) (prompt_of past before) b.block
 
 -- the end of a life at a fault, with the items that wait then
 abbrev pub ended_by : List Event → List Outer → Kind → Ended

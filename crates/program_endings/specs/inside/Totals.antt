@@ -15,7 +15,7 @@ with_counts counts ending total = record {
   new = total.new + counts.new;
   faults = total.faults;
   passed = total.passed && (ending.status == 0);
-  told = total.told && ending.told;
+  reported = total.reported && ending.reported;
 }
 
 -- whose check met a fault
@@ -29,5 +29,5 @@ with_fault ending total = record {
   new = total.new;
   faults = total.faults + 1;
   passed = total.passed && (ending.status == 0);
-  told = total.told && ending.told;
+  reported = total.reported && ending.reported;
 }

@@ -35,7 +35,7 @@ fn creates(alloc: Global, folder: &Folder) -> bool {
 }
 
 // Whether a run of this script ends well, and tells this. No interpreter can be started.
-fn runs(alloc: Global, folder: &Folder, script: &[u8], told: &[u8]) -> bool {
+fn runs(alloc: Global, folder: &Folder, script: &[u8], reported: &[u8]) -> bool {
     let children = Scripted::new(alloc, Vec::new(alloc));
     let sources = ScriptedSources::new(children, Vec::new(alloc));
     let mut input = script;
@@ -43,11 +43,11 @@ fn runs(alloc: Global, folder: &Folder, script: &[u8], told: &[u8]) -> bool {
     let mut errors: Vec<u8> = Vec::new(alloc);
     let files = opened::open(&Machine { folder }, alloc, "sheet");
     let done = run_script(alloc, false, &mut input, text, &mut errors, files, sources);
-    done.ending.status == 0 && done.output.as_slice() == told
+    done.ending.status == 0 && done.output.as_slice() == reported
 }
 
 // Whether what is rescued of one folder is written to another one, and this is printed.
-fn rescues(alloc: Global, from: &Folder, to: &Folder, told: &[u8]) -> bool {
+fn rescues(alloc: Global, from: &Folder, to: &Folder, reported: &[u8]) -> bool {
     let mut text: Vec<u8> = Vec::new(alloc);
     let mut errors: Vec<u8> = Vec::new(alloc);
     let files = opened::open_to_read(&Machine { folder: from }, alloc, "sheet");
@@ -56,7 +56,7 @@ fn rescues(alloc: Global, from: &Folder, to: &Folder, told: &[u8]) -> bool {
     };
     let made = opened::create(&Machine { folder: to }, alloc, "sheet");
     let ended = run_rescue(alloc, found, made, &mut text, &mut errors);
-    ended.status == 0 && text.as_slice() == told
+    ended.status == 0 && text.as_slice() == reported
 }
 
 // A folder with the same files, of which no write is on record.
@@ -80,13 +80,13 @@ struct Kept<'a> {
     before: &'a Option<Vec<u8>>,
     between: &'a Option<Vec<u8>>,
     after: &'a Option<Vec<u8>>,
-    told: u64,
+    reported: u64,
 }
 
 impl Kept<'_> {
     fn allows(&self, moment: u64, found: &Option<Vec<u8>>) -> bool {
         found == self.after
-            || (moment < self.told && (found == self.before || found == self.between))
+            || (moment < self.reported && (found == self.before || found == self.between))
     }
 
     // Whether a crash at this moment leaves what it may.
@@ -109,7 +109,7 @@ impl Kept<'_> {
 
     // Whether a crash does so at each moment from this one on.
     fn is_left_from(&self, alloc: Global, folder: &Folder, from: u64) -> bool {
-        for moment in from..self.told.saturating_add(1) {
+        for moment in from..self.reported.saturating_add(1) {
             if !self.is_left(alloc, folder, moment) {
                 return false;
             }
@@ -125,23 +125,23 @@ fn making_keeps(alloc: Global, folder: &Folder) -> bool {
         before: &None,
         between: &None,
         after: &Some(Vec::new(alloc)),
-        told: folder.moment(),
+        reported: folder.moment(),
     };
     made && kept.is_left_from(alloc, folder, 0)
 }
 
 // Whether a run ends well, and a crash leaves the worksheet before it or after it: the latter once the run was acknowledged.
-fn run_keeps(alloc: Global, folder: &Folder, script: &[u8], told: &[u8]) -> bool {
+fn run_keeps(alloc: Global, folder: &Folder, script: &[u8], reported: &[u8]) -> bool {
     let from = folder.moment();
     let before = shown_now(alloc, folder);
-    if !runs(alloc, folder, script, told) {
+    if !runs(alloc, folder, script, reported) {
         return false;
     }
     let kept = Kept {
         before: &before,
         between: &before,
         after: &shown_now(alloc, folder),
-        told: folder.moment(),
+        reported: folder.moment(),
     };
     kept.is_left_from(alloc, folder, from)
 }
@@ -167,8 +167,8 @@ const ROUND: [Step; 8] = [
 ];
 
 fn steps_keep(alloc: Global, folder: &Folder, steps: &[Step]) -> bool {
-    for (script, told) in steps {
-        if !run_keeps(alloc, folder, script, told) {
+    for (script, reported) in steps {
+        if !run_keeps(alloc, folder, script, reported) {
             return false;
         }
     }
@@ -224,14 +224,14 @@ fn a_crash_at_each_moment_of_runs_and_checkpoints(rt: HostRuntime) {
 
 // Whether a rescue ends well, and a crash leaves no worksheet, an empty one or all that was kept: the last once
 // the rescue was acknowledged. The old worksheet stays as it is.
-fn rescue_keeps(alloc: Global, from: &Folder, to: &Folder, told: &[u8]) -> bool {
+fn rescue_keeps(alloc: Global, from: &Folder, to: &Folder, reported: &[u8]) -> bool {
     let whole = shown_now(alloc, from);
-    let rescued = rescues(alloc, from, to, told);
+    let rescued = rescues(alloc, from, to, reported);
     let kept = Kept {
         before: &None,
         between: &Some(Vec::new(alloc)),
         after: &whole,
-        told: to.moment(),
+        reported: to.moment(),
     };
     rescued && kept.is_left_from(alloc, to, 0) && shown_now(alloc, from) == whole
 }

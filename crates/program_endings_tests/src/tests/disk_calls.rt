@@ -144,7 +144,7 @@ fn ends_by_a_failed_sync(alloc: Global, area: Area, lines: &str) -> bool {
 }
 
 #[test]
-fn no_sync_is_believed_behind_one_that_failed(rt: HostRuntime) {
+fn no_sync_is_believed_after_one_that_failed(rt: HostRuntime) {
     let first = "sync .\nsync the data of s\n";
     let second = "sync .\nsync the data of s.alt\n";
     assert!(rt; ends_by_a_failed_sync(rt.alloc(), Area::First, first));

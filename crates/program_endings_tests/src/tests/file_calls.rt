@@ -332,7 +332,7 @@ fn is_made_meanwhile(alloc: Global) -> bool {
 }
 
 #[test]
-fn a_file_that_is_made_meanwhile_is_told_as_there(rt: HostRuntime) {
+fn a_file_that_is_made_meanwhile_is_reported_as_there(rt: HostRuntime) {
     assert!(rt; is_made_meanwhile(rt.alloc()));
 }
 
@@ -345,6 +345,6 @@ fn makes_none_unread(alloc: Global) -> bool {
 }
 
 #[test]
-fn no_second_file_is_made_behind_a_first_one_that_can_not_be_read(rt: HostRuntime) {
+fn no_second_file_is_made_after_a_first_one_that_can_not_be_read(rt: HostRuntime) {
     assert!(rt; makes_none_unread(rt.alloc()));
 }

@@ -59,7 +59,10 @@ fn is_there(rt: &HostRuntime, path: &str) -> bool {
 fn create_ends(rt: &HostRuntime, path: &str, status: u8, said: &[u8]) -> bool {
     let mut errors: Vec<u8> = Vec::new(rt.alloc());
     let ended = run_create(opened::create(rt, rt.alloc(), path), &mut errors);
-    let want = Ending { status, told: true };
+    let want = Ending {
+        status,
+        reported: true,
+    };
     ended == want && errors.as_slice() == said
 }
 

@@ -43,17 +43,17 @@ fn script_with_a_long_remark(alloc: Global) -> Vec<u8> {
     text
 }
 
-fn ran<D: Disk>(alloc: Global, disk: D, script: &[u8], told: &mut Vec<u8>) -> Ran<D> {
+fn ran<D: Disk>(alloc: Global, disk: D, script: &[u8], reported: &mut Vec<u8>) -> Ran<D> {
     let mut children = Scripted::new(alloc, Vec::new(alloc));
     let mut reader = script;
-    run(alloc, &mut reader, told, disk, &mut children)
+    run(alloc, &mut reader, reported, disk, &mut children)
 }
 
 // The disk after a run that ends well, with so many lines of text.
 fn disk_of(alloc: Global, disk: MemoryDisk, script: &[u8], lines: usize) -> Option<MemoryDisk> {
-    let mut told: Vec<u8> = Vec::new(alloc);
-    let Ran { disk, answer } = ran(alloc, disk, script, &mut told);
-    if answer.is_ok() && lines_of(told.as_slice(), b'\n') == lines {
+    let mut reported: Vec<u8> = Vec::new(alloc);
+    let Ran { disk, answer } = ran(alloc, disk, script, &mut reported);
+    if answer.is_ok() && lines_of(reported.as_slice(), b'\n') == lines {
         Some(disk)
     } else {
         None
@@ -166,12 +166,12 @@ fn fails_at(alloc: Global, call: u64) -> Option<bool> {
     let made = created(alloc)?;
     let opening = empty.calls().saturating_sub(made.calls());
     let disk = FuseDisk::new(made, opening.saturating_add(call), FuseMode::From);
-    let mut told: Vec<u8> = Vec::new(alloc);
-    let Ran { disk, answer } = ran(alloc, disk, script(alloc, 3).as_slice(), &mut told);
+    let mut reported: Vec<u8> = Vec::new(alloc);
+    let Ran { disk, answer } = ran(alloc, disk, script(alloc, 3).as_slice(), &mut reported);
     let found = fields_of(alloc, disk.into_inner());
     Some(
         answer == Err(RunFault::Host(HostFault::Disk))
-            && told.is_empty()
+            && reported.is_empty()
             && (found == Some(0) || found == Some(3)),
     )
 }

@@ -5,7 +5,7 @@ use std::alloc::Global;
 use tests_desk::{Counted, Narrow};
 
 // Whether a writer with this room gets this text of the script, and the run fails for it.
-fn fails_behind(alloc: Global, script: &[u8], text: &[u8]) -> bool {
+fn fails_after(alloc: Global, script: &[u8], text: &[u8]) -> bool {
     let mut reader = script;
     let mut out = Narrow {
         taken: Vec::new(alloc),
@@ -21,7 +21,7 @@ fn a_writer_that_fails_in_the_middle(rt: HostRuntime) {
     let text: &[u8] = b"ok\nfield 1\nfield 2\n#1 a\n> x\n?\n#2 a\n> y\n?\nrefused 2 NoField\n";
     for room in 0..text.len() {
         assert!(rt;
-            fails_behind(rt.alloc(), script, &text[..room]),
+            fails_after(rt.alloc(), script, &text[..room]),
             "{room} bytes"
         );
     }

@@ -19,8 +19,8 @@ use tests_desk::{Full, Unflushed, exhausted};
 const SHEET: &[u8] =
     b"TMWSHEET\x01A\x52\0\0\0\x09\x01\x01a\0\x01\0\x02sh\x52\0\0\0\x0a\x02\0\0\0\0\x01a\0\x01x\x52\0\0\0\x05\x06\0\0\0\x01\x52\0\0\0\x15\x07\0\0\0\x01\0\x02> \x02verbatim:A\x05\0";
 
-fn ending(status: u8, told: bool) -> Ending {
-    Ending { status, told }
+fn ending(status: u8, reported: bool) -> Ending {
+    Ending { status, reported }
 }
 
 // Each fault that a program can end by, and the line that tells it.
@@ -64,7 +64,7 @@ fn tells(alloc: Global, fault: RunFault, said: &[u8]) -> bool {
 }
 
 #[test]
-fn each_fault_is_told_on_a_line(rt: HostRuntime) {
+fn each_fault_is_reported_on_a_line(rt: HostRuntime) {
     for (fault, said) in TOLD {
         assert!(rt; tells(rt.alloc(), fault, said), "{fault}");
     }
@@ -193,8 +193,8 @@ fn rescues_to<N: Close>(
         Vec::new(alloc)
     };
     let ended = run_rescue(alloc, found, files, &mut output, &mut errors);
-    let is_told = ended == ending(1, true) && errors.as_slice() == said;
-    Some(is_told && output.is_empty() && held.is_empty() != takes_memory)
+    let is_reported = ended == ending(1, true) && errors.as_slice() == said;
+    Some(is_reported && output.is_empty() && held.is_empty() != takes_memory)
 }
 
 // The same to an empty disk with this much room.
@@ -206,14 +206,14 @@ fn rescues_to_room(alloc: Global, room: u64, takes_memory: bool, said: &[u8]) ->
 
 #[test]
 fn a_rescue_that_does_not_fit(rt: HostRuntime) {
-    let told = rescues_to_room(rt.alloc(), 40, false, b"fault 23 JournalFull\n");
-    assert!(rt; told == Some(true));
+    let reported = rescues_to_room(rt.alloc(), 40, false, b"fault 23 JournalFull\n");
+    assert!(rt; reported == Some(true));
 }
 
 #[test]
 fn a_rescue_without_memory(rt: HostRuntime) {
-    let told = rescues_to_room(rt.alloc(), 1_000, true, b"fault 33 OutOfMemory\n");
-    assert!(rt; told == Some(true));
+    let reported = rescues_to_room(rt.alloc(), 1_000, true, b"fault 33 OutOfMemory\n");
+    assert!(rt; reported == Some(true));
 }
 
 // The same to a disk with one byte.

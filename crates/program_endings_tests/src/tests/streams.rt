@@ -85,7 +85,7 @@ fn a_reader_or_a_writer_that_fails(rt: HostRuntime) {
 }
 
 #[test]
-fn a_flush_that_fails_is_told_whatever_the_stream(rt: HostRuntime) {
+fn a_flush_that_fails_is_reported_whatever_the_stream(rt: HostRuntime) {
     let streams: [&[u8]; 4] = [b"", b"\x02a:\x05", b"\x02:", b"\x02a"];
     for stream in streams {
         let fault = writer_fault(rt.alloc(), stream, &mut Unflushed);
@@ -142,25 +142,25 @@ fn ends_full(alloc: Global, said: &[u8]) -> bool {
     ended
         == Ending {
             status: 1,
-            told: true,
+            reported: true,
         }
         && errors.as_slice() == said
 }
 
 // How it ends where its errors can't be written either.
-fn ends_untold(alloc: Global) -> Ending {
+fn ends_withheld(alloc: Global) -> Ending {
     let mut input = a_block();
     run_blocks(alloc, &mut input, &mut Full, &mut Deaf)
 }
 
 #[test]
-fn a_full_output_is_told(rt: HostRuntime) {
+fn a_full_output_is_reported(rt: HostRuntime) {
     assert!(rt; ends_full(rt.alloc(), b"fault 42 Output\n"));
     assert!(rt;
-        ends_untold(rt.alloc())
+        ends_withheld(rt.alloc())
             == Ending {
                 status: 1,
-                told: false
+                reported: false
             }
     );
 }
@@ -172,7 +172,7 @@ fn ends_without_total<W: Write>(alloc: Global, writer: &mut W, said: &[u8]) -> b
     ended
         == Ending {
             status: 1,
-            told: true,
+            reported: true,
         }
         && errors.as_slice() == said
 }
@@ -185,7 +185,7 @@ fn a_total_that_is_not_written_is_a_fault(rt: HostRuntime) {
         end_total(Total::none(), &mut Full, &mut Deaf)
             == Ending {
                 status: 1,
-                told: false
+                reported: false
             }
     );
 }

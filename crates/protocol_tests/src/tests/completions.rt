@@ -48,7 +48,7 @@ fn joined(alloc: Global, completions: &Completions) -> Option<Vec<u8>> {
 }
 
 // What an output tells, or `bad`.
-fn told_by(alloc: Global, output: &Block) -> Option<Vec<u8>> {
+fn reported_by(alloc: Global, output: &Block) -> Option<Vec<u8>> {
     match read_answer(alloc, output) {
         Ok(completions) => joined(alloc, &completions),
         Err(AnswerFault::BadCompletion) => Vec::from_slice(alloc, b"bad").ok(),
@@ -57,13 +57,13 @@ fn told_by(alloc: Global, output: &Block) -> Option<Vec<u8>> {
 }
 
 // What the answer with this spelling tells.
-fn told(alloc: Global, spelling: &[u8]) -> Option<Vec<u8>> {
+fn reported(alloc: Global, spelling: &[u8]) -> Option<Vec<u8>> {
     let block = read_block(alloc, spelling).ok()?;
-    told_by(alloc, &output_of(alloc, &block).ok()?)
+    reported_by(alloc, &output_of(alloc, &block).ok()?)
 }
 
 fn tells(alloc: Global, spelling: &[u8], want: &[u8]) -> bool {
-    match told(alloc, spelling) {
+    match reported(alloc, spelling) {
         Some(text) => text.as_slice() == want,
         None => false,
     }

@@ -47,7 +47,7 @@ fn feed(reader: &mut Reader, all: &mut Vec<Found>, piece: &[u8]) -> Option<End> 
 }
 
 /// How a stream ends that goes on after each of its pieces.
-fn end_behind(reader: &Reader) -> End {
+fn end_after(reader: &Reader) -> End {
     match reader.pending() {
         None => End::Whole,
         Some(start) => End::Open(start),
@@ -60,7 +60,7 @@ fn feed_all(reader: &mut Reader, all: &mut Vec<Found>, stream: &[u8], size: usiz
             return end;
         }
     }
-    end_behind(reader)
+    end_after(reader)
 }
 
 /// Feeds pieces of this size, and tells how the stream ends.
@@ -77,7 +77,7 @@ fn feed_both(reader: &mut Reader, all: &mut Vec<Found>, first: &[u8], second: &[
     }
     match feed(reader, all, second) {
         Some(end) => end,
-        None => end_behind(reader),
+        None => end_after(reader),
     }
 }
 

@@ -5,7 +5,7 @@ use Rattle.journal.specs.Area.{ArePayloads, end_of, records}
 use Rattle.worksheet.specs.declared.op.Op.{Op}
 use Rattle.worksheet.specs.Contents.{Contents, SheetView}
 use Rattle.worksheet.specs.Ops.{sheet_of}
-use Rattle.journal.specs.Kept.{Fits, FitsAll, FitsAnew, JournalView, Keeps}
+use Rattle.journal.specs.Kept.{Fits, FitsAll, FitsAgain, JournalView, Keeps}
 use Rattle.journal.specs.Limits.{longest_payload}
 use Rattle.journal.specs.Owed.{owed_disk}
 use Rattle.recovery.specs.Sheets.{StoreView, codes_of, Makes}
@@ -171,10 +171,10 @@ IsStoreOf view None sheet = ⊥
 IsStoreOf view (Some base) sheet = IsBaseOf view base sheet
 
 -- what each answer to payloads that are to be written in place of a base's own says
-abbrev pub AnewAnswers : {D : Type 0} → (D → DiskView) → Base D → Base D → List (List ℕ) → Result Unit CheckpointFault → Type 0
-AnewAnswers view old new payloads (Ok u) = (is_closed new ≡ false) × (end_in new ≡ end_of payloads) × ((disk_of view new).faults ≡ (disk_of view old).faults)
+abbrev pub AgainAnswers : {D : Type 0} → (D → DiskView) → Base D → Base D → List (List ℕ) → Result Unit CheckpointFault → Type 0
+AgainAnswers view old new payloads (Ok u) = (is_closed new ≡ false) × (end_in new ≡ end_of payloads) × ((disk_of view new).faults ≡ (disk_of view old).faults)
     × InModel (disk_of view old) ((before : List (List ℕ)) → KeepsIn old before → KeepsIn new payloads)
-AnewAnswers view old new payloads (Err faults.Full) = (FitsAnew (disk_of view old).room payloads → ⊥) × (new ≡ old)
-AnewAnswers view old new payloads (Err faults.OutOfMemory) = ⊥
-AnewAnswers view old new payloads (Err faults.Disk) = (is_closed new ≡ true) × Rises (disk_of view old).faults (disk_of view new).faults
-AnewAnswers view old new payloads (Err faults.Closed) = ⊥
+AgainAnswers view old new payloads (Err faults.Full) = (FitsAgain (disk_of view old).room payloads → ⊥) × (new ≡ old)
+AgainAnswers view old new payloads (Err faults.OutOfMemory) = ⊥
+AgainAnswers view old new payloads (Err faults.Disk) = (is_closed new ≡ true) × Rises (disk_of view old).faults (disk_of view new).faults
+AgainAnswers view old new payloads (Err faults.Closed) = ⊥

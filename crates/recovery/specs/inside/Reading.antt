@@ -67,17 +67,17 @@ words_at (suc n) bytes = do
   others ← words_at n first.1
   Some (first.0 ∷ others)
 
-abbrev pub session_behind : List ℕ → List ℕ → Option Op
-session_behind name [] = None
-session_behind name (tab ∷ []) = None
-session_behind name (tab ∷ count ∷ rest) = do
+abbrev pub session_after : List ℕ → List ℕ → Option Op
+session_after name [] = None
+session_after name (tab ∷ []) = None
+session_after name (tab ∷ count ∷ rest) = do
   words ← words_at count rest
   Some (op.Session name (tab == 1) words)
 
 unfoldable pub session_at : List ℕ → Option Op
 session_at bytes = do
   name ← short_at bytes
-  session_behind name.0 name.1
+  session_after name.0 name.1
 
 unfoldable pub new_at : List ℕ → Option Op
 new_at bytes = do

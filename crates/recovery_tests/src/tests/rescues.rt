@@ -7,7 +7,7 @@ use std::alloc::Global;
 
 // What a rescue tells.
 #[derive(Clone, Copy, PartialEq, Eq)]
-enum Told {
+enum Reported {
     /// So many ops are kept.
     Kept(u64),
     /// The disk failed.
@@ -15,19 +15,19 @@ enum Told {
     Other,
 }
 
-fn told_over(alloc: Global, disk: FuseDisk<MemoryDisk>) -> Told {
+fn reported_over(alloc: Global, disk: FuseDisk<MemoryDisk>) -> Reported {
     match rescue(alloc, disk) {
-        Ok(found) => Told::Kept(found.kept),
-        Err(fault) if fault.cause == OpenCause::Disk => Told::Disk,
-        Err(_) => Told::Other,
+        Ok(found) => Reported::Kept(found.kept),
+        Err(fault) if fault.cause == OpenCause::Disk => Reported::Disk,
+        Err(_) => Reported::Other,
     }
 }
 
 // What is reported of the worked example where its disk fails at this call.
-fn told_at(alloc: Global, k: u64) -> Told {
+fn reported_at(alloc: Global, k: u64) -> Reported {
     match holding(alloc, &AREA) {
-        Some(disk) => told_over(alloc, FuseDisk::new(disk, k, FuseMode::Only)),
-        None => Told::Other,
+        Some(disk) => reported_over(alloc, FuseDisk::new(disk, k, FuseMode::Only)),
+        None => Reported::Other,
     }
 }
 
@@ -36,7 +36,7 @@ fn told_at(alloc: Global, k: u64) -> Told {
 fn a_rescue_tells_a_failure_of_its_disk(rt: HostRuntime) {
     let alloc = rt.alloc();
     for k in 1..4u64 {
-        assert!(rt; told_at(alloc, k) == Told::Disk, "call {k}");
+        assert!(rt; reported_at(alloc, k) == Reported::Disk, "call {k}");
     }
-    assert!(rt; told_at(alloc, 4) == Told::Kept(4));
+    assert!(rt; reported_at(alloc, 4) == Reported::Kept(4));
 }

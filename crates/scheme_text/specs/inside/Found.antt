@@ -11,6 +11,6 @@ abbrev pub found_items : Option (Bor Node) → Option Items
 found_items found = option_map (λ n. (tree_of n.now).items) found
 
 -- the text, where the block was found already, or not yet
-abbrev pub text_behind : Option Items → Items → Option (List ℕ)
-text_behind None rest = text_among_blanks rest
-text_behind (Some inside) rest = if is_blank rest then lone_text inside else None
+abbrev pub text_after : Option Items → Items → Option (List ℕ)
+text_after None rest = text_among_blanks rest
+text_after (Some inside) rest = if is_blank rest then lone_text inside else None

@@ -1,4 +1,4 @@
--- How a text is read, byte by byte. Public contracts cite it through `Told` alone.
+-- How a text is read, byte by byte. Public contracts cite it through `Reported` alone.
 use Rattle.std.specs.Prelude.{ℕ, ◌==◌, List, [], ◌∷◌, ◌++◌, take, drop, codes, Option, Some, None, if◌then◌else◌}
 use Rattle.std.specs.List.{list_all}
 use Rattle.std.specs.Str.{bytes_eq}

@@ -165,9 +165,9 @@ RefusesEval w id r = (first_of (eval_refusals w id) ≡ Some r) ⊎ ((first_of (
 
 -- what is returned for an item that is asked: it begins a life that is started with these words, or these bytes are
 -- sent
-abbrev pub told_asked : List ℕ → ℕ → Option (List (List ℕ)) → Option (List ℕ) → Outcome
-told_asked name life (Some words) sent = record { reply = reply.Asked life; effect = Some (effect.Start name life words) }
-told_asked name life None sent = record { reply = reply.Asked life; effect = option_map (λ bytes. effect.Send name life bytes) sent }
+abbrev pub reported_asked : List ℕ → ℕ → Option (List (List ℕ)) → Option (List ℕ) → Outcome
+reported_asked name life (Some words) sent = record { reply = reply.Asked life; effect = Some (effect.Start name life words) }
+reported_asked name life None sent = record { reply = reply.Asked life; effect = option_map (λ bytes. effect.Send name life bytes) sent }
 
 abbrev pub begun_with_words : ℕ → Option (List (List ℕ)) → ℕ
 begun_with_words begun (Some words) = begun + 1

@@ -18,11 +18,11 @@ pub record PlayedJoined (A : Asking) (w : World) (events : List Event) (host : H
 
 -- events were taken up to one that had this fault
 pub record Stops (w : World) (events : List Event) (new : HostView) (fault : HostFault) : Type 0 where
-  pub told : List Outcome
+  pub reported : List Outcome
   pub at : Event
   pub dropped : List Event
   pub before : HostView
-  pub played : HasPlayed w events (at ∷ dropped) told before
+  pub played : HasPlayed w events (at ∷ dropped) reported before
   pub failed : Failed played.leads at before new fault
   pub closed : new.closed ≡ true
 

@@ -66,14 +66,14 @@ pub record Joined (name : List ℕ) (item : Item) (old new : List Running) (take
   pub life : InterpreterView
   pub same : life.number ≡ before.life.number
   pub put : new ≡ replace_named name_of name (with_life before life) old
-  pub told : taken.number ≡ life.number
+  pub reported : taken.number ≡ life.number
   pub accepts : (past : List Event) (blocks : List Outer) → LifeHasPast before.life past blocks → Accepts past blocks item taken.sent life
 
 -- a life of this session begins with an item
 pub record Begun (name : List ℕ) (next : ℕ) (item : Item) (old new : List Running) (taken : ItemTaken) : Type 0 where
   pub none : life_in old name ≡ None
   pub life : InterpreterView
-  pub told : taken.number ≡ next
+  pub reported : taken.number ≡ next
   pub is_number : life.number ≡ next
   pub put : new ≡ old ++ record { name = name; life = life } ∷ []
   pub stands : LifeHasPast life (accepted item ∷ []) []

@@ -13,14 +13,14 @@ use Rattle.session_engine.specs.Groups.{HaltsGroup, HaltsUpTo, StopsAtRefusal, T
 
 -- with these outcomes, and these events left, a play ends that goes on after a refusal, or one that doesn't
 abbrev pub EndsWith : Bool → List Outcome → List Event → Type 0
-EndsWith false told rest = rest ≡ []
-EndsWith true told rest = StopsAtRefusal told rest
+EndsWith false reported rest = rest ≡ []
+EndsWith true reported rest = StopsAtRefusal reported rest
 
 -- all events were taken, or those up to a refusal
-pub record PlayedBy (up_to : Bool) (w : World) (events : List Event) (told : List Outcome) (host : HostView) : Type 0 where
+pub record PlayedBy (up_to : Bool) (w : World) (events : List Event) (reported : List Outcome) (host : HostView) : Type 0 where
   pub rest : List Event
-  pub played : HasPlayed w events rest told host
-  pub ends : EndsWith up_to told rest
+  pub played : HasPlayed w events rest reported host
+  pub ends : EndsWith up_to reported rest
 
 -- none of the outcomes before a fault is a refusal
 abbrev pub NoneRefused : PlayFault → Type 0
@@ -28,8 +28,8 @@ NoneRefused (stop.NoRoom back) = Unit {0}
 NoneRefused (stop.Stopped outcomes fault) = list_any is_refusal outcomes.items ≡ false
 
 abbrev pub TookBy : Bool → World → List Event → List Outcome → HostView → HostView → Type 0
-TookBy false w events told old new = TookGroup w events told old new
-TookBy true w events told old new = TookUpTo w events told old new
+TookBy false w events reported old new = TookGroup w events reported old new
+TookBy true w events reported old new = TookUpTo w events reported old new
 
 abbrev pub HaltsBy : Bool → World → List Event → HostView → HostView → GroupFault → Type 0
 HaltsBy false w events old new fault = HaltsGroup w events old new fault

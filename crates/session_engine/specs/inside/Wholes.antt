@@ -42,5 +42,5 @@ pub record MayWithdraw (host : HostView) (before : Contents) : Type 0 where
 
 -- it says that none was taken, and has these outcomes
 abbrev pub EndsIn : List Outcome → Whole → Type 0
-EndsIn told (whole.Taken outcomes) = ⊥
-EndsIn told (whole.Refused before last) = told ≡ before.items ++ last ∷ []
+EndsIn reported (whole.Taken outcomes) = ⊥
+EndsIn reported (whole.Refused before last) = reported ≡ before.items ++ last ∷ []

@@ -21,8 +21,8 @@ use Rattle.session_engine.specs.Limits.{most_lives}
 use Rattle.session_engine.specs.Named.{without_named, replace_named}
 use Rattle.host_events.specs.declared.outcome.Outcome.{Outcome}
 use Rattle.host_events.specs.declared.reply.Reply.TheVariants as reply
-use Rattle.session_engine.specs.World.{World, Going, waiting_in, sheet_in, input_of, fits_in, end_anew, kept_in}
-use Rattle.session_engine.specs.Does.{Does, replies, closed_told, told_with}
+use Rattle.session_engine.specs.World.{World, Going, waiting_in, sheet_in, input_of, fits_in, end_again, kept_in}
+use Rattle.session_engine.specs.Does.{Does, replies, closed_reported, reported_with}
 
 -- the line of this field waits in one of these lives
 abbrev pub waits_in : List Going → ℕ → Bool
@@ -49,15 +49,15 @@ abbrev pub if_fits : ℕ → ℕ → Op → Option Op
 if_fits room end o = if fits_in room end o then Some o else None
 
 -- the payloads of the ops that make a worksheet again
-abbrev pub codes_anew : Contents → List (List ℕ)
-codes_anew sheet = map code_of (rewrite_of sheet)
+abbrev pub codes_again : Contents → List (List ℕ)
+codes_again sheet = map code_of (rewrite_of sheet)
 
 -- an area of so many bytes has room for a journal that makes the worksheet again
-abbrev pub fits_anew_in : ℕ → Contents → Bool
-fits_anew_in room sheet = nat_le (end_anew sheet + 1) room
+abbrev pub fits_again_in : ℕ → Contents → Bool
+fits_again_in room sheet = nat_le (end_again sheet + 1) room
 
-abbrev pub fits_anew : World → Bool
-fits_anew w = fits_anew_in w.room (sheet_in w)
+abbrev pub fits_again : World → Bool
+fits_again w = fits_again_in w.room (sheet_in w)
 
 -- an op more: it is in the worksheet, and its payload after the journal's end
 abbrev pub with_op : Op → World → World
@@ -65,14 +65,14 @@ with_op o w = record w { ops = w.ops ++ o ∷ []; end = w.end + 5 + length (code
 
 -- the journal is rewritten
 abbrev pub renewed : World → World
-renewed w = record w { end = end_anew (sheet_in w) }
+renewed w = record w { end = end_again (sheet_in w) }
 
 -- the op of the end that a piece brings
 abbrev pub op_of_end : ℕ → ℕ → Option Ended → Option Op
 op_of_end room end end_brought = option_and_then (λ e. kept_in room end e.reason e.lost) end_brought
 
-abbrev pub told_of : Going → Step → Outcome
-told_of l s = told_with l.name l.number (closed_told s.answered) s.default_input s.send s.ended
+abbrev pub reported_of : Going → Step → Outcome
+reported_of l s = reported_with l.name l.number (closed_reported s.answered) s.default_input s.send s.ended
 
 -- a life in place of what it was
 abbrev pub put_back : Going → List Going → List Going
@@ -95,7 +95,7 @@ with_piece l piece blocks = record l { past = l.past ++ received piece ∷ []; b
 
 -- only the journal changes: it is rewritten
 abbrev pub renews : World → Does
-renews w = record { told = replies reply.Done; op = None; anew = true; begun = w.begun; lives = w.lives }
+renews w = record { reported = replies reply.Done; op = None; again = true; begun = w.begun; lives = w.lives }
 
 -- the words that a session's interpreter is started with
 abbrev pub starting_words : Option Session → List (List ℕ)

@@ -37,7 +37,7 @@ pub record Finds (chosen : Chosen) (field : Field) (came : Option Answer) (found
   pub judged : Judged chosen field came found.judgement.verdict
   pub error : found.judgement.error ≡ brings_error came
   pub taken : found.answer ≡ accepted_answer came found.judgement.verdict
-  pub told : found.text.items ≡ acceptance_text field came found.judgement.verdict
+  pub reported : found.text.items ≡ acceptance_text field came found.judgement.verdict
 
 -- the fault of a check by why an answer wasn't accepted
 abbrev pub fault_of_acceptance : AcceptFault → RunFault

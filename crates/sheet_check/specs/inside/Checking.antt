@@ -43,9 +43,9 @@ pub data EvaluationBroke {C : Type 0} (o : Way C) (id : ℕ) (s : At C) (h : Hos
   unremembered : (marks : List Mark) → why ≡ fault.OutOfMemory → CameAlone o id s h c marks → EvaluationBroke o id s h c why
 
 -- What a field came to couldn't be reported: there was no memory for it, and nothing was written, or the writer failed.
-pub data Untold (a b : Option (List ℕ)) (why : RunFault) : Type 0 where
-  unremembered : why ≡ fault.OutOfMemory → Appends a b [] → Untold a b why
-  unwritten : why ≡ fault.Output → Untold a b why
+pub data Withheld (a b : Option (List ℕ)) (why : RunFault) : Type 0 where
+  unremembered : why ≡ fault.OutOfMemory → Appends a b [] → Withheld a b why
+  unwritten : why ≡ fault.Output → Withheld a b why
 
 -- What a fault leaves of the output: this text, but where the writer failed.
 abbrev pub LeavesText : Option (List ℕ) → Option (List ℕ) → List ℕ → RunFault → Type 0

@@ -54,7 +54,7 @@ outcome_wrong o = is_wrong o.reply
 -- The number of the line of the last outcome, where the run is strict and one went wrong: so many lines were read, and the last of them, so
 -- many, were to be taken.
 abbrev pub stopped_at : Bool → List Outcome → ℕ → ℕ → Option ℕ
-stopped_at strict told read count = counted_if (strict && list_any outcome_wrong told) (read - (count - length told))
+stopped_at strict reported read count = counted_if (strict && list_any outcome_wrong reported) (read - (count - length reported))
 
 -- What a call on a host leaves: the host and all that was written, before it and after it.
 pub record HostCall : Type 0 where
@@ -68,16 +68,16 @@ host_call old new out now = record { old = old; new = new; out = out; now = now 
 
 -- Events were taken together, and are durable.
 pub record GroupKept (w : World) (events : List Event) (old new : HostView) : Type 0 where
-  pub told : List Outcome
+  pub reported : List Outcome
   pub leads : World
-  pub runs : Runs w events told leads
+  pub runs : Runs w events reported leads
   pub stands : IsHost new leads
   pub moments : LeavesEither w leads old.store.disk new.store.disk
 
 -- Where a group ends: after all of its events; in a strict run also after the first that was refused.
 abbrev pub EndsBy : Bool → List Outcome → List Event → Type 0
-EndsBy false told rest = rest ≡ []
-EndsBy true told rest = StopsAtRefusal told rest
+EndsBy false reported rest = rest ≡ []
+EndsBy true reported rest = StopsAtRefusal reported rest
 
 -- The first of these events were taken together, up to where a group ends, and are durable.
 pub record KeptUpTo (strict : Bool) (w : World) (events : List Event) (old new : HostView) : Type 0 where
@@ -85,29 +85,29 @@ pub record KeptUpTo (strict : Bool) (w : World) (events : List Event) (old new :
   pub rest : List Event
   pub split : events ≡ done ++ rest
   pub kept : GroupKept w done old new
-  pub ends : EndsBy strict kept.told rest
+  pub ends : EndsBy strict kept.reported rest
 
 -- They were, and these are their outcomes.
 abbrev pub KeptAs : Bool → World → List Event → List Outcome → HostView → HostView → Type 0
-KeptAs strict w events outcomes old new = (p : KeptUpTo strict w events old new) × (p.kept.told ≡ outcomes)
+KeptAs strict w events outcomes old new = (p : KeptUpTo strict w events old new) × (p.kept.reported ≡ outcomes)
 
 -- What a fault of events that are taken together leaves: where the disk failed the first of them were taken, and where memory was refused
 -- none was.
 pub data GroupHalted (strict : Bool) (lines : List (List ℕ)) (w : World) (old new : HostView) : RunFault → Type 0 where
-  halted_by_disk : (p : GroupBroke lines w old.store.disk new) → LastIf strict p.untold → GroupHalted strict lines w old new (fault.Host hosts.Disk)
+  halted_by_disk : (p : GroupBroke lines w old.store.disk new) → LastIf strict p.withheld → GroupHalted strict lines w old new (fault.Host hosts.Disk)
   halted_by_memory : IsHost new w → new.store.disk ≡ old.store.disk → GroupHalted strict lines w old new fault.OutOfMemory
 
 -- They were, their replies are written, and this says after which line the run stopped.
 abbrev pub GroupTook : Bool → World → List Event → HostCall → ℕ → Option ℕ → Type 0
 GroupTook strict w events call read stopped =
-    (p : KeptUpTo strict w events call.old call.new) × Appends call.out call.now (outcomes_text p.kept.told) × (stopped ≡ stopped_at strict p.kept.told read (length events))
+    (p : KeptUpTo strict w events call.old call.new) × Appends call.out call.now (outcomes_text p.kept.reported) × (stopped ≡ stopped_at strict p.kept.reported read (length events))
 
 -- What a fault of events that are taken together leaves: where the disk failed nothing of them is written, and where memory was refused none
 -- was taken.
 pub data GroupFailed (strict : Bool) (lines : List (List ℕ)) (w : World) (events : List Event) (call : HostCall) : RunFault → Type 0 where
-  group_lost : (p : GroupBroke lines w call.old.store.disk call.new) → LastIf strict p.untold → Appends call.out call.now [] → GroupFailed strict lines w events call (fault.Host hosts.Disk)
+  group_lost : (p : GroupBroke lines w call.old.store.disk call.new) → LastIf strict p.withheld → Appends call.out call.now [] → GroupFailed strict lines w events call (fault.Host hosts.Disk)
   group_refused : IsHost call.new w → call.new.store.disk ≡ call.old.store.disk → Appends call.out call.now [] → GroupFailed strict lines w events call fault.OutOfMemory
-  group_untold : KeptUpTo strict w events call.old call.new → GroupFailed strict lines w events call fault.Output
+  group_withheld : KeptUpTo strict w events call.old call.new → GroupFailed strict lines w events call fault.Output
 
 -- The lines that were read: the first of them were done, in a strict run without one that went wrong, and the others wait with these events.
 pub record Standing {C : Type 0} (m : Manner C) (lines : List (List ℕ)) (events : List Event) (s : At C) (left : Left C) : Type 0 where

@@ -7,12 +7,12 @@ use Rattle.host_events.specs.declared.outcome.HostFault.{HostFault}
 use Rattle.host_events.specs.declared.outcome.HostFault.TheVariants as hosts
 use Rattle.session_engine.specs.World.{World}
 use Rattle.session_engine.specs.Host.{IsHost}
-use Rattle.child_edge.specs.Faithful.{At, at, Beat}
+use Rattle.child_edge.specs.Faithful.{At, at, Entry}
 use Rattle.child_edge.specs.Edge.{Stopped}
 use Rattle.child_edge.specs.Seats.{running}
 use Rattle.child_edge.specs.Stops.{Stops}
 use Rattle.sheet_programs.specs.Records.{Brought, Left, Manner}
-use Rattle.sheet_programs.specs.Told.{StandsOrStopped}
+use Rattle.sheet_programs.specs.Reported.{StandsOrStopped}
 use Rattle.sheet_programs.specs.Together.{GroupBroke, GroupTaken}
 use Rattle.sheet_programs.specs.Run.{GroupBefore, LinesUpTo, LinesSoFar, LinesLed}
 use Rattle.sheet_programs.specs.Strict.{GroupBy, LastIf, LinesTaken, RightIf}
@@ -40,7 +40,7 @@ pub record LinesBroke {C : Type 0} (m : Manner C) (lines : List (List ℕ)) (s :
   pub before : GroupBefore m.after lines group s it (at mid left.sources old)
   pub wrote : Appends left.out left.now it.text
   pub right : RightIf m.strict before.ran
-  pub last : LastIf m.strict broke.untold
+  pub last : LastIf m.strict broke.withheld
 
 -- A group of the lines was done, and is not written.
 pub record LinesUnwritten {C : Type 0} (m : Manner C) (lines : List (List ℕ)) (s t : At C) : Type 0 where
@@ -48,10 +48,10 @@ pub record LinesUnwritten {C : Type 0} (m : Manner C) (lines : List (List ℕ)) 
   pub it : Brought
   pub mid : At C
   pub before : GroupBefore m.after lines group s it mid
-  pub beats : List Beat
-  pub taken : GroupTaken group mid beats t
+  pub entries : List Entry
+  pub taken : GroupTaken group mid entries t
   pub right : RightIf m.strict before.ran
-  pub by : GroupBy m.strict beats
+  pub by : GroupBy m.strict entries
 
 -- What a fault of the lines of a script leaves.
 pub data LinesFailed {C : Type 0} (m : Manner C) (lines : List (List ℕ)) (s : At C) (left : Left C) : RunFault → Type 0 where

@@ -8,14 +8,14 @@ abbrev pub spelled_byte : ℕ → List ℕ
 spelled_byte c = cond (nat_eq c 2) (123 ∷ []) (cond (nat_eq c 5) (125 ∷ []) (printed_byte false c))
 
 -- a byte after a 27, with that 27 where it spells itself
-abbrev pub behind_escape : ℕ → List ℕ
-behind_escape c = cond (is_special c) (printed_byte false c) (printed_byte false 27 ++ printed_byte false c)
+abbrev pub after_escape : ℕ → List ℕ
+after_escape c = cond (is_special c) (printed_byte false c) (printed_byte false 27 ++ printed_byte false c)
 
 -- all bytes, of which the first follows a 27 or not
 abbrev pub spelled_text : Bool → List ℕ → List ℕ
 spelled_text escaped [] = []
 spelled_text false (c ∷ s) = cond (nat_eq c 27) (spelled_text true s) (spelled_byte c ++ spelled_text false s)
-spelled_text true (c ∷ s) = behind_escape c ++ spelled_text false s
+spelled_text true (c ∷ s) = after_escape c ++ spelled_text false s
 
 -- The bytes from the one offset to the other are printed so.
 abbrev pub PrintsTo : List ℕ → ℕ → ℕ → List ℕ → Type 0

@@ -1,4 +1,4 @@
-use Rattle.theorem.proofs.Told.{left}
+use Rattle.theorem.proofs.Reported.{left}
 use Rattle.theorem.proofs.Visits.{invocations_left}
 use Rattle.theorem.proofs.Filing.{all_did, came}
 use Rattle.theorem.proofs.opened_after.Goals as goal

@@ -1,6 +1,6 @@
 use Rattle.std.proofs.Common.{inl}
 use Rattle.theorem.specs.Story.{a_group, after_group}
-use Rattle.theorem.proofs.Told.{one_call}
+use Rattle.theorem.proofs.Reported.{one_call}
 use Rattle.theorem.proofs.took_group.Goals as goal
 
 pub returns : goal.returns

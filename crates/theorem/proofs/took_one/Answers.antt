@@ -1,5 +1,5 @@
 use Rattle.theorem.specs.Story.{a_step}
-use Rattle.theorem.proofs.Told.{one_call}
+use Rattle.theorem.proofs.Reported.{one_call}
 use Rattle.theorem.proofs.took_one.Goals as goal
 
 pub returns : goal.returns

@@ -47,5 +47,5 @@ pub record AreSessions (entries : List (List ℕ × Option Session)) : Type 0 wh
   pub named : AreNamed (shown entries)
 
 -- directly after the field with a number
-abbrev pub IsBehind : ℕ → ℕ → Field → List Field → Type 0
-IsBehind after to d fs = (b : ℕ) × (to ≡ suc b) × (b < length fs) × ((get_or fs b d).id ≡ after)
+abbrev pub IsAfter : ℕ → ℕ → Field → List Field → Type 0
+IsAfter after to d fs = (b : ℕ) × (to ≡ suc b) × (b < length fs) × ((get_or fs b d).id ≡ after)

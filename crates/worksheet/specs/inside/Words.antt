@@ -38,5 +38,5 @@ abbrev pub is_input_byte : ℕ → Bool
 is_input_byte byte = is_no_low_byte byte || (byte == 9)
 
 -- whether a number stands directly after another, first for 0
-abbrev pub stands_behind : ℕ → ℕ → List ℕ → Bool
-stands_behind after id ids = is_number (in_front 0 id ids) after
+abbrev pub stands_after : ℕ → ℕ → List ℕ → Bool
+stands_after after id ids = is_number (in_front 0 id ids) after

@@ -3,7 +3,7 @@ use Rattle.std.proofs.lemmas.List.{take_all}
 use Rattle.block_tree.specs.Tree.{items_from}
 use Rattle.block_tree.specs.View.{piece_of}
 use Rattle.block_tree.specs.Output.{output_items}
-use Rattle.block_tree.specs.inside.Growing.{text_behind}
+use Rattle.block_tree.specs.inside.Growing.{text_after}
 use Rattle.block_tree.proofs.Outputs.{next_text, next_block, next_aside, made_node}
 use Rattle.block_tree.proofs.output.+without_asides.Goals.{in-Text+in_ok-push_text-in-Text, in-Block+then-not-is_aside_tag+in_ok-kept-in-Block+in_ok-push-in-Block, in-Block+else-not-is_aside_tag}
 use Rattle.block_tree.proofs.output.+without_asides.Goals as goal
@@ -12,7 +12,7 @@ pub loop-item-preserved : goal.loop-item-preserved
 loop-item-preserved t c =
     elim c.match-item.branch [
       | in-Text+in_ok-push_text-in-Text w ↦
-          ap (λ v. items_from (map piece_of v.items)) w.items-is ∙ w.in_ok-push_text-in-Text.ensures ∙ ap (text_behind _) w.as_slice.ensures
+          ap (λ v. items_from (map piece_of v.items)) w.items-is ∙ w.in_ok-push_text-in-Text.ensures ∙ ap (text_after _) w.as_slice.ensures
           ∙ next_text _ _ _ _ _ c.loop-item-test.true c.item-item.is w.in-Text.is c.loop-item.invariant
       | in-Block+then-not-is_aside_tag+in_ok-kept-in-Block+in_ok-push-in-Block w ↦
           ap (λ v. items_from (map piece_of v.items)) w.items-is ∙ ap (λ v. items_from (map piece_of v)) w.in_ok-push-in-Block.ensures.items

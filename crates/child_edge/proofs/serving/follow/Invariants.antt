@@ -2,8 +2,8 @@ use Rattle.std.proofs.Common.{◌≡◌, ◌+◌, ◌++◌, ◌≤◌, List, Som
 use Rattle.disk_model.specs.Disk.{SameDisk}
 use Rattle.session_engine.specs.World.{World}
 use Rattle.session_engine.specs.Host.{IsHost}
-use Rattle.child_edge.specs.Faithful.{at, Beat, Follows}
-use Rattle.child_edge.specs.Told.{told}
+use Rattle.child_edge.specs.Faithful.{at, Entry, Follows}
+use Rattle.child_edge.specs.Reported.{reported}
 use Rattle.child_edge.proofs.Ranks.{rank}
 use Rattle.child_edge.proofs.serving.follow.Given as goal
 
@@ -13,7 +13,7 @@ invariant-loop g l = record {
   capacity : vec_capacity l.replies ≡ vec_capacity l.fn.replies;
   len : vec_len l.replies ≤ vec_len l.fn.replies + l.counter;
   same : SameDisk l.fn.host.store.disk l.host.store.disk;
-  runs : (w : World) → IsHost l.fn.host w → (bs : List Beat) × (v : World) × Follows g.C.Children.after (at w l.fn.children l.fn.host.store.disk) (Some l.fn.event) bs l.due (at v l.children l.host.store.disk)
-      × IsHost l.host v × (l.replies.items ≡ l.fn.replies.items ++ told bs) × (rank l.due + l.counter ≤ 3);
+  runs : (w : World) → IsHost l.fn.host w → (bs : List Entry) × (v : World) × Follows g.C.Children.after (at w l.fn.children l.fn.host.store.disk) (Some l.fn.event) bs l.due (at v l.children l.host.store.disk)
+      × IsHost l.host v × (l.replies.items ≡ l.fn.replies.items ++ reported bs) × (rank l.due + l.counter ≤ 3);
   still : l.fn.host.closed ≡ true → (l.counter ≡ 0) × (l.due ≡ Some l.fn.event) × (l.host ≡ l.fn.host) × (l.children ≡ l.fn.children) × (l.replies.items ≡ l.fn.replies.items);
 }

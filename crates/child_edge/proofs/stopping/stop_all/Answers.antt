@@ -3,7 +3,7 @@ use Rattle.session_engine.specs.World.{sheet_in}
 use Rattle.session_engine.specs.Host.{number_in}
 use Rattle.child_edge.specs.Seats.{numbered, lives_of}
 use Rattle.child_edge.specs.Stops.{Stops}
-use Rattle.child_edge.proofs.Seating.{number_of, lives-on, all-lives, told-number, Stops-append}
+use Rattle.child_edge.proofs.Seating.{number_of, lives-on, all-lives, reported-number, Stops-append}
 use Rattle.child_edge.proofs.stopping.stop_all.Goals as goal
 
 pub loop-session-init : goal.loop-session-init
@@ -26,7 +26,7 @@ loop-session-preserved g c = record {
       let r = c.loop-session.invariant.stands w h in (
         r.0 ++ numbered c.in-Some.session.now.name (option_map (λ l. l.number) c.life.result),
         Stops-append g.C.Children.after r.0 (numbered c.in-Some.session.now.name (option_map (λ l. l.number) c.life.result)) c.args.children.now c.loop-session.children c.stop_life.new.children r.1 c.stop_life.ensures,
-        lives-on (number_of w) r.0 c.in-Some.session.now c.loop-session.session-iterator c.next.new.self (sheet_in w).sessions (option_map (λ l. l.number) c.life.result) c.in-Some.ensures.steps (told-number w c.in-Some.session.now.name c.life.result (c.life.ensures.life w h)) r.2,
+        lives-on (number_of w) r.0 c.in-Some.session.now c.loop-session.session-iterator c.next.new.self (sheet_in w).sessions (option_map (λ l. l.number) c.life.result) c.in-Some.ensures.steps (reported-number w c.in-Some.session.now.name c.life.result (c.life.ensures.life w h)) r.2,
       );
 }
 

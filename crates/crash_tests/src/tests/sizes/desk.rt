@@ -80,7 +80,7 @@ pub fn piece(alloc: Global, name: &[u8], life: u32, bytes: &[u8]) -> Option<Even
 
 /// What is reported of an event, in short.
 #[derive(Clone, Copy, Debug, PartialEq, Eq)]
-enum Told {
+enum Reported {
     /// A command isn't refused.
     Done,
     /// Something of a child.
@@ -90,50 +90,50 @@ enum Told {
     Other,
 }
 
-fn told_by(reply: &Reply) -> Told {
+fn reported_by(reply: &Reply) -> Reported {
     match reply {
-        Reply::Done | Reply::Field(_) | Reply::Asked(_) => Told::Done,
-        Reply::Child(_) => Told::Child,
-        Reply::Nothing => Told::Nothing,
-        Reply::Refused(_) => Told::Other,
+        Reply::Done | Reply::Field(_) | Reply::Asked(_) => Reported::Done,
+        Reply::Child(_) => Reported::Child,
+        Reply::Nothing => Reported::Nothing,
+        Reply::Refused(_) => Reported::Other,
     }
 }
 
-fn give(host: &mut Host<MemoryDisk>, event: Event) -> Told {
+fn give(host: &mut Host<MemoryDisk>, event: Event) -> Reported {
     match host.step(event) {
-        Ok(outcome) => told_by(&outcome.reply),
-        Err(_) => Told::Other,
+        Ok(outcome) => reported_by(&outcome.reply),
+        Err(_) => Reported::Other,
     }
 }
 
-fn give_if(host: &mut Host<MemoryDisk>, event: Option<Event>) -> Told {
+fn give_if(host: &mut Host<MemoryDisk>, event: Option<Event>) -> Reported {
     match event {
         Some(event) => give(host, event),
-        None => Told::Other,
+        None => Reported::Other,
     }
 }
 
 /// Whether an event is done, where there is one: a command that isn't refused.
 pub fn is_done(host: &mut Host<MemoryDisk>, event: Option<Event>) -> bool {
-    give_if(host, event) == Told::Done
+    give_if(host, event) == Reported::Done
 }
 
 /// Whether something is reported of these bytes, which come in pieces of at most 65,536 bytes: of the
 /// last one, where nothing comes of the others.
-pub fn is_told(
+pub fn is_reported(
     alloc: Global,
     host: &mut Host<MemoryDisk>,
     (name, life): (&[u8], u32),
     bytes: &[u8],
 ) -> bool {
-    let mut last = Told::Nothing;
+    let mut last = Reported::Nothing;
     for part in bytes.chunks(65_536) {
-        if last != Told::Nothing {
+        if last != Reported::Nothing {
             return false;
         }
         last = give_if(host, piece(alloc, name, life, part));
     }
-    last == Told::Child
+    last == Reported::Child
 }
 
 fn short_session(alloc: Global) -> Option<Event> {
@@ -146,6 +146,6 @@ pub fn asks(alloc: Global, host: &mut Host<MemoryDisk>) -> bool {
     let session = is_done(host, short_session(alloc));
     let field = is_done(host, new(alloc, 0, b"a", b"x"));
     let eval = is_done(host, Some(Event::Command(Command::Eval { id: 1 })));
-    let banner = is_told(alloc, host, (b"a", 1), b"\x02verbatim:\x05");
+    let banner = is_reported(alloc, host, (b"a", 1), b"\x02verbatim:\x05");
     session && field && eval && banner
 }

@@ -1,5 +1,5 @@
 //! The greatest worksheet.
-use super::desk::{is_done, is_told, joined, new, opened, session, times};
+use super::desk::{is_done, is_reported, joined, new, opened, session, times};
 use crate::tests::desk::open;
 use block_tree::{Block, Octets};
 use disk_model::MemoryDisk;
@@ -105,7 +105,7 @@ fn evaluates(host: &mut Host<MemoryDisk>, id: u32) -> bool {
 fn is_given(alloc: Global, host: &mut Host<MemoryDisk>, bytes: Option<Vec<u8>>) -> bool {
     match (name_of(alloc, 0), bytes) {
         (Some(name), Some(bytes)) => {
-            is_told(alloc, host, (name.as_bytes(), 1), bytes.as_slice())
+            is_reported(alloc, host, (name.as_bytes(), 1), bytes.as_slice())
         }
         _ => false,
     }

@@ -11,4 +11,4 @@ returns-in-Err-clause-does g c =
     (streams_seen g.Y.Input.Read g.Y.Output.Write g.Y.Output.Outlet.brought g.Y.Output.Says.tried g.Y.Errors.Write g.Y.Errors.Says.tried))
     c.args.request.now.format old (record { places = c.hold.new.self; sources = old.sources; input = old.input; output = old.output; errors = c.end_unheld-ending.new.errors; progress = old.progress })
     c.end_unheld-ending.result c.args.path.now (check_plan c.args.request.now c.args.jobs)
-    (c.in-Err.why, c.in-Err.ensures, (refl, refl, refl, refl), (refl, (c.end_unheld-ending.ensures.status, c.end_unheld-ending.ensures.told)))
+    (c.in-Err.why, c.in-Err.ensures, (refl, refl, refl, refl), (refl, (c.end_unheld-ending.ensures.status, c.end_unheld-ending.ensures.reported)))

@@ -13,14 +13,14 @@ returns-in-Err-len-clause-reads g c =
 pub returns-in-Ok-selector_of-clause-reads : goal.returns-in-Ok-selector_of-clause-reads
 returns-in-Ok-selector_of-clause-reads g c =
     let synced = looked_well _ _ _ c.sync.ensures.called c.in_default.ensures.called.cause (λ model. syncs_look _ _ _ _ (c.sync.ensures.syncs model)) in
-    let told = looked_well _ _ _ c.len.ensures.called c.in-Ok.ensures.called.cause c.len.ensures.looks in
-    reads_on ⊥ _ _ _ (reads_on ⊥ _ _ _ synced told) c.in-Ok-selector_of.ensures.reads
+    let reported = looked_well _ _ _ c.len.ensures.called c.in-Ok.ensures.called.cause c.len.ensures.looks in
+    reads_on ⊥ _ _ _ (reads_on ⊥ _ _ _ synced reported) c.in-Ok-selector_of.ensures.reads
 
 pub returns-in-Err-selector_of-clause-reads : goal.returns-in-Err-selector_of-clause-reads
 returns-in-Err-selector_of-clause-reads g c =
     let synced = looked_well _ _ _ c.sync.ensures.called c.in_default.ensures.called.cause (λ model. syncs_look _ _ _ _ (c.sync.ensures.syncs model)) in
-    let told = looked_well _ _ _ c.len.ensures.called c.in-Ok.ensures.called.cause c.len.ensures.looks in
-    reads_on _ _ _ _ (reads_on ⊥ _ _ _ synced told) c.in-Err-selector_of.ensures.reads
+    let reported = looked_well _ _ _ c.len.ensures.called c.in-Ok.ensures.called.cause c.len.ensures.looks in
+    reads_on _ _ _ _ (reads_on ⊥ _ _ _ synced reported) c.in-Err-selector_of.ensures.reads
 
 pub returns-in-Ok-selector_of-clause-durable : goal.returns-in-Ok-selector_of-clause-durable
 returns-in-Ok-selector_of-clause-durable g c = λ model.

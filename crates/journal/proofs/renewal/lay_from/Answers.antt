@@ -3,28 +3,28 @@ use Rattle.std.proofs.lemmas.Grind.{common_steps}
 use Rattle.disk_model.specs.Disk.{area_of, bytes_on}
 use Rattle.journal.specs.Area.{StandsFor, closed_gate}
 use Rattle.journal.specs.Limits.{longest_payload}
-use Rattle.journal.proofs.Anew.{end_take_le, spared_on, spares_on, spares_sync, went_still}
-use Rattle.journal.proofs.Batches.{end_behind, holds_more}
+use Rattle.journal.proofs.Again.{end_take_le, spared_on, spares_on, spares_sync, went_still}
+use Rattle.journal.proofs.Batches.{end_after, holds_more}
 use Rattle.journal.proofs.renewal.lay_from.Goals as goal
 
-pub fill-behind-requires-clause-memory : goal.fill-behind-requires-clause-memory
-fill-behind-requires-clause-memory g c = holds_more _ _ _ c.requires.memory c.loop-next.invariant.capacity
+pub fill-following-requires-clause-memory : goal.fill-following-requires-clause-memory
+fill-following-requires-clause-memory g c = holds_more _ _ _ c.requires.memory c.loop-next.invariant.capacity
 
 pub lay_batch-requires-clause-inside : goal.lay_batch-requires-clause-inside
 lay_batch-requires-clause-inside g c = λ model1.
-    let b = c.fill-behind.ensures.batch in
+    let b = c.fill-following.ensures.batch in
     let payloads = g.S.Source.payloads c.args.source.now in
     let size = ap length (c.as_slice-bytes.ensures.value ∙ b.1) in
     let went = c.loop-next.invariant.went in
     let model = subst IsTrue went.keeps_model model1 in
-    (c.loop-next.invariant.inside model, omega (arith, went.room, size, length-append b.0 (closed_gate ∷ []), c.loop-next.invariant.end, c.requires.room model, end_behind payloads c.loop-next.next c.fill-behind.result b.0 b.2, end_take_le payloads c.fill-behind.result))
+    (c.loop-next.invariant.inside model, omega (arith, went.room, size, length-append b.0 (closed_gate ∷ []), c.loop-next.invariant.end, c.requires.room model, end_after payloads c.loop-next.next c.fill-following.result b.0 b.2, end_take_le payloads c.fill-following.result))
 
 pub overflow_add-end : goal.overflow_add-end
 overflow_add-end g c =
-    let b = c.fill-behind.ensures.batch in
+    let b = c.fill-following.ensures.batch in
     let payloads = g.S.Source.payloads c.args.source.now in
     let size = ap length (c.as_slice-bytes.ensures.value ∙ b.1) in
-    omega (arith, size, length-append b.0 (closed_gate ∷ []), c.loop-next.invariant.end, c.requires.small, end_behind payloads c.loop-next.next c.fill-behind.result b.0 b.2, end_take_le payloads c.fill-behind.result)
+    omega (arith, size, length-append b.0 (closed_gate ∷ []), c.loop-next.invariant.end, c.requires.small, end_after payloads c.loop-next.next c.fill-following.result b.0 b.2, end_take_le payloads c.fill-following.result)
 
 pub returns-in_err-lay_batch-clause-moments : goal.returns-in_err-lay_batch-clause-moments
 returns-in_err-lay_batch-clause-moments g c = λ model.
@@ -41,16 +41,16 @@ returns-clause-moments g c = λ model.
 
 pub loop-next-preserved : goal.loop-next-preserved
 loop-next-preserved g c =
-    let b = c.fill-behind.ensures.batch in
+    let b = c.fill-following.ensures.batch in
     let payloads = g.S.Source.payloads c.args.source.now in
     let is = c.as_slice-bytes.ensures.value ∙ b.1 in
     let size = ap length is in
     let before = c.loop-next.invariant in
     let went = before.went in
     record {
-      within = c.fill-behind.ensures.within;
-      capacity = omega (arith, before.capacity, c.fill-behind.ensures.capacity);
-      end = omega (arith, size, length-append b.0 (closed_gate ∷ []), before.end, end_behind payloads c.loop-next.next c.fill-behind.result b.0 b.2);
+      within = c.fill-following.ensures.within;
+      capacity = omega (arith, before.capacity, c.fill-following.ensures.capacity);
+      end = omega (arith, size, length-append b.0 (closed_gate ∷ []), before.end, end_after payloads c.loop-next.next c.fill-following.result b.0 b.2);
       went = record {
         room = c.lay_batch.ensures.called.room ∙ went.room;
         keeps_model = c.lay_batch.ensures.called.keeps_model ∙ went.keeps_model;

@@ -2,7 +2,7 @@ use Rattle.std.proofs.Common.{◌≡◌, ◌<◌, ◌≤◌, ◌-◌, length, ta
 use Rattle.disk_model.specs.Disk.{InModel, LeavesOnly, area_of, bytes_on}
 use Rattle.journal.specs.Area.{HasHeader, StandsFor, end_of}
 use Rattle.journal.specs.Limits.{longest_payload}
-use Rattle.journal.specs.inside.Anew.{SparedBy, Spares, Went}
+use Rattle.journal.specs.inside.Again.{SparedBy, Spares, Went}
 use Rattle.journal.proofs.renewal.lay_from.Given as goal
 
 abbrev pub invariant-loop-next : goal.invariant-loop-next

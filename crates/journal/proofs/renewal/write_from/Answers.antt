@@ -1,6 +1,6 @@
 use Rattle.std.proofs.Common.{IsTrue, subst}
 use Rattle.disk_model.specs.inside.Moments.{goes_on, still}
-use Rattle.journal.proofs.Anew.{ready, spared_headed, spares_either}
+use Rattle.journal.proofs.Again.{ready, spared_headed, spares_either}
 use Rattle.journal.proofs.renewal.write_from.Goals as goal
 
 pub turn-requires-clause-headed : goal.turn-requires-clause-headed

@@ -1,5 +1,5 @@
 use Rattle.std.proofs.Common.{◌≡◌, ◌+◌, length, get_or, ap, arith, ◌∙◌}
-use Rattle.journal.proofs.Anew.{end_take_le, end_take_more}
+use Rattle.journal.proofs.Again.{end_take_le, end_take_more}
 use Rattle.journal.proofs.rewrite.end_of_frames.Goals as goal
 
 pub returns-then-room-end-clause-none : goal.returns-then-room-end-clause-none

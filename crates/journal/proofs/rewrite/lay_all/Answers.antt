@@ -4,7 +4,7 @@ use Rattle.std.proofs.lemmas.List.{take_more}
 use Rattle.disk_model.specs.Disk.{area_of, bytes_on}
 use Rattle.journal.specs.Area.{StandsFor, body_of, closed_gate}
 use Rattle.journal.specs.Limits.{longest_payload}
-use Rattle.journal.proofs.Anew.{end_take_le, end_take_more, spared_on, spares_on, spares_sync, went_still}
+use Rattle.journal.proofs.Again.{end_take_le, end_take_more, spared_on, spares_on, spares_sync, went_still}
 use Rattle.journal.proofs.rewrite.lay_all.Goals as goal
 
 pub lay_record-requires-clause-room : goal.lay_record-requires-clause-room

@@ -2,8 +2,8 @@ use Rattle.std.proofs.Common.{arith, sym, subst}
 use Rattle.disk_model.specs.Disk.{LeavesOnly, bytes_on}
 use Rattle.disk_model.specs.declared.disk.Area.{Area}
 use Rattle.disk_model.specs.declared.disk.Area.TheVariants.{First, Second}
-use Rattle.journal.specs.inside.Anew.{SparedBy, Spares}
-use Rattle.journal.proofs.Anew.{spared_torn, spares_write}
+use Rattle.journal.specs.inside.Again.{SparedBy, Spares}
+use Rattle.journal.proofs.Again.{spared_torn, spares_write}
 use Rattle.journal.proofs.rewrite.lay_none.Goals as goal
 
 pub returns-in-First-clause-moments : goal.returns-in-First-clause-moments

@@ -1,5 +1,5 @@
 use Rattle.disk_model.specs.inside.Moments.{still}
-use Rattle.journal.proofs.Anew.{flushed, flushing, turning}
+use Rattle.journal.proofs.Again.{flushed, flushing, turning}
 use Rattle.journal.proofs.rewrite.turn.Goals as goal
 
 pub returns-in_err-write_at-clause-any_moment : goal.returns-in_err-write_at-clause-any_moment

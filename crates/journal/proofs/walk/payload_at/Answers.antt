@@ -16,9 +16,9 @@ returns-clause-bytes g c = λ model payload rest is some fits here.
     let old = g.D.Disk.view c.args.disk.now in
     let area = area_of c.args.window.now.area (bytes_on old) in
     let gate = c.args.gate in
-    let begins = subst (λ (l : List ℕ). Begins c.behind.result.now l) here (c.behind.ensures.shows area (c.in_default.ensures.shows model)) in
+    let begins = subst (λ (l : List ℕ). Begins c.following.result.now l) here (c.following.ensures.shows area (c.in_default.ensures.shows model)) in
     let left : c.args.window.now.limit - gate ≡ length (record_of payload ++ rest) = omega (arith, ap length here, length-drop gate area, (c.requires.shows model).limit) in
-    let told = c.payload_len_at-len.ensures.told payload rest is (omega (arith, fits)) some left begins in
-    let behind : drop (gate + 5) area ≡ payload ++ rest = sym (drop-drop 5 gate area) ∙ ap (λ (l : List ℕ). drop 5 l) here in
+    let reported = c.payload_len_at-len.ensures.reported payload rest is (omega (arith, fits)) some left begins in
+    let following : drop (gate + 5) area ≡ payload ++ rest = sym (drop-drop 5 gate area) ∙ ap (λ (l : List ℕ). drop 5 l) here in
     let read = so_before (λ (i : Image). IfOk c.copy.result (λ bytes. Begins bytes.items (drop (gate + 5) (area_of c.args.window.now.area i)))) _ old (g.D.Disk.view c.fill.new.disk) c.fill.ensures.reads (subst (λ (a : Area). InModel (g.D.Disk.view c.fill.new.disk) (IfOk c.copy.result (λ bytes. Begins bytes.items (drop (gate + 5) (area_of a (bytes_on (g.D.Disk.view c.fill.new.disk))))))) c.fill.ensures.area c.copy.ensures.bytes) model in
-    copied c.copy.result payload (drop (gate + 5) area) rest _ told behind c.copy.ensures.len read
+    copied c.copy.result payload (drop (gate + 5) area) rest _ reported following c.copy.ensures.len read

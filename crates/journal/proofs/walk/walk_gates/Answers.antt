@@ -31,14 +31,14 @@ pub returns-in-End-clause-front : goal.returns-in-End-clause-front
 returns-in-End-clause-front g c = λ model.
     let old = g.D.Disk.view c.args.disk.now in
     let shows = so_before (λ (i : Image). Shows c.fill.new.self (area_of c.args.window.now.area i)) ⊥ old (g.D.Disk.view c.loop-cause.disk) c.loop-cause.invariant.reads (subst (λ (a : Area). InModel (g.D.Disk.view c.loop-cause.disk) (Shows c.fill.new.self (area_of a (bytes_on (g.D.Disk.view c.loop-cause.disk))))) c.loop-cause.invariant.area c.in_default.ensures.shows) model in
-    let step = step_here c.fill.new.self (area_of c.args.window.now.area (bytes_on old)) c.loop-cause.gate (c.loop-cause.window.limit - c.loop-cause.gate) c.behind.result.now steps.End shows (omega (arith, c.fill.ensures.limit)) (omega (arith, c.fill.ensures.limit, c.loop-cause.invariant.inside)) c.in-End.ensures.step c.behind.ensures.shows in
+    let step = step_here c.fill.new.self (area_of c.args.window.now.area (bytes_on old)) c.loop-cause.gate (c.loop-cause.window.limit - c.loop-cause.gate) c.following.result.now steps.End shows (omega (arith, c.fill.ensures.limit)) (omega (arith, c.fill.ensures.limit, c.loop-cause.invariant.inside)) c.in-End.ensures.step c.following.ensures.shows in
     closed_here _ _ step.0 step.1 (c.loop-cause.invariant.reached model) step.2 step.3
 
 pub returns-in-Broken-clause-front : goal.returns-in-Broken-clause-front
 returns-in-Broken-clause-front g c = λ model.
     let old = g.D.Disk.view c.args.disk.now in
     let shows = so_before (λ (i : Image). Shows c.fill.new.self (area_of c.args.window.now.area i)) ⊥ old (g.D.Disk.view c.loop-cause.disk) c.loop-cause.invariant.reads (subst (λ (a : Area). InModel (g.D.Disk.view c.loop-cause.disk) (Shows c.fill.new.self (area_of a (bytes_on (g.D.Disk.view c.loop-cause.disk))))) c.loop-cause.invariant.area c.in_default.ensures.shows) model in
-    let step = step_here c.fill.new.self (area_of c.args.window.now.area (bytes_on old)) c.loop-cause.gate (c.loop-cause.window.limit - c.loop-cause.gate) c.behind.result.now steps.Broken shows (omega (arith, c.fill.ensures.limit)) (omega (arith, c.fill.ensures.limit, c.loop-cause.invariant.inside)) c.in-Broken.ensures.step c.behind.ensures.shows in
+    let step = step_here c.fill.new.self (area_of c.args.window.now.area (bytes_on old)) c.loop-cause.gate (c.loop-cause.window.limit - c.loop-cause.gate) c.following.result.now steps.Broken shows (omega (arith, c.fill.ensures.limit)) (omega (arith, c.fill.ensures.limit, c.loop-cause.invariant.inside)) c.in-Broken.ensures.step c.following.ensures.shows in
     damaged_here _ _ step.0 (c.loop-cause.invariant.reached model) step.1 step.2
 
 pub loop-cause-preserved : goal.loop-cause-preserved
@@ -53,6 +53,6 @@ loop-cause-preserved g c =
       reads = reads_on ⊥ _ _ _ c.loop-cause.invariant.reads c.in_default.ensures.reads;
       shows = shows;
       reached = λ model.
-          let step = step_here c.fill.new.self (area_of c.args.window.now.area (bytes_on old)) c.loop-cause.gate (c.loop-cause.window.limit - c.loop-cause.gate) c.behind.result.now (steps.Record c.in-Record.len) (shows model) (omega (arith, c.fill.ensures.limit)) (omega (arith, c.fill.ensures.limit, c.loop-cause.invariant.inside)) c.in-Record.ensures.step c.behind.ensures.shows in
+          let step = step_here c.fill.new.self (area_of c.args.window.now.area (bytes_on old)) c.loop-cause.gate (c.loop-cause.window.limit - c.loop-cause.gate) c.following.result.now (steps.Record c.in-Record.len) (shows model) (omega (arith, c.fill.ensures.limit)) (omega (arith, c.fill.ensures.limit, c.loop-cause.invariant.inside)) c.in-Record.ensures.step c.following.ensures.shows in
           reached_on _ _ _ step.0 (c.loop-cause.invariant.reached model) step.1 step.2 step.3 step.4;
     }

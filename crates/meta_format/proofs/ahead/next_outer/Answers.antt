@@ -4,7 +4,7 @@ use Rattle.meta_format.specs.inside.Machine.{outside}
 use Rattle.meta_format.specs.inside.Flat.{ComesTo}
 use Rattle.meta_format.specs.declared.ahead.Seen.TheVariants as seen
 use Rattle.meta_format.proofs.Feeds.{roomy}
-use Rattle.meta_format.proofs.Finding.{behind_noise, comes_next, starts_later}
+use Rattle.meta_format.proofs.Finding.{after_noise, comes_next, starts_later}
 use Rattle.meta_format.proofs.ahead.next_outer.Goals as goal
 
 pub returns-then-start-stream-clause-next : goal.returns-then-start-stream-clause-next
@@ -19,5 +19,5 @@ returns-clause-next c blocks read =
     let from = c.args.from in
     let start = c.noise_end-start.result in
     let r = c.block_from.result in
-    comes_next limits roomy s from blocks r (behind_noise limits s from start r c.noise_end-start.ensures.noise c.block_from.ensures.found)
+    comes_next limits roomy s from blocks r (after_noise limits s from start r c.noise_end-start.ensures.noise c.block_from.ensures.found)
     (starts_later from start (length s) r c.noise_end-start.ensures.low c.block_from.ensures.ahead) read

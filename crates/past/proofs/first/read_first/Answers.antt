@@ -4,7 +4,7 @@ use Rattle.disk_model.specs.inside.Moments.{looks_on}
 use Rattle.past.specs.Earlier.{FirstAreRead}
 use Rattle.past.specs.declared.first.Unread.{Unread}
 use Rattle.past.specs.inside.First.{FindsFirst}
-use Rattle.past.proofs.Firsts.{passing_told, read_all, read_few, read_none}
+use Rattle.past.proofs.Firsts.{passing_reported, read_all, read_few, read_none}
 use Rattle.past.proofs.first.read_first.Goals as goal
 
 -- what was read after what was begun
@@ -22,7 +22,7 @@ returns-in-Err-take_first g c =
     let read = c.in-Err-take_first.ensures in
     subst (λ (u : Unread g.row.D.Denot). FirstAreRead g.D.Disk.view c.args.count c.args.disk u.disk (Err u.fault)) (sym c.not_begun-in-Err-take_first.ensures)
     (read_none g.D.Disk.view c.args.count c.args.disk c.in-Err-take_first.fault.disk c.in-Err-take_first.fault.cause (both_same _ _ _ begun.same read.same)
-    (λ model. looks_on _ _ _ (begun.looks model) (read.looks (subst IsTrue (sym begun.same.keeps_model) model))) (λ model. passing_told _ _ read.cause)
+    (λ model. looks_on _ _ _ (begun.looks model) (read.looks (subst IsTrue (sym begun.same.keeps_model) model))) (λ model. passing_reported _ _ read.cause)
     (λ e. omega (arith, read.faulty e, begun.steady)) (λ none. read.steady none ∙ begun.steady))
 
 pub returns-then-found-count : goal.returns-then-found-count

@@ -3,7 +3,7 @@ use Rattle.disk_model.specs.Disk.{DiskView, Looks, bytes_on}
 use Rattle.disk_model.specs.inside.Moments.{looks_on}
 use Rattle.recovery.specs.Sheets.{codes_of}
 use Rattle.past.proofs.Firsts.{enough_given, few_before, most_before}
-use Rattle.recovery.proofs.Rescues.{found_before, found_whole, left_behind, made_before}
+use Rattle.recovery.proofs.Rescues.{found_before, found_whole, left_beyond, made_before}
 use Rattle.past.proofs.first.take_first.Goals as goal
 
 pub returns-in-Err-take-clause-looks : goal.returns-in-Err-take-clause-looks
@@ -46,8 +46,8 @@ returns-in-Ok-End-clause-found g c = λ model payloads has.
     let model1 = subst IsTrue (sym before.same.keeps_model) model in
     let far = before.reached.so_far model payloads has in
     let none = rw c.in-Ok-End.field-0-is at (c.in-Ok-End.ensures.given model1 (codes_of before.reached.ops) far.left far.given) in
-    let told = rw c.in-Ok-End.field-0-is at c.in-Ok-End.ensures.on in
-    inl (c.loop-kept-test.true, found_whole c.args.front c.loop-kept.front c.loop-kept.sheet c.loop-kept.kept c.in-Ok-End.disk c.in-Ok-End.damage payloads before.reached has far none told)
+    let reported = rw c.in-Ok-End.field-0-is at c.in-Ok-End.ensures.on in
+    inl (c.loop-kept-test.true, found_whole c.args.front c.loop-kept.front c.loop-kept.sheet c.loop-kept.kept c.in-Ok-End.disk c.in-Ok-End.damage payloads before.reached has far none reported)
 
 pub returns-in-Err-clause-looks : goal.returns-in-Err-clause-looks
 returns-in-Err-clause-looks g c = λ model.
@@ -87,6 +87,6 @@ loop-kept-preserved g c =
         so_far = λ model payloads has.
             let far = before.reached.so_far model payloads has in
             let next = rw c.in-Ok-Payload.field-0-is at (c.in-Ok-Payload.ensures.given (subst IsTrue (sym before.same.keeps_model) model) (codes_of before.reached.ops) far.left far.given) in
-            left_behind c.loop-kept.front c.in-Ok-Payload.behind before.reached.ops payloads c.in-Ok-Payload.payload.bytes c.take.new.sheet.contents far next takes;
+            left_beyond c.loop-kept.front c.in-Ok-Payload.following before.reached.ops payloads c.in-Ok-Payload.payload.bytes c.take.new.sheet.contents far next takes;
       };
     }

@@ -8,69 +8,69 @@ use Rattle.past.specs.History.{TellsList, change_line, history_text}
 use Rattle.past.proofs.Lists.{list_before, list_stopped, list_whole, one_listed}
 use Rattle.past.specs.declared.history.Listed.{Listed}
 use Rattle.recovery.specs.Sheets.{codes_of}
-use Rattle.recovery.proofs.Rescues.{left_behind}
+use Rattle.recovery.proofs.Rescues.{left_beyond}
 use Rattle.past.proofs.history.list_front.Goals as goal
 
 pub returns-in-Err-list_one-clause-looks : goal.returns-in-Err-list_one-clause-looks
 returns-in-Err-list_one-clause-looks g c = λ model.
-    let before = c.loop-behind.invariant in
+    let before = c.loop-following.invariant in
     let model1 = subst IsTrue (sym before.same.keeps_model) model in
     let looks = rw c.in-Ok-Payload.field-0-is at c.in-Ok-Payload.ensures.looks model1 in
     subst (λ (d : DiskView). Looks c.args.front.disk.history d.history) (sym c.into_disk.ensures) (looks_on _ _ _ (before.looks model) looks)
 
 pub returns-in-Err-list_one-clause-listed : goal.returns-in-Err-list_one-clause-listed
 returns-in-Err-list_one-clause-listed g c = λ model payloads has.
-    let before = c.loop-behind.invariant in
+    let before = c.loop-following.invariant in
     let model1 = subst IsTrue (sym before.same.keeps_model) model in
     let reached = before.listed.reached in
     let far = reached.so_far model payloads has in
     let next = rw c.in-Ok-Payload.field-0-is at (c.in-Ok-Payload.ensures.given model1 (codes_of reached.ops) far.left far.given) in
     let on = rw c.in-Ok-Payload.field-0-is at c.in-Ok-Payload.ensures.on in
-    list_before c.args.front c.loop-behind.front c.loop-behind.sheet.contents c.loop-behind.count c.in-Ok-Payload.payload payloads c.in-Err-list_one.fault
-    (Appends (g.W.Write.contents c.args.writer.now) (g.W.Write.contents c.list_one.new.writer)) (c.list_one.new.writer ≡ c.args.writer.now) (c.list_one.new.writer ≡ c.loop-behind.writer)
-    (λ op. Appends (g.W.Write.contents c.loop-behind.writer) (g.W.Write.contents c.list_one.new.writer) (change_line (c.loop-behind.count + 1) c.loop-behind.sheet.contents.next op)) reached has far next.0 next.1 on.0
+    list_before c.args.front c.loop-following.front c.loop-following.sheet.contents c.loop-following.count c.in-Ok-Payload.payload payloads c.in-Err-list_one.fault
+    (Appends (g.W.Write.contents c.args.writer.now) (g.W.Write.contents c.list_one.new.writer)) (c.list_one.new.writer ≡ c.args.writer.now) (c.list_one.new.writer ≡ c.loop-following.writer)
+    (λ op. Appends (g.W.Write.contents c.loop-following.writer) (g.W.Write.contents c.list_one.new.writer) (change_line (c.loop-following.count + 1) c.loop-following.sheet.contents.next op)) reached has far next.0 next.1 on.0
     (λ same. subst (λ w. Appends (g.W.Write.contents c.args.writer.now) (g.W.Write.contents w) (history_text reached.ops)) (sym same) before.listed.text)
-    (λ op line. one_listed _ _ _ reached.ops op c.loop-behind.sheet.contents c.loop-behind.count reached.count reached.makes.is before.listed.text line)
+    (λ op line. one_listed _ _ _ reached.ops op c.loop-following.sheet.contents c.loop-following.count reached.count reached.makes.is before.listed.text line)
     (c.in-Err-list_one.ensures.refused reached.ops reached.makes)
 
 pub returns-in-Ok-End-clause-looks : goal.returns-in-Ok-End-clause-looks
 returns-in-Ok-End-clause-looks g c = λ model.
-    let before = c.loop-behind.invariant in
+    let before = c.loop-following.invariant in
     let model1 = subst IsTrue (sym before.same.keeps_model) model in
     let looks = rw c.in-Ok-End.field-0-is at c.in-Ok-End.ensures.looks model1 in
     looks_on _ _ _ (before.looks model) looks
 
 pub returns-in-Ok-End-clause-listed : goal.returns-in-Ok-End-clause-listed
 returns-in-Ok-End-clause-listed g c = λ model payloads has.
-    let before = c.loop-behind.invariant in
+    let before = c.loop-following.invariant in
     let model1 = subst IsTrue (sym before.same.keeps_model) model in
     let reached = before.listed.reached in
     let far = reached.so_far model payloads has in
     let none = rw c.in-Ok-End.field-0-is at (c.in-Ok-End.ensures.given model1 (codes_of reached.ops) far.left far.given) in
-    let told = rw c.in-Ok-End.field-0-is at c.in-Ok-End.ensures.on in
-    let written = Appends (g.W.Write.contents c.args.writer.now) (g.W.Write.contents c.loop-behind.writer) in
-    let nothing = c.loop-behind.writer ≡ c.args.writer.now in
+    let reported = rw c.in-Ok-End.field-0-is at c.in-Ok-End.ensures.on in
+    let written = Appends (g.W.Write.contents c.args.writer.now) (g.W.Write.contents c.loop-following.writer) in
+    let nothing = c.loop-following.writer ≡ c.args.writer.now in
     subst (λ (r : Result Unit RunFault). TellsList (bytes_on c.args.front.disk) written nothing r) (sym c.whole_or.ensures)
-    (list_whole c.args.front c.loop-behind.front c.loop-behind.sheet.contents c.loop-behind.count c.in-Ok-End.damage payloads written nothing reached has far none told before.listed.text)
+    (list_whole c.args.front c.loop-following.front c.loop-following.sheet.contents c.loop-following.count c.in-Ok-End.damage payloads written nothing reached has far none reported before.listed.text)
 
 pub returns-in-Err-clause-looks : goal.returns-in-Err-clause-looks
 returns-in-Err-clause-looks g c = λ model.
-    let before = c.loop-behind.invariant in
+    let before = c.loop-following.invariant in
     let model1 = subst IsTrue (sym before.same.keeps_model) model in
     subst (λ (l : Listed g.row.D.Denot). Looks c.args.front.disk.history (g.D.Disk.view l.disk).history) (sym c.not_read.ensures) (looks_on _ _ _ (before.looks model) (c.in-Err.ensures.looks model1))
 
 pub returns-in-Err-clause-listed : goal.returns-in-Err-clause-listed
 returns-in-Err-clause-listed g c = λ model payloads has.
-    let before = c.loop-behind.invariant in
+    let before = c.loop-following.invariant in
     let reached = before.listed.reached in
-    let written = Appends (g.W.Write.contents c.args.writer.now) (g.W.Write.contents c.loop-behind.writer) in
-    let nothing = c.loop-behind.writer ≡ c.args.writer.now in
+    let written = Appends (g.W.Write.contents c.args.writer.now) (g.W.Write.contents c.loop-following.writer) in
+    let nothing = c.loop-following.writer ≡ c.args.writer.now in
     subst (λ (l : Listed g.row.D.Denot). TellsList (bytes_on c.args.front.disk) written nothing l.answer) (sym c.not_read.ensures)
-    (list_stopped c.args.front c.loop-behind.front c.loop-behind.sheet.contents c.loop-behind.count payloads written nothing c.in-Err.fault.cause reached has
+    (list_stopped c.args.front c.loop-following.front c.loop-following.sheet.contents c.loop-following.count payloads written nothing c.in-Err.fault.cause reached has
     (reached.so_far model payloads has) before.listed.text c.in-Err.ensures.cause)
 
-pub loop-behind-init : goal.loop-behind-init
-loop-behind-init g c = record {
+pub loop-following-init : goal.loop-following-init
+loop-following-init g c = record {
   before = c.requires.end;
   small = c.requires.small;
   counted = search rules;
@@ -83,9 +83,9 @@ loop-behind-init g c = record {
   };
 }
 
-pub loop-behind-preserved : goal.loop-behind-preserved
-loop-behind-preserved g c =
-    let before = c.loop-behind.invariant in
+pub loop-following-preserved : goal.loop-following-preserved
+loop-following-preserved g c =
+    let before = c.loop-following.invariant in
     let reached = before.listed.reached in
     let on = rw c.in-Ok-Payload.field-0-is at c.in-Ok-Payload.ensures.on in
     let same = rw c.in-Ok-Payload.field-0-is at c.in-Ok-Payload.ensures.same in
@@ -113,8 +113,8 @@ loop-behind-preserved g c =
           so_far = λ model payloads has.
               let far = reached.so_far model payloads has in
               let next = rw c.in-Ok-Payload.field-0-is at (c.in-Ok-Payload.ensures.given (subst IsTrue (sym before.same.keeps_model) model) (codes_of reached.ops) far.left far.given) in
-              left_behind c.loop-behind.front c.in-Ok-Payload.behind reached.ops payloads c.in-Ok-Payload.payload.bytes c.list_one.new.sheet.contents far next takes;
+              left_beyond c.loop-following.front c.in-Ok-Payload.following reached.ops payloads c.in-Ok-Payload.payload.bytes c.list_one.new.sheet.contents far next takes;
         };
-        text = one_listed _ _ _ reached.ops takes.next c.loop-behind.sheet.contents c.loop-behind.count reached.count reached.makes.is before.listed.text taken.1;
+        text = one_listed _ _ _ reached.ops takes.next c.loop-following.sheet.contents c.loop-following.count reached.count reached.makes.is before.listed.text taken.1;
       };
     }

@@ -4,8 +4,8 @@ use Rattle.disk_model.specs.Disk.{InModel, Looks, SameDisk, greatest_room}
 use Rattle.past.proofs.Lists.{ListedInFront}
 use Rattle.past.proofs.history.list_front.Given as goal
 
-abbrev pub invariant-loop-behind : goal.invariant-loop-behind
-invariant-loop-behind g l =
+abbrev pub invariant-loop-following : goal.invariant-loop-following
+invariant-loop-following g l =
     let old = l.fn.front.disk in
     let new = l.front.disk in
     record {
@@ -18,5 +18,5 @@ invariant-loop-behind g l =
       listed : ListedInFront l.fn.front l.front l.sheet.contents l.count (Appends (g.W.Write.contents l.initial.writer) (g.W.Write.contents l.writer));
     }
 
-abbrev pub decreases-loop-behind : goal.decreases-loop-behind
-decreases-loop-behind g l = l.front.end - l.front.gate
+abbrev pub decreases-loop-following : goal.decreases-loop-following
+decreases-loop-following g l = l.front.end - l.front.gate

@@ -12,4 +12,4 @@ returns-in-Ok g c =
 pub returns-in-Err : goal.returns-in-Err
 returns-in-Err g c =
     subst (λ answer. EndsEvaluated g.T.Tells.voice (streams (writing g.W.Write.contents c.args.output.now c.end_faulty.new.output) (saying g.E.Write.contents g.E.Says.tried c.args.errors.now c.end_faulty.new.errors)) c.args.whole c.end_faulty.result answer)
-    (sym c.in-Err.is) (c.end_faulty.ensures.last, c.end_faulty.ensures.status, c.end_faulty.ensures.told)
+    (sym c.in-Err.is) (c.end_faulty.ensures.last, c.end_faulty.ensures.status, c.end_faulty.ensures.reported)

@@ -49,9 +49,9 @@ returns-clause-files g c =
       memory = ran.memory;
       fault = ran.fault;
       status = c.end_strict.ensures.status;
-      told = c.end_strict.ensures.told;
+      reported = c.end_strict.ensures.reported;
     })))
 
 pub returns-in-Err-read_input-clause-files : goal.returns-in-Err-read_input-clause-files
 returns-in-Err-read_input-clause-files g c =
-    of-files _ c.args.files c.in-Ok.disk c.in-Ok.is (ends.unread c.in-Err-read_input.fault c.in-Err-read_input.ensures.faults (λ is. c.in-Err-read_input.ensures.long (ap (λ why. Err why) is)) (refl, refl) c.close.ensures (c.end_program-in-Err-read_input.ensures.status, c.end_program-in-Err-read_input.ensures.told))
+    of-files _ c.args.files c.in-Ok.disk c.in-Ok.is (ends.unread c.in-Err-read_input.fault c.in-Err-read_input.ensures.faults (λ is. c.in-Err-read_input.ensures.long (ap (λ why. Err why) is)) (refl, refl) c.close.ensures (c.end_program-in-Err-read_input.ensures.status, c.end_program-in-Err-read_input.ensures.reported))

@@ -1,5 +1,5 @@
 //! Which blocks answer, and what is reported of them.
-use super::desk::{is_told, is_told_behind_a_request};
+use super::desk::{is_reported, is_reported_after_a_request};
 
 // A life's first line, a script, and what is reported.
 fn of_one_line(number: u32) -> (&'static str, &'static str, &'static str) {
@@ -47,7 +47,10 @@ fn of_one_line(number: u32) -> (&'static str, &'static str, &'static str) {
 fn answers_to_one_line(rt: HostRuntime) {
     for number in 0..6u32 {
         let (first, script, want) = of_one_line(number);
-        assert!(rt; is_told(rt.alloc(), first, script, want), "case {number}");
+        assert!(rt;
+            is_reported(rt.alloc(), first, script, want),
+            "case {number}"
+        );
     }
 }
 
@@ -81,7 +84,7 @@ fn of_two_lines(number: u32) -> (&'static str, &'static str) {
 fn answers_to_two_lines(rt: HostRuntime) {
     for number in 0..4u32 {
         let (script, want) = of_two_lines(number);
-        assert!(rt; is_told(rt.alloc(), "x", script, want), "case {number}");
+        assert!(rt; is_reported(rt.alloc(), "x", script, want), "case {number}");
     }
 }
 
@@ -113,7 +116,7 @@ fn answers_to_a_request(rt: HostRuntime) {
     for number in 0..4u32 {
         let (script, want) = of_a_request(number);
         assert!(rt;
-            is_told_behind_a_request(rt.alloc(), script, want),
+            is_reported_after_a_request(rt.alloc(), script, want),
             "case {number}"
         );
     }

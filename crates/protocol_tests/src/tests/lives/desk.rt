@@ -63,11 +63,11 @@ fn add_block(alloc: Global, text: &mut String, block: &Block) {
 }
 
 // The root and the completions each in brackets, or `bad`.
-fn add_completed(text: &mut String, told: &Result<Completions, BadCompletion>) {
-    match told {
-        Ok(told) => {
-            let _ = write!(text, "[{}]", shown(told.root.as_slice()));
-            for completion in told.rest.as_slice() {
+fn add_completed(text: &mut String, reported: &Result<Completions, BadCompletion>) {
+    match reported {
+        Ok(reported) => {
+            let _ = write!(text, "[{}]", shown(reported.root.as_slice()));
+            for completion in reported.rest.as_slice() {
                 let _ = write!(text, " [{}]", shown(completion.as_slice()));
             }
         }
@@ -272,7 +272,7 @@ fn tells(alloc: Global, life: &mut Life, script: &str, want: &str) -> bool {
 }
 
 /// Whether this is reported of a script, and then of the life, which begins with this line.
-pub fn is_told(alloc: Global, first: &str, script: &str, want: &str) -> bool {
+pub fn is_reported(alloc: Global, first: &str, script: &str, want: &str) -> bool {
     match begun(alloc, first) {
         Some(mut life) => tells(alloc, &mut life, script, want),
         None => false,
@@ -280,7 +280,7 @@ pub fn is_told(alloc: Global, first: &str, script: &str, want: &str) -> bool {
 }
 
 /// The same of a life that begins with a request in front of `h`.
-pub fn is_told_behind_a_request(alloc: Global, script: &str, want: &str) -> bool {
+pub fn is_reported_after_a_request(alloc: Global, script: &str, want: &str) -> bool {
     match begun_by_request(alloc) {
         Some(mut life) => tells(alloc, &mut life, script, want),
         None => false,

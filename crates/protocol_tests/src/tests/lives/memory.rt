@@ -1,5 +1,5 @@
 //! Lines that wait and are lost, and calls while no memory is left.
-use super::desk::{add_life, add_lines, add_lost, begun, empty_text, is_told};
+use super::desk::{add_life, add_lines, add_lost, begun, empty_text, is_reported};
 use plugin_core::{Life, Reason};
 use std::alloc::Global;
 use tests_desk::exhausted;
@@ -29,7 +29,7 @@ fn case(number: u32) -> (&'static str, &'static str) {
 fn lines_that_wait_and_want_of_memory(rt: HostRuntime) {
     for number in 0..3u32 {
         let (script, want) = case(number);
-        assert!(rt; is_told(rt.alloc(), "x", script, want), "case {number}");
+        assert!(rt; is_reported(rt.alloc(), "x", script, want), "case {number}");
     }
 }
 
@@ -46,7 +46,7 @@ fn half_answered(alloc: Global, text: &mut String) -> Option<Life> {
     Some(life)
 }
 
-fn told_at_the_end(alloc: Global) -> Option<String> {
+fn reported_at_the_end(alloc: Global) -> Option<String> {
     let mut text = empty_text(alloc)?;
     let life = half_answered(alloc, &mut text)?;
     add_lost(&mut text, life);
@@ -56,7 +56,7 @@ fn told_at_the_end(alloc: Global) -> Option<String> {
 fn are_lost(alloc: Global) -> bool {
     let want =
         "banner \x02verbatim:\x05\nsend x\nlife 7 [> ] waits 3: 1 2 3\nEnded\nline 1 x\nline 2 y\nline 3 z\nnone\n";
-    match told_at_the_end(alloc) {
+    match reported_at_the_end(alloc) {
         Some(text) => text.as_str() == want,
         None => false,
     }

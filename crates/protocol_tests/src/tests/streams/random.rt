@@ -54,7 +54,7 @@ impl Dice {
 }
 
 /// The end of the last of these blocks, where each is seen after the one before it.
-fn seen_behind(stream: &[u8], found: &[Found]) -> Option<usize> {
+fn seen_after(stream: &[u8], found: &[Found]) -> Option<usize> {
     let mut from = 0;
     for found in found {
         match seen(stream, from) {
@@ -71,7 +71,7 @@ fn seen_behind(stream: &[u8], found: &[Found]) -> Option<usize> {
 /// Whether block after block is seen where the reader finds it, and the same end.
 fn is_alike(alloc: Global, stream: &[u8]) -> bool {
     let (found, end) = read(alloc, stream, 7);
-    match seen_behind(stream, found.as_slice()) {
+    match seen_after(stream, found.as_slice()) {
         Some(from) => end_of(seen(stream, from)) == end,
         None => false,
     }

@@ -10,4 +10,4 @@ index_mut-requires c =
 pub loop-field-preserved : goal.loop-field-preserved
 loop-field-preserved c =
     one_placed c.args.sheet.now.contents c.loop-field.fields c.next.new.self c.in-Some.field.now c.in_ok-after.after c.loop-field.smaller.items c.put_number.new.smaller.items c.loop-field.afters.items _
-    c.requires c.loop-field.invariant c.in-Some.ensures.steps c.in_ok-after.ensures.front c.in_ok-after.ensures.behind refl
+    c.requires c.loop-field.invariant c.in-Some.ensures.steps c.in_ok-after.ensures.front c.in_ok-after.ensures.following refl

@@ -1,7 +1,7 @@
 use Rattle.std.proofs.Common.{◌-◌, map}
 use Rattle.worksheet.specs.Rewrite.{fields_ops, session_op}
 use Rattle.recovery.specs.inside.Measured.{HasRecord}
-use Rattle.recovery.proofs.Gathering.{all_behind, all_front}
+use Rattle.recovery.proofs.Gathering.{all_after, all_front}
 use Rattle.recovery.proofs.Measures.{measures_on, measures_stop}
 use Rattle.recovery.proofs.measuring.left_after_all.Goals as goal
 
@@ -13,7 +13,7 @@ left_after_sessions-requires c =
 pub left_after_fields-requires-clause-records : goal.left_after_fields-requires-clause-records
 left_after_fields-requires-clause-records c =
     let sheet = c.args.sheet.now.contents in
-    all_behind HasRecord (map session_op sheet.sessions) (fields_ops sheet.fields (sheet.next - 1) 1 1) c.requires.records
+    all_after HasRecord (map session_op sheet.sessions) (fields_ops sheet.fields (sheet.next - 1) 1 1) c.requires.records
 
 pub returns-in-Some : goal.returns-in-Some
 returns-in-Some c =

@@ -3,8 +3,8 @@ use Rattle.disk_model.specs.Disk.{InModel, Looks, SameDisk}
 use Rattle.recovery.proofs.Taking.{Reached}
 use Rattle.recovery.proofs.opening.take_all.Given as goal
 
-abbrev pub invariant-loop-behind : goal.invariant-loop-behind
-invariant-loop-behind g l =
+abbrev pub invariant-loop-following : goal.invariant-loop-following
+invariant-loop-following g l =
     let old = l.fn.opening.disk in
     let new = l.opening.disk in
     record {
@@ -15,5 +15,5 @@ invariant-loop-behind g l =
       reached : Reached l.fn.opening l.opening l.sheet.contents;
     }
 
-abbrev pub decreases-loop-behind : goal.decreases-loop-behind
-decreases-loop-behind g l = l.opening.end - l.opening.gate
+abbrev pub decreases-loop-following : goal.decreases-loop-following
+decreases-loop-following g l = l.opening.end - l.opening.gate

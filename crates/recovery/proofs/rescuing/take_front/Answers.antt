@@ -2,57 +2,57 @@ use Rattle.std.proofs.Common.{◌++◌, ◌∷◌, [], sym, ◌∙◌, subst, ar
 use Rattle.disk_model.specs.Disk.{DiskView, Looks}
 use Rattle.disk_model.specs.inside.Moments.{looks_on}
 use Rattle.recovery.specs.Sheets.{codes_of}
-use Rattle.recovery.proofs.Rescues.{found_before, found_whole, left_behind, made_before}
+use Rattle.recovery.proofs.Rescues.{found_before, found_whole, left_beyond, made_before}
 use Rattle.recovery.proofs.rescuing.take_front.Goals as goal
 
 pub returns-in-Err-take-clause-looks : goal.returns-in-Err-take-clause-looks
 returns-in-Err-take-clause-looks g c = λ model.
-    let before = c.loop-behind.invariant in
+    let before = c.loop-following.invariant in
     let model1 = subst IsTrue (sym before.same.keeps_model) model in
     let looks = rw c.in-Ok-Payload.field-0-is at c.in-Ok-Payload.ensures.looks model1 in
     subst (λ (d : DiskView). Looks c.args.front.disk.history d.history) (sym (c.stop.ensures.disk ∙ c.into_disk.ensures)) (looks_on _ _ _ (before.looks model) looks)
 
 pub returns-in-Err-take-clause-found : goal.returns-in-Err-take-clause-found
 returns-in-Err-take-clause-found g c = λ model payloads has.
-    let before = c.loop-behind.invariant in
+    let before = c.loop-following.invariant in
     let model1 = subst IsTrue (sym before.same.keeps_model) model in
     let far = before.reached.so_far model payloads has in
     let next = rw c.in-Ok-Payload.field-0-is at (c.in-Ok-Payload.ensures.given model1 (codes_of before.reached.ops) far.left far.given) in
     let on = rw c.in-Ok-Payload.field-0-is at c.in-Ok-Payload.ensures.on in
-    found_before c.args.front c.loop-behind.front c.loop-behind.sheet c.take.new.sheet c.loop-behind.kept c.into_disk.result c.in-Ok-Payload.payload payloads c.in-Err-take.cause c.stop.result before.reached has far next.0 next.1 on.0
+    found_before c.args.front c.loop-following.front c.loop-following.sheet c.take.new.sheet c.loop-following.kept c.into_disk.result c.in-Ok-Payload.payload payloads c.in-Err-take.cause c.stop.result before.reached has far next.0 next.1 on.0
     c.in-Err-take.ensures.as_before (c.in-Err-take.ensures.refused before.reached.ops before.reached.makes) c.stop.ensures.stops
 
 pub returns-in-Err-take-clause-made : goal.returns-in-Err-take-clause-made
 returns-in-Err-take-clause-made g c =
-    let before = c.loop-behind.invariant in
-    made_before before.reached.ops c.loop-behind.sheet c.take.new.sheet c.loop-behind.kept c.into_disk.result c.in-Ok-Payload.payload c.in-Err-take.cause c.stop.result before.reached.makes before.reached.count
+    let before = c.loop-following.invariant in
+    made_before before.reached.ops c.loop-following.sheet c.take.new.sheet c.loop-following.kept c.into_disk.result c.in-Ok-Payload.payload c.in-Err-take.cause c.stop.result before.reached.makes before.reached.count
     c.in-Err-take.ensures.as_before (c.in-Err-take.ensures.refused before.reached.ops before.reached.makes) c.stop.ensures.stops
 
 pub returns-in-Ok-End-clause-looks : goal.returns-in-Ok-End-clause-looks
 returns-in-Ok-End-clause-looks g c = λ model.
-    let before = c.loop-behind.invariant in
+    let before = c.loop-following.invariant in
     let model1 = subst IsTrue (sym before.same.keeps_model) model in
     let looks = rw c.in-Ok-End.field-0-is at c.in-Ok-End.ensures.looks model1 in
     looks_on _ _ _ (before.looks model) looks
 
 pub returns-in-Ok-End-clause-found : goal.returns-in-Ok-End-clause-found
 returns-in-Ok-End-clause-found g c = λ model payloads has.
-    let before = c.loop-behind.invariant in
+    let before = c.loop-following.invariant in
     let model1 = subst IsTrue (sym before.same.keeps_model) model in
     let far = before.reached.so_far model payloads has in
     let none = rw c.in-Ok-End.field-0-is at (c.in-Ok-End.ensures.given model1 (codes_of before.reached.ops) far.left far.given) in
-    let told = rw c.in-Ok-End.field-0-is at c.in-Ok-End.ensures.on in
-    found_whole c.args.front c.loop-behind.front c.loop-behind.sheet c.loop-behind.kept c.in-Ok-End.disk c.in-Ok-End.damage payloads before.reached has far none told
+    let reported = rw c.in-Ok-End.field-0-is at c.in-Ok-End.ensures.on in
+    found_whole c.args.front c.loop-following.front c.loop-following.sheet c.loop-following.kept c.in-Ok-End.disk c.in-Ok-End.damage payloads before.reached has far none reported
 
 pub returns-in-Err-clause-looks : goal.returns-in-Err-clause-looks
 returns-in-Err-clause-looks g c = λ model.
-    let before = c.loop-behind.invariant in
+    let before = c.loop-following.invariant in
     let model1 = subst IsTrue (sym before.same.keeps_model) model in
     looks_on _ _ _ (before.looks model) (c.in-Err.ensures.looks model1)
 
-pub loop-behind-preserved : goal.loop-behind-preserved
-loop-behind-preserved g c =
-    let before = c.loop-behind.invariant in
+pub loop-following-preserved : goal.loop-following-preserved
+loop-following-preserved g c =
+    let before = c.loop-following.invariant in
     let on = rw c.in-Ok-Payload.field-0-is at c.in-Ok-Payload.ensures.on in
     let same = rw c.in-Ok-Payload.field-0-is at c.in-Ok-Payload.ensures.same in
     let looks = rw c.in-Ok-Payload.field-0-is at c.in-Ok-Payload.ensures.looks in
@@ -77,6 +77,6 @@ loop-behind-preserved g c =
         so_far = λ model payloads has.
             let far = before.reached.so_far model payloads has in
             let next = rw c.in-Ok-Payload.field-0-is at (c.in-Ok-Payload.ensures.given (subst IsTrue (sym before.same.keeps_model) model) (codes_of before.reached.ops) far.left far.given) in
-            left_behind c.loop-behind.front c.in-Ok-Payload.behind before.reached.ops payloads c.in-Ok-Payload.payload.bytes c.take.new.sheet.contents far next takes;
+            left_beyond c.loop-following.front c.in-Ok-Payload.following before.reached.ops payloads c.in-Ok-Payload.payload.bytes c.take.new.sheet.contents far next takes;
       };
     }

@@ -3,8 +3,8 @@ use Rattle.disk_model.specs.Disk.{InModel, Looks, SameDisk, greatest_room}
 use Rattle.recovery.proofs.Rescues.{ReachedInFront}
 use Rattle.recovery.proofs.rescuing.take_front.Given as goal
 
-abbrev pub invariant-loop-behind : goal.invariant-loop-behind
-invariant-loop-behind g l =
+abbrev pub invariant-loop-following : goal.invariant-loop-following
+invariant-loop-following g l =
     let old = l.fn.front.disk in
     let new = l.front.disk in
     record {
@@ -17,5 +17,5 @@ invariant-loop-behind g l =
       reached : ReachedInFront l.fn.front l.front l.sheet.contents l.kept;
     }
 
-abbrev pub decreases-loop-behind : goal.decreases-loop-behind
-decreases-loop-behind g l = l.front.end - l.front.gate
+abbrev pub decreases-loop-following : goal.decreases-loop-following
+decreases-loop-following g l = l.front.end - l.front.gate

@@ -9,8 +9,8 @@ returns-in_err-extend_from_slice-clause-room c = grind (arith, common_steps, tex
 pub returns-in_err-put_byte-clause-room : goal.returns-in_err-put_byte-clause-room
 returns-in_err-put_byte-clause-room c = grind (arith, common_steps, text_rules)
 
-pub loop-rest-preserved-then-behind-lt1 : goal.loop-rest-preserved-then-behind-lt1
-loop-rest-preserved-then-behind-lt1 c = grind (arith, common_steps, text_rules)
+pub loop-rest-preserved-then-following-lt1 : goal.loop-rest-preserved-then-following-lt1
+loop-rest-preserved-then-following-lt1 c = grind (arith, common_steps, text_rules)
 
 pub loop-rest-preserved : goal.loop-rest-preserved
 loop-rest-preserved c = grind (arith, common_steps, text_rules)

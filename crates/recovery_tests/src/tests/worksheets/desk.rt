@@ -260,17 +260,17 @@ fn add_lines(alloc: Global, text: &mut String, sheet: &mut Sheet, script: &str) 
 }
 
 // What a worksheet tells of a script. The text has room for so many bytes that no line takes memory for it.
-fn told(alloc: Global, sheet: &mut Sheet, script: &str) -> Option<String> {
+fn reported(alloc: Global, sheet: &mut Sheet, script: &str) -> Option<String> {
     let mut text = String::with_capacity(alloc, 1_000).ok()?;
     add_lines(alloc, &mut text, sheet, script);
     Some(text)
 }
 
 /// Whether a worksheet with the session a, of one word, tells this of a script.
-pub fn is_told(alloc: Global, script: &str, want: &str) -> bool {
+pub fn is_reported(alloc: Global, script: &str, want: &str) -> bool {
     let mut sheet = Sheet::new(alloc);
     let has_session = take_if(&mut sheet, session(alloc, "a", "p")).is_none();
-    match told(alloc, &mut sheet, script) {
+    match reported(alloc, &mut sheet, script) {
         Some(text) => has_session && text.as_str() == want,
         None => false,
     }

@@ -1,5 +1,5 @@
 //! The limits, each met one op at a time. The fields of a worksheet are 10,000 at most, and its numbers 1,000,000.
-use super::desk::is_told;
+use super::desk::is_reported;
 
 // A script, and what is reported of it.
 fn case(number: u32) -> (&'static str, &'static str) {
@@ -28,6 +28,6 @@ fn case(number: u32) -> (&'static str, &'static str) {
 fn each_limit_is_met(rt: HostRuntime) {
     for number in 0..4u32 {
         let (script, want) = case(number);
-        assert!(rt; is_told(rt.alloc(), script, want), "case {number}");
+        assert!(rt; is_reported(rt.alloc(), script, want), "case {number}");
     }
 }

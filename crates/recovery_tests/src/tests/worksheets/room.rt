@@ -1,5 +1,5 @@
 //! Room for an op, and ops while no memory is left.
-use super::desk::is_told;
+use super::desk::is_reported;
 
 // A script, and what is reported of it.
 fn without_memory(number: u32) -> (&'static str, &'static str) {
@@ -22,7 +22,7 @@ fn without_memory(number: u32) -> (&'static str, &'static str) {
 fn ops_without_memory(rt: HostRuntime) {
     for number in 0..2u32 {
         let (script, want) = without_memory(number);
-        assert!(rt; is_told(rt.alloc(), script, want), "case {number}");
+        assert!(rt; is_reported(rt.alloc(), script, want), "case {number}");
     }
 }
 
@@ -61,6 +61,6 @@ fn case(number: u32) -> (&'static str, &'static str) {
 fn room_is_no_change(rt: HostRuntime) {
     for number in 0..5u32 {
         let (script, want) = case(number);
-        assert!(rt; is_told(rt.alloc(), script, want), "case {number}");
+        assert!(rt; is_reported(rt.alloc(), script, want), "case {number}");
     }
 }

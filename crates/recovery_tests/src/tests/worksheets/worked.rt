@@ -1,5 +1,5 @@
 //! Worked examples.
-use super::desk::is_told;
+use super::desk::is_reported;
 
 // A script, and what is reported of it.
 fn case(number: u32) -> (&'static str, &'static str) {
@@ -36,6 +36,6 @@ fn case(number: u32) -> (&'static str, &'static str) {
 fn worked_examples(rt: HostRuntime) {
     for number in 0..5u32 {
         let (script, want) = case(number);
-        assert!(rt; is_told(rt.alloc(), script, want), "case {number}");
+        assert!(rt; is_reported(rt.alloc(), script, want), "case {number}");
     }
 }

@@ -26,7 +26,7 @@ returns-in-Ok-clause-ok c =
       life = c.accept.new.self;
       same = c.accept.ensures.number;
       put = p.put (with_life r c.accept.new.self);
-      told = c.number.ensures;
+      reported = c.number.ensures;
       accepts = λ past blocks stands. IfOk-at_ok (λ sent. Accepts past blocks c.args.item sent c.accept.new.self) c.in-Ok.is (c.accept.ensures.ok past blocks stands);
     })
 
@@ -34,7 +34,7 @@ pub returns-in-Ok-begin-clause-ok : goal.returns-in-Ok-begin-clause-ok
 returns-in-Ok-begin-clause-ok c = inr (record {
   none = none name_of c.args.name 0 c.args.lives.now.items (sym c.place_of.ensures.found ∙ c.in-None.is);
   life = c.in-Ok-begin.life;
-  told = refl;
+  reported = refl;
   is_number = c.in-Ok-begin.ensures.number;
   put = c.push_reserved.ensures.items ∙ ap (λ (l : List Running). l ++ record { name = c.args.name; life = c.in-Ok-begin.life } ∷ []) c.make_place.ensures.items;
   stands = c.in-Ok-begin.ensures.ok;

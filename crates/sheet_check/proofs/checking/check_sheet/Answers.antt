@@ -7,7 +7,7 @@ use Rattle.sheet_check.specs.Progress.{SheetShows, checked_count, display, none}
 use Rattle.sheet_check.specs.Check.{not_begun, passage}
 use Rattle.sheet_check.specs.inside.Checking.{OnCopy}
 use Rattle.sheet_check.specs.declared.progress.Sight.TheVariants as sight
-use Rattle.sheet_check.proofs.Ends.{sheet_checked, counts_untold, stopped_tells}
+use Rattle.sheet_check.proofs.Ends.{sheet_checked, counts_withheld, stopped_tells}
 use Rattle.sheet_check.proofs.checking.check_sheet.Goals as goal
 
 pub returns-in-Ok-tell_closing-clause-checked : goal.returns-in-Ok-tell_closing-clause-checked
@@ -19,7 +19,7 @@ returns-in-Ok-tell_closing-clause-checked g c =
 pub returns-in-Err-tell_closing-clause-checked : goal.returns-in-Err-tell_closing-clause-checked
 returns-in-Err-tell_closing-clause-checked g c =
     let o = subst (λ x. IfSome x (OnCopy (one_by_one (way g.C.Children.after g.C.Sources.clock g.C.Sources.wakes c.args.request.now.limit) c.args.request.now.chosen c.args.request.now.format) c.args.sheet.now.contents (passage c.args.sources c.checked_on_copy-answer.result.sources (g.W.Write.contents c.args.writer.now) (g.W.Write.contents c.checked_on_copy-answer.new.writer)))) c.in-Some.is c.checked_on_copy-answer.ensures.some in
-    counts_untold (one_by_one (way g.C.Children.after g.C.Sources.clock g.C.Sources.wakes c.args.request.now.limit) c.args.request.now.chosen c.args.request.now.format) c.args.sheet.now.contents o.0 o.1 o.2 c.args.sources c.checked_on_copy-answer.result.sources (g.W.Write.contents c.args.writer.now) (g.W.Write.contents c.checked_on_copy-answer.new.writer)
+    counts_withheld (one_by_one (way g.C.Children.after g.C.Sources.clock g.C.Sources.wakes c.args.request.now.limit) c.args.request.now.chosen c.args.request.now.format) c.args.sheet.now.contents o.0 o.1 o.2 c.args.sources c.checked_on_copy-answer.result.sources (g.W.Write.contents c.args.writer.now) (g.W.Write.contents c.checked_on_copy-answer.new.writer)
     (g.W.Write.contents c.tell_closing.new.writer) c.in-Ok.counts _ c.in-Err-tell_closing.fault (if_ok_is c.in-Some.counted _ c.in-Ok.counts c.in-Ok.is o.3) c.in-Err-tell_closing.ensures.err
 
 pub returns-in-Err-clause-checked : goal.returns-in-Err-clause-checked

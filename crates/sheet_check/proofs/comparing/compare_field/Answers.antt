@@ -16,13 +16,13 @@ returns-then-not-has-clause-ok g c = λ w h.
 pub returns-in-Ok-clause-ok : goal.returns-in-Ok-clause-ok
 returns-in-Ok-clause-ok g c = λ w h.
     let id = c.args.field.now.id in
-    let told = subst (λ x. Judged c.args.request.now.chosen c.args.field.now (came_if x (shown_in w id)) c.in-Ok.judgement.verdict
+    let reported = subst (λ x. Judged c.args.request.now.chosen c.args.field.now (came_if x (shown_in w id)) c.in-Ok.judgement.verdict
     × (c.in-Ok.judgement.error ≡ brings_error (came_if x (shown_in w id)))
     × Appends (g.W.Write.contents c.args.writer.now) (g.W.Write.contents c.tell_what_came.new.writer)
     (case_text c.args.request.now.format (c.total-number.result + 1) (case c.args.field.now (came_if x (shown_in w id)) (reason_shown_in w id) c.in-Ok.judgement.verdict None))) c.is_in_time-in_time.ensures (c.in-Ok.ensures.ok w h) in
     let m = comparing c.args.request.now.chosen c.args.request.now.format w c.args.marks.now in
     one_compared m (c.total-number.result + 1) c.args.field.now (g.W.Write.contents c.args.writer.now) (g.W.Write.contents c.tell_what_came.new.writer) c.args.counts c.show_counts.result c.in-Ok.judgement (sym c.has.ensures ∙ c.if-not-has.false)
-    told.0 told.1 told.2 (ap (λ n. n + 1) c.total-number.ensures) (c.show_counts.ensures.same ∙ c.with.ensures.counted)
+    reported.0 reported.1 reported.2 (ap (λ n. n + 1) c.total-number.ensures) (c.show_counts.ensures.same ∙ c.with.ensures.counted)
 
 pub returns-in-Ok-clause-shown : goal.returns-in-Ok-clause-shown
 returns-in-Ok-clause-shown g c = inr (

@@ -11,7 +11,7 @@ use Rattle.sheet_check.specs.Evaluated.{way}
 use Rattle.sheet_check.specs.Progress.{SheetShows, checked_count, display, none}
 use Rattle.sheet_check.specs.inside.Accepting.{OnCopy, storing}
 use Rattle.sheet_check.specs.declared.progress.Sight.TheVariants as sight
-use Rattle.sheet_check.proofs.Kept.{counts_kept_back, counts_told}
+use Rattle.sheet_check.proofs.Kept.{counts_kept_back, counts_reported}
 use Rattle.sheet_check.proofs.differing.accept_sheet.Goals as goal
 
 pub returns-in-None-clause-accepted : goal.returns-in-None-clause-accepted
@@ -30,7 +30,7 @@ returns-in-None-clause-shown g c =
 pub returns-in-Ok-tell_closing-clause-accepted : goal.returns-in-Ok-tell_closing-clause-accepted
 returns-in-Ok-tell_closing-clause-accepted g c = λ ops disk stores.
     let o = subst (λ x. IfSome x (OnCopy (to_accept (way g.C.Children.after g.C.Sources.clock g.C.Sources.wakes c.args.request.now.limit) c.args.request.now.chosen) c.args.store.now.sheet.contents (passage c.args.sources c.accepted_on_copies-answer.result.sources (g.W.Write.contents c.args.writer.now) (g.W.Write.contents c.accepted_on_copies-answer.new.writer)) (storing ops [] disk c.accepted_on_copies-answer.new.store))) c.in-Some.is (c.accepted_on_copies-answer.ensures.some ops disk stores) in
-    counts_told (way g.C.Children.after g.C.Sources.clock g.C.Sources.wakes c.args.request.now.limit) c.args.request.now.chosen c.args.store.now.sheet.contents o.0 o.1 o.2 c.args.sources c.accepted_on_copies-answer.result.sources (g.W.Write.contents c.args.writer.now) (g.W.Write.contents c.accepted_on_copies-answer.new.writer)
+    counts_reported (way g.C.Children.after g.C.Sources.clock g.C.Sources.wakes c.args.request.now.limit) c.args.request.now.chosen c.args.store.now.sheet.contents o.0 o.1 o.2 c.args.sources c.accepted_on_copies-answer.result.sources (g.W.Write.contents c.args.writer.now) (g.W.Write.contents c.accepted_on_copies-answer.new.writer)
     (g.W.Write.contents c.tell_closing.new.writer) ops disk c.accepted_on_copies-answer.new.store (Unit {0}) c.in-Ok.counts (if_ok_is c.in-Some.counted _ c.in-Ok.counts c.in-Ok.is o.3) c.in-Ok-tell_closing.ensures.ok
 
 pub returns-in-Err-tell_closing-clause-accepted : goal.returns-in-Err-tell_closing-clause-accepted

@@ -2,7 +2,7 @@ use Rattle.std.proofs.Common.{sym, subst}
 use Rattle.std.specs.Prelude.{Err}
 use Rattle.sheet_check.specs.Kept.{PutsOne, answer_op}
 use Rattle.sheet_check.specs.declared.putting.AcceptFault.{AcceptFault}
-use Rattle.sheet_check.proofs.Behind.{answer_allowed, not_put, put}
+use Rattle.sheet_check.proofs.After.{answer_allowed, not_put, put}
 use Rattle.sheet_check.proofs.putting.accept.Goals as goal
 
 pub returns-in-Ok-clause-puts : goal.returns-in-Ok-clause-puts

@@ -8,13 +8,13 @@ use Rattle.sheet_check.specs.Together.{not_begun, side_by_side}
 use Rattle.sheet_check.specs.inside.Comparing.{OnCleared}
 use Rattle.std.specs.Prelude.{◌≡◌, IfNone, IfSome}
 use Rattle.sheet_check.specs.declared.progress.Sight.TheVariants as sight
-use Rattle.sheet_check.proofs.Compared.{counts_unwritten, tells_on, told_together}
+use Rattle.sheet_check.proofs.Compared.{counts_unwritten, tells_on, reported_together}
 use Rattle.sheet_check.proofs.together.check_sheet_together.Goals as goal
 
 pub returns-in-Ok-tell_closing-clause-checked : goal.returns-in-Ok-tell_closing-clause-checked
 returns-in-Ok-tell_closing-clause-checked g c =
     let o = subst (λ x. IfSome x (OnCleared (side_by_side (way g.C.Children.after g.C.Sources.clock g.C.Sources.wakes c.args.request.now.limit) c.args.jobs c.args.request.now.chosen c.args.request.now.format) c.args.sheet.now.contents (passage c.args.sources c.together_on_copy-answer.result.sources (g.W.Write.contents c.args.writer.now) (g.W.Write.contents c.together_on_copy-answer.new.writer)))) c.in-Some.is c.together_on_copy-answer.ensures.some in
-    told_together (side_by_side (way g.C.Children.after g.C.Sources.clock g.C.Sources.wakes c.args.request.now.limit) c.args.jobs c.args.request.now.chosen c.args.request.now.format) c.args.sheet.now.contents c.args.sources c.together_on_copy-answer.result.sources
+    reported_together (side_by_side (way g.C.Children.after g.C.Sources.clock g.C.Sources.wakes c.args.request.now.limit) c.args.jobs c.args.request.now.chosen c.args.request.now.format) c.args.sheet.now.contents c.args.sources c.together_on_copy-answer.result.sources
     (g.W.Write.contents c.args.writer.now) (g.W.Write.contents c.together_on_copy-answer.new.writer) (g.W.Write.contents c.tell_closing.new.writer) c.in-Ok.counts (if_ok_is c.in-Some.counted _ c.in-Ok.counts c.in-Ok.is o.0) c.in-Ok-tell_closing.ensures.ok
 
 pub returns-in-Err-tell_closing-clause-checked : goal.returns-in-Err-tell_closing-clause-checked

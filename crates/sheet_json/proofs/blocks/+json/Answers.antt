@@ -6,4 +6,4 @@ use Rattle.sheet_json.proofs.blocks.+json.Goals as goal
 pub node_value-returns : goal.node_value-returns
 node_value-returns t c =
     IfOk-weaker c.framed.result _ _
-    (λ value told. node_made c.args.node.now c.loop-item.inside.items _ _ (view value) c.loop-item-test.false c.deref-item-items.ensures.value c.loop-item.invariant told) c.framed.ensures
+    (λ value reported. node_made c.args.node.now c.loop-item.inside.items _ _ (view value) c.loop-item-test.false c.deref-item-items.ensures.value c.loop-item.invariant reported) c.framed.ensures

@@ -10,10 +10,10 @@ pub returns-clause-text : goal.returns-clause-text
 returns-clause-text c =
     let sheet = c.args.sheet.now.contents in
     IfOk-weaker c.to_vec.result _ _
-    (λ bytes told. told (subst (λ (d : Data). has_float d ≡ false) (sym c.in_ok-notebook.ensures) (no_float sheet)) ∙ ap compact_text c.in_ok-notebook.ensures) c.to_vec.ensures.text
+    (λ bytes reported. reported (subst (λ (d : Data). has_float d ≡ false) (sym c.in_ok-notebook.ensures) (no_float sheet)) ∙ ap compact_text c.in_ok-notebook.ensures) c.to_vec.ensures.text
 
 pub returns-clause-reads : goal.returns-clause-reads
 returns-clause-reads c =
     let sheet = c.args.sheet.now.contents in
     IfOk-weaker c.to_vec.result _ _
-    (λ bytes told. told (subst (λ (d : Data). depth d ≤ max_depth) (sym c.in_ok-notebook.ensures) (is_shallow sheet)) ∙ ap Some c.in_ok-notebook.ensures) c.to_vec.ensures.reads_back
+    (λ bytes reported. reported (subst (λ (d : Data). depth d ≤ max_depth) (sym c.in_ok-notebook.ensures) (is_shallow sheet)) ∙ ap Some c.in_ok-notebook.ensures) c.to_vec.ensures.reads_back

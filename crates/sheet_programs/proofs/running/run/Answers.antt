@@ -12,9 +12,9 @@ pub returns-in-Ok-clause-ran : goal.returns-in-Ok-clause-ran
 returns-in-Ok-clause-ran g c =
     let stream = g.R.Read.remaining c.args.reader.now in
     let before = outside (g.D.Disk.view c.args.disk) c.args.children.now (g.W.Write.contents c.args.writer.now) in
-    let behind = outside (g.D.Disk.view c.run_read.result.disk) c.run_read.new.children (g.W.Write.contents c.run_read.new.writer) in
+    let following = outside (g.D.Disk.view c.run_read.result.disk) c.run_read.new.children (g.W.Write.contents c.run_read.new.writer) in
     if_ok_then c.run_read.result.answer _ _
-    (λ stopped p. of-stream stream c.as_slice.result.now (λ s. RunDone (manner g.C.Children.after false) s stopped before behind) (IfSome_then stream c.in-Ok.ensures.whole (λ bytes e. c.as_slice.ensures.value ∙ e)) p)
+    (λ stopped p. of-stream stream c.as_slice.result.now (λ s. RunDone (manner g.C.Children.after false) s stopped before following) (IfSome_then stream c.in-Ok.ensures.whole (λ bytes e. c.as_slice.ensures.value ∙ e)) p)
     c.run_read.ensures.ran
 
 pub returns-in-Ok-clause-fault : goal.returns-in-Ok-clause-fault

@@ -8,7 +8,7 @@ use Rattle.offline_programs.specs.Input.{longest_standard_input}
 use Rattle.offline_programs.proofs.Scripting.{script-few}
 use Rattle.offline_programs.proofs.Shows.{untouched}
 use Rattle.offline_programs.specs.Memory.{script_lines}
-use Rattle.offline_programs.specs.declared.fault.RunFault.TheVariants as told
+use Rattle.offline_programs.specs.declared.fault.RunFault.TheVariants as reported
 use Rattle.host_events.specs.declared.outcome.HostFault.TheVariants as hosts
 use Rattle.journal.specs.declared.opening.OpenCause.TheVariants as opens
 use Rattle.disk_model.specs.Disk.{DiskView, Rises, SameDisk}
@@ -63,8 +63,8 @@ returns-clause-unopened g c = λ e.
     absurd (stopped_open (manner g.C.Children.after c.args.strict) (script_lines c.args.script.now) (at start c.args.children.now c.in-Ok.host.store.disk)
     (left c.run_lines-answer.new.host c.stop_all.new.children (g.W.Write.contents c.args.writer.now) (g.W.Write.contents c.run_lines-answer.new.writer)) opens.Disk
     (lines_stopped (manner g.C.Children.after c.args.strict) (script_lines c.args.script.now) (at start c.args.children.now c.in-Ok.host.store.disk) c.run_lines-answer.new.host c.run_lines-answer.new.children c.stop_all.new.children
-    (g.W.Write.contents c.args.writer.now) (g.W.Write.contents c.run_lines-answer.new.writer) (c.stop_all.ensures.working, c.stop_all.ensures.stopped) (told.Open opens.Disk) c.stop_all.ensures.numbered
-    (if_err_is c.run_lines-answer.result _ (told.Open opens.Disk) e (c.run_lines-answer.ensures.err start o.1))))
+    (g.W.Write.contents c.args.writer.now) (g.W.Write.contents c.run_lines-answer.new.writer) (c.stop_all.ensures.working, c.stop_all.ensures.stopped) (reported.Open opens.Disk) c.stop_all.ensures.numbered
+    (if_err_is c.run_lines-answer.result _ (reported.Open opens.Disk) e (c.run_lines-answer.ensures.err start o.1))))
 
 pub returns-clause-memory : goal.returns-clause-memory
 returns-clause-memory g c = λ e.
@@ -73,8 +73,8 @@ returns-clause-memory g c = λ e.
     absurd (stopped_open (manner g.C.Children.after c.args.strict) (script_lines c.args.script.now) (at start c.args.children.now c.in-Ok.host.store.disk)
     (left c.run_lines-answer.new.host c.stop_all.new.children (g.W.Write.contents c.args.writer.now) (g.W.Write.contents c.run_lines-answer.new.writer)) opens.OutOfMemory
     (lines_stopped (manner g.C.Children.after c.args.strict) (script_lines c.args.script.now) (at start c.args.children.now c.in-Ok.host.store.disk) c.run_lines-answer.new.host c.run_lines-answer.new.children c.stop_all.new.children
-    (g.W.Write.contents c.args.writer.now) (g.W.Write.contents c.run_lines-answer.new.writer) (c.stop_all.ensures.working, c.stop_all.ensures.stopped) (told.Open opens.OutOfMemory) c.stop_all.ensures.numbered
-    (if_err_is c.run_lines-answer.result _ (told.Open opens.OutOfMemory) e (c.run_lines-answer.ensures.err start o.1))))
+    (g.W.Write.contents c.args.writer.now) (g.W.Write.contents c.run_lines-answer.new.writer) (c.stop_all.ensures.working, c.stop_all.ensures.stopped) (reported.Open opens.OutOfMemory) c.stop_all.ensures.numbered
+    (if_err_is c.run_lines-answer.result _ (reported.Open opens.OutOfMemory) e (c.run_lines-answer.ensures.err start o.1))))
 
 pub returns-clause-failed : goal.returns-clause-failed
 returns-clause-failed g c = λ e.
@@ -86,5 +86,5 @@ returns-clause-failed g c = λ e.
     (failed_since (manner g.C.Children.after c.args.strict) (script_lines c.args.script.now) disk c.in-Ok.host.store.disk start c.args.children.now
     (left host c.stop_all.new.children (g.W.Write.contents c.args.writer.now) (g.W.Write.contents c.run_lines-answer.new.writer)) c.in-Ok.ensures.same
     (lines_stopped (manner g.C.Children.after c.args.strict) (script_lines c.args.script.now) (at start c.args.children.now c.in-Ok.host.store.disk) c.run_lines-answer.new.host c.run_lines-answer.new.children c.stop_all.new.children
-    (g.W.Write.contents c.args.writer.now) (g.W.Write.contents c.run_lines-answer.new.writer) (c.stop_all.ensures.working, c.stop_all.ensures.stopped) (told.Host hosts.Disk) c.stop_all.ensures.numbered
-    (if_err_is c.run_lines-answer.result _ (told.Host hosts.Disk) e (c.run_lines-answer.ensures.err start o.1))))
+    (g.W.Write.contents c.args.writer.now) (g.W.Write.contents c.run_lines-answer.new.writer) (c.stop_all.ensures.working, c.stop_all.ensures.stopped) (reported.Host hosts.Disk) c.stop_all.ensures.numbered
+    (if_err_is c.run_lines-answer.result _ (reported.Host hosts.Disk) e (c.run_lines-answer.ensures.err start o.1))))

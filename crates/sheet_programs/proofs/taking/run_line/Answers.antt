@@ -5,7 +5,7 @@ use Rattle.sheet_text.specs.Script.{line_of}
 use Rattle.child_edge.specs.Faithful.{at}
 use Rattle.offline_programs.specs.Memory.{bad_line}
 use Rattle.sheet_programs.specs.Records.{left}
-use Rattle.sheet_programs.specs.Told.{LineFailed, line_refused}
+use Rattle.sheet_programs.specs.Reported.{LineFailed, line_refused}
 use Rattle.sheet_programs.specs.Strict.{LineTook}
 use Rattle.sheet_programs.proofs.Commands.{still_done, still_failed, unread}
 use Rattle.sheet_programs.proofs.taking.run_line.Goals as goal

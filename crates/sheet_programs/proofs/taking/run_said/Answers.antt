@@ -5,7 +5,7 @@ use Rattle.sheet_text.specs.Texts.{sheet_text}
 use Rattle.sheet_text.specs.declared.script.ScriptLine.TheVariants as said
 use Rattle.child_edge.specs.Faithful.{at}
 use Rattle.sheet_programs.specs.Records.{brought, left}
-use Rattle.sheet_programs.specs.Told.{LineFailed}
+use Rattle.sheet_programs.specs.Reported.{LineFailed}
 use Rattle.sheet_programs.specs.Strict.{LineTook}
 use Rattle.sheet_programs.proofs.Commands.{still_done, still_failed}
 use Rattle.sheet_programs.proofs.taking.run_said.Goals as goal

@@ -7,7 +7,7 @@ use Rattle.child_edge.specs.Faithful.{at}
 use Rattle.offline_programs.specs.Memory.{replies_text}
 use Rattle.sheet_programs.specs.Strict.{is_wrong}
 use Rattle.sheet_programs.specs.Records.{left}
-use Rattle.sheet_programs.specs.Told.{LineFailed, line_unwritten}
+use Rattle.sheet_programs.specs.Reported.{LineFailed, line_unwritten}
 use Rattle.sheet_programs.specs.Strict.{LineTook}
 use Rattle.sheet_programs.proofs.Commands.{command_done, command_unwritten, command_failed, command_broke_unwritten}
 use Rattle.sheet_programs.proofs.taking.take_command.Goals as goal

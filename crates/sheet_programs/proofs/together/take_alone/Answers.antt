@@ -4,7 +4,7 @@ use Rattle.host_events.specs.declared.event.Event.TheVariants as asks
 use Rattle.sheet_text.specs.declared.script.ScriptLine.TheVariants as said
 use Rattle.child_edge.specs.Faithful.{at}
 use Rattle.sheet_programs.specs.Records.{left}
-use Rattle.sheet_programs.specs.Told.{LineFailed}
+use Rattle.sheet_programs.specs.Reported.{LineFailed}
 use Rattle.sheet_programs.proofs.together.take_alone.Goals as goal
 
 pub returns-in-Command-clause-err : goal.returns-in-Command-clause-err

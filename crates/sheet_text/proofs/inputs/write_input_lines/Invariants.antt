@@ -1,12 +1,12 @@
 use Rattle.std.proofs.Common.{flat_map, option_copied}
 use Rattle.sheet_text.specs.Escape.{on_line}
 use Rattle.sheet_text.specs.InputLines.{further_line, further_lines}
-use Rattle.sheet_text.proofs.LineCuts.{Written, left_behind}
+use Rattle.sheet_text.proofs.LineCuts.{Written, left_beyond}
 use Rattle.sheet_text.proofs.inputs.write_input_lines.Given as goal
 
-abbrev pub invariant-loop-behind : goal.invariant-loop-behind
-invariant-loop-behind g l = Written (further_line on_line l.between) (g.W.Write.contents l.initial.out) (g.W.Write.contents l.out)
-    (further_lines (option_copied l.behind)) (flat_map (further_line on_line l.between) (further_lines (option_copied l.initial.behind)))
+abbrev pub invariant-loop-following : goal.invariant-loop-following
+invariant-loop-following g l = Written (further_line on_line l.between) (g.W.Write.contents l.initial.out) (g.W.Write.contents l.out)
+    (further_lines (option_copied l.following)) (flat_map (further_line on_line l.between) (further_lines (option_copied l.initial.following)))
 
-abbrev pub decreases-loop-behind : goal.decreases-loop-behind
-decreases-loop-behind g l = left_behind (option_copied l.behind)
+abbrev pub decreases-loop-following : goal.decreases-loop-following
+decreases-loop-following g l = left_beyond (option_copied l.following)

@@ -1,7 +1,7 @@
 use Rattle.sheet_json.specs.Objects.{telling_data}
-use Rattle.sheet_json.specs.Tellings as told
-use Rattle.sheet_json.proofs.NoFloats.{none_told}
+use Rattle.sheet_json.specs.Tellings as reported
+use Rattle.sheet_json.proofs.NoFloats.{none_reported}
 use Rattle.stream_json.proofs.blocks.write_hello.Goals as goal
 
 pub returns-clause-ok : goal.returns-clause-ok
-returns-clause-ok g c = c.write_made.ensures.ok (telling_data told.hello) (none_told told.hello) c.hello_value.ensures
+returns-clause-ok g c = c.write_made.ensures.ok (telling_data reported.hello) (none_reported reported.hello) c.hello_value.ensures

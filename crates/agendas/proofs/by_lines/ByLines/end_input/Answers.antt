@@ -2,7 +2,7 @@ use Rattle.std.proofs.Common.{◌∙◌, ap, refl, subst, sym}
 use Rattle.driver.specs.declared.report.Show.TheVariants as show
 use Rattle.driver.specs.declared.turn.Turn.TheVariants as turn
 use Rattle.tellings.specs.declared.note.Note.TheVariants as note
-use Rattle.agendas.specs.LinesAt.{behind_end, lines_stand, with_transaction}
+use Rattle.agendas.specs.LinesAt.{after_end, lines_stand, with_transaction}
 use Rattle.agendas.specs.Taking.{EndsInput}
 use Rattle.agendas.proofs.by_lines.ByLines.end_input.Goals as goal
 
@@ -16,5 +16,5 @@ pub returns-in-Some : goal.returns-in-Some
 returns-in-Some g c =
     let before = lines_stand g.R.Read.remaining c.args.self.now in
     let some = sym c.replace.ensures.value ∙ c.in-Some.is in
-    subst (λ b. EndsInput b before (turn.Show (show.Note (note.Undone c.in-Some.transaction.first before.number))) (with_transaction (behind_end before) c.replace.new.dest)) (sym some)
-    (refl, ap (λ b. with_transaction (behind_end before) b) c.replace.ensures.after)
+    subst (λ b. EndsInput b before (turn.Show (show.Note (note.Undone c.in-Some.transaction.first before.number))) (with_transaction (after_end before) c.replace.new.dest)) (sym some)
+    (refl, ap (λ b. with_transaction (after_end before) b) c.replace.ensures.after)

@@ -5,7 +5,7 @@ use Rattle.live.specs.declared.holding.Hold.TheVariants as hold
 use Rattle.live.specs.Saying.{stop_if}
 use Rattle.agendas.specs.LinesAt.{lines_stand}
 use Rattle.driver.specs.Reports.{came_of}
-use Rattle.agendas.specs.Heeds.{HeedsDone, behind_warning, interrupt_note, refused_one}
+use Rattle.agendas.specs.Heeds.{HeedsDone, after_warning, interrupt_note, refused_one}
 use Rattle.agendas.proofs.by_lines.ByLines.heed_done.Goals as goal
 
 pub returns-in-Nothing : goal.returns-in-Nothing
@@ -21,7 +21,7 @@ returns-in-Line g c = λ w h.
 pub returns-in-Interrupt : goal.returns-in-Interrupt
 returns-in-Interrupt g c = λ w h.
     let before = lines_stand g.R.Read.remaining c.args.self.now in
-    (c.stop_if-self-in-Interrupt.result, subst (λ d. HeedsDone before w c.args.now (came_of c.args.came.now) d c.note_interrupted.result c.stop_if-self-in-Interrupt.result) (sym c.in-Interrupt.is) (c.note_interrupted.ensures ∙ ap (λ told. interrupt_note (note.Interrupted before.number c.in-Interrupt.name) told) c.interrupt_of.ensures, c.stop_if-self-in-Interrupt.ensures), refl)
+    (c.stop_if-self-in-Interrupt.result, subst (λ d. HeedsDone before w c.args.now (came_of c.args.came.now) d c.note_interrupted.result c.stop_if-self-in-Interrupt.result) (sym c.in-Interrupt.is) (c.note_interrupted.ensures ∙ ap (λ reported. interrupt_note (note.Interrupted before.number c.in-Interrupt.name) reported) c.interrupt_of.ensures, c.stop_if-self-in-Interrupt.ensures), refl)
 
 pub returns-in-Commands : goal.returns-in-Commands
 returns-in-Commands g c = λ w h.
@@ -47,9 +47,9 @@ returns-in-Life g c = λ w h.
 pub returns-in-Warning : goal.returns-in-Warning
 returns-in-Warning g c = λ w h.
     let before = lines_stand g.R.Read.remaining c.args.self.now in (
-      c.behind_warning-self.result,
-      subst (λ d. HeedsDone before w c.args.now (came_of c.args.came.now) d c.note_warned.result c.behind_warning-self.result) (sym c.in-Warning.is)
-          (c.note_warned.ensures ∙ ap (λ told. interrupt_note (note.Warned c.in-Warning.seat) told) c.interrupt_of-in-Warning.ensures, c.behind_warning-self.ensures ∙ ap (λ late. behind_warning before.manner.strict c.args.now late before.held) c.as_slice.ensures.value),
+      c.after_warning-self.result,
+      subst (λ d. HeedsDone before w c.args.now (came_of c.args.came.now) d c.note_warned.result c.after_warning-self.result) (sym c.in-Warning.is)
+          (c.note_warned.ensures ∙ ap (λ reported. interrupt_note (note.Warned c.in-Warning.seat) reported) c.interrupt_of-in-Warning.ensures, c.after_warning-self.ensures ∙ ap (λ late. after_warning before.manner.strict c.args.now late before.held) c.as_slice.ensures.value),
       refl,
     )
 

@@ -8,10 +8,10 @@ pub returns : goal.returns
 returns g c = λ w h. (
   c.stop_if-self.result,
   (
-    c.behind_life-on.result,
-    subst (λ closed. LifeGoesOn c.args.self.now.manner.limit w c.args.now closed c.args.self.now.held c.behind_life-on.result) c.closed_one.ensures (c.behind_life-on.ensures w h),
+    c.after_life-on.result,
+    subst (λ closed. LifeGoesOn c.args.self.now.manner.limit w c.args.now closed c.args.self.now.held c.after_life-on.result) c.closed_one.ensures (c.after_life-on.ensures w h),
     c.note_over.ensures,
-    c.stop_if-self.ensures ∙ ap (λ wrong. stop_if (c.args.self.now.manner.strict && wrong) c.behind_life-on.result) c.went_wrong.ensures,
+    c.stop_if-self.ensures ∙ ap (λ wrong. stop_if (c.args.self.now.manner.strict && wrong) c.after_life-on.result) c.went_wrong.ensures,
   ),
   refl,
 )

@@ -1,6 +1,6 @@
 use Rattle.std.proofs.Common.{◌≡◌, ◌+◌, ◌∙◌, ap, arith, length, refl, subst}
 use Rattle.agendas.specs.Alone.{AsksLines}
-use Rattle.agendas.specs.LinesAt.{behind_group, read_to, lines_stand}
+use Rattle.agendas.specs.LinesAt.{after_group, read_to, lines_stand}
 use Rattle.agendas.specs.Taking.{TakesInput, together}
 use Rattle.live.proofs.Gatherings.{nothing_gathered, some_gathered}
 use Rattle.agendas.proofs.Taken.{as_many}
@@ -26,4 +26,4 @@ returns g c = λ w h.
     let count : c.len-count.result ≡ length gathered.given = omega (arith, many, c.len-count.ensures, c.gather-events.result.ok) in
     together gathered.given k.held c.group.result alone.0 alone.1 gathered.each there.0 (omega (arith, many, c.gather-events.ensures.few)) there.1 gathered.gives refl
     (subst (λ es. AsksLines (before.number + 1) es c.group.result) gathered.are c.group.ensures.turn)
-    (c.group.ensures.stands ∙ ap (λ r. behind_group (read_to before k.held (g.R.Read.remaining r)) c.len-count.result) c.gather-events.ensures.reader ∙ ap (λ n. behind_group (read_to before k.held before.remaining) n) count)
+    (c.group.ensures.stands ∙ ap (λ r. after_group (read_to before k.held (g.R.Read.remaining r)) c.len-count.result) c.gather-events.ensures.reader ∙ ap (λ n. after_group (read_to before k.held before.remaining) n) count)

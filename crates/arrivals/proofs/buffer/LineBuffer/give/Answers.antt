@@ -2,7 +2,7 @@ use Rattle.std.proofs.Common.{◌≡◌, ◌+◌, ◌≤◌, ◌<◌, length, ta
 use Rattle.std.specs.Prelude.{slice_range}
 use Rattle.bstr.specs.Text.{without_terminator}
 use Rattle.arrivals.specs.Lines.{longest_line}
-use Rattle.arrivals.proofs.Rooms.{range-front, range-len, range-rest, told-long, told-whole}
+use Rattle.arrivals.proofs.Rooms.{range-front, range-len, range-rest, reported-long, reported-whole}
 use Rattle.arrivals.proofs.buffer.LineBuffer.give.Goals as goal
 
 pub returns-then-is_rest-clause-rest : goal.returns-then-is_rest-clause-rest
@@ -26,8 +26,8 @@ returns-clause-rest c =
     let same = ap length bytes in
     range-rest c.self.inside.room.items c.self.inside.start c.self.inside.end c.args.len (omega arith) ∙ ap (drop c.args.len) bytes
 
-pub returns-then-own-gt-LONGEST_LINE-clause-told : goal.returns-then-own-gt-LONGEST_LINE-clause-told
-returns-then-own-gt-LONGEST_LINE-clause-told c =
+pub returns-then-own-gt-LONGEST_LINE-clause-reported : goal.returns-then-own-gt-LONGEST_LINE-clause-reported
+returns-then-own-gt-LONGEST_LINE-clause-reported c =
     let room = c.self.inside.room.items in
     let start = c.self.inside.start in
     let len = c.args.len in
@@ -37,11 +37,11 @@ returns-then-own-gt-LONGEST_LINE-clause-told c =
     let raw = slice_range room start (start + len) in
     let front : take len c.args.self.now.bytes ≡ raw = sym (ap (take len) bytes) ∙ sym (range-front room start c.self.inside.end len (omega arith)) in
     let own : c.own_bytes-own.result ≡ length (without_terminator raw) = subst (λ r. c.own_bytes-own.result ≡ length (without_terminator (slice_range r start (start + len)))) c.deref.ensures.value c.own_bytes-own.ensures.len in
-    told-long c.args.self.now.dropping (take len c.args.self.now.bytes) raw (sym (ap (λ h. h.dropping) c.self.view_is) ∙ c.if-is_rest.false) front
+    reported-long c.args.self.now.dropping (take len c.args.self.now.bytes) raw (sym (ap (λ h. h.dropping) c.self.view_is) ∙ c.if-is_rest.false) front
     (subst (λ n. longest_line < n) own c.if-own-gt-LONGEST_LINE.true)
 
-pub returns-clause-told : goal.returns-clause-told
-returns-clause-told c =
+pub returns-clause-reported : goal.returns-clause-reported
+returns-clause-reported c =
     let room = c.self.inside.room.items in
     let start = c.self.inside.start in
     let len = c.args.len in
@@ -54,5 +54,5 @@ returns-clause-told c =
     let value : take c.own_bytes-own.result raw ≡ without_terminator raw = subst (λ r. take c.own_bytes-own.result (slice_range r start (start + len)) ≡ without_terminator (slice_range r start (start + len))) c.deref.ensures.value c.own_bytes-own.ensures.value in
     let few : c.own_bytes-own.result ≤ length raw = subst (λ r. c.own_bytes-own.result ≤ length (slice_range r start (start + len))) c.deref.ensures.value c.own_bytes-own.ensures.few in
     let raw_size = range-len room start (start + len) (omega arith) (omega arith) in
-    told-whole c.args.self.now.dropping (take len c.args.self.now.bytes) raw (slice_range room start (start + c.own_bytes-own.result)) (sym (ap (λ h. h.dropping) c.self.view_is) ∙ c.if-is_rest.false) front
+    reported-whole c.args.self.now.dropping (take len c.args.self.now.bytes) raw (slice_range room start (start + c.own_bytes-own.result)) (sym (ap (λ h. h.dropping) c.self.view_is) ∙ c.if-is_rest.false) front
     (subst (λ n. n ≤ longest_line) own c.if-own-gt-LONGEST_LINE.false) (range-front room start (start + len) c.own_bytes-own.result (omega arith) ∙ value)

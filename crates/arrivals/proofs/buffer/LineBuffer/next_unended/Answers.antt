@@ -22,7 +22,7 @@ returns-clause-gives c =
     let all : length c.args.self.now.bytes ≡ n = sym (ap (λ h. length h.bytes) c.self.view_is) ∙ size in
     let drops = sym (ap (λ h. h.dropping) c.self.view_is) in
     took-gives c.args.self.now c.give.new.self c.give.result n
-    (record { rest = c.give.ensures.rest; dropping = c.give.ensures.dropping; ended = c.give.ensures.ended; told = c.give.ensures.told })
+    (record { rest = c.give.ensures.rest; dropping = c.give.ensures.dropping; ended = c.give.ensures.ended; reported = c.give.ensures.reported })
     (omega arith)
     (λ no. elim c.else-len-eq0.branch [
       | else-len-eq0-via-then-len-eq0+else-not-self-2 w ↦ (let wrong : true ≡ false = sym w.if-not-self-2.false ∙ sym drops ∙ no in absurd cc)

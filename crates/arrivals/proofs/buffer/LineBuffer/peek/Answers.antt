@@ -4,7 +4,7 @@ use Rattle.bstr.specs.Text.{without_terminator}
 use Rattle.arrivals.specs.Lines.{longest_line}
 use Rattle.arrivals.specs.Held.{if_read}
 use Rattle.arrivals.proofs.Giving.{next-line}
-use Rattle.arrivals.proofs.Rooms.{first-feed, range-front, range-len, told-whole}
+use Rattle.arrivals.proofs.Rooms.{first-feed, range-front, range-len, reported-whole}
 use Rattle.arrivals.proofs.Splitting.{line_len-feed}
 use Rattle.arrivals.proofs.buffer.LineBuffer.peek.Goals as goal
 
@@ -26,8 +26,8 @@ returns c =
     let few : c.own_bytes-own.result ≤ length raw = subst (λ r. c.own_bytes-own.result ≤ length (slice_range r start (start + len))) c.deref-2.ensures.value c.own_bytes-own.ensures.few in
     let raw_size = range-len room start (start + len) (omega arith) (omega (arith, feed.within)) in
     let line = slice_range c.deref-3.result.now start (start + c.own_bytes-own.result) in
-    let told = told-whole held.dropping (take len held.bytes) raw line (sym (ap (λ h. h.dropping) c.self.view_is) ∙ c.if-self.false) front
+    let reported = reported-whole held.dropping (take len held.bytes) raw line (sym (ap (λ h. h.dropping) c.self.view_is) ∙ c.if-self.false) front
     (subst (λ n. n ≤ longest_line) own c.if-own-gt-LONGEST_LINE.false)
     (ap (λ r. slice_range r start (start + c.own_bytes-own.result)) c.deref-3.ensures.value ∙ range-front room start (start + len) c.own_bytes-own.result (omega arith) ∙ value) in
-    next-line held line len told (omega (arith, feed.within)) (omega arith) (at, feed.within, feed.feed)
+    next-line held line len reported (omega (arith, feed.within)) (omega arith) (at, feed.within, feed.feed)
     (λ more. line_len-feed held.bytes (if_read held.ended more) at feed.within feed.feed feed.before)

@@ -12,7 +12,7 @@ returns-then-self-ge-ROOM-clause-lines g c =
 pub returns-in-Ok-clause-ok : goal.returns-in-Ok-clause-ok
 returns-in-Ok-clause-ok g c =
     let at = c.self.inside.end - c.self.inside.start in
-    let room = c.read_behind.new.room.items in
+    let room = c.read_after.new.room.items in
     let bytes = c.in-Ok.ensures.front ∙ c.slide.ensures.front ∙ ap (λ h. h.bytes) c.self.view_is in (
       take c.in-Ok.len (drop at room),
       record {
@@ -26,10 +26,10 @@ returns-in-Ok-clause-ok g c =
 pub returns-in-Ok-clause-lines : goal.returns-in-Ok-clause-lines
 returns-in-Ok-clause-lines g c =
     let at = c.self.inside.end - c.self.inside.start in
-    let room = c.read_behind.new.room.items in
+    let room = c.read_after.new.room.items in
     let left = length-drop at room in
     let bytes = c.in-Ok.ensures.front ∙ c.slide.ensures.front ∙ ap (λ h. h.bytes) c.self.view_is in
-    read-lines c.args.self.now _ (g.R.Read.remaining c.args.reader.now) (g.R.Read.remaining c.read_behind.new.reader) (take c.in-Ok.len (drop at room))
+    read-lines c.args.self.now _ (g.R.Read.remaining c.args.reader.now) (g.R.Read.remaining c.read_after.new.reader) (take c.in-Ok.len (drop at room))
     (between_from_start room (at + c.in-Ok.len) ∙ take-both room at c.in-Ok.len ∙ ap (λ b. b ++ take c.in-Ok.len (drop at room)) bytes)
     (ap (λ h. h.dropping) c.self.view_is)
     (sym (ap (λ h. h.ended) c.self.view_is) ∙ c.if-self.false)
@@ -39,6 +39,6 @@ returns-in-Ok-clause-lines g c =
 pub returns-in-Err-clause-lines : goal.returns-in-Err-clause-lines
 returns-in-Err-clause-lines g c =
     let bytes = c.in-Err.ensures.front ∙ c.slide.ensures.front ∙ ap (λ h. h.bytes) c.self.view_is in
-    kept-lines c.args.self.now _ (g.R.Read.remaining c.args.reader.now) (g.R.Read.remaining c.read_behind.new.reader)
-    (between_from_start c.read_behind.new.room.items (c.self.inside.end - c.self.inside.start) ∙ bytes, ap (λ h. h.dropping) c.self.view_is, ap (λ h. h.ended) c.self.view_is)
+    kept-lines c.args.self.now _ (g.R.Read.remaining c.args.reader.now) (g.R.Read.remaining c.read_after.new.reader)
+    (between_from_start c.read_after.new.room.items (c.self.inside.end - c.self.inside.start) ∙ bytes, ap (λ h. h.dropping) c.self.view_is, ap (λ h. h.ended) c.self.view_is)
     c.in-Err.ensures.bytes

@@ -4,6 +4,6 @@ use Rattle.child_calls.proofs.lives.LivesChildren.receive.Goals as goal
 
 pub returns-clause-gives : goal.returns-clause-gives
 returns-clause-gives g c =
-    let (came, did, told) = c.read_piece.ensures.gave in
+    let (came, did, reported) = c.read_piece.ensures.gave in
     inr (at-place c.args.name c.args.life _ c.args.self.now.running.items c.in-Some.i c.index_mut.result.now _ _ c.as_slice.ensures.value (sym c.place.ensures.at_it ∙ c.in-Some.is) c.index_mut.ensures.value
-    (c.read_piece.new.process, came, did, refl, told))
+    (c.read_piece.new.process, came, did, refl, reported))

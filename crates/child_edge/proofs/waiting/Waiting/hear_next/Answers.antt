@@ -10,9 +10,9 @@ returns-in-Ok-clause-ok g c = λ s bs w h came.
     let p = c.in-Ok.ensures.ok w h in
     let here : slice_get c.args.self.now.seats.items c.args.self.now.place ≡ Some c.index-seat.result.now = slice_get-get_or c.args.self.now.seats.items c.args.self.now.place c.index-seat.result.now c.requires ∙ ap Some (sym c.index-seat.ensures) in
     record {
-      beats = p.beats;
+      entries = p.entries;
       leads = p.leads;
-      form = came_on g.C.Children.after c.args.self.now s bs (at w c.args.children.now c.args.host.now.store.disk) came _ c.index-seat.result.now p.beats (at p.leads c.take.new.children c.take.new.host.store.disk)
+      form = came_on g.C.Children.after c.args.self.now s bs (at w c.args.children.now c.args.host.now.store.disk) came _ c.index-seat.result.now p.entries (at p.leads c.take.new.children c.take.new.host.store.disk)
           c.requires here refl refl refl p.form;
       stands = p.stands;
       replied = p.replied;
@@ -23,11 +23,11 @@ returns-in-Err-clause-err g c = λ s bs w h came.
     let here : slice_get c.args.self.now.seats.items c.args.self.now.place ≡ Some c.index-seat.result.now = slice_get-get_or c.args.self.now.seats.items c.args.self.now.place c.index-seat.result.now c.requires ∙ ap Some (sym c.index-seat.ensures) in
     by_cause c.in-Err.cause _ _ _ _ (c.in-Err.ensures.err w h)
     (λ f p. record {
-      beats = p.beats;
+      entries = p.entries;
       leads = p.leads;
       disk = p.disk;
       failed = p.failed;
-      form = came_broke g.C.Children.after c.args.self.now s bs (at w c.args.children.now c.args.host.now.store.disk) came c.index-seat.result.now p.beats p.failed (at p.leads c.take.new.children p.disk) here p.form;
+      form = came_broke g.C.Children.after c.args.self.now s bs (at w c.args.children.now c.args.host.now.store.disk) came c.index-seat.result.now p.entries p.failed (at p.leads c.take.new.children p.disk) here p.form;
       stopped = p.stopped;
       replied = p.replied;
     })

@@ -3,7 +3,7 @@ use Rattle.session_engine.specs.World.{sheet_in}
 use Rattle.session_engine.specs.Gathers.{NoCheckpoints}
 use Rattle.evaluation.specs.declared.lasts.Last.{Last}
 use Rattle.field_agenda.specs.Says.{asked_with, asks_field}
-use Rattle.field_agenda.specs.Standing.{lasts_behind}
+use Rattle.field_agenda.specs.Standing.{lasts_after}
 use Rattle.field_agenda.proofs.Choices.{group_there, no_checkpoints, stands_there}
 use Rattle.field_agenda.proofs.by_fields.ByFields.asking.Goals as goal
 
@@ -17,8 +17,8 @@ returns-clause-asks g c = λ w id h there.
       c.in_ok-events.ensures ∙ ap (map asks_field) (c.as_slice.ensures.value ∙ all),
       stands_there a.stand at c.sheet.result.now.contents (sheet_in w) c.as_slice-3.result.now group (asked_with a w at id) c.asked_together-stand.result c.as_slice-3.ensures.value all (c.sheet.ensures.stands w h)
           (c.asked_together-stand.ensures fields
-          (c.in_ok-asked.ensures ∙ ap (λ (l : List Last). lasts_behind l fields c.as_slice-2.result.now) c.as_slice-lasts.ensures
-          ∙ ap (lasts_behind a.stand.lasts fields) (c.as_slice-2.ensures.value ∙ sym c.as_slice-3.ensures.value))),
+          (c.in_ok-asked.ensures ∙ ap (λ (l : List Last). lasts_after l fields c.as_slice-2.result.now) c.as_slice-lasts.ensures
+          ∙ ap (lasts_after a.stand.lasts fields) (c.as_slice-2.ensures.value ∙ sym c.as_slice-3.ensures.value))),
     )
 
 pub returns-clause-commands : goal.returns-clause-commands

@@ -6,8 +6,8 @@ use Rattle.journal.specs.Payloads.{payloads_in, AreGates}
 use Rattle.journal.specs.inside.Reads.{Reads}
 use Rattle.journal.proofs.journal.Journal.open.Given as goal
 
-abbrev pub invariant-loop-behind : goal.invariant-loop-behind
-invariant-loop-behind g l =
+abbrev pub invariant-loop-following : goal.invariant-loop-following
+invariant-loop-following g l =
     let old = g.D.Disk.view l.fn.disk in
     record {
       before : l.opening.gate ≤ l.opening.end;
@@ -16,5 +16,5 @@ invariant-loop-behind g l =
       gates : InModel old (AreGates first_gate l.payloads.items);
     }
 
-abbrev pub decreases-loop-behind : goal.decreases-loop-behind
-decreases-loop-behind g l = l.opening.end - l.opening.gate
+abbrev pub decreases-loop-following : goal.decreases-loop-following
+decreases-loop-following g l = l.opening.end - l.opening.gate

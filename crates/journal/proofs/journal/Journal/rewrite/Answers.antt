@@ -8,5 +8,5 @@ returns-clause-ok g c = λ model payloads keeps.
     let seen : g.D.Disk.view c.self.inside.disk ≡ c.args.self.disk = ap (λ (j : JournalView). j.disk) c.self.view_is in
     let model1 = subst (λ (d : DiskView). IsTrue d.keeps_model) (sym seen) model in
     let keeps1 = subst (λ (d : DiskView). Keeps d.history c.args.self.end payloads) (sym seen) keeps in
-    subst (λ (n : ℕ). Keeps (g.D.Disk.view c.write_anew.new.disk).history n c.args.frames.now) (sym c.in-Some.ensures.some.0)
-    (c.in_default-write_anew.ensures.acknowledged model1 c.args.self.end payloads keeps1)
+    subst (λ (n : ℕ). Keeps (g.D.Disk.view c.write_again.new.disk).history n c.args.frames.now) (sym c.in-Some.ensures.some.0)
+    (c.in_default-write_again.ensures.acknowledged model1 c.args.self.end payloads keeps1)

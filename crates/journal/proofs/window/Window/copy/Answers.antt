@@ -27,12 +27,12 @@ loop-bytes-preserved g c =
     let old = g.D.Disk.view c.args.disk.now in
     let shows = so_before (λ (i : Image). Shows c.fill.new.self (area_of c.args.self.now.area i)) ⊥ old (g.D.Disk.view c.loop-bytes.disk) c.loop-bytes.invariant.reads (subst (λ (a : Area). InModel (g.D.Disk.view c.loop-bytes.disk) (Shows c.fill.new.self (area_of a (bytes_on (g.D.Disk.view c.loop-bytes.disk))))) c.loop-bytes.invariant.area c.in_default-fill.ensures.shows) in
     record {
-      short = more_fits c.loop-bytes.bytes.items c.behind.result.now c.front_of-part.result.now _ c.len-in-loop-bytes-2.result c.args.len (omega (arith, c.len-in-loop-bytes-2.ensures, c.loop-bytes.bytes.ok.0)) (omega (arith, c.len-in-loop-bytes-2.ensures, c.loop-bytes-test.true)) c.front_of-part.ensures c.in_default-extend_from_slice.ensures.items;
+      short = more_fits c.loop-bytes.bytes.items c.following.result.now c.front_of-part.result.now _ c.len-in-loop-bytes-2.result c.args.len (omega (arith, c.len-in-loop-bytes-2.ensures, c.loop-bytes.bytes.ok.0)) (omega (arith, c.len-in-loop-bytes-2.ensures, c.loop-bytes-test.true)) c.front_of-part.ensures c.in_default-extend_from_slice.ensures.items;
       area = c.fill.ensures.area ∙ c.loop-bytes.invariant.area;
       limit = c.fill.ensures.limit ∙ c.loop-bytes.invariant.limit;
       reads = reads_on ⊥ _ _ _ c.loop-bytes.invariant.reads c.in_default-fill.ensures.reads;
       shows = shows;
       begins = λ model.
-          more_read (area_of c.args.self.now.area (bytes_on old)) c.loop-bytes.bytes.items c.behind.result.now c.front_of-part.result.now _ c.args.at c.len-in-loop-bytes.result _ (omega (arith, c.len-in-loop-bytes.ensures, c.loop-bytes.bytes.ok.0)) c.front_of-part.ensures c.in_default-extend_from_slice.ensures.items
-          (c.loop-bytes.invariant.begins model) (c.behind.ensures.shows (area_of c.args.self.now.area (bytes_on old)) (shows model));
+          more_read (area_of c.args.self.now.area (bytes_on old)) c.loop-bytes.bytes.items c.following.result.now c.front_of-part.result.now _ c.args.at c.len-in-loop-bytes.result _ (omega (arith, c.len-in-loop-bytes.ensures, c.loop-bytes.bytes.ok.0)) c.front_of-part.ensures c.in_default-extend_from_slice.ensures.items
+          (c.loop-bytes.invariant.begins model) (c.following.ensures.shows (area_of c.args.self.now.area (bytes_on old)) (shows model));
     }

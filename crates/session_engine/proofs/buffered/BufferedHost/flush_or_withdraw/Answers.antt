@@ -15,13 +15,13 @@ pub unreachable-requires : goal.unreachable-requires
 unreachable-requires g c =
     let first = c.gather.new.self in
     let mid = c.play_onto.new.self in
-    let told = c.play_onto.new.outcomes.items in
+    let reported = c.play_onto.new.outcomes.items in
     let events = c.args.events.items in
     let may = c.requires.may in
     let none : NoCheckpoints events = no_checkpoints events c.requires.edits in
     let gathers : first.store.gathers ≡ true = c.gather.ensures.gathers may.stands.stands.still_open in
     let host = c.gather.ensures.goes_on may.world may.stands in
-    never_stops may.world events first mid told c.in-Err.field-0 c.requires.edits (c.in-Err.ensures.halts may.world host) (c.in-Err.ensures.at_once none) gathers
+    never_stops may.world events first mid reported c.in-Err.field-0 c.requires.edits (c.in-Err.ensures.halts may.world host) (c.in-Err.ensures.at_once none) gathers
 
 -- One is refused.
 
@@ -30,7 +30,7 @@ withdraw-requires g c =
     let old = c.args.self.now in
     let first = c.gather.new.self in
     let mid = c.play_onto.new.self in
-    let told = c.play_onto.new.outcomes.items in
+    let reported = c.play_onto.new.outcomes.items in
     let events = c.args.events.items in
     let may = c.requires.may in
     let none : NoCheckpoints events = no_checkpoints events c.requires.edits in
@@ -41,14 +41,14 @@ withdraw-requires g c =
     let w = may.world in
     let host = c.gather.ensures.goes_on w may.stands in
     let p = c.in-Ok.ensures.played w host in
-    (w, withdraws w events told mid p old c.args.before.contents may.stands c.requires.edits may real start)
+    (w, withdraws w events reported mid p old c.args.before.contents may.stands c.requires.edits may real start)
 
 pub returns-then-has_refusal-clause-same : goal.returns-then-has_refusal-clause-same
 returns-then-has_refusal-clause-same g c =
     let old = c.args.self.now in
     let first = c.gather.new.self in
     let mid = c.play_onto.new.self in
-    let told = c.play_onto.new.outcomes.items in
+    let reported = c.play_onto.new.outcomes.items in
     let events = c.args.events.items in
     let may = c.requires.may in
     let none : NoCheckpoints events = no_checkpoints events c.requires.edits in
@@ -62,7 +62,7 @@ returns-then-has_refusal-clause-made g c = λ w h.
     let old = c.args.self.now in
     let first = c.gather.new.self in
     let mid = c.play_onto.new.self in
-    let told = c.play_onto.new.outcomes.items in
+    let reported = c.play_onto.new.outcomes.items in
     let events = c.args.events.items in
     let may = c.requires.may in
     let none : NoCheckpoints events = no_checkpoints events c.requires.edits in
@@ -70,11 +70,11 @@ returns-then-has_refusal-clause-made g c = λ w h.
     let on : GathersOn first.store mid.store = c.play_onto.ensures.gathers none in
     let real : mid.store.real ≡ old.store.real = on.real gathers ∙ c.gather.ensures.real in
     let start : mid.store.start ≡ old.store.start = on.start gathers ∙ c.gather.ensures.start in
-    let some : list_any is_refusal told ≡ true = ap (λ (os : List Outcome). list_any is_refusal os) (sym c.as_slice.ensures.value) ∙ sym c.has_refusal.ensures ∙ c.if-has_refusal.true in
+    let some : list_any is_refusal reported ≡ true = ap (λ (os : List Outcome). list_any is_refusal os) (sym c.as_slice.ensures.value) ∙ sym c.has_refusal.ensures ∙ c.if-has_refusal.true in
     let host = c.gather.ensures.goes_on w h in
     let p = c.in-Ok.ensures.played w host in
-    let back = withdraws w events told mid p old c.args.before.contents h c.requires.edits may real start in
-    made_refused w events told mid p old c.withdraw.new.self c.refused.result some c.refused.ensures (c.withdraw.ensures.stands w back) (c.withdraw.ensures.disk ∙ real ∙ may.real)
+    let back = withdraws w events reported mid p old c.args.before.contents h c.requires.edits may real start in
+    made_refused w events reported mid p old c.withdraw.new.self c.refused.result some c.refused.ensures (c.withdraw.ensures.stands w back) (c.withdraw.ensures.disk ∙ real ∙ may.real)
 
 pub returns-then-has_refusal-clause-few : goal.returns-then-has_refusal-clause-few
 returns-then-has_refusal-clause-few g c = few_refused c.play_onto.new.outcomes.items _ c.refused.result c.refused.ensures c.play_onto.ensures.few
@@ -86,7 +86,7 @@ returns-in-Ok-flush-clause-same g c =
     let old = c.args.self.now in
     let first = c.gather.new.self in
     let mid = c.play_onto.new.self in
-    let told = c.play_onto.new.outcomes.items in
+    let reported = c.play_onto.new.outcomes.items in
     let events = c.args.events.items in
     let may = c.requires.may in
     let none : NoCheckpoints events = no_checkpoints events c.requires.edits in
@@ -100,7 +100,7 @@ returns-in-Ok-flush-clause-made g c = λ w h.
     let old = c.args.self.now in
     let first = c.gather.new.self in
     let mid = c.play_onto.new.self in
-    let told = c.play_onto.new.outcomes.items in
+    let reported = c.play_onto.new.outcomes.items in
     let events = c.args.events.items in
     let may = c.requires.may in
     let none : NoCheckpoints events = no_checkpoints events c.requires.edits in
@@ -108,12 +108,12 @@ returns-in-Ok-flush-clause-made g c = λ w h.
     let on : GathersOn first.store mid.store = c.play_onto.ensures.gathers none in
     let real : mid.store.real ≡ old.store.real = on.real gathers ∙ c.gather.ensures.real in
     let same = subst (λ (d : DiskView). SameDisk d mid.store.disk) c.gather.ensures.disk c.play_onto.ensures.same in
-    let accepted : list_any is_refusal told ≡ false = ap (λ (os : List Outcome). list_any is_refusal os) (sym c.as_slice.ensures.value) ∙ sym c.has_refusal.ensures ∙ c.if-has_refusal.false in
+    let accepted : list_any is_refusal reported ≡ false = ap (λ (os : List Outcome). list_any is_refusal os) (sym c.as_slice.ensures.value) ∙ sym c.has_refusal.ensures ∙ c.if-has_refusal.false in
     let host = c.gather.ensures.goes_on w h in
     let p = c.in-Ok.ensures.played w host in
-    let all = all_played w events told mid p accepted in
+    let all = all_played w events reported mid p accepted in
     record {
-      took = took_group w events old mid c.flush.new.self real same c.flush.ensures.any_moment told all (c.in-Ok-flush.ensures.goes_on p.played.leads p.played.stands) c.in-Ok-flush.ensures.flushed;
+      took = took_group w events old mid c.flush.new.self real same c.flush.ensures.any_moment reported all (c.in-Ok-flush.ensures.goes_on p.played.leads p.played.stands) c.in-Ok-flush.ensures.flushed;
       accepted = accepted;
     }
 
@@ -122,7 +122,7 @@ returns-in-Ok-flush-clause-written g c =
     let old = c.args.self.now in
     let first = c.gather.new.self in
     let mid = c.play_onto.new.self in
-    let told = c.play_onto.new.outcomes.items in
+    let reported = c.play_onto.new.outcomes.items in
     let events = c.args.events.items in
     let may = c.requires.may in
     let none : NoCheckpoints events = no_checkpoints events c.requires.edits in
@@ -136,7 +136,7 @@ returns-clause-same g c =
     let old = c.args.self.now in
     let first = c.gather.new.self in
     let mid = c.play_onto.new.self in
-    let told = c.play_onto.new.outcomes.items in
+    let reported = c.play_onto.new.outcomes.items in
     let events = c.args.events.items in
     let may = c.requires.may in
     let none : NoCheckpoints events = no_checkpoints events c.requires.edits in
@@ -150,7 +150,7 @@ returns-clause-halts g c = λ w h.
     let old = c.args.self.now in
     let first = c.gather.new.self in
     let mid = c.play_onto.new.self in
-    let told = c.play_onto.new.outcomes.items in
+    let reported = c.play_onto.new.outcomes.items in
     let events = c.args.events.items in
     let may = c.requires.may in
     let none : NoCheckpoints events = no_checkpoints events c.requires.edits in
@@ -158,13 +158,13 @@ returns-clause-halts g c = λ w h.
     let on : GathersOn first.store mid.store = c.play_onto.ensures.gathers none in
     let real : mid.store.real ≡ old.store.real = on.real gathers ∙ c.gather.ensures.real in
     let same = subst (λ (d : DiskView). SameDisk d mid.store.disk) c.gather.ensures.disk c.play_onto.ensures.same in
-    let accepted : list_any is_refusal told ≡ false = ap (λ (os : List Outcome). list_any is_refusal os) (sym c.as_slice.ensures.value) ∙ sym c.has_refusal.ensures ∙ c.if-has_refusal.false in
+    let accepted : list_any is_refusal reported ≡ false = ap (λ (os : List Outcome). list_any is_refusal os) (sym c.as_slice.ensures.value) ∙ sym c.has_refusal.ensures ∙ c.if-has_refusal.false in
     let host = c.gather.ensures.goes_on w h in
     let p = c.in-Ok.ensures.played w host in
-    let all = all_played w events told mid p accepted in
+    let all = all_played w events reported mid p accepted in
     let failed = c.in-Err-flush.ensures in
     record {
-      failed = failed_group w events old mid c.flush.new.self real same c.flush.ensures.any_moment [] told mid all all.stands.stands.contents (numbers_are mid.lives all.leads.lives all.stands.stands.lives_are) failed.sheet failed.lives failed.closes
+      failed = failed_group w events old mid c.flush.new.self real same c.flush.ensures.any_moment [] reported mid all all.stands.stands.contents (numbers_are mid.lives all.leads.lives all.stands.stands.lives_are) failed.sheet failed.lives failed.closes
           (broke_by c.flush.result c.in-Err-flush.field-0 mid.store.closed (Rises mid.store.real.faults c.flush.new.self.store.real.faults) c.in-Err-flush.is failed.other all.stands.stands.still_open c.flush.ensures.closed.0 c.flush.ensures.faulty);
       all = refl;
       accepted = accepted;
@@ -175,7 +175,7 @@ returns-clause-written g c =
     let old = c.args.self.now in
     let first = c.gather.new.self in
     let mid = c.play_onto.new.self in
-    let told = c.play_onto.new.outcomes.items in
+    let reported = c.play_onto.new.outcomes.items in
     let events = c.args.events.items in
     let may = c.requires.may in
     let none : NoCheckpoints events = no_checkpoints events c.requires.edits in

@@ -54,7 +54,7 @@ returns-in-Ok-flush-2-clause-halts g c = λ w h.
     let done = c.in-Ok-flush-2.ensures in (
       all,
       to_be,
-      s.told,
+      s.reported,
       stopped_joined w all old mid c.flush-in-Err.new.self real same c.flush-in-Err.ensures.any_moment c.in-Err.fault s
           (λ disk. let bad : true ≡ false = sym gathers ∙ c.in-Err.ensures.at_once disk in cc) done.sheet done.lives done.stays done.flushed,
     )
@@ -73,7 +73,7 @@ returns-in-Err-flush-2-clause-halts g c = λ w h.
     let flush = c.flush-in-Err in (
       all,
       to_be,
-      failed_group w all old mid flush.new.self real same flush.ensures.any_moment (s.at ∷ s.dropped) s.told s.before s.played s.failed.contents s.failed.numbers
+      failed_group w all old mid flush.new.self real same flush.ensures.any_moment (s.at ∷ s.dropped) s.reported s.before s.played s.failed.contents s.failed.numbers
           c.in-Err-flush-2.ensures.sheet c.in-Err-flush-2.ensures.lives c.in-Err-flush-2.ensures.closes
           (broke_by flush.result c.in-Err-flush-2.field-0 mid.store.closed (Rises mid.store.real.faults flush.new.self.store.real.faults) c.in-Err-flush-2.is c.in-Err-flush-2.ensures.other
           (on.closed gathers ∙ host.stands.still_open) flush.ensures.closed.0 flush.ensures.faulty),

@@ -8,16 +8,16 @@ returns-in-Err-clause-halts g c = λ w h. (c.args.events.items, alone refl, stop
 
 pub returns-in-Ok-clause-played : goal.returns-in-Ok-clause-played
 returns-in-Ok-clause-played g c = λ w h.
-    let told = c.play_onto.new.outcomes.items in
+    let reported = c.play_onto.new.outcomes.items in
     let p = c.in_default.ensures.played w h in
     let v = p.played.leads in
-    played_joined w c.args.events.items told v (all_run w c.args.events.items told c.play_onto.new.self p) (asking g.J.Joins.joins c.args.joins.now c.join-first.new.self) c.join-first.result.first c.join-first.result.events.items
+    played_joined w c.args.events.items reported v (all_run w c.args.events.items reported c.play_onto.new.self p) (asking g.J.Joins.joins c.args.joins.now c.join-first.new.self) c.join-first.result.first c.join-first.result.events.items
     (c.join-first.ensures.joins v p.played.stands) c.play_onto-2.new.self (record { outcomes = c.play_onto.new.outcomes; first = c.join-first.result.first; later = c.play_onto-2.new.outcomes }) refl refl (c.in-Ok.ensures.played v p.played.stands)
 
 pub returns-in-Err-play_onto-clause-halts : goal.returns-in-Err-play_onto-clause-halts
 returns-in-Err-play_onto-clause-halts g c = λ w h.
-    let told = c.play_onto.new.outcomes.items in
+    let reported = c.play_onto.new.outcomes.items in
     let p = c.in_default.ensures.played w h in
     let v = p.played.leads in
-    stops_later w c.args.events.items told v (all_run w c.args.events.items told c.play_onto.new.self p) (asking g.J.Joins.joins c.args.joins.now c.join-first.new.self) c.join-first.result.first c.join-first.result.events.items
+    stops_later w c.args.events.items reported v (all_run w c.args.events.items reported c.play_onto.new.self p) (asking g.J.Joins.joins c.args.joins.now c.join-first.new.self) c.join-first.result.first c.join-first.result.events.items
     (c.join-first.ensures.joins v p.played.stands) c.play_onto-2.new.outcomes.items c.in-Err-play_onto.fault c.play_onto.new.self c.play_onto-2.new.self (c.in-Err-play_onto.ensures.halts v p.played.stands)

@@ -11,7 +11,7 @@ use Rattle.session_engine.specs.Crash.{Moments}
 use Rattle.session_engine.specs.Gathers.{NoCheckpoints}
 use Rattle.session_engine.specs.Groups.{is_refusal}
 use Rattle.session_engine.specs.inside.Until.{PlayedBy}
-use Rattle.session_engine.proofs.Until.{empty_of, ends_behind, ends_nowhere, goes_on, none_more}
+use Rattle.session_engine.proofs.Until.{empty_of, ends_after, ends_nowhere, goes_on, none_more}
 use Rattle.session_engine.proofs.Gathering.{gathers_on, gathers_self}
 use Rattle.session_engine.proofs.Playing.{PlayedEach, nothing_each, nothing_left, one_more, one_more_each, moments_on, moments_failed, same_on, same_self}
 use Rattle.session_engine.proofs.buffered.BufferedHost.play_onto.Goals as goal
@@ -113,7 +113,7 @@ returns-then-stops-clause-played g c = λ w h.
     let p = subst (λ (l : List Event). PlayedEach w events l os first at.self) steps (inv.played w h) in
     let took = IfOk-at_ok (Took p.0.leads e at.self c.step.new.self) c.in-Ok.is (c.step.ensures.took p.0.leads p.0.stands) in
     subst (λ (l : List Outcome). PlayedBy c.args.up_to w events l c.step.new.self) (sym c.add.ensures.items)
-    (record { rest = rest; played = one_more w events rest e os at.self p.0 c.step.new.self o took; ends = ends_behind c.args.up_to os o rest c.stops-stops.result c.stops-stops.ensures c.if-stops.true inv.right })
+    (record { rest = rest; played = one_more w events rest e os at.self p.0 c.step.new.self o took; ends = ends_after c.args.up_to os o rest c.stops-stops.result c.stops-stops.ensures c.if-stops.true inv.right })
 
 pub returns-clause-played : goal.returns-clause-played
 returns-clause-played g c = λ w h.

@@ -22,7 +22,7 @@ pub returns-in-Err-clause-took : goal.returns-in-Err-clause-took
 returns-in-Err-clause-took g c = λ w d h is. record {
   did = tells w (reply.Refused c.in-Err.refusal);
   may = gives_refusal w d c.args.op is c.in-Err.refusal (sym (c.in-Err.ensures w h));
-  told = c.refused.ensures;
+  reported = c.refused.ensures;
   stands = record { works = refl; stands = h };
   disk = refl;
 }
@@ -37,7 +37,7 @@ returns-clause-took g c = λ w d h is.
     (λ done. record {
       did = changes w o;
       may = gives_done w d o is none done.0;
-      told = done.1 ∙ ap replies reply_is;
+      reported = done.1 ∙ ap replies reply_is;
       stands = record { works = refl; stands = done.2 };
       disk = c.change.ensures.moments w h;
     })
@@ -45,14 +45,14 @@ returns-clause-took g c = λ w d h is.
     (λ no. record {
       did = tells w (reply.Refused refusal.JournalFull);
       may = gives_full w d o is none no.0;
-      told = no.1;
+      reported = no.1;
       stands = record { works = refl; stands = no.2 };
       disk = no.3;
     })
     (λ want. record {
       did = tells w (reply.Refused refusal.OutOfMemory);
       may = gives_no_memory w d o is none want.0;
-      told = want.1;
+      reported = want.1;
       stands = record { works = refl; stands = want.2 };
       disk = want.3;
     }) not_done))

@@ -7,7 +7,7 @@ use Rattle.session_engine.specs.World.{World}
 use Rattle.session_engine.specs.Does.{does, tells}
 use Rattle.session_engine.specs.Host.{EngineStandsFor}
 use Rattle.session_engine.specs.inside.Engines.{StandsAt}
-use Rattle.session_engine.proofs.Completing.{request_refused, request_done, request_told, request_leads, request_on_disk}
+use Rattle.session_engine.proofs.Completing.{request_refused, request_done, request_reported, request_leads, request_on_disk}
 use Rattle.session_engine.proofs.engine.Engine.ask_for.Goals as goal
 
 pub returns-in-Ok-clause-took : goal.returns-in-Ok-clause-took
@@ -18,7 +18,7 @@ returns-in-Ok-clause-took g c = λ w command h gives.
     record {
       did = does w command;
       may = request_done w command name i gives;
-      told = both.0 ∙ request_told w command name i gives;
+      reported = both.0 ∙ request_reported w command name i gives;
       stands = record { works = refl; stands = subst (λ (v : World). StandsAt c.ask_session.new.self v) (request_leads w command name i gives) both.1 };
       disk = request_on_disk w command name i gives c.args.self.now.store.disk c.ask_session.new.self.store.disk (ap (λ (s : StoreView). s.disk) c.ask_session.ensures.store);
     }
@@ -29,7 +29,7 @@ returns-in-Err-clause-took g c = λ w command h gives.
     record {
       did = tells w (reply.Refused refusal.OutOfMemory);
       may = request_refused w command refusal.OutOfMemory (inr (gives.none, gives.takes, refl));
-      told = c.refused.ensures;
+      reported = c.refused.ensures;
       stands = record {
         works = refl;
         stands = subst (λ (s : StoreView). EngineStandsFor s c.ask_session.new.self.lives.items c.ask_session.new.self.begun w) (sym c.ask_session.ensures.store)

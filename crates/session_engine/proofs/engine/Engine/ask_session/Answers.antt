@@ -24,7 +24,7 @@ returns-clause-ok g c = λ w h left has.
     let v = with_item w name c.args.item (life_of w name) in
     let both = ⊎_elim (λ j. joins store rs new begun (begun + 1) w name c.args.item c.in_ok-number.number c.in_ok-number.sent words h has j is)
     (λ b. begins store rs new begun w name c.args.item c.in_ok-number.number c.in_ok-number.sent words h has left b is) c.in_ok-number.ensures.ok in (
-      c.outcome_of_ask.ensures.told ∙ both.0,
+      c.outcome_of_ask.ensures.reported ∙ both.0,
       subst (λ (s : StoreView). EngineStandsFor s c.outcome_of_ask.new.self.lives.items c.outcome_of_ask.new.self.begun v) (sym c.outcome_of_ask.ensures.store)
           (subst (λ (l : List Running). EngineStandsFor store l c.outcome_of_ask.new.self.begun v) (sym (ap (λ (x : Rattle.std.specs.declared.vec.Vec.Vec Running _). x.items) c.outcome_of_ask.ensures.lives))
           (subst (λ (k : ℕ). EngineStandsFor store new k v) (sym c.outcome_of_ask.ensures.begun) both.1)),

@@ -9,7 +9,7 @@ pub returns-in-StopFault-clause-took : goal.returns-in-StopFault-clause-took
 returns-in-StopFault-clause-took g c = λ w h. record {
   did = tells w reply.Nothing;
   may = subst (λ (e : ChildEvent). ChildDoes w (with_number c.args.life (life_of w c.args.name)) e (tells w reply.Nothing)) (sym c.in-StopFault.is) refl;
-  told = c.nothing.ensures;
+  reported = c.nothing.ensures;
   stands = record { works = refl; stands = h };
   disk = refl;
 }

@@ -9,7 +9,7 @@ pub returns-in-Err-clause-took : goal.returns-in-Err-clause-took
 returns-in-Err-clause-took g c = λ w h. record {
   did = tells w (reply.Refused c.in-Err.refusal);
   may = request_refused w (command.Complete c.args.id c.args.cursor) c.in-Err.refusal (c.in-Err.ensures.err w h);
-  told = c.refused.ensures;
+  reported = c.refused.ensures;
   stands = record { works = refl; stands = h };
   disk = refl;
 }

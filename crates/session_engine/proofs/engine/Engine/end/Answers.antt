@@ -9,7 +9,7 @@ use Rattle.session_engine.specs.inside.Commits.{FailsToLose}
 use Rattle.session_engine.specs.inside.Tables.{has_number}
 use Rattle.session_engine.proofs.Losses.{end_on_disk, end_stands, end_writes, its_life}
 use Rattle.session_engine.proofs.Tables.{found, numbers_are}
-use Rattle.session_engine.proofs.Standing.{no_life, told_end}
+use Rattle.session_engine.proofs.Standing.{no_life, reported_end}
 use Rattle.session_engine.proofs.Stopping.{gives_end, wants_at_end}
 use Rattle.session_engine.proofs.engine.Engine.end.Goals as goal
 
@@ -20,7 +20,7 @@ returns-then-not-has_life-clause-took g c = λ w e h is.
     record {
       did = tells w reply.Nothing;
       may = subst (λ (l : Option Going). ChildDoes w l e (tells w reply.Nothing)) (sym none) (gives_end w None e c.args.reason c.args.killed is);
-      told = c.nothing.ensures;
+      reported = c.nothing.ensures;
       stands = record { works = refl; stands = h };
       disk = refl;
     }
@@ -48,7 +48,7 @@ returns-in-Some-clause-took g c = λ w e h is.
     record {
       did = ends_life w why killed (Some f.life) reply.Nothing;
       may = subst (λ (l : Option Going). ChildDoes w l e (ends_life w why killed (Some f.life) reply.Nothing)) (sym there) (gives_end w (Some f.life) e why killed is);
-      told = c.ended.ensures f.life.past f.life.blocks f.runs.stands ∙ told_end f.life r.name r.life.number why killed f.runs.name f.runs.number;
+      reported = c.ended.ensures f.life.past f.life.blocks f.runs.stands ∙ reported_end f.life r.name r.life.number why killed f.runs.name f.runs.number;
       stands = record { works = refl; stands = end_stands c.lose.new.self.store rs c.remove_life.new.lives.items c.lose.new.self.begun w name r why f lost.stands c.in-Some.ensures.1 };
       disk = subst (λ (k : Option Going). OnDisk w.ops false (kept_at_end w why k) c.args.self.now.store.disk c.lose.new.self.store.disk) f.is lost.disk;
     }

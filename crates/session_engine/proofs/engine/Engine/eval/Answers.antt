@@ -22,7 +22,7 @@ use Rattle.session_engine.specs.inside.Engines.{StandsAt, TookAt, view_of}
 use Rattle.session_engine.specs.inside.Commits.{Evaluated}
 use Rattle.session_engine.proofs.Standing.{unchanged}
 use Rattle.session_engine.proofs.Waiting.{in_flight_by}
-use Rattle.session_engine.proofs.Asking.{gives_no_field, gives_in_flight, session_is, not_spent, eval_refused, eval_done, eval_told, eval_leads, eval_on_disk, eval_fails}
+use Rattle.session_engine.proofs.Asking.{gives_no_field, gives_in_flight, session_is, not_spent, eval_refused, eval_done, eval_reported, eval_leads, eval_on_disk, eval_fails}
 use Rattle.session_engine.proofs.engine.Engine.eval.Goals as goal
 
 pub returns-in-Ok-line-clause-took : goal.returns-in-Ok-line-clause-took
@@ -48,14 +48,14 @@ returns-in-Ok-line-clause-took g c = λ w h.
     (λ done. record {
       did = does w (command.Eval id);
       may = eval_done w id f here free none;
-      told = done.0 ∙ eval_told w id f here free c.in-Ok-line.line line;
+      reported = done.0 ∙ eval_reported w id f here free c.in-Ok-line.line line;
       stands = record { works = refl; stands = subst (λ (v : World). StandsAt c.evaluate.new.self v) (eval_leads w id f here free c.in-Ok-line.line line) done.1 };
       disk = eval_on_disk w id f here free c.args.self.now.store.disk c.evaluate.new.self.store.disk cleared;
     })
     (λ want. record {
       did = tells w (reply.Refused refusal.OutOfMemory);
       may = eval_refused w id f here free refusal.OutOfMemory (inr (none, refl));
-      told = want.0;
+      reported = want.0;
       stands = record { works = refl; stands = want.1 };
       disk = want.2 ∙ c.prepare_clear.ensures.store.disk;
     }))
@@ -92,7 +92,7 @@ returns-in-Err-clause-took g c = λ w h.
     record {
       did = tells w (reply.Refused c.in-Err.refusal);
       may = eval_refused w id f here free c.in-Err.refusal why;
-      told = c.refused-in-Err.ensures;
+      reported = c.refused-in-Err.ensures;
       stands = record { works = refl; stands = stand };
       disk = c.prepare_clear.ensures.store.disk;
     }
@@ -105,7 +105,7 @@ returns-in-None-clause-took g c = λ w h.
     record {
       did = tells w (reply.Refused refusal.NoField);
       may = gives_no_field w id here;
-      told = c.refused.ensures;
+      reported = c.refused.ensures;
       stands = record { works = refl; stands = h };
       disk = refl;
     }
@@ -119,7 +119,7 @@ returns-then-waits_of-clause-took g c = λ w h.
     record {
       did = tells w (reply.Refused refusal.InFlight);
       may = gives_in_flight w id f here (in_flight_by c.args.self.now.store c.args.self.now.lives.items c.args.self.now.begun w id h f here ∙ sym (c.waits_of.ensures w.lives h.lives_are) ∙ c.if-waits_of.true);
-      told = c.refused-then-waits_of.ensures;
+      reported = c.refused-then-waits_of.ensures;
       stands = record { works = refl; stands = h };
       disk = refl;
     }
@@ -138,7 +138,7 @@ returns-in-Err-line-clause-took g c = λ w h.
     record {
       did = tells w (reply.Refused refusal.OutOfMemory);
       may = eval_refused w id f here free refusal.OutOfMemory (inr (none, refl));
-      told = c.refused-in-Err-line.ensures;
+      reported = c.refused-in-Err-line.ensures;
       stands = record { works = refl; stands = stand };
       disk = c.prepare_clear.ensures.store.disk;
     }

@@ -13,13 +13,13 @@ use Rattle.host_events.specs.declared.event.ChildEvent.TheVariants as child
 use Rattle.session_engine.specs.Named.{without_named}
 use Rattle.session_engine.specs.Host.{name_of, number_in}
 use Rattle.session_engine.specs.World.{World, Going, sheet_in}
-use Rattle.session_engine.specs.Does.{told_with}
+use Rattle.session_engine.specs.Does.{reported_with}
 use Rattle.session_engine.specs.Host.{EngineStandsFor}
 use Rattle.session_engine.specs.inside.Commits.{AllowedIf, CommittedIf, IsEitherIf, LosesField, NotKept, answer_op}
 use Rattle.session_engine.proofs.Tables.{found, numbers_stay, numbers_are}
 use Rattle.session_engine.proofs.Fields.{allowed_step}
 use Rattle.session_engine.proofs.Standing.{no_life, the_life, with_number_there}
-use Rattle.session_engine.proofs.PieceLaws.{lead, did, may, told, leads, fields, given_is, loses, stands, on_disk, contents, cause}
+use Rattle.session_engine.proofs.PieceLaws.{lead, did, may, reported, leads, fields, given_is, loses, stands, on_disk, contents, cause}
 use Rattle.session_engine.proofs.engine.Engine.piece.Goals as goal
 
 pub feed-requires : goal.feed-requires
@@ -31,7 +31,7 @@ returns-in_default-clause-took g c = λ w h.
     record {
       did = tells w reply.Nothing;
       may = subst (λ (o : Option Going). ChildDoes w o (child.Piece c.args.piece.now) (tells w reply.Nothing)) (sym e) refl;
-      told = c.nothing.ensures;
+      reported = c.nothing.ensures;
       stands = record { works = refl; stands = subst (λ (l : List Running). EngineStandsFor c.args.self.now.store l c.args.self.now.begun w) (sym c.in_default.ensures.1) h };
       disk = refl;
     }
@@ -92,7 +92,7 @@ returns-in-Ok-keep-clause-took g c = λ w h.
     record {
       did = did store rs begun w name number piece fe.before fe.life step h f fe.numbered fe.same takes;
       may = may store rs begun w name number piece fe.before fe.life step h f fe.numbered fe.same takes;
-      told = c.outcome_of_piece.ensures ∙ ap (λ (x : Option Closed). told_with name number x step.default_input step.send step.ended) kept.0 ∙ told store rs begun w name number piece fe.before fe.life step h f fe.numbered fe.same takes;
+      reported = c.outcome_of_piece.ensures ∙ ap (λ (x : Option Closed). reported_with name number x step.default_input step.send step.ended) kept.0 ∙ reported store rs begun w name number piece fe.before fe.life step h f fe.numbered fe.same takes;
       stands = record {
         works = refl;
         stands = subst (λ (v : World). EngineStandsFor c.keep.new.store c.settle.new.lives.items begun v) (leads store rs begun w name number piece fe.before fe.life step h f fe.numbered fe.same takes)

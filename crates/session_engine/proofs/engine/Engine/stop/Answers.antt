@@ -13,7 +13,7 @@ use Rattle.session_engine.specs.Host.{EngineStandsFor, Lives, OnDisk, number_in}
 use Rattle.session_engine.specs.inside.Commits.{FailsToLose}
 use Rattle.session_engine.proofs.Losses.{end_on_disk, end_stands, end_writes}
 use Rattle.session_engine.proofs.Tables.{found, not_found, numbers_are}
-use Rattle.session_engine.proofs.Standing.{told_end}
+use Rattle.session_engine.proofs.Standing.{reported_end}
 use Rattle.session_engine.proofs.Stopping.{gives_stop, gives_stop_none, gives_no_session}
 use Rattle.session_engine.proofs.engine.Engine.stop.Goals as goal
 
@@ -41,7 +41,7 @@ returns-in-Some-remove_life-clause-took g c = λ w h.
     record {
       did = ends_life w reason.Stopped true (Some f.life) reply.Done;
       may = gives_stop w asked s (Some f.life) named there;
-      told = c.ended.ensures f.life.past f.life.blocks f.runs.stands ∙ told_end f.life r.name r.life.number reason.Stopped true f.runs.name f.runs.number;
+      reported = c.ended.ensures f.life.past f.life.blocks f.runs.stands ∙ reported_end f.life r.name r.life.number reason.Stopped true f.runs.name f.runs.number;
       stands = record { works = refl; stands = end_stands c.lose.new.self.store rs c.remove_life.new.lives.items c.lose.new.self.begun w s.name r reason.Stopped f lost.stands c.in-Some-remove_life.ensures.1 };
       disk = subst (λ (k : Option Going). OnDisk w.ops false (kept_at_end w reason.Stopped k) c.args.self.now.store.disk c.lose.new.self.store.disk) f.is lost.disk;
     }
@@ -62,7 +62,7 @@ returns-in-Ok-clause-took g c = λ w h.
     record {
       did = tells w reply.Done;
       may = gives_stop w asked s None named (ap (λ (n : List ℕ). life_of w n) (sym same) ∙ gone_before);
-      told = refl;
+      reported = refl;
       stands = record { works = refl; stands = subst (λ (l : List Running). EngineStandsFor c.lose.new.self.store l c.lose.new.self.begun w) (sym c.in-None-remove_life.ensures.1) stands };
       disk = subst (λ (k : Option Going). OnDisk w.ops false (kept_at_end w reason.Stopped k) c.args.self.now.store.disk c.lose.new.self.store.disk) gone_before lost.disk;
     }
@@ -80,7 +80,7 @@ returns-in-Err-OutOfMemory-clause-took g c = λ w h.
     record {
       did = tells w (reply.Refused refusal.OutOfMemory);
       may = gives_stop_none w asked s fails.lost named kept;
-      told = c.refused-in-Err-OutOfMemory.ensures;
+      reported = c.refused-in-Err-OutOfMemory.ensures;
       stands = record { works = refl; stands = fails.still refl };
       disk = fails.cause;
     }
@@ -121,7 +121,7 @@ returns-in-None-clause-took g c = λ w h.
     record {
       did = tells w (reply.Refused refusal.NoSession);
       may = gives_no_session w asked named;
-      told = c.refused.ensures;
+      reported = c.refused.ensures;
       stands = record { works = refl; stands = h };
       disk = refl;
     }

@@ -17,6 +17,6 @@ invariant_of-result c =
     record {
       whole = omega (arith, ap length e, length-append bs rest, length-drop n (replicate {A = ℕ} longest_name 0), short);
       short = short;
-      behind = ap (drop n) e ∙ drop_at bs rest n refl ∙ drop-replicate n longest_name 0;
+      following = ap (drop n) e ∙ drop_at bs rest n refl ∙ drop-replicate n longest_name 0;
       named = subst (λ (xs : List ℕ). IsTrue (is_name xs)) (sym (ap (take n) e ∙ take_at bs rest n refl)) named;
     }

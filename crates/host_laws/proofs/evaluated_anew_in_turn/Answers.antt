@@ -1,5 +1,0 @@
-use Rattle.host_laws.proofs.Again.{evaluated_anew_in_turn}
-use Rattle.host_laws.proofs.evaluated_anew_in_turn.Goals as goal
-
-pub returns : goal.returns
-returns c = evaluated_anew_in_turn

@@ -1,9 +1,0 @@
-use Rattle.std.proofs.Common.{◌≡◌, ◌++◌, List, ℕ, take}
-use Rattle.told_order.specs.Log.{all_durable}
-use Rattle.told_order.specs.Order.{ToldInOrder}
-use Rattle.told_order.proofs.serving.serve.Given as goal
-
-abbrev pub invariant-loop-op : goal.invariant-loop-op
-invariant-loop-op g l = (before : List ℕ) → (g.L.Log.history l.initial.log).now ≡ all_durable before
-    → ToldInOrder (g.T.Tells.tried) before (g.L.Log.history l.log) (take l.op-index l.ops) l.initial.teller l.teller
-    × ((g.L.Log.history l.log).now ≡ all_durable (before ++ take l.op-index l.ops))
