@@ -11,7 +11,7 @@ use Rattle.arrivals.specs.Held.{Held, KeepsLines, left_with, to_come}
 use Rattle.live.specs.Arrivals.{said_by}
 use Rattle.offline_programs.specs.declared.fault.RunFault.{RunFault}
 use Rattle.driver.specs.declared.turn.Turn.{Turn}
-use Rattle.driver.specs.Items.{Item, RunStep, take}
+use Rattle.driver.specs.Items.{Item, RunStep}
 use Rattle.driver.specs.Place.{RunPlace, SinkRules, SourceRules, rules}
 use Rattle.driver.specs.Steps.{Fails, Goes, Run}
 use Rattle.driver.specs.Steps as step
@@ -157,7 +157,9 @@ module _ {C K : Type 0} (sources : SourceRules C) (sink : SinkRules K) where
   fails_so p q i entries why (step.unjoined events) = same_lines p.agenda p.agenda refl refl refl refl
   fails_so p q i entries why (step.lost_joined events all a h all_are l) = none_joined p.agenda a p.world events all all_are
   fails_so p q i entries why (step.broken_joined events all a bs e x w c d h all_are t failed) = none_joined p.agenda a p.world events all all_are
-  fails_so p q i entries why (step.untaken_whole first events bs x y fails) = fails_so p q (take (Some first) events) entries why fails
+  fails_so p q i entries why (step.too_many_whole first events many) = same_lines p.agenda p.agenda refl refl refl refl
+  fails_so p q i entries why (step.untaken_whole first events) = same_lines p.agenda p.agenda refl refl refl refl
+  fails_so p q i entries why (step.lost_whole first events h l) = same_lines p.agenda p.agenda refl refl refl refl
   fails_so p q i entries why (step.unwritten line x h failed) = same_lines p.agenda p.agenda refl refl refl refl
   fails_so p q i entries why (step.unnumbered line many) = same_lines p.agenda p.agenda refl refl refl refl
   fails_so p q i entries why step.unstalled = same_lines p.agenda p.agenda refl refl refl refl
@@ -170,7 +172,7 @@ module _ {C K : Type 0} (sources : SourceRules C) (sink : SinkRules K) where
   step_leads p q todo next s (step.hears seat most events c rest h) = same_lines p.agenda p.agenda refl refl refl refl
   step_leads p q todo next s (step.takes from events outcomes followed w c d rest t) = same_lines p.agenda p.agenda refl refl refl refl
   step_leads p q todo next s (step.joins events outcomes first more later followed a w c d rest j t) = moved p.agenda p.agenda a j.answered.2 (same_lines p.agenda p.agenda refl refl refl refl)
-  step_leads p q todo next s (step.takes_whole first events outcomes followed w c d rest t accepted) = same_lines p.agenda p.agenda refl refl refl refl
+  step_leads p q todo next s (step.takes_whole first events outcomes w d rest t) = same_lines p.agenda p.agenda refl refl refl refl
   step_leads p q todo next s (step.refuses_whole first events outcomes one rest r) = same_lines p.agenda p.agenda refl refl refl refl
   step_leads p q todo next s (step.rewrites line o w d rest gives kept) = same_lines p.agenda p.agenda refl refl refl refl
   step_leads p q todo next s (step.stalls_all rest) = same_lines p.agenda p.agenda refl refl refl refl

@@ -6,6 +6,6 @@ pub mod Stepping
 pub mod Faulting
 pub mod Gates
 pub mod Joinings
-pub mod Refusing
+pub mod Edits
 pub mod Seating
 pub mod Signals

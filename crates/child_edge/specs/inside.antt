@@ -1,3 +1,2 @@
 pub mod Gating
-pub mod Taking
 pub mod Joining

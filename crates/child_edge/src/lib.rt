@@ -20,4 +20,4 @@ pub use serving::{EdgeCause, EdgeFault, MOST_TURNS, serve, wait};
 pub use stopping::stop_all;
 pub use together::{GaveTogether, MOST_TOGETHER, TogetherFault, receive_event, serve_together};
 pub use waiting::Waiting;
-pub use whole::{GaveWhole, serve_whole};
+pub use whole::serve_whole;

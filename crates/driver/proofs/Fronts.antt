@@ -17,12 +17,12 @@ use Rattle.child_edge.specs.Together.{LostTogether}
 use Rattle.host_events.specs.declared.outcome.HostFault.{HostFault}
 use Rattle.host_events.specs.declared.outcome.HostFault.TheVariants as faults
 use Rattle.offline_programs.specs.declared.fault.RunFault.{RunFault}
-use Rattle.driver.specs.Items.{Item, RunStep, after_fault, entries_of, print_fault, halt, take}
+use Rattle.driver.specs.Items.{Item, RunStep, after_fault, entries_of, print_fault, halt}
 use Rattle.driver.specs.Place.{RunPlace, Rules, run_at}
-use Rattle.driver.specs.Steps.{Fails, Goes, Run, asks, breaks, broken, broken_joined, prints_fault, hears, heeds, interrupts, joins, lost, lost_joined, rewrites, stalls_all, takes, prints, too_many, too_many_heard, uncounted, uncounted_line, unheard, unjoined, unnumbered, unsaid, unstalled, untaken, unprinted, unwatched, unwritten, watches, takes_whole, refuses_whole, untaken_whole}
+use Rattle.driver.specs.Steps.{Fails, Goes, Run, asks, breaks, broken, broken_joined, prints_fault, hears, heeds, interrupts, joins, lost, lost_joined, rewrites, stalls_all, takes, prints, too_many, too_many_heard, uncounted, uncounted_line, unheard, unjoined, unnumbered, unsaid, unstalled, untaken, unprinted, unwatched, unwritten, watches, takes_whole, refuses_whole, lost_whole, too_many_whole, untaken_whole}
 use Rattle.driver.specs.Laws.{LeavesFrontsOf, all_printed, broke_at, lost_at, trace}
 use Rattle.driver.proofs.Courses.{Course, course_up_to, either_moments, events_append, moments_on, outcomes_append, runs_on}
-use Rattle.driver.proofs.Gates.{together_course, up_to_course}
+use Rattle.driver.proofs.Gates.{at_once_course, together_course, up_to_course}
 use Rattle.driver.proofs.Order.{Broke, after_halt, after_is, no_step, step_course}
 
 -- Where a step leads.
@@ -40,7 +40,9 @@ fails_lead R p q i entries why (too_many_heard events many) = refl
 fails_lead R p q i entries why (unjoined events) = refl
 fails_lead R p q i entries why (lost_joined events all a h all_are l) = refl
 fails_lead R p q i entries why (broken_joined events all a bs e f w c d h all_are t stopped) = (up_to_course R.sources.after (run_at p) all entries e (at w c d) t).runs
-fails_lead R p q i entries why (untaken_whole first events bs w x fails) = fails_lead R p q (take (Some first) events) entries why fails
+fails_lead R p q i entries why (too_many_whole first events many) = refl
+fails_lead R p q i entries why (untaken_whole first events) = refl
+fails_lead R p q i entries why (lost_whole first events h l) = refl
 fails_lead R p q i entries why (unwritten line f h stopped) = refl
 fails_lead R p q i entries why (unnumbered line many) = refl
 fails_lead R p q i entries why unstalled = refl
@@ -54,7 +56,7 @@ step_leads R p mid todo next s (hears seat most events c rest h) = refl
 step_leads R p mid todo next s (takes from events outcomes followed w c d rest t) = (together_course R.sources.after (run_at p) events outcomes followed (at w c d) t).runs
 step_leads R p mid todo next s (joins events outcomes first more later followed a w c d rest j t) =
     (together_course R.sources.after (run_at p) (events ++ more) (outcomes ++ later) followed (at w c d) t).runs
-step_leads R p mid todo next s (takes_whole first events outcomes followed w c d rest t accepted) = (together_course R.sources.after (run_at p) events outcomes followed (at w c d) t).runs
+step_leads R p mid todo next s (takes_whole first events outcomes w d rest t) = (at_once_course p.world events outcomes w p.disk d t.kept).runs
 step_leads R p mid todo next s (refuses_whole first events before last rest r) = refl
 step_leads R p mid todo next s (rewrites line o w d rest g k) = (w, g, refl)
 step_leads R p mid todo next s (stalls_all rest) = refl
@@ -128,7 +130,10 @@ fails_leave R p q i entries why held (unjoined events) = nothing_done p q held r
 fails_leave R p q i entries why held (lost_joined events all a h all_are l) = lost_at all p.disk h l refl (either_moments p.world l.taken l.withheld l.leads p.disk h.store.disk l.runs l.moments)
 fails_leave R p q i entries why held (broken_joined events all a bs e f w c d h all_are t stopped) =
     broke_at d h e f stopped refl (course_up_to p.world p.disk entries w d e f h held (up_to_course R.sources.after (run_at p) all entries e (at w c d) t) stopped)
-fails_leave R p q i entries why held (untaken_whole first events bs w x fails) = fails_leave R p q (take (Some first) events) entries why held fails
+fails_leave R p q i entries why held (too_many_whole first events many) = nothing_done p q held refl
+fails_leave R p q i entries why held (untaken_whole first events) = nothing_done p q held refl
+fails_leave R p q i entries why held (lost_whole first events h l) =
+    lost_at events p.disk h l.lost refl (either_moments p.world l.lost.taken l.lost.withheld l.lost.leads p.disk h.store.disk l.lost.runs l.lost.moments)
 fails_leave R p q i entries why held (unwritten line f h stopped) =
     broke_at p.disk h (event.Command command.Checkpoint) f stopped refl (course_up_to p.world p.disk [] p.world p.disk (event.Command command.Checkpoint) f h held (no_step p.world p.disk) stopped)
 fails_leave R p q i entries why held (unnumbered line many) = nothing_done p q held refl

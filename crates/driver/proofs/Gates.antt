@@ -49,6 +49,10 @@ trace-course : (w : World) (es : List Event) (os : List Outcome) (fs : List Foll
 trace-course w es os fs v d e u f kept goes =
     course_on w d (group_entries es os fs) v e (entries_after fs) u f (kept-course w es os fs v d e kept) (goes_course v e (entries_after fs) u f goes)
 
+-- all at once, of which nothing followed
+pub at_once_course : (w : World) (es : List Event) (os : List Outcome) (v : World) (d e : DiskView) → AtOnce w es os v d e → Course w d (trace_of es os []) v e
+at_once_course w es os v d e kept = trace-course w es os [] v d e v e kept (refl, refl)
+
 module _ {C : Type 0} (R : Relation C) (s : At C) (events : List Event) where
   pub together_course : (os : List Outcome) (fs : List Followed) (t : At C) → Together R s events os fs t → Course s.world s.disk (trace_of events os fs) t.world t.disk
   together_course os fs t p =

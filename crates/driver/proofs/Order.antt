@@ -13,7 +13,7 @@ use Rattle.driver.specs.Place.{RunPlace, Rules, Tries, run_at}
 use Rattle.driver.specs.Steps.{Fails, Goes, Run, asks, breaks, prints_fault, hears, heeds, interrupts, joins, rewrites, stalls_all, takes, prints, watches, takes_whole, refuses_whole}
 use Rattle.driver.specs.Laws.{CutAt, PrintedAfter, trace}
 use Rattle.driver.proofs.Courses.{Course, course_on, goes_course}
-use Rattle.driver.proofs.Gates.{together_course}
+use Rattle.driver.proofs.Gates.{at_once_course, together_course}
 
 pub cut_anywhere : {A C K : Type 0} (R : Rules A C K) (p q : RunPlace A C K) (todo left : List Item) (first last : List RunStep)
     → Run R p todo (first ++ last) left q → CutAt R p todo first last left q
@@ -44,7 +44,7 @@ step_course R p mid todo next s (hears seat most events c rest h) = inl (no_step
 step_course R p mid todo next s (takes from events outcomes followed w c d rest t) = inl (together_course R.sources.after (run_at p) events outcomes followed (at w c d) t)
 step_course R p mid todo next s (joins events outcomes first more later followed a w c d rest j t) =
     inl (together_course R.sources.after (run_at p) (events ++ more) (outcomes ++ later) followed (at w c d) t)
-step_course R p mid todo next s (takes_whole first events outcomes followed w c d rest t accepted) = inl (together_course R.sources.after (run_at p) events outcomes followed (at w c d) t)
+step_course R p mid todo next s (takes_whole first events outcomes w d rest t) = inl (at_once_course p.world events outcomes w p.disk d t.kept)
 step_course R p mid todo next s (refuses_whole first events before last rest r) = inl (no_step p.world p.disk)
 step_course R p mid todo next s (rewrites line o w d rest g k) =
     inl (goes_course p.world p.disk (entries_of s) w d (w, d, g, k, (refl, refl)))

@@ -12,7 +12,7 @@ use Rattle.tellings.specs.declared.note.Note.{Note}
 use Rattle.offline_programs.specs.declared.fault.RunFault.{RunFault}
 use Rattle.driver.specs.declared.turn.Turn.{Turn}
 use Rattle.driver.specs.Reports.{TurnCame, printed_text}
-use Rattle.driver.specs.Items.{Item, RunStep, take}
+use Rattle.driver.specs.Items.{Item, RunStep}
 use Rattle.driver.specs.Place.{AgendaRules, RunPlace, Rules, Tries, rules, sink_rules}
 use Rattle.driver.specs.Steps.{Fails, Goes, Run}
 use Rattle.driver.specs.Steps as step
@@ -55,7 +55,9 @@ module _ {A B C K L : Type 0} (R : Rules A C K) (S : AgendaRules B) (written : L
   fails_seen p q i entries why (step.lost_joined events all a h all_are l) = step.lost_joined events all (f a) h (all_seen p.agenda a p.world events all all_are) l
   fails_seen p q i entries why (step.broken_joined events all a bs e x w c d h all_are t stopped) =
       step.broken_joined events all (f a) bs e x w c d h (all_seen p.agenda a p.world events all all_are) t stopped
-  fails_seen p q i entries why (step.untaken_whole first events bs w x fails) = step.untaken_whole first events entries why (seen_place q) (fails_seen p q (take (Some first) events) entries why fails)
+  fails_seen p q i entries why (step.too_many_whole first events many) = step.too_many_whole first events many
+  fails_seen p q i entries why (step.untaken_whole first events) = step.untaken_whole first events
+  fails_seen p q i entries why (step.lost_whole first events h l) = step.lost_whole first events h l
   fails_seen p q i entries why (step.unwritten line x h stopped) = step.unwritten line x h stopped
   fails_seen p q i entries why (step.unnumbered line many) = step.unnumbered line many
   fails_seen p q i entries why step.unstalled = step.unstalled
@@ -69,7 +71,7 @@ module _ {A B C K L : Type 0} (R : Rules A C K) (S : AgendaRules B) (written : L
   step_seen p q todo next s (step.takes from events outcomes followed w c d rest t) = step.takes from events outcomes followed w c d rest t
   step_seen p q todo next s (step.joins events outcomes first more later followed a w c d rest j t) =
       step.joins events outcomes first more later followed (f a) w c d rest (asks_seen p.agenda a p.world events outcomes first more j) t
-  step_seen p q todo next s (step.takes_whole first events outcomes followed w c d rest t accepted) = step.takes_whole first events outcomes followed w c d rest t accepted
+  step_seen p q todo next s (step.takes_whole first events outcomes w d rest t) = step.takes_whole first events outcomes w d rest t
   step_seen p q todo next s (step.refuses_whole first events before last rest r) = step.refuses_whole first events before last rest r
   step_seen p q todo next s (step.rewrites line o w d rest gives kept) = step.rewrites line o w d rest gives kept
   step_seen p q todo next s (step.stalls_all rest) = step.stalls_all rest

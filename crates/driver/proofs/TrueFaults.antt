@@ -169,7 +169,9 @@ module _ {A C K : Type 0} (R : Rules A C K) (own : (a : A) (w : World) (n : ℕ)
   fails_true p q i entries why (step.lost_joined events all a h all_are l) = l.failed
   fails_true p q i entries why (step.broken_joined events all a bs e f w c d h all_are t stopped) =
       host_since f p.disk d h.store.disk (up_to_course R.sources.after (run_at p) all entries e (at w c d) t).same (cause_true f w e d h.store.disk stopped.cause)
-  fails_true p q i entries why (step.untaken_whole first events bs w x fails) = fails_true p q (item.take (Some first) events) entries why fails
+  fails_true p q i entries why (step.too_many_whole first events many) = tt
+  fails_true p q i entries why (step.untaken_whole first events) = tt
+  fails_true p q i entries why (step.lost_whole first events h l) = l.lost.failed
   fails_true p q i entries why (step.unwritten line f h stopped) = cause_true f p.world _ p.disk h.store.disk stopped.cause
   fails_true p q i entries why (step.unnumbered line many) = tt
   fails_true p q i entries why step.unstalled = tt
@@ -183,7 +185,7 @@ module _ {A C K : Type 0} (R : Rules A C K) (own : (a : A) (w : World) (n : ℕ)
   step_doing p mid todo next s (step.takes from events outcomes followed w c d rest t) all = inl (tt, (tt, (tt, all.1)))
   step_doing p mid todo next s (step.joins events outcomes first more later followed a w c d rest j t) all =
       inl (joined_doing first outcomes later (reported (entries_after followed)) rest all.1)
-  step_doing p mid todo next s (step.takes_whole first events outcomes followed w c d rest t accepted) all = inl (tt, (tt, (tt, all.1)))
+  step_doing p mid todo next s (step.takes_whole first events outcomes w d rest t) all = inl (tt, (tt, (tt, all.1)))
   step_doing p mid todo next s (step.refuses_whole first events before last rest r) all = inl (tt, (tt, (tt, all.1)))
   step_doing p mid todo next s (step.rewrites line o w d rest gives kept) all = inl (tt, (tt, (tt, all.1)))
   step_doing p mid todo next s (step.stalls_all rest) all = inl (tt, all.1)

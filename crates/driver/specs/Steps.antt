@@ -1,5 +1,4 @@
 -- One step of a run, from what is to be done to what is to be done then.
-use Rattle.std.specs.List.{list_any}
 use Rattle.std.specs.Prelude.{◌≡◌, ◌⊎◌, ℕ, ◌+◌, ◌^◌, ◌≤◌, ◌<◌, Bool, true, false, List, [], ◌∷◌, ◌++◌, Option, Some, None, IsSomeAnd, Ok, Err, length, map}
 use Rattle.disk_model.specs.Disk.{DiskView}
 use Rattle.host_events.specs.declared.command.Command.TheVariants as command
@@ -10,10 +9,11 @@ use Rattle.host_events.specs.declared.outcome.HostFault.{HostFault}
 use Rattle.host_events.specs.declared.outcome.HostFault.TheVariants as hosts
 use Rattle.session_engine.specs.World.{World}
 use Rattle.session_engine.specs.Does.{Gives}
-use Rattle.session_engine.specs.Groups.{is_refusal}
 use Rattle.session_engine.specs.Host.{HostView}
 use Rattle.session_engine.specs.Joining.{JoinsAfter, ToBeTaken, asking}
 use Rattle.session_engine.specs.Whole.{RefusedAt}
+use Rattle.session_engine.specs.declared.whole.WholeFault.{WholeFault}
+use Rattle.session_engine.specs.declared.whole.WholeFault.TheVariants as at_whole
 use Rattle.child_calls.specs.declared.seat.Seat.{Seat}
 use Rattle.child_edge.specs.Edge.{Stopped}
 use Rattle.child_edge.specs.Faithful.{Entry, at}
@@ -22,6 +22,7 @@ use Rattle.child_edge.specs.Kept.{Kept}
 use Rattle.child_edge.specs.Seats.{waits}
 use Rattle.child_edge.specs.Together.{Followed, LostTogether, Together, TogetherUpTo, entries_after}
 use Rattle.child_edge.specs.Reported.{reported}
+use Rattle.child_edge.specs.Wholly.{AllTaken, LostWhole}
 use Rattle.child_edge.specs.declared.together.TogetherFault.{TogetherFault}
 use Rattle.child_edge.specs.declared.together.TogetherFault.TheVariants as at_gate
 use Rattle.child_edge.specs.declared.interrupting.Interrupted.{Interrupted}
@@ -40,6 +41,12 @@ use Rattle.driver.specs.Hearing.{HeardReady}
 -- the most events that are taken as one group
 abbrev pub most_together : ℕ
 most_together = 1024
+
+-- the fault of a run where commands weren't taken all or not at all
+abbrev pub fault_of_whole : WholeFault → RunFault
+fault_of_whole at_whole.NoRoom = fault.OutOfMemory
+fault_of_whole at_whole.Disk = fault.Host hosts.Disk
+fault_of_whole at_whole.Closed = fault.Host hosts.Closed
 
 -- the fault of a run where events weren't taken as one group
 abbrev pub fault_at_gate : TogetherFault → RunFault
@@ -78,9 +85,12 @@ pub data Fails {A C K : Type 0} (R : Rules A C K) (p : RunPlace A C K) : Item �
   broken_joined : (events all : List Event) (a : A) (entries : List Entry) (e : Event) (f : HostFault) (w : World) (c : C) (d : DiskView) (h : HostView)
       → ToBeTaken (asking R.agenda.joins p.agenda a) p.world events all → TogetherUpTo R.sources.after (run_at p) all entries e (at w c d) → Stopped d h w e f
       → Fails R p (join events) entries (fault.Host f) (record p { agenda = a; world = w; sources = c; disk = h.store.disk })
-  -- commands that are taken all or not at all fail as a group of lines does
-  untaken_whole : (first : ℕ) (events : List Event) (entries : List Entry) (why : RunFault) (q : RunPlace A C K) → Fails R p (take (Some first) events) entries why q
-      → Fails R p (take_whole first events) entries why q
+  -- The same of commands that are taken all or not at all. Where the disk failed, all were taken, of which none was refused.
+  too_many_whole : (first : ℕ) (events : List Event) → (most_together < length events) ⊎ (2 ^ 64 ≤ first + most_together + 1)
+      → Fails R p (take_whole first events) [] fault.InputTooLong p
+  untaken_whole : (first : ℕ) (events : List Event) → Fails R p (take_whole first events) [] fault.OutOfMemory p
+  lost_whole : (first : ℕ) (events : List Event) (h : HostView) → LostWhole p.world events p.disk h
+      → Fails R p (take_whole first events) [] (fault.Host hosts.Disk) (record p { disk = h.store.disk })
   -- the host had this fault at the checkpoint
   unwritten : (line : ℕ) (f : HostFault) (h : HostView) → Stopped p.disk h p.world (event.Command command.Checkpoint) f
       → Fails R p (rewrite line) [] (fault.Host f) (record p { disk = h.store.disk })
@@ -111,10 +121,9 @@ pub data Goes {A C K : Type 0} (R : Rules A C K) (p : RunPlace A C K) : List Ite
       → JoinsAfter (asking R.agenda.joins p.agenda a) p.world events outcomes first more → Together R.sources.after (run_at p) (events ++ more) (outcomes ++ later) followed (at w c d)
       → Goes R p (join events ∷ rest) (took (events ++ more) (outcomes ++ later) followed) (printing_joined first outcomes later (reported (entries_after followed)) rest)
       (record p { agenda = a; world = w; sources = c; disk = d })
-  -- All commands of a whole group were accepted: they are taken as any group.
-  takes_whole : (first : ℕ) (events : List Event) (outcomes : List Outcome) (followed : List Followed) (w : World) (c : C) (d : DiskView) (rest : List Item)
-      → Together R.sources.after (run_at p) events outcomes followed (at w c d) → list_any is_refusal outcomes ≡ false
-      → Goes R p (take_whole first events ∷ rest) (took events outcomes followed) (printing (Some first) outcomes (reported (entries_after followed)) ++ rest) (record p { world = w; sources = c; disk = d })
+  -- All commands of a whole group were accepted: all that they give is durable at once, and none has an effect.
+  takes_whole : (first : ℕ) (events : List Event) (outcomes : List Outcome) (w : World) (d : DiskView) (rest : List Item) → AllTaken p.world events outcomes w p.disk d
+      → Goes R p (take_whole first events ∷ rest) (took events outcomes []) (printing (Some first) outcomes [] ++ rest) (record p { world = w; disk = d })
   -- One of them would be refused, after those before it: none is taken, and that refusal is printed, by the number of its line.
   refuses_whole : (first : ℕ) (events : List Event) (before : List Outcome) (last : Outcome) (rest : List Item)
       → RefusedAt p.world events before last

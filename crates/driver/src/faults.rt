@@ -1,10 +1,11 @@
 //! Faults of a run.
 ghost use Rattle.std.specs.Prelude.{◌≡◌, true, false};
-ghost use Rattle.driver.specs.Steps.{fault_at_gate};
+ghost use Rattle.driver.specs.Steps.{fault_at_gate, fault_of_whole};
 
 use child_edge::TogetherFault;
 use host_events::HostFault;
 use offline_programs::RunFault;
+use session_engine::WholeFault;
 
 /// The fault of a run, where events weren't taken as one group.
 pub(crate) fn gate_fault(fault: TogetherFault) -> RunFault
@@ -14,6 +15,17 @@ pub(crate) fn gate_fault(fault: TogetherFault) -> RunFault
         TogetherFault::OutOfMemory => RunFault::OutOfMemory,
         TogetherFault::Lost => RunFault::Host(HostFault::Disk),
         TogetherFault::Host(fault) => RunFault::Host(fault),
+    }
+}
+
+/// The fault of a run, where commands weren't taken all or not at all.
+pub(crate) fn whole_fault(fault: WholeFault) -> RunFault
+    ensures { result ≡ fault_of_whole fault }
+{
+    match fault {
+        WholeFault::NoRoom => RunFault::OutOfMemory,
+        WholeFault::Disk => RunFault::Host(HostFault::Disk),
+        WholeFault::Closed => RunFault::Host(HostFault::Closed),
     }
 }
 

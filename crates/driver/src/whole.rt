@@ -1,47 +1,37 @@
 //! Commands of lines that are taken all or not at all.
-ghost use Rattle.std.specs.Prelude.{◌≡◌, ◌≤◌, ◌+◌, ◌<◌, ◌^◌, ◌∷◌, ◌++◌, [], ℕ, List, IfOk, OnOk, Some, false, true};
+ghost use Rattle.std.specs.Prelude.{◌≤◌, ◌+◌, ◌<◌, ◌^◌, ◌∷◌, ◌++◌, [], ℕ, List, IfOk, OnOk, Some};
 ghost use Rattle.disk_model.specs.Disk.{SameDisk};
 ghost use Rattle.session_engine.specs.World.{World};
 ghost use Rattle.session_engine.specs.Host.{IsHost};
 ghost use Rattle.driver.specs.Place.{agenda_rules, rules, source_rules};
 ghost use Rattle.driver.specs.Items.{Item, printing, take_whole as taking_whole};
 ghost use Rattle.driver.specs.Runs.{DidSteps, left_by_answer, parts, seen};
-ghost use Rattle.driver.specs.inside.Wholes.{IsOfGroup, printing_whole};
+ghost use Rattle.session_engine.specs.Whole.{HasAtMost};
+ghost use Rattle.driver.specs.inside.Wholes.{printing_whole};
 ghost use Rattle.driver.specs.Steps.{most_together};
 
 use crate::agenda::Agenda;
 use crate::driver::{Driver, is_uncounted};
-use crate::faults::gate_fault;
+use crate::faults::whole_fault;
 use crate::sink::Sink;
 use arrivals::Sources;
-use child_edge::{GaveWhole, MOST_TOGETHER, serve_whole};
+use child_edge::{GaveTogether, MOST_TOGETHER, serve_whole};
 use disk_model::Disk;
 use host_events::Outcome;
 use offline_programs::RunFault;
-use session_engine::Edits;
-
-/// Whether there are at most as many as a group may have.
-fn is_of_group(gave: &GaveWhole) -> bool
-    ensures yes { result ≡ true → IsOfGroup gave.now }
-    ensures no { result ≡ false → IsOfGroup gave.now → ⊥ }
-{
-    match gave {
-        GaveWhole::Taken(gave) => gave.outcomes.len() <= MOST_TOGETHER,
-        GaveWhole::Refused { before, last: _ } => *before <= MOST_TOGETHER as u64,
-    }
-}
+use session_engine::{Edits, Whole};
 
 impl<D: Disk, S: Sources, K: Sink, A: Agenda> Driver<D, S, K, A> {
     /// Takes commands of lines from this one on as one group, all of them or none.
-    fn take_all(&mut self, first: u64, edits: Edits) -> Result<GaveWhole, RunFault>
+    fn take_all(&mut self, first: u64, edits: Edits) -> Result<Whole, RunFault>
         ensures same { SameDisk self.old.host.store.disk self.new.host.store.disk }
         ensures did { (n : ℕ) (rest : List Item) (w : World) → IsHost self.old.host w
             → DidSteps (rules (agenda_rules A.rules A.joins) (source_rules S.after S.wakes S.clock) K.rules)
             (seen n w (parts self.old.host self.old.sources self.old.sink self.old.agenda))
             (taking_whole first edits ∷ rest)
-            (left_by_answer (λ gave. printing_whole first gave rest)) result
+            (left_by_answer (λ whole. printing_whole first whole rest)) result
             (n, parts self.new.host self.new.sources self.new.sink self.new.agenda) }
-        ensures few { IfOk result IsOfGroup }
+        ensures few { IfOk result (HasAtMost most_together) }
         ensures counted { OnOk result (first + most_together + 1 < 2 ^ 64) }
     {
         if edits.len() > MOST_TOGETHER {
@@ -50,15 +40,9 @@ impl<D: Disk, S: Sources, K: Sink, A: Agenda> Driver<D, S, K, A> {
         if is_uncounted(Some(first)) {
             return Err(RunFault::InputTooLong);
         }
-        match serve_whole(self.alloc, &mut self.host, &mut self.sources, edits) {
-            Ok(gave) => {
-                // There is one outcome for each command, or one for each up to the refusal.
-                if is_of_group(&gave) {
-                    return Ok(gave);
-                }
-                Err(RunFault::InputTooLong)
-            }
-            Err(fault) => Err(gate_fault(fault)),
+        match serve_whole(&mut self.host, edits) {
+            Ok(whole) => Ok(whole),
+            Err(fault) => Err(whole_fault(fault)),
         }
     }
 
@@ -81,19 +65,22 @@ impl<D: Disk, S: Sources, K: Sink, A: Agenda> Driver<D, S, K, A> {
     }
 
     /// Prints what commands of lines from this one on gave, or the refusal for which none of them was taken.
-    fn print_whole(&mut self, first: u64, gave: GaveWhole) -> Result<(), RunFault>
-        requires few { IsOfGroup gave }
+    fn print_whole(&mut self, first: u64, whole: Whole) -> Result<(), RunFault>
+        requires few { HasAtMost most_together whole }
         requires counted { first + most_together + 1 < 2 ^ 64 }
         ensures same { SameDisk self.old.host.store.disk self.new.host.store.disk }
         ensures did { (n : ℕ) (rest : List Item) (w : World) → IsHost self.old.host w
             → DidSteps (rules (agenda_rules A.rules A.joins) (source_rules S.after S.wakes S.clock) K.rules)
             (seen n w (parts self.old.host self.old.sources self.old.sink self.old.agenda))
-            (printing_whole first gave rest) (left_by_answer (λ done. rest)) result
+            (printing_whole first whole rest) (left_by_answer (λ done. rest)) result
             (n, parts self.new.host self.new.sources self.new.sink self.new.agenda) }
     {
-        match gave {
-            GaveWhole::Taken(gave) => self.print_group(Some(first), gave),
-            GaveWhole::Refused { before, last } => self.print_refusal(first, before, last),
+        match whole {
+            Whole::Taken(outcomes) => {
+                let replies = Vec::new(self.alloc);
+                self.print_group(Some(first), GaveTogether { outcomes, replies })
+            }
+            Whole::Refused { before, last } => self.print_refusal(first, before.len() as u64, last),
         }
     }
 
@@ -107,7 +94,7 @@ impl<D: Disk, S: Sources, K: Sink, A: Agenda> Driver<D, S, K, A> {
             (n, parts self.new.host self.new.sources self.new.sink self.new.agenda) }
     {
         match self.take_all(first, edits) {
-            Ok(gave) => self.print_whole(first, gave),
+            Ok(whole) => self.print_whole(first, whole),
             Err(why) => Err(why),
         }
     }

@@ -19,9 +19,9 @@ use Rattle.child_edge.specs.Moments.{events_of, outcomes_of}
 use Rattle.child_edge.specs.Together.{LostTogether}
 use Rattle.offline_programs.specs.declared.fault.RunFault.{RunFault}
 use Rattle.theorem.specs.Programs.{EndedAs, at_event, in_group, well}
-use Rattle.driver.specs.Items.{Item, RunStep, entries_of, take}
+use Rattle.driver.specs.Items.{Item, RunStep, entries_of}
 use Rattle.driver.specs.Place.{RunPlace, Rules, run_at}
-use Rattle.driver.specs.Steps.{Fails, Run, broken, broken_joined, lost, lost_joined, too_many, too_many_heard, uncounted, uncounted_line, unheard, unjoined, unnumbered, unprinted, unsaid, unstalled, untaken, untaken_whole, unwatched, unwritten}
+use Rattle.driver.specs.Steps.{Fails, Run, broken, broken_joined, lost, lost_joined, too_many, too_many_heard, uncounted, uncounted_line, unheard, unjoined, unnumbered, unprinted, unsaid, unstalled, untaken, lost_whole, too_many_whole, untaken_whole, unwatched, unwritten}
 use Rattle.driver.specs.Laws.{trace}
 use Rattle.driver.proofs.Courses.{Course, course_on, course_up_to, either_moments, left_within}
 use Rattle.driver.proofs.Fronts.{after, fault_stays}
@@ -94,7 +94,9 @@ fails_parted R p q i entries why (too_many_heard events many) = ended_well p.wor
 fails_parted R p q i entries why (unjoined events) = ended_well p.world p.disk q.disk refl
 fails_parted R p q i entries why (lost_joined events all a h all_are l) = at_loss p.world p.disk all h l
 fails_parted R p q i entries why (broken_joined events all a bs e f w c d h all_are t stopped) = at_fault p.world p.disk entries w d e f h (up_to_course R.sources.after (run_at p) all entries e (at w c d) t) stopped
-fails_parted R p q i entries why (untaken_whole first events bs w x fails) = fails_parted R p q (take (Some first) events) entries why fails
+fails_parted R p q i entries why (too_many_whole first events many) = ended_well p.world p.disk q.disk refl
+fails_parted R p q i entries why (untaken_whole first events) = ended_well p.world p.disk q.disk refl
+fails_parted R p q i entries why (lost_whole first events h l) = at_loss p.world p.disk events h l.lost
 fails_parted R p q i entries why (unwritten line f h stopped) = at_fault p.world p.disk [] p.world p.disk (event.Command command.Checkpoint) f h (no_step p.world p.disk) stopped
 fails_parted R p q i entries why (unnumbered line many) = ended_well p.world p.disk q.disk refl
 fails_parted R p q i entries why unstalled = ended_well p.world p.disk q.disk refl

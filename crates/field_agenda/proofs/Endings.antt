@@ -161,8 +161,8 @@ module _ {P C K : Type 0} (finds : P → Finds) (sources : SourceRules C) (sink 
       inl (thrice (group_of from outcomes) (followed_of (reported (entries_after followed))) (came outcomes (reported (entries_after followed))) rest (following (item.take from events) rest (λ no. no) last))
   stays_open p q todo next s last (step.joins events outcomes first more later followed a w c d rest j t) =
       inl (joined first outcomes later (reported (entries_after followed)) rest (following (item.join events) rest (λ no. no) last))
-  stays_open p q todo next s last (step.takes_whole first events outcomes followed w c d rest t accepted) =
-      inl (thrice (group_of (Some first) outcomes) (followed_of (reported (entries_after followed))) (came outcomes (reported (entries_after followed))) rest (following (item.take_whole first events) rest (λ no. no) last))
+  stays_open p q todo next s last (step.takes_whole first events outcomes w d rest t) =
+      inl (thrice (group_of (Some first) outcomes) (followed_of []) (came outcomes []) rest (following (item.take_whole first events) rest (λ no. no) last))
   stays_open p q todo next s last (step.refuses_whole first events outcomes one rest r) =
       inl (thrice (group_of (Some (first + length outcomes)) (one ∷ [])) (followed_of []) (came (one ∷ []) []) rest (following (item.take_whole first events) rest (λ no. no) last))
   stays_open p q todo next s last (step.rewrites line o w d rest gives kept) =

@@ -9,7 +9,7 @@ use Rattle.offline_programs.specs.declared.fault.RunFault.{RunFault}
 use Rattle.offline_programs.specs.declared.fault.RunFault.TheVariants as fault
 use Rattle.driver.specs.declared.turn.Turn.{Turn}
 use Rattle.driver.specs.declared.turn.Turn.TheVariants as turn
-use Rattle.driver.specs.Items.{Item, RunStep, after_fault, ask, entries_of, broke, chose, halt, items_by, print_fault, take}
+use Rattle.driver.specs.Items.{Item, RunStep, after_fault, ask, entries_of, broke, chose, halt, items_by, print_fault}
 use Rattle.driver.specs.Laws.{trace}
 use Rattle.driver.specs.Place.{RunPlace, Rules, SinkRules, SourceRules, rules}
 use Rattle.driver.specs.Steps.{Fails, Goes, Run}
@@ -87,7 +87,9 @@ module _ {P C K : Type 0} (finds : P → Finds) (sources : SourceRules C) (sink 
   fails_on p q i entries why under (step.unjoined events) = under
   fails_on p q i entries why under (step.lost_joined events all a h all_are l) = all_on p.agenda a p.world events all under all_are
   fails_on p q i entries why under (step.broken_joined events all a bs e x w c d h all_are t failed) = all_on p.agenda a p.world events all under all_are
-  fails_on p q i entries why under (step.untaken_whole first events bs x y fails) = fails_on p q (take (Some first) events) entries why under fails
+  fails_on p q i entries why under (step.too_many_whole first events many) = under
+  fails_on p q i entries why under (step.untaken_whole first events) = under
+  fails_on p q i entries why under (step.lost_whole first events h l) = under
   fails_on p q i entries why under (step.unwritten line x h failed) = under
   fails_on p q i entries why under (step.unnumbered line many) = under
   fails_on p q i entries why under step.unstalled = under
@@ -100,7 +102,7 @@ module _ {P C K : Type 0} (finds : P → Finds) (sources : SourceRules C) (sink 
   step_on p q todo next s under (step.hears seat most events c rest h) = under
   step_on p q todo next s under (step.takes from events outcomes followed w c d rest t) = under
   step_on p q todo next s under (step.joins events outcomes first more later followed a w c d rest j t) = joins_on p.agenda j.world first more a under j.answered
-  step_on p q todo next s under (step.takes_whole first events outcomes followed w c d rest t accepted) = under
+  step_on p q todo next s under (step.takes_whole first events outcomes w d rest t) = under
   step_on p q todo next s under (step.refuses_whole first events outcomes one rest r) = under
   step_on p q todo next s under (step.rewrites line o w d rest gives kept) = under
   step_on p q todo next s under (step.stalls_all rest) = under

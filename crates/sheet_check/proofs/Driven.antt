@@ -142,7 +142,7 @@ module _ {C : Type 0} (o : Way C) where
   step_kept p mid q todo next s steps (step.hears seat most events c rest h) more = sym (append-nil (numbers_of p.sink.kept))
   step_kept p mid q todo next s steps (step.takes from events outcomes followed w c d rest t) more = sym (append-nil (numbers_of p.sink.kept))
   step_kept p mid q todo next s steps (step.joins events outcomes first others later followed a w c d rest asked t) more = sym (append-nil (numbers_of p.sink.kept))
-  step_kept p mid q todo next s steps (step.takes_whole first events outcomes followed w c d rest t accepted) more = sym (append-nil (numbers_of p.sink.kept))
+  step_kept p mid q todo next s steps (step.takes_whole first events outcomes w d rest t) more = sym (append-nil (numbers_of p.sink.kept))
   step_kept p mid q todo next s steps (step.refuses_whole first events outcomes one rest r) more = sym (append-nil (numbers_of p.sink.kept))
   step_kept p mid q todo next s steps (step.rewrites line one w d rest gives kept) more = sym (append-nil (numbers_of p.sink.kept))
   step_kept p mid q todo next s steps (step.stalls_all rest) more = sym (append-nil (numbers_of p.sink.kept))

@@ -159,7 +159,9 @@ module _ {C : Type 0} (o : Way C) where
   fails_own p q i entries why (step.unjoined events) = tt
   fails_own p q i entries why (step.lost_joined events all a h all_are l) = tt
   fails_own p q i entries why (step.broken_joined events all a bs e f w c d h all_are t stopped) = tt
-  fails_own p q i entries why (step.untaken_whole first events bs w x fails) = fails_own p q (item.take (Some first) events) entries why fails
+  fails_own p q i entries why (step.too_many_whole first events many) = tt
+  fails_own p q i entries why (step.untaken_whole first events) = tt
+  fails_own p q i entries why (step.lost_whole first events h l) = tt
   fails_own p q i entries why (step.unwritten line f h stopped) = tt
   fails_own p q i entries why (step.unnumbered line many) = tt
   fails_own p q i entries why step.unstalled = tt
@@ -173,7 +175,7 @@ module _ {C : Type 0} (o : Way C) where
   step_own p mid todo next s all (step.hears seat most events c rest h) = (tt, all.1)
   step_own p mid todo next s all (step.takes from events outcomes followed w c d rest t) = (tt, (tt, (tt, all.1)))
   step_own p mid todo next s all (step.joins events outcomes first more later followed a w c d rest j t) = joined_own first outcomes later (reported (entries_after followed)) rest all.1
-  step_own p mid todo next s all (step.takes_whole first events outcomes followed w c d rest t accepted) = (tt, (tt, (tt, all.1)))
+  step_own p mid todo next s all (step.takes_whole first events outcomes w d rest t) = (tt, (tt, (tt, all.1)))
   step_own p mid todo next s all (step.refuses_whole first events before last rest r) = (tt, (tt, (tt, all.1)))
   step_own p mid todo next s all (step.rewrites line one w d rest gives kept) = (tt, (tt, (tt, all.1)))
   step_own p mid todo next s all (step.stalls_all rest) = (tt, all.1)

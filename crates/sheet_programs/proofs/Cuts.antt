@@ -47,7 +47,7 @@ does_reported w command.Checkpoint None d edit (inl is) = absurd (false≢true e
 
 gives_reported : (w : World) (e : Event) (o : Outcome) (v : World) → IsEdit e → Gives w e o v → is_wrong o.reply ≡ is_refused o.reply
 gives_reported w (event.Command c) o v edit gives = subst (λ (x : Outcome). is_wrong x.reply ≡ is_refused x.reply) (sym gives.2) (does_reported w c (first_of (command_refusals w c)) gives.0 edit gives.1)
-gives_reported w (event.Child name number e) o v edit gives = absurd edit
+gives_reported w (event.Child name number e) o v edit gives = absurd (false≢true edit)
 
 spoken_wrong : (r : Reply) → is_wrong r ≡ is_refused r → list_any is_wrong (spoken r) ≡ is_refused r
 spoken_wrong reply.Done is = refl

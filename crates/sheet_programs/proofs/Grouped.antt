@@ -6,9 +6,6 @@ use Rattle.std.specs.Prelude.{Bool, is_some}
 use Rattle.std.specs.List.{AllByRecursion}
 use Rattle.disk_model.specs.Disk.{DiskView, Leaves, LeavesOnly, Rises, SameDisk}
 use Rattle.recovery.specs.Sheets.{IsSheetImage, IsSheetOf}
-use Rattle.host_events.specs.Commands.{op_of}
-use Rattle.host_events.specs.declared.command.Command.{Command}
-use Rattle.host_events.specs.declared.command.Command.TheVariants as command
 use Rattle.host_events.specs.declared.event.Event.{Event}
 use Rattle.host_events.specs.declared.event.Event.TheVariants as event
 use Rattle.host_events.specs.declared.outcome.Outcome.{Outcome}
@@ -16,11 +13,10 @@ use Rattle.host_events.specs.declared.outcome.HostFault.{HostFault}
 use Rattle.host_events.specs.declared.outcome.HostFault.TheVariants as faults
 use Rattle.host_events.specs.declared.reply.Reply.{Reply}
 use Rattle.host_events.specs.declared.reply.Reply.TheVariants as reply
-use Rattle.worksheet.specs.declared.refusal.Refusal.{Refusal}
-use Rattle.worksheet.specs.Checks.{first_of}
 use Rattle.session_engine.specs.World.{World, sheet_in}
-use Rattle.session_engine.specs.Refused.{command_refusals}
-use Rattle.session_engine.specs.Does.{CommandDoes, Does, Gives, Runs}
+use Rattle.session_engine.specs.Does.{Runs}
+use Rattle.session_engine.specs.Whole.{is_edit}
+use Rattle.child_edge.proofs.Edits.{gives_alone}
 use Rattle.session_engine.specs.Host.{HostView, IsHost}
 use Rattle.session_engine.specs.Faults.{CauseOf}
 use Rattle.session_engine.specs.Gathers.{FlushesTo}
@@ -42,31 +38,9 @@ use Rattle.sheet_programs.specs.Strict.{LastIf}
 use Rattle.offline_programs.specs.declared.fault.RunFault.{RunFault}
 use Rattle.sheet_programs.specs.inside.Grouping.{GroupFailed, GroupHalted, GroupKept, KeptUpTo, group_lost, group_refused, halted_by_disk, halted_by_memory, host_call, outcome_text, outcomes_text}
 
--- Such commands have no effect.
-
 -- an event of such a command
 abbrev pub IsEdit : Event → Type 0
-IsEdit (event.Command c) = is_some (op_of c) ≡ true
-IsEdit (event.Child name number e) = ⊥
-
-does_alone : (w : World) (c : Command) (r : Option Refusal) (d : Does) → is_some (op_of c) ≡ true → CommandDoes w c r d → d.reported.effect ≡ None
-does_alone w c (Some r) d edit is = ap (λ (x : Does). x.reported.effect) is
-does_alone w c None d edit (inr refused) = ap (λ (x : Does). x.reported.effect) refused.1
-does_alone w (command.Session name tab words) None d edit (inl is) = ap (λ (x : Does). x.reported.effect) is
-does_alone w (command.New after session input) None d edit (inl is) = ap (λ (x : Does). x.reported.effect) is
-does_alone w (command.Set id input) None d edit (inl is) = ap (λ (x : Does). x.reported.effect) is
-does_alone w (command.Remove id) None d edit (inl is) = ap (λ (x : Does). x.reported.effect) is
-does_alone w (command.Move id after) None d edit (inl is) = ap (λ (x : Does). x.reported.effect) is
-does_alone w (command.Clear id) None d edit (inl is) = ap (λ (x : Does). x.reported.effect) is
-does_alone w (command.Eval id) None d edit (inl is) = absurd (false≢true edit)
-does_alone w (command.Complete id cursor) None d edit (inl is) = absurd (false≢true edit)
-does_alone w (command.CompleteText id cursor text) None d edit (inl is) = absurd (false≢true edit)
-does_alone w (command.Stop name) None d edit (inl is) = absurd (false≢true edit)
-does_alone w command.Checkpoint None d edit (inl is) = absurd (false≢true edit)
-
-gives_alone : (w : World) (e : Event) (o : Outcome) (v : World) → IsEdit e → Gives w e o v → o.effect ≡ None
-gives_alone w (event.Command c) o v edit gives = ap (λ (x : Outcome). x.effect) gives.2 ∙ does_alone w c (first_of (command_refusals w c)) gives.0 edit gives.1
-gives_alone w (event.Child name number e) o v edit gives = absurd edit
+IsEdit e = is_edit e ≡ true
 
 -- The events of lines that join are such.
 
@@ -90,7 +64,7 @@ among (x ∷ xs) e more all = among xs e more all.1
 
 -- a fault of one of them is the disk's
 edit_fault : (w : World) (e : Event) (old new : DiskView) (f : HostFault) → IsEdit e → ((f ≡ faults.Disk) → ⊥) → CauseOf w e old new f → ⊥
-edit_fault w (event.Child name number x) old new f edit kept cause = edit
+edit_fault w (event.Child name number x) old new f edit kept cause = false≢true edit
 edit_fault w (event.Command c) old new faults.Closed edit kept cause = cause
 edit_fault w (event.Command c) old new faults.Disk edit kept cause = kept refl
 edit_fault w (event.Command c) old new faults.OutOfMemory edit kept cause = false≢true cause.1

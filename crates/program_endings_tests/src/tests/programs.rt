@@ -24,7 +24,7 @@ fn ending(status: u8, reported: bool) -> Ending {
 }
 
 // Each fault that a program can end by, and the line that tells it.
-const TOLD: [(RunFault, &[u8]); 14] = [
+const REPORTED: [(RunFault, &[u8]); 14] = [
     (RunFault::Host(HostFault::Closed), b"fault 20 Closed\n"),
     (RunFault::Host(HostFault::Disk), b"fault 21 Disk\n"),
     (
@@ -65,7 +65,7 @@ fn tells(alloc: Global, fault: RunFault, said: &[u8]) -> bool {
 
 #[test]
 fn each_fault_is_reported_on_a_line(rt: HostRuntime) {
-    for (fault, said) in TOLD {
+    for (fault, said) in REPORTED {
         assert!(rt; tells(rt.alloc(), fault, said), "{fault}");
     }
 }
