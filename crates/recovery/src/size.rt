@@ -12,7 +12,7 @@ use block_tree::{Item, Node, Octets};
 use worksheet::{Answer, Field, Op, Session};
 
 // The greatest length that `code_len` tells, in bytes.
-const LONGEST_COUNTED: u64 = 4_294_967_295;
+const LONGEST_REPORTED: u64 = 4_294_967_295;
 
 /// The bytes of the payload of an Ids.
 pub(crate) const IDS_LEN: u64 = 5;
@@ -25,10 +25,10 @@ fn longer(len: u64, more: u64) -> u64
     requires { len ≤ longest_reported }
     ensures { result ≡ min (len + more) longest_reported }
 {
-    if more < LONGEST_COUNTED - len {
+    if more < LONGEST_REPORTED - len {
         len + more
     } else {
-        LONGEST_COUNTED
+        LONGEST_REPORTED
     }
 }
 
