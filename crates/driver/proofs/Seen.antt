@@ -97,8 +97,6 @@ module _ {A B C K L : Type 0} (R : Rules A C K) (S : AgendaRules B) (written : L
     ran = run_seen _ _ _ _ o.steps o.ran;
     stands = o.stands;
     disk_is = o.disk_is;
-    alive = o.alive;
-    in_memory = o.in_memory;
     stops = o.stops;
   })
   over_seen first last answer (not_opened why o) = not_opened why (record {

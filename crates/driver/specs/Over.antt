@@ -7,17 +7,16 @@ use Rattle.worksheet.specs.Checks.{Allowed}
 use Rattle.journal.specs.declared.opening.OpenCause.{OpenCause}
 use Rattle.journal.specs.declared.opening.OpenCause.TheVariants as opens
 use Rattle.recovery.specs.Sheets.{IsSheetImage, TellsOfSheet}
-use Rattle.session_engine.specs.World.{World, sheet_in, world_at_opening}
+use Rattle.session_engine.specs.World.{World, world_at_opening}
 use Rattle.session_engine.specs.Host.{EndsAt, HostView}
 use Rattle.child_edge.specs.Kept.{HoldsSheet}
-use Rattle.child_edge.specs.Seats.{running}
-use Rattle.child_edge.specs.Stops.{Stops}
 use Rattle.offline_programs.specs.declared.fault.RunFault.{RunFault}
 use Rattle.offline_programs.specs.declared.fault.RunFault.TheVariants as fault
 use Rattle.driver.specs.Items.{RunStep, ask}
 use Rattle.driver.specs.Place.{RunPlace, Rules}
 use Rattle.driver.specs.Steps.{Run}
 use Rattle.driver.specs.Runs.{StandsBy, left_at_end}
+use Rattle.driver.specs.Stopping.{StopsAll}
 
 -- What a program is given, and gives back.
 pub record ProgramParts (A C K : Type 0) : Type 0 where
@@ -59,10 +58,7 @@ pub record RanOver {A C K : Type 0} (R : Rules A C K) (first last : ProgramParts
       (record { asked = asked; agenda = last.agenda; world = world; disk = last.disk; sources = sources; sink = last.sink })
   pub stands : StandsBy answer host world
   pub disk_is : last.disk ≡ host.store.disk
-  -- the lives of the world that the host has in memory
-  pub alive : World
-  pub in_memory : host.store.sheet.contents ≡ sheet_in alive
-  pub stops : Stops R.sources.after (running alive) sources last.sources
+  pub stops : StopsAll R.sources.after host world sources last.sources
 
 -- The disk wasn't opened, and nothing else was done.
 pub record WasNotOpened {A C K : Type 0} (first last : ProgramParts A C K) (why : OpenCause) : Type 0 where

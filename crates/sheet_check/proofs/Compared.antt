@@ -5,7 +5,7 @@ use Rattle.std.proofs.KnownBytes.{Appends-trans, Appends-nil}
 use Rattle.std.specs.Io.KnownBytes.{Appends}
 use Rattle.worksheet.specs.declared.field.Field.{Field}
 use Rattle.worksheet.specs.Contents.{Contents}
-use Rattle.session_engine.specs.World.{World, sheet_in}
+use Rattle.session_engine.specs.World.{World}
 use Rattle.session_engine.specs.Host.{HostView, IsHost}
 use Rattle.child_edge.specs.Faithful.{At, at}
 use Rattle.child_edge.specs.Seats.{running}
@@ -23,9 +23,10 @@ use Rattle.check_report.specs.Reports.{Case, case, case_text, cases_text, closin
 use Rattle.check_report.specs.Verdicts.{counts_of, total}
 use Rattle.evaluation.specs.declared.plan.Plan.{Plan}
 use Rattle.live.specs.Records as records
-use Rattle.driver.proofs.Overs.{stops_by}
-use Rattle.sheet_check.specs.Check.{IsCopy, Passage, passage}
-use Rattle.sheet_check.specs.Driven.{DriveBroke, DrivenToEnd, DrivenUpTo, broke_off, checking_plan, copy_rules, unplanned}
+use Rattle.driver.specs.Stopping.{StopsAll, in_world}
+use Rattle.driver.proofs.Overs.{stops_at}
+use Rattle.sheet_check.specs.Check.{IsCopy, Passage, passage, world_at_break}
+use Rattle.sheet_check.specs.Driven.{DriveBroke, DrivenToEnd, DrivenUpTo, broke_off, checking_plan, unplanned}
 use Rattle.sheet_check.specs.Evaluated.{fault_on_copy, reason_shown_in}
 use Rattle.sheet_check.specs.Together as together
 use Rattle.sheet_check.specs.Together.{EvaluatedTogether, FieldCompared, FieldsCompared, SideBySide, TellsTogether, TogetherChecked, came_by, checked_ids, checking, cleared}
@@ -124,9 +125,9 @@ module _ {C : Type 0} (o : SideBySide C) (sheet : Contents) (w : World) (h g : H
   pub together_ended : (counts : Counts) → ReportedTogether o sheet.fields (at w c h.store.disk) (records.left g m a b) counts → EndedTogether o sheet (passage c d a b) counts
   together_ended counts q = let came = q.1.0 in let reported = q.1.1 in (came.0, q.0, evaluated q.0 came, (reported.0, reported.1, reported.2, reported.3))
 
-  stopped : (why : RunFault) → DriveBroke o.way (checking o sheet.fields) (at w c h.store.disk) g m why → (v : World) × (g.store.sheet.contents ≡ sheet_in v) × Stops o.way.after (running v) m d
-  stopped why (unplanned is same stands) = (w, stands.stands.contents, stops.0 w stands)
-  stopped why (broke_off b) = stops_by (copy_rules o.way) g b.world m d stops.0 stops.1 numbered (Err why) b.stands
+  stopped : (why : RunFault) (b : DriveBroke o.way (checking o sheet.fields) (at w c h.store.disk) g m why) → StopsAll o.way.after g (world_at_break b) m d
+  stopped why (unplanned is same stands) = in_world (stops.0 w stands)
+  stopped why (broke_off b) = stops_at o.way.after g b.world m d (record { working = stops.0; gone = stops.1; numbered = numbered }) b.stands
 
   reported-broke : (marks : List Mark) (came : CameTogether o sheet.fields (at w c h.store.disk) g m marks) (why : RunFault) (F : Format) (cases : List Case) (gone left : List Field) → sheet.fields ≡ gone ++ left
       → FieldsCompared o.chosen came.0 marks gone cases → LeavesReport o.format cases a b why → TellsTogether o sheet (passage c d a b) ⊥ why
@@ -138,9 +139,8 @@ module _ {C : Type 0} (o : SideBySide C) (sheet : Contents) (w : World) (h g : H
   pub together_failed : (why : RunFault) → FailedTogether o sheet.fields (at w c h.store.disk) (records.left g m a b) why → TellsTogether o sheet (passage c d a b) ⊥ why
   together_failed why (inl q) =
       let broke = q.0 in
-      let gone = stopped broke.0 broke.2 in
       together.broke
-      (record { start = w; copy = h.store.disk; copied = copied; host = g; sources = m; cause = broke.0; is = broke.1; broke = broke.2; alive = gone.0; in_memory = gone.1; stops = gone.2 })
+      (record { start = w; copy = h.store.disk; copied = copied; host = g; sources = m; cause = broke.0; is = broke.1; broke = broke.2; stops = stopped broke.0 broke.2 })
       q.1
   together_failed why (inr q) = let p = q.1.1 in reported-broke q.0 q.1.0 why o.format p.cases p.gone p.left p.split p.compared p.wrote
 

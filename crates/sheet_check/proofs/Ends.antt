@@ -18,14 +18,16 @@ use Rattle.check_report.specs.declared.verdict.Counts.{Counts}
 use Rattle.check_report.specs.Reports.{closing_text, report_front, judgements_of}
 use Rattle.check_report.specs.Verdicts.{counts_of}
 use Rattle.live.specs.Records as records
-use Rattle.driver.specs.Runs.{Stands, lost_there, stopped, works}
+use Rattle.driver.specs.Runs.{Stands}
 use Rattle.evaluation.specs.declared.plan.Plan.{Plan}
 use Rattle.sheet_check.specs.Evaluated.{OneByOne}
 use Rattle.sheet_check.specs.Driven.{DriveBroke, broke_off, one_plan, unplanned}
-use Rattle.sheet_check.specs.Check.{FirstLed, IsCopy, SheetChecked, SheetLed, StopsAll, TellsCheck, at_gate, in_world, passage, still, world_at_break}
+use Rattle.sheet_check.specs.Check.{FirstLed, IsCopy, SheetChecked, SheetLed, TellsCheck, passage, still, world_at_break}
 use Rattle.sheet_check.specs.Check as ends
 use Rattle.sheet_check.specs.inside.Checking.{FieldsEnded, FieldsFailed, FieldsStopped, FieldsWrote, FirstFailed, FirstStopped, LeavesText}
 use Rattle.sheet_check.specs.inside.Checking as inside
+use Rattle.driver.specs.Stopping.{StopsAll, in_world}
+use Rattle.driver.proofs.Overs.{stops_at}
 use Rattle.sheet_check.proofs.Own.{never_output}
 
 -- The stops.
@@ -40,9 +42,7 @@ StopsNumbered R h c d = (v : World) → h.store.sheet.contents ≡ sheet_in v �
 
 module _ {C : Type 0} (o : OneByOne C) (fields : List Field) (s : At C) (h : HostView) (c d : C) (stops : StopsIn o.way.after h c d) (numbered : StopsNumbered o.way.after h c d) where
   stops_where : (w : World) → Stands h w → StopsAll o.way.after h w c d
-  stops_where w (works is) = in_world (stops.0 w is)
-  stops_where w (stopped before e f is) = in_world (stops.1 w e before f is)
-  stops_where w (lost_there events before is) = at_gate events before is (numbered is.leads is.contents is.numbers)
+  stops_where w stands = stops_at o.way.after h w c d (record { working = stops.0; gone = stops.1; numbered = numbered }) stands
 
   all-stopped : (plan : Plan) (why : RunFault) (b : DriveBroke o.way plan s h c why) → StopsAll o.way.after h (world_at_break b) c d
   all-stopped plan why (unplanned is same stands) = in_world (stops.0 s.world stands)

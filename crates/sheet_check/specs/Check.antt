@@ -6,14 +6,12 @@ use Rattle.worksheet.specs.declared.field.Field.{Field}
 use Rattle.worksheet.specs.Contents.{Contents}
 use Rattle.journal.specs.declared.opening.OpenCause.{OpenCause}
 use Rattle.recovery.specs.Sheets.{IsSheetImage, TellsOfSheet}
-use Rattle.host_events.specs.declared.event.Event.{Event}
 use Rattle.session_engine.specs.Host.{HostView}
 use Rattle.session_engine.specs.World.{World}
-use Rattle.child_edge.specs.Faithful.{At, Relation, at}
+use Rattle.child_edge.specs.Faithful.{At, at}
 use Rattle.child_edge.specs.Kept.{HoldsSheet}
 use Rattle.child_edge.specs.Seats.{running}
 use Rattle.child_edge.specs.Stops.{Stops}
-use Rattle.child_edge.specs.Together.{LostTogether}
 use Rattle.sheet_programs.specs.Run.{OpenedOn}
 use Rattle.offline_programs.specs.declared.fault.RunFault.{RunFault}
 use Rattle.offline_programs.specs.declared.fault.RunFault.TheVariants as fault
@@ -23,6 +21,7 @@ use Rattle.check_report.specs.Chosen.{is_chosen}
 use Rattle.check_report.specs.Reports.{Case, report_front, report_text, judgements_of}
 use Rattle.check_report.specs.Verdicts.{counts_of}
 use Rattle.evaluation.specs.declared.plan.Plan.{Plan}
+use Rattle.driver.specs.Stopping.{StopsAll}
 use Rattle.sheet_check.specs.Driven.{DriveBroke, DrivenToEnd, IsOfEvaluation, broke_off, one_plan, unplanned}
 use Rattle.sheet_check.specs.Evaluated.{OneByOne, Way, fault_on_copy}
 use Rattle.sheet_check.specs.Fields.{FieldsChecked}
@@ -88,12 +87,6 @@ pub record FirstBroke {C : Type 0} (o : OneByOne C) (fields : List Field) (s : A
 abbrev pub world_at_break : {C : Type 0} {o : Way C} {plan : Plan} {s : At C} {h : HostView} {c : C} {why : RunFault} → DriveBroke o plan s h c why → World
 world_at_break {s = s} (unplanned is same stands) = s.world
 world_at_break (broke_off b) = b.world
-
--- Each life that goes on in this world was stopped. Where the disk failed at a gate of events, so that it isn't known which of them are durable, these are
--- the lives after all of them, as the host has them in memory.
-pub data StopsAll {C : Type 0} (R : Relation C) (h : HostView) (w : World) (c d : C) : Type 0 where
-  in_world : Stops R (running w) c d → StopsAll R h w c d
-  at_gate : (events : List Event) (before : DiskView) (lost : LostTogether w events before h) → Stops R (running lost.leads) c d → StopsAll R h w c d
 
 -- The first fields were checked, which are these cases, and then the next one led on so far. Then each life that goes on was stopped.
 pub record SheetLed {C : Type 0} (o : OneByOne C) (sheet : Contents) (c d : C) (cases : List Case) : Type 0 where

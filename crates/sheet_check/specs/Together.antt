@@ -16,7 +16,7 @@ use Rattle.worksheet.specs.Edits.{edited}
 use Rattle.journal.specs.declared.opening.OpenCause.{OpenCause}
 use Rattle.recovery.specs.Sheets.{IsSheetImage, TellsOfSheet}
 use Rattle.session_engine.specs.Host.{HostView}
-use Rattle.session_engine.specs.World.{World, sheet_in}
+use Rattle.session_engine.specs.World.{World}
 use Rattle.child_edge.specs.Faithful.{At, at}
 use Rattle.child_edge.specs.Seats.{running}
 use Rattle.child_edge.specs.Stops.{Stops}
@@ -30,7 +30,8 @@ use Rattle.check_report.specs.Chosen.{Judged, is_chosen}
 use Rattle.check_report.specs.Reports.{Case, case, report_front, report_text, judgements_of}
 use Rattle.check_report.specs.Verdicts.{counts_of}
 use Rattle.evaluation.specs.declared.plan.Plan.{Plan}
-use Rattle.sheet_check.specs.Check.{IsCopy, Passage, SheetAnswer}
+use Rattle.driver.specs.Stopping.{StopsAll}
+use Rattle.sheet_check.specs.Check.{IsCopy, Passage, SheetAnswer, world_at_break}
 use Rattle.sheet_check.specs.Driven.{DriveBroke, DrivenToEnd, checking_plan}
 use Rattle.sheet_check.specs.Evaluated.{Way, came_if, fault_on_copy, one_by_one, reason_shown_in, shown_in}
 use Rattle.sheet_check.specs.Marks.{is_late}
@@ -130,10 +131,7 @@ pub record TogetherBroke {C : Type 0} (o : SideBySide C) (sheet : Contents) (c d
   pub cause : RunFault
   pub is : why ≡ fault_on_copy cause
   pub broke : DriveBroke o.way (checking o sheet.fields) (at start c copy) host sources cause
-  -- the lives of the world that the host has in memory
-  pub alive : World
-  pub in_memory : host.store.sheet.contents ≡ sheet_in alive
-  pub stops : Stops o.way.after (running alive) sources d
+  pub stops : StopsAll o.way.after host (world_at_break broke) sources d
 
 -- The fields were evaluated, and the first of them were reported, which are these cases.
 pub record TogetherReported {C : Type 0} (o : SideBySide C) (sheet : Contents) (c d : C) (cases : List Case) : Type 0 where

@@ -20,11 +20,12 @@ use Rattle.check_report.specs.Reports.{Case, case, case_text, cases_text, report
 use Rattle.check_report.specs.Verdicts.{counted_with, counts_of, total}
 use Rattle.check_report.specs.Errors.{brings_error}
 use Rattle.live.specs.Records.{Left}
-use Rattle.sheet_check.specs.Check.{FirstBroke, FirstLed, IsCopy, Passage, StopsAll, world_at_break}
+use Rattle.sheet_check.specs.Check.{FirstBroke, FirstLed, IsCopy, Passage, world_at_break}
 use Rattle.sheet_check.specs.Driven.{DriveBroke, DrivenToEnd, IsOfEvaluation, one_plan}
 use Rattle.sheet_check.specs.Evaluated.{OneByOne, Way, fault_on_copy, reason_shown_in}
 use Rattle.sheet_check.specs.Fields.{Evaluated, FieldChecked, FieldsChecked}
 use Rattle.sheet_check.specs.Marks.{lacked_memory}
+use Rattle.driver.specs.Stopping.{StopsAll}
 use Rattle.sheet_check.specs.Progress.{Display, MakesRoom}
 use Rattle.sheet_check.specs.declared.progress.Sight.TheVariants as sight
 use Rattle.sheet_check.specs.declared.silence.Mark.{Mark}
