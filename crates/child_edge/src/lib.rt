@@ -5,7 +5,6 @@
 mod busy;
 mod interrupting;
 mod joined;
-pub mod listening;
 pub mod serving;
 mod stopping;
 pub mod together;
@@ -15,7 +14,6 @@ mod whole;
 pub use busy::{is_idle, waiting as waiting_lives};
 pub use interrupting::{Interrupted, interrupt};
 pub use joined::{GaveJoined, serve_joining};
-pub use listening::{listen, stall};
 pub use serving::{EdgeCause, EdgeFault, MOST_TURNS, serve, wait};
 pub use stopping::stop_all;
 pub use together::{GaveTogether, MOST_TOGETHER, TogetherFault, receive_event, serve_together};

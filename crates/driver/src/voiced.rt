@@ -37,7 +37,7 @@ fn print_life<D: Disk, T: Tells, W: Write>(
 {
     match &outcome.reply {
         Reply::Nothing => Ok(()),
-        reply => tells.lives_of(host, slice::from_ref(reply), writer),
+        reply => tells.lives(host, slice::from_ref(reply), writer),
     }
 }
 
@@ -81,7 +81,7 @@ impl<T: Tells, W: Write> Sink for Voiced<T, W> {
     }
 
     fn followed<D: Disk>(&mut self, host: &Host<D>, replies: &[Reply]) -> Result<(), RunFault> {
-        self.tells.events_of(host, replies, &mut self.writer)
+        self.tells.events(host, replies, &mut self.writer)
     }
 
     fn show<D: Disk>(&mut self, host: &Host<D>, show: Show) -> Result<(), RunFault> {

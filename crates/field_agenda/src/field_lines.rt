@@ -78,16 +78,6 @@ impl<T: Tells> Tells for FieldLines<T> {
         self.tells.note(note, writer)
     }
 
-    fn replies<W: Write>(
-        &self,
-        line: u64,
-        sheet: &Sheet,
-        replies: &[Reply],
-        writer: &mut W,
-    ) -> Result<(), RunFault> {
-        self.tells.replies(line_of(line), sheet, replies, writer)
-    }
-
     fn outcomes<W: Write>(
         &self,
         first: u64,
@@ -98,40 +88,22 @@ impl<T: Tells> Tells for FieldLines<T> {
         tell_each(&self.tells, first, sheet, outcomes, writer)
     }
 
-    fn lives<W: Write>(
-        &self,
-        sheet: &Sheet,
-        replies: &[Reply],
-        writer: &mut W,
-    ) -> Result<(), RunFault> {
-        self.tells.lives(sheet, replies, writer)
-    }
-
-    fn events<W: Write>(
-        &self,
-        sheet: &Sheet,
-        replies: &[Reply],
-        writer: &mut W,
-    ) -> Result<(), RunFault> {
-        self.tells.events(sheet, replies, writer)
-    }
-
-    fn lives_of<D: Disk, W: Write>(
+    fn lives<D: Disk, W: Write>(
         &self,
         host: &Host<D>,
         replies: &[Reply],
         writer: &mut W,
     ) -> Result<(), RunFault> {
-        self.tells.lives_of(host, replies, writer)
+        self.tells.lives(host, replies, writer)
     }
 
-    fn events_of<D: Disk, W: Write>(
+    fn events<D: Disk, W: Write>(
         &self,
         host: &Host<D>,
         replies: &[Reply],
         writer: &mut W,
     ) -> Result<(), RunFault> {
-        self.tells.events_of(host, replies, writer)
+        self.tells.events(host, replies, writer)
     }
 
     fn sheet<D: Disk, W: Write>(

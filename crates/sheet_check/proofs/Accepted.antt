@@ -17,8 +17,8 @@ use Rattle.worksheet.specs.Laws.{HasShortPrompt, IsField, OpsMakeWorksheets}
 use Rattle.worksheet.specs.Ops.{field_of, next_after, order_after, order_from, sheet_of}
 use Rattle.recovery.specs.Sheets.{StoreView}
 use Rattle.sheet_check.specs.Kept.{Stores}
-use Rattle.sheet_check.specs.declared.putting.AcceptFault.{AcceptFault}
-use Rattle.sheet_check.specs.declared.putting.AcceptFault.TheVariants as refused
+use Rattle.sheet_check.specs.declared.accept.AcceptFault.{AcceptFault}
+use Rattle.sheet_check.specs.declared.accept.AcceptFault.TheVariants as refused
 use Rattle.session_engine.specs.World.{World}
 use Rattle.session_engine.specs.Host.{HostView, IsHost}
 use Rattle.child_edge.specs.Faithful.{At, at}
@@ -37,7 +37,7 @@ use Rattle.check_report.specs.Verdicts.{counts_of, total}
 use Rattle.live.specs.Records as records
 use Rattle.sheet_check.specs.Evaluated.{Way, came_if, reason_shown_in, shown_in}
 use Rattle.sheet_check.specs.Fields.{Evaluated, FieldsChecked, checked, passed}
-use Rattle.sheet_check.specs.declared.accepting.Finding.{Finding}
+use Rattle.sheet_check.specs.declared.accept_shown.Finding.{Finding}
 use Rattle.sheet_check.specs.Accept.{accepted, accepted_answer, accepted_of, answer_ops, to_accept}
 use Rattle.sheet_check.specs.inside.Accepting.{FieldBroke, FieldLast, FieldsBroke, FieldsTook, FieldsUpTo, Finds, GoesOn, NotPut, NotTaken, PutAll, ShownTook, broken, early, fault_of_acceptance, full, storing, unwritten}
 use Rattle.sheet_check.specs.inside.Accepting as inside

@@ -32,7 +32,7 @@ use Rattle.sheet_check.specs.Together as together
 use Rattle.sheet_check.specs.Together.{EvaluatedTogether, FieldCompared, FieldsCompared, SideBySide, TellsTogether, TogetherChecked, came_by, checked_ids, checking, cleared}
 use Rattle.sheet_check.specs.inside.Checking.{Withheld, counted_on, unremembered, unwritten}
 use Rattle.sheet_check.specs.inside.Comparing.{BrokeTogether, CameTogether, Comparing, EndedTogether, FailedTogether, FieldReported, FieldsReported, LeavesReport, ReportBroke, ReportedTogether}
-use Rattle.sheet_check.specs.declared.silence.Mark.{Mark}
+use Rattle.sheet_check.specs.declared.marks.Mark.{Mark}
 use Rattle.sheet_check.proofs.Counting.{as_judged, cases-more, front-more}
 use Rattle.sheet_check.proofs.Ends.{StopsNumbered}
 

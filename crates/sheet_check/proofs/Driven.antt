@@ -40,10 +40,10 @@ use Rattle.driver.specs.Place.{source_rules}
 use Rattle.sheet_check.specs.Driven.{DrivenToEnd, DrivenUpTo, copy_begins, copy_place, copy_rules, counts_as_there}
 use Rattle.sheet_check.specs.Evaluated.{Way}
 use Rattle.sheet_check.specs.Marks.{line_marks, mark_rules, mark_voice, marks_of, number_of, numbers_of, reply_marks, report_marks, step_marks}
-use Rattle.sheet_check.specs.declared.silence.AllThere.{AllThere}
-use Rattle.sheet_check.specs.declared.silence.Mark.{Mark}
-use Rattle.sheet_check.specs.declared.silence.Mark.TheVariants as mark
-use Rattle.sheet_check.specs.declared.silence.Marks.{Marks}
+use Rattle.sheet_check.specs.declared.marks.AllThere.{AllThere}
+use Rattle.sheet_check.specs.declared.marks.Mark.{Mark}
+use Rattle.sheet_check.specs.declared.marks.Mark.TheVariants as mark
+use Rattle.sheet_check.specs.declared.marks.Marks.{Marks}
 
 -- What the sink's voice says.
 

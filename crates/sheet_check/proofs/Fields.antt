@@ -21,7 +21,7 @@ use Rattle.evaluation.specs.declared.plan.Plan.{Plan}
 use Rattle.sheet_check.specs.Driven.{DrivenToEnd, DrivenUpTo, broke_off, one_plan}
 use Rattle.sheet_check.specs.Evaluated.{OneByOne, Way, fault_on_copy, reason_shown_in}
 use Rattle.sheet_check.specs.Fields.{Evaluated, FieldChecked, FieldsChecked, checked, passed}
-use Rattle.sheet_check.specs.declared.silence.Mark.{Mark}
+use Rattle.sheet_check.specs.declared.marks.Mark.{Mark}
 use Rattle.sheet_check.specs.inside.Checking.{CameAlone, EvaluationBroke, FieldFailed, FieldWrote, FieldsFailed, FieldsWrote, FirstFailed, LeavesText, ShownWrote, Withheld, counted_on, question}
 use Rattle.sheet_check.specs.inside.Checking as inside
 use Rattle.sheet_check.proofs.Counting.{as_judged, cases-more, front-more}

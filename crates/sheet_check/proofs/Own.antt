@@ -30,8 +30,8 @@ use Rattle.field_agenda.specs.declared.stage.Stage.{Stage}
 use Rattle.field_agenda.specs.declared.stage.Stage.TheVariants as stage
 use Rattle.sheet_check.specs.Driven.{DriveBroke, IsOfEvaluation, broke_off, copy_begins, copy_place, copy_rules, unplanned}
 use Rattle.sheet_check.specs.Evaluated.{Way, fault_on_copy}
-use Rattle.sheet_check.specs.declared.silence.AllThere.{AllThere}
-use Rattle.sheet_check.specs.declared.silence.Marks.{Marks}
+use Rattle.sheet_check.specs.declared.marks.AllThere.{AllThere}
+use Rattle.sheet_check.specs.declared.marks.Marks.{Marks}
 
 -- a fault that a run of fields may have
 abbrev IsOwn : RunFault → Type 0

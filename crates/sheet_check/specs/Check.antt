@@ -28,7 +28,7 @@ use Rattle.sheet_check.specs.Fields.{FieldsChecked}
 use Rattle.sheet_check.specs.Named.{ByNames, missing_named}
 use Rattle.sheet_check.specs.declared.named.CheckFault.{CheckFault}
 use Rattle.sheet_check.specs.declared.named.CheckFault.TheVariants as checks
-use Rattle.sheet_check.specs.declared.silence.Mark.{Mark}
+use Rattle.sheet_check.specs.declared.marks.Mark.{Mark}
 
 -- From the first of these sources to the last a check ran, and from the first text to the last it wrote.
 pub record Passage (C : Type 0) : Type 0 where

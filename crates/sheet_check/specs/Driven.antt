@@ -21,9 +21,9 @@ use Rattle.field_agenda.specs.Standing.{first_fields}
 use Rattle.field_agenda.specs.declared.by_fields.ByFields.{ByFields}
 use Rattle.sheet_check.specs.Evaluated.{Way}
 use Rattle.sheet_check.specs.Marks.{mark_rules, marks_of}
-use Rattle.sheet_check.specs.declared.silence.AllThere.{AllThere}
-use Rattle.sheet_check.specs.declared.silence.Mark.{Mark}
-use Rattle.sheet_check.specs.declared.silence.Marks.{Marks}
+use Rattle.sheet_check.specs.declared.marks.AllThere.{AllThere}
+use Rattle.sheet_check.specs.declared.marks.Mark.{Mark}
+use Rattle.sheet_check.specs.declared.marks.Marks.{Marks}
 
 -- all of these fields, up to the end: a field after one that shows no answer is asked, too
 abbrev pub checking_plan : List ℕ → Option ℕ → ℕ → Plan

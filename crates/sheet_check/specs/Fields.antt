@@ -11,7 +11,7 @@ use Rattle.check_report.specs.Reports.{Case, case}
 use Rattle.sheet_check.specs.Driven.{DrivenToEnd, one_plan}
 use Rattle.sheet_check.specs.Evaluated.{Way, came_if, reason_shown_in, shown_in, took_between}
 use Rattle.sheet_check.specs.Marks.{is_late, lacked_memory, was_asked}
-use Rattle.sheet_check.specs.declared.silence.Mark.{Mark}
+use Rattle.sheet_check.specs.declared.marks.Mark.{Mark}
 
 -- whether an answer came to the field with this number: its line was asked, and its time wasn't over
 abbrev pub comes_by : List Mark → ℕ → Bool

@@ -8,8 +8,8 @@ use Rattle.worksheet.specs.Ops.{sheet_of}
 use Rattle.worksheet.specs.Checks.{Allowed}
 use Rattle.recovery.specs.Code.{code_of}
 use Rattle.recovery.specs.Sheets.{HasPlace, IsEither, IsSheetImage, IsStore, StoreView}
-use Rattle.sheet_check.specs.declared.putting.AcceptFault.{AcceptFault}
-use Rattle.sheet_check.specs.declared.putting.AcceptFault.TheVariants as fault
+use Rattle.sheet_check.specs.declared.accept.AcceptFault.{AcceptFault}
+use Rattle.sheet_check.specs.declared.accept.AcceptFault.TheVariants as fault
 
 -- the op that puts an answer into a field
 abbrev pub answer_op : ℕ → Answer → Op

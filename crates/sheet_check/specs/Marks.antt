@@ -15,9 +15,9 @@ use Rattle.driver.specs.Reports.{Report}
 use Rattle.driver.specs.Reports as report
 use Rattle.driver.specs.declared.report.Show.{Show}
 use Rattle.driver.specs.declared.report.Show.TheVariants as show
-use Rattle.sheet_check.specs.declared.silence.Mark.{Mark}
-use Rattle.sheet_check.specs.declared.silence.Mark.TheVariants as mark
-use Rattle.sheet_check.specs.declared.silence.Marks.{Marks}
+use Rattle.sheet_check.specs.declared.marks.Mark.{Mark}
+use Rattle.sheet_check.specs.declared.marks.Mark.TheVariants as mark
+use Rattle.sheet_check.specs.declared.marks.Marks.{Marks}
 
 -- That there was no memory for a line is a mark, and no other refusal.
 abbrev pub refusal_marks : Refusal → List Mark
@@ -90,7 +90,7 @@ numbers_of marks = map number_of marks
 
 -- A voice that says marks alone, to a sink that keeps them.
 abbrev pub mark_voice : Voice
-mark_voice = record { frame = λ f. []; note = λ n. numbers_of (note_marks n); reply = λ line sheet r. numbers_of (reply_marks r); came = λ w r. []; event = λ sheet r. []; sheet = λ line w. []; field = λ line id w. []; exported = λ line format sheet. []; fault = λ why. []; takes_memory = true }
+mark_voice = record { frame = λ f. []; note = λ n. numbers_of (note_marks n); reply = λ line sheet r. numbers_of (reply_marks r); came = λ w r. []; sheet = λ line w. []; field = λ line id w. []; exported = λ line format sheet. []; fault = λ why. []; takes_memory = true }
 
 -- what such a sink may do
 abbrev pub mark_rules : SinkRules Marks

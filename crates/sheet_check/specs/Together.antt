@@ -38,7 +38,7 @@ use Rattle.sheet_check.specs.Marks.{is_late}
 use Rattle.sheet_check.specs.Named.{ByNames, missing_named}
 use Rattle.sheet_check.specs.declared.named.CheckFault.{CheckFault}
 use Rattle.sheet_check.specs.declared.named.CheckFault.TheVariants as checks
-use Rattle.sheet_check.specs.declared.silence.Mark.{Mark}
+use Rattle.sheet_check.specs.declared.marks.Mark.{Mark}
 
 -- How fields are checked side by side: how they are evaluated, in how many sessions they wait at a time, which they are, and how they are
 -- reported.

@@ -8,9 +8,9 @@ ghost use Rattle.sheet_check.specs.inside.Checking.{FieldShown, Withheld};
 ghost use Rattle.sheet_check.specs.inside.Comparing.{FieldReported, FieldsReported, ReportBroke, comparing};
 
 use crate::checking::{show_counts, tell_opening};
-use crate::marks::is_in_time;
+use crate::marked::is_in_time;
 use crate::progress::Progress;
-use crate::silence::Mark;
+use crate::marks::Mark;
 use crate::telling::tell_what_came;
 use check_report::{Counts, Request};
 use disk_model::Disk;

@@ -6,7 +6,7 @@ ghost use Rattle.child_edge.specs.Faithful.{at};
 ghost use Rattle.sheet_check.specs.Driven.{DrivenToEnd, DrivenUpTo, checking_plan as plan_of_check};
 ghost use Rattle.sheet_check.specs.Evaluated.{way};
 
-use crate::silence::{AllThere, Marks};
+use crate::marks::{AllThere, Marks};
 use arrivals::Sources;
 use block_tree::Sequence;
 use disk_model::Disk;

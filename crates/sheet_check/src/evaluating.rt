@@ -9,8 +9,8 @@ ghost use Rattle.sheet_check.specs.Marks as marked;
 ghost use Rattle.sheet_check.specs.inside.Checking.{CameRemembered, EvaluationBroke};
 
 use crate::driving::{CopyDriver, checking_plan, drive_plan};
-use crate::marks::{is_in_time, lacked_memory, was_asked};
-use crate::silence::Mark;
+use crate::marked::{is_in_time, lacked_memory, was_asked};
+use crate::marks::Mark;
 use arrivals::Sources;
 use disk_model::Disk;
 use host_events::HostFault;

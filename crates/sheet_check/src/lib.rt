@@ -2,25 +2,25 @@
 //! all are checked, and what differs or is new is reported.
 #![tactic(auto)]
 
-mod accepting;
+mod accept;
+mod accept_fields;
+mod accept_shown;
 mod checking;
 mod clearing;
 mod comparing;
 mod copying;
-mod differing;
 mod driving;
 mod evaluating;
+mod marked;
 mod marks;
 mod named;
 mod progress;
-mod putting;
 mod sessions;
-mod silence;
 mod telling;
 mod together;
 
+pub use accept_fields::check_accepting;
 pub use checking::{Checked, check};
-pub use differing::check_accepting;
 pub use named::CheckFault;
 pub use progress::{Progress, ProgressLine, Sight};
 pub use together::check_together;

@@ -16,8 +16,8 @@ use Rattle.sheet_json.specs.Objects.{event_data, telling_data}
 use Rattle.sheet_json.specs.Sheets.{telling_line}
 use Rattle.sheet_json.specs.Tellings.{EventReported, Telling}
 use Rattle.sheet_json.specs.Tellings as reported
-use Rattle.tellings.specs.Json.{event_line, in_json, reply_json}
-use Rattle.tellings.specs.Voice.{Voice, came_text, numbered_text, replied_text}
+use Rattle.tellings.specs.Json.{event_line}
+use Rattle.tellings.specs.Voice.{Voice, numbered_text}
 use Rattle.tellings.specs.Words.{in_words}
 use Rattle.tellings.proofs.Rows.{Written, part_written}
 
@@ -33,11 +33,6 @@ line_if r a b d session life (Some e) is wrote = wrote (reported.event session l
     same : Some d ≡ Some (event_data session life e) → d ≡ event_data session life e
     same h = cc h
 
--- in words what a command gave is the texts of its replies
-pub replied_in_words : (line : ℕ) (sheet : Contents) (replies : List Reply) → replied_text in_words line sheet replies ≡ replies_text replies
-replied_in_words line sheet [] = refl
-replied_in_words line sheet (r ∷ replies) = refl
-
 -- what came of one life more
 pub came_on : (f : Reply → List ℕ) (replies : List Reply) (i : ℕ) (r : Reply) (a b c : Option (List ℕ)) → i < length replies → r ≡ get_or replies i r
     → Appends a b (flat_map f (take i replies)) → Appends b c (f r) → Appends a c (flat_map f (take (i + 1) replies))
@@ -45,15 +40,6 @@ came_on f replies i r a b c h is before more =
     subst (Appends a c) (ap (λ t. flat_map f (take i replies) ++ t) (sym (append-nil (f r))) ∙ sym (flat_map-append f (take i replies) (r ∷ []))
     ∙ ap (flat_map f) (ap (λ x. take i replies ++ x ∷ []) is ∙ sym (take_more replies i r h)))
     (Appends-trans a b c (flat_map f (take i replies)) (f r) before more)
-
--- the reply, and what came of lives after it
-pub replied_of : (line : ℕ) (sheet : Contents) (replies : List Reply) (first : Reply) → 1 ≤ length replies → first ≡ get_or replies 0 first
-    → reply_json line first ++ came_text in_json sheet (take (length replies - 1) (drop 1 replies)) ≡ replied_text in_json line sheet replies
-replied_of line sheet [] first few is = absurd (omega (arith, few))
-replied_of line sheet (r ∷ replies) first few is =
-    let all : length replies ≤ length (r ∷ replies) - 1 = omega arith in
-    ap (λ x. reply_json line x ++ came_text in_json sheet (take (length (r ∷ replies) - 1) replies)) is
-    ∙ ap (λ rs. reply_json line r ++ came_text in_json sheet rs) (take_all (length (r ∷ replies) - 1) replies all)
 
 -- the replies of so many outcomes are written, and those of the others are to come
 abbrev pub OutcomesWritten : Voice → Contents → ℕ → List Outcome → ℕ → Option (List ℕ) → Option (List ℕ) → Type 0

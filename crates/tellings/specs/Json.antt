@@ -100,15 +100,6 @@ came_json w (reply.Asked life) = []
 came_json w (reply.Refused why) = []
 came_json w reply.Nothing = []
 
--- the same where the worksheet alone is known
-abbrev pub event_json : Contents → Reply → List ℕ
-event_json sheet (reply.Child child) = child_json sheet None child
-event_json sheet reply.Done = []
-event_json sheet (reply.Field id) = []
-event_json sheet (reply.Asked life) = []
-event_json sheet (reply.Refused why) = []
-event_json sheet reply.Nothing = []
-
 -- the life that a line stopped, with the items that were lost
 abbrev pub stopped_with : ℕ → ChildReply → Option Ended → List ℕ
 stopped_with line child None = telling_line (reported.reply line reported.done)
@@ -170,7 +161,6 @@ in_json = record {
   note = note_json;
   reply = λ line sheet r. reply_json line r;
   came = came_json;
-  event = event_json;
   sheet = sheet_json;
   field = λ line id w. field_json line w (field_in (sheet_in w).fields id);
   exported = exported_json;

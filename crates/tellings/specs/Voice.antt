@@ -19,9 +19,8 @@ pub record Voice : Type 0 where
   pub note : Note → List ℕ
   -- the reply to a line, where this is the worksheet after it
   pub reply : ℕ → Contents → Reply → List ℕ
-  -- what came of a life, where events led to this world; and the same where the worksheet alone is known
+  -- what came of a life, where events led to this world
   pub came : World → Reply → List ℕ
-  pub event : Contents → Reply → List ℕ
   -- a worksheet, and the field with this number
   pub sheet : ℕ → World → List ℕ
   pub field : ℕ → ℕ → World → List ℕ
@@ -39,15 +38,6 @@ page_title = codes "worksheet"
 -- what came of lives, in order, where events led to this world
 abbrev pub lives_text : Voice → World → List Reply → List ℕ
 lives_text V w replies = flat_map (V.came w) replies
-
--- the same where the worksheet alone is known
-abbrev pub came_text : Voice → Contents → List Reply → List ℕ
-came_text V sheet replies = flat_map (V.event sheet) replies
-
--- what a command gave: its reply, and after it what came of lives
-abbrev pub replied_text : Voice → ℕ → Contents → List Reply → List ℕ
-replied_text V line sheet [] = []
-replied_text V line sheet (r ∷ replies) = V.reply line sheet r ++ came_text V sheet replies
 
 -- the replies to as many lines, of which this is the number of the first, where this is the worksheet after all of them
 abbrev pub numbered_text : Voice → ℕ → Contents → List Outcome → List ℕ

@@ -77,7 +77,6 @@ in_words = record {
   note = note_words;
   reply = λ line sheet r. reply_text r;
   came = λ w r. reply_text r;
-  event = λ sheet r. reply_text r;
   sheet = λ line w. sheet_text (sheet_in w);
   field = λ line id w. field_shown (field_in (sheet_in w).fields id);
   exported = λ line format sheet. exported_words format sheet;

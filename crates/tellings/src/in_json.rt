@@ -5,7 +5,7 @@ ghost use Rattle.std.specs.Io.KnownBytes.{Appends};
 ghost use Rattle.tellings.specs.Json as texts;
 ghost use Rattle.session_engine.specs.World.{World};
 ghost use Rattle.session_engine.specs.Host.{IsHost};
-ghost use Rattle.tellings.specs.Voice.{IsWithheld, came_text, lives_text, numbered_text, replied_text};
+ghost use Rattle.tellings.specs.Voice.{IsWithheld, lives_text, numbered_text};
 ghost use Rattle.worksheet.specs.Contents.{Contents};
 
 use crate::exports::write_exported;
@@ -116,42 +116,6 @@ fn write_child<W: Write>(
     Ok(())
 }
 
-/// What came of a life, where the worksheet alone is known, and nothing of another reply.
-fn write_event<W: Write>(
-    alloc: Global,
-    sheet: &Sheet,
-    reply: &Reply,
-    writer: &mut W,
-) -> Result<(), RunFault>
-    ensures ok { OnOk result (Appends (W.contents writer.old) (W.contents writer.new)
-        (texts.event_json sheet.now.contents reply.now)) }
-    ensures err { IfErr result (IsWithheld texts.in_json) }
-{
-    match reply {
-        Reply::Child(child) => write_child(alloc, sheet, None, child, writer),
-        Reply::Done | Reply::Field(_) | Reply::Asked(_) | Reply::Refused(_) | Reply::Nothing => Ok(
-            (),
-        ),
-    }
-}
-
-/// What came of lives, in order.
-fn write_events<W: Write>(
-    alloc: Global,
-    sheet: &Sheet,
-    replies: &[Reply],
-    writer: &mut W,
-) -> Result<(), RunFault>
-    ensures ok { OnOk result (Appends (W.contents writer.old) (W.contents writer.new)
-        (came_text texts.in_json sheet.now.contents replies.now)) }
-    ensures err { IfErr result (IsWithheld texts.in_json) }
-{
-    for reply in replies {
-        write_event(alloc, sheet, reply, writer)?;
-    }
-    Ok(())
-}
-
 /// What came of a life, with the prompt that its host knows, and nothing of another reply.
 fn write_came<D: Disk, W: Write>(
     alloc: Global,
@@ -232,27 +196,6 @@ fn write_reply<W: Write>(
     }
 }
 
-/// What a command gave.
-fn write_replies<W: Write>(
-    alloc: Global,
-    line: u64,
-    sheet: &Sheet,
-    replies: &[Reply],
-    writer: &mut W,
-) -> Result<(), RunFault>
-    ensures ok { OnOk result (Appends (W.contents writer.old) (W.contents writer.new)
-        (replied_text texts.in_json line sheet.now.contents replies.now)) }
-    ensures err { IfErr result (IsWithheld texts.in_json) }
-{
-    match replies {
-        [] => Ok(()),
-        [first, rest @ ..] => {
-            write_reply(alloc, line, first, writer)?;
-            write_events(alloc, sheet, rest, writer)
-        }
-    }
-}
-
 /// The replies to as many lines as there are outcomes, from this line on.
 fn write_outcomes<W: Write>(
     alloc: Global,
@@ -315,18 +258,6 @@ impl Tells for InJson {
         Ok(())
     }
 
-    fn replies<W: Write>(
-        &self,
-        line: u64,
-        sheet: &Sheet,
-        replies: &[Reply],
-        writer: &mut W,
-    ) -> Result<(), RunFault> {
-        write_replies(self.alloc, line, sheet, replies, writer)?;
-        writer.flush().map_err(|_| RunFault::Output)?;
-        Ok(())
-    }
-
     fn outcomes<W: Write>(
         &self,
         first: u64,
@@ -339,27 +270,7 @@ impl Tells for InJson {
         Ok(())
     }
 
-    fn lives<W: Write>(
-        &self,
-        sheet: &Sheet,
-        replies: &[Reply],
-        writer: &mut W,
-    ) -> Result<(), RunFault> {
-        write_events(self.alloc, sheet, replies, writer)
-    }
-
-    fn events<W: Write>(
-        &self,
-        sheet: &Sheet,
-        replies: &[Reply],
-        writer: &mut W,
-    ) -> Result<(), RunFault> {
-        write_events(self.alloc, sheet, replies, writer)?;
-        writer.flush().map_err(|_| RunFault::Output)?;
-        Ok(())
-    }
-
-    fn lives_of<D: Disk, W: Write>(
+    fn lives<D: Disk, W: Write>(
         &self,
         host: &Host<D>,
         replies: &[Reply],
@@ -368,7 +279,7 @@ impl Tells for InJson {
         write_lives(self.alloc, host, replies, writer)
     }
 
-    fn events_of<D: Disk, W: Write>(
+    fn events<D: Disk, W: Write>(
         &self,
         host: &Host<D>,
         replies: &[Reply],

@@ -223,16 +223,6 @@ impl Tells for InWords {
         }
     }
 
-    fn replies<W: Write>(
-        &self,
-        _line: u64,
-        _sheet: &Sheet,
-        replies: &[Reply],
-        writer: &mut W,
-    ) -> Result<(), RunFault> {
-        tell_replies(replies, writer)
-    }
-
     fn outcomes<W: Write>(
         &self,
         _first: u64,
@@ -243,25 +233,7 @@ impl Tells for InWords {
         tell_outcomes(outcomes, writer)
     }
 
-    fn lives<W: Write>(
-        &self,
-        _sheet: &Sheet,
-        replies: &[Reply],
-        writer: &mut W,
-    ) -> Result<(), RunFault> {
-        write_events(replies, writer)
-    }
-
-    fn events<W: Write>(
-        &self,
-        _sheet: &Sheet,
-        replies: &[Reply],
-        writer: &mut W,
-    ) -> Result<(), RunFault> {
-        tell_replies(replies, writer)
-    }
-
-    fn lives_of<D: Disk, W: Write>(
+    fn lives<D: Disk, W: Write>(
         &self,
         _host: &Host<D>,
         replies: &[Reply],
@@ -270,7 +242,7 @@ impl Tells for InWords {
         write_events(replies, writer)
     }
 
-    fn events_of<D: Disk, W: Write>(
+    fn events<D: Disk, W: Write>(
         &self,
         _host: &Host<D>,
         replies: &[Reply],

@@ -8,7 +8,7 @@ use sheet_export::Format;
 use std::io::Write;
 use worksheet::Sheet;
 
-/// A format of what is printed. Each call but `lives` and `lives_of` flushes what it writes.
+/// A format of what is printed. Each call but `lives` flushes what it writes.
 ///
 /// `Output` where the writer fails: a part may have gone out. `OutOfMemory` where a voice that takes memory
 /// has none for a line: what was written before it is whole.
@@ -17,7 +17,7 @@ pub trait Tells {
     ghost use Rattle.std.specs.Io.KnownBytes.{Appends};
     ghost use Rattle.session_engine.specs.World.{World};
     ghost use Rattle.session_engine.specs.Host.{IsHost};
-    ghost use Rattle.tellings.specs.Voice.{IsWithheld, Voice, came_text, lives_text, numbered_text, replied_text};
+    ghost use Rattle.tellings.specs.Voice.{IsWithheld, Voice, lives_text, numbered_text};
 
     /// The texts that it writes.
     ghost voice: { Voice };
@@ -31,18 +31,6 @@ pub trait Tells {
     /// Tells what comes of a line, or of a wait, apart from replies.
     fn note<W: Write>(&self, note: Note, writer: &mut W) -> Result<(), RunFault>
         ensures ok { OnOk result (Appends (W.contents writer.old) (W.contents writer.new) (voice.note note)) }
-        ensures err { IfErr result (IsWithheld voice) };
-
-    /// Tells what the command on this line gave, where this is the worksheet after it.
-    fn replies<W: Write>(
-        &self,
-        line: u64,
-        sheet: &Sheet,
-        replies: &[Reply],
-        writer: &mut W,
-    ) -> Result<(), RunFault>
-        ensures ok { OnOk result (Appends (W.contents writer.old) (W.contents writer.new)
-            (replied_text voice line sheet.now.contents replies.now)) }
         ensures err { IfErr result (IsWithheld voice) };
 
     /// Tells what commands gave that were taken together, one on each line from this one on, where this is the
@@ -59,32 +47,9 @@ pub trait Tells {
             (numbered_text voice first sheet.now.contents outcomes.now)) }
         ensures err { IfErr result (IsWithheld voice) };
 
-    /// Tells what came of lives, where this is the worksheet after it, and flushes nothing: `events` of what
-    /// followed is called next.
-    fn lives<W: Write>(
-        &self,
-        sheet: &Sheet,
-        replies: &[Reply],
-        writer: &mut W,
-    ) -> Result<(), RunFault>
-        ensures ok { OnOk result (Appends (W.contents writer.old) (W.contents writer.new)
-            (came_text voice sheet.now.contents replies.now)) }
-        ensures err { IfErr result (IsWithheld voice) };
-
-    /// Tells what came of lives, where this is the worksheet after it.
-    fn events<W: Write>(
-        &self,
-        sheet: &Sheet,
-        replies: &[Reply],
-        writer: &mut W,
-    ) -> Result<(), RunFault>
-        ensures ok { OnOk result (Appends (W.contents writer.old) (W.contents writer.new)
-            (came_text voice sheet.now.contents replies.now)) }
-        ensures err { IfErr result (IsWithheld voice) };
-
-    /// Tells what came of lives, with what this host knows of each, and flushes nothing: `events_of` of what followed
+    /// Tells what came of lives, with what this host knows of each, and flushes nothing: `events` of what followed
     /// is called next.
-    fn lives_of<D: Disk, W: Write>(
+    fn lives<D: Disk, W: Write>(
         &self,
         host: &Host<D>,
         replies: &[Reply],
@@ -95,7 +60,7 @@ pub trait Tells {
         ensures err { IfErr result (IsWithheld voice) };
 
     /// Tells what came of lives, with what this host knows of each.
-    fn events_of<D: Disk, W: Write>(
+    fn events<D: Disk, W: Write>(
         &self,
         host: &Host<D>,
         replies: &[Reply],

@@ -9,8 +9,8 @@ use Rattle.worksheet.specs.Contents.{Contents}
 use Rattle.worksheet.specs.Ops.{sheet_of}
 use Rattle.recovery.specs.Sheets.{StoreView}
 use Rattle.sheet_check.specs.Kept.{HoldsBut, NoPlace, Stores}
-use Rattle.sheet_check.specs.declared.putting.AcceptFault.{AcceptFault}
-use Rattle.sheet_check.specs.declared.putting.AcceptFault.TheVariants as refused
+use Rattle.sheet_check.specs.declared.accept.AcceptFault.{AcceptFault}
+use Rattle.sheet_check.specs.declared.accept.AcceptFault.TheVariants as refused
 use Rattle.host_events.specs.declared.outcome.HostFault.TheVariants as hosts
 use Rattle.session_engine.specs.World.{World}
 use Rattle.session_engine.specs.Host.{HostView, IsHost}
@@ -29,7 +29,7 @@ use Rattle.sheet_check.specs.Evaluated.{OneByOne, reason_shown_in}
 use Rattle.sheet_check.specs.Fields.{FieldChecked, FieldsChecked}
 use Rattle.sheet_check.specs.Check.{IsCopy, Passage}
 use Rattle.sheet_check.specs.Accept.{AcceptLeft, accepted, accepted_answer, accepted_of, filing}
-use Rattle.sheet_check.specs.declared.accepting.Finding.{Finding}
+use Rattle.sheet_check.specs.declared.accept_shown.Finding.{Finding}
 use Rattle.sheet_check.specs.inside.Checking.{FieldFailed, FieldsEnded, FieldsFailed, FieldsWrote, Question, ShownWrote}
 
 -- what a field came to by the answer that it shows and the one that came

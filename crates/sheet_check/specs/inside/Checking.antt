@@ -28,7 +28,7 @@ use Rattle.sheet_check.specs.Marks.{lacked_memory}
 use Rattle.driver.specs.Stopping.{StopsAll}
 use Rattle.sheet_check.specs.Progress.{Display, MakesRoom}
 use Rattle.sheet_check.specs.declared.progress.Sight.TheVariants as sight
-use Rattle.sheet_check.specs.declared.silence.Mark.{Mark}
+use Rattle.sheet_check.specs.declared.marks.Mark.{Mark}
 
 -- A field was evaluated from here by itself, and this is where the copy's host stands.
 abbrev pub CameAlone : {C : Type 0} → Way C → ℕ → At C → HostView → C → List Mark → Type 0

@@ -18,7 +18,7 @@ use Rattle.sheet_check.specs.Evaluated.{fault_on_copy}
 use Rattle.sheet_check.specs.Check.{Passage}
 use Rattle.sheet_check.specs.Driven.{DriveBroke, DrivenToEnd}
 use Rattle.sheet_check.specs.Together.{EvaluatedTogether, FieldCompared, FieldsCompared, SideBySide, TellsTogether, checking}
-use Rattle.sheet_check.specs.declared.silence.Mark.{Mark}
+use Rattle.sheet_check.specs.declared.marks.Mark.{Mark}
 use Rattle.sheet_check.specs.inside.Checking.{counted_on}
 
 -- How fields are compared: which, and how they are reported; where the copy stands, and the marks of the evaluation.

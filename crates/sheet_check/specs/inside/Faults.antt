@@ -1,8 +1,8 @@
 -- Why an answer isn't accepted, by why its op isn't committed.
 use Rattle.recovery.specs.declared.fault.CommitFault.{CommitFault}
 use Rattle.recovery.specs.declared.fault.CommitFault.TheVariants as commits
-use Rattle.sheet_check.specs.declared.putting.AcceptFault.{AcceptFault}
-use Rattle.sheet_check.specs.declared.putting.AcceptFault.TheVariants as fault
+use Rattle.sheet_check.specs.declared.accept.AcceptFault.{AcceptFault}
+use Rattle.sheet_check.specs.declared.accept.AcceptFault.TheVariants as fault
 
 abbrev pub fault_for : CommitFault → AcceptFault
 fault_for (commits.Full back) = fault.Full

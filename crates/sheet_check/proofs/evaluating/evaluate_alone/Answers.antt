@@ -6,7 +6,7 @@ use Rattle.sheet_check.specs.Driven.{checking_plan, unplanned}
 use Rattle.sheet_check.specs.Evaluated.{way}
 use Rattle.sheet_check.specs.Fields.{comes_by}
 use Rattle.sheet_check.specs.Marks.{lacked_memory}
-use Rattle.sheet_check.specs.declared.silence.Mark.{Mark}
+use Rattle.sheet_check.specs.declared.marks.Mark.{Mark}
 use Rattle.sheet_check.specs.inside.Checking.{halted, unremembered}
 use Rattle.sheet_check.proofs.Fields.{broke_alone, came_alone}
 use Rattle.sheet_check.proofs.evaluating.evaluate_alone.Goals as goal

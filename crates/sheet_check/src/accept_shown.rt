@@ -1,0 +1,242 @@
+//! What a field came to is accepted: its answer is put into the worksheet on the disk, and then reported.
+ghost use Rattle.std.specs.Prelude.{◌≡◌, ◌++◌, List, IfErr, IfOk, IfSome, OnOk, false, true};
+ghost use Rattle.std.specs.Io.KnownBytes.{Appends};
+ghost use Rattle.disk_model.specs.Disk.{DiskView};
+ghost use Rattle.worksheet.specs.declared.op.Op.{Op};
+ghost use Rattle.worksheet.specs.Checks.{has_field};
+ghost use Rattle.worksheet.specs.Laws.{HasShortPrompt};
+ghost use Rattle.session_engine.specs.World.{World};
+ghost use Rattle.session_engine.specs.Host.{IsHost};
+ghost use Rattle.child_edge.specs.Faithful.{at};
+ghost use Rattle.live.specs.Records.{left};
+ghost use Rattle.sheet_check.specs.Kept.{Stores};
+ghost use Rattle.check_report.specs.Chosen.{is_chosen};
+ghost use Rattle.check_report.specs.declared.report.Format.TheVariants as formats;
+ghost use Rattle.sheet_check.specs.Accept.{accepted_answer, answer_ops, to_accept};
+ghost use Rattle.sheet_check.specs.Evaluated.{came_if, shown_in, way};
+ghost use Rattle.sheet_check.specs.Progress.{LeavesLine, MakesRoom};
+ghost use Rattle.sheet_check.specs.inside.Accepting.{FieldBroke, Finds, NotPut, NotTaken, ShownTook, fault_of_acceptance, storing};
+ghost use Rattle.sheet_check.specs.inside.Checking.{question};
+
+use crate::driving::CopyDriver;
+use crate::evaluating::evaluate;
+use crate::progress::Progress;
+use crate::accept::{AcceptFault, accept};
+use crate::telling::make_room;
+use arrivals::Sources;
+use block_tree::OutOfMemory;
+use check_report::{
+    Chosen, Format, Judgement, Request, Verdict, acceptance_in_memory, bring_out, brings_error,
+};
+use disk_model::Disk;
+use host_events::HostFault;
+use offline_programs::RunFault;
+use recovery::Store;
+use session_engine::Host;
+use std::alloc::Global;
+use std::io::Write;
+use worksheet::{Answer, Field};
+
+/// What a field came to, and all that takes memory of what is then done.
+#[derive(Drop)]
+pub(crate) struct Finding {
+    pub(crate) judgement: Judgement,
+    /// The answer that is accepted, where one is.
+    pub(crate) answer: Option<Answer>,
+    /// What is reported.
+    pub(crate) text: Vec<u8>,
+}
+
+/// A copy of an answer.
+fn copy_answer(answer: &Answer) -> Result<Answer, OutOfMemory>
+    ensures { IfOk result (λ copy. copy ≡ answer.now) }
+{
+    let prompt = answer.prompt.copy()?;
+    let output = answer.output.copy()?;
+    Ok(Answer { prompt, output })
+}
+
+/// A copy of the answer that came, where one did.
+fn copy_what_came(came: &Option<Answer>) -> Result<Option<Answer>, OutOfMemory>
+    ensures { IfOk result (λ copy. copy ≡ came.now) }
+{
+    match came {
+        None => Ok(None),
+        Some(answer) => match copy_answer(answer) {
+            Ok(copy) => Ok(Some(copy)),
+            Err(why) => Err(why),
+        },
+    }
+}
+
+/// The answer that is accepted, where the one that came differs or is new.
+fn answer_to_accept(came: &Option<Answer>, verdict: Verdict) -> Result<Option<Answer>, OutOfMemory>
+    ensures { IfOk result (λ answer. answer ≡ accepted_answer came.now verdict) }
+{
+    match verdict {
+        Verdict::Differs | Verdict::New => copy_what_came(came),
+        Verdict::Same | Verdict::Unanswered | Verdict::LeftOut => Ok(None),
+    }
+}
+
+/// What a field came to by the answer that came. None where there is no memory for it.
+fn find(alloc: Global, chosen: &Chosen, field: &Field, came: &Option<Answer>) -> Option<Finding>
+    ensures { IfSome result (Finds chosen.now field.now came.now) }
+{
+    let verdict = chosen.judge(field, came);
+    let Ok(answer) = answer_to_accept(came, verdict) else {
+        return None;
+    };
+    match acceptance_in_memory(alloc, field, came, verdict) {
+        Some(text) => Some(Finding {
+            judgement: Judgement {
+                verdict,
+                error: brings_error(came),
+            },
+            answer,
+            text,
+        }),
+        None => None,
+    }
+}
+
+/// The same with the answer that the field shows on the copy now, which came where its line was asked.
+fn find_on_copy<D: Disk>(
+    alloc: Global,
+    chosen: &Chosen,
+    host: &Host<D>,
+    field: &Field,
+    asked: bool,
+) -> Option<Finding>
+    ensures { (w : World) → IsHost host.now w → IfSome result (Finds chosen.now field.now
+        (came_if asked (shown_in w field.now.id))) }
+{
+    if !asked {
+        return find(alloc, chosen, field, &None);
+    }
+    match host.sheet().field(field.id) {
+        None => find(alloc, chosen, field, &None),
+        Some(now) => find(alloc, chosen, field, &now.answer),
+    }
+}
+
+/// The fault of a check by why an answer wasn't accepted.
+fn accept_fault(why: AcceptFault) -> RunFault
+    ensures { result ≡ fault_of_acceptance why }
+{
+    match why {
+        AcceptFault::Full => RunFault::Host(HostFault::JournalFull),
+        AcceptFault::OutOfMemory => RunFault::OutOfMemory,
+        AcceptFault::Disk => RunFault::Host(HostFault::Disk),
+    }
+}
+
+/// Puts an answer into a field of the worksheet on the disk, where there is one.
+fn put<D: Disk>(store: &mut Store<D>, id: u32, answer: Option<Answer>) -> Result<(), AcceptFault>
+    requires open { store.old.closed ≡ false }
+    requires there { has_field store.old.sheet.contents id ≡ true }
+    requires short { HasShortPrompt answer }
+    ensures written { store.old.gathers ≡ false → store.new.gathers ≡ false }
+    ensures ok { (ops more : List Op) → (disk : DiskView) → Stores ops more disk store.old
+        → OnOk result (Stores ops (more ++ answer_ops id answer) disk store.new) }
+    ensures err { (ops more : List Op) → (disk : DiskView) → Stores ops more disk store.old
+        → IfErr result (NotPut (storing ops more disk store.new) (answer_ops id answer)) }
+{
+    match answer {
+        None => Ok(()),
+        Some(answer) => accept(store, id, answer),
+    }
+}
+
+/// Tells what a field came to, in the place of the line of progress.
+fn tell<W: Write, P: Progress>(
+    verdict: Verdict,
+    text: &[u8],
+    progress: &mut P,
+    writer: &mut W,
+) -> Result<(), RunFault>
+    ensures ok { OnOk result (Appends (W.contents writer.old) (W.contents writer.new) text.now) }
+    ensures err { IfErr result (λ why. why ≡ RunFault.Output) }
+    ensures room { MakesRoom formats.Accepting P.shows verdict progress.old progress.new }
+{
+    make_room(Format::Accepting, verdict, progress);
+    bring_out(text, writer).map_err(|_| RunFault::Output)
+}
+
+/// Accepts what a field came to, and then tells it.
+fn take<D: Disk, W: Write, P: Progress>(
+    store: &mut Store<D>,
+    id: u32,
+    found: Finding,
+    progress: &mut P,
+    writer: &mut W,
+) -> Result<Judgement, RunFault>
+    requires open { store.old.closed ≡ false }
+    requires there { has_field store.old.sheet.contents id ≡ true }
+    requires short { HasShortPrompt found.answer }
+    ensures written { store.old.gathers ≡ false → store.new.gathers ≡ false }
+    ensures ok { (ops more : List Op) → (disk : DiskView) → Stores ops more disk store.old
+        → IfOk result (λ j. (j ≡ found.judgement)
+        × Stores ops (more ++ answer_ops id found.answer) disk store.new
+        × Appends (W.contents writer.old) (W.contents writer.new) found.text.items) }
+    ensures err { (ops more : List Op) → (disk : DiskView) → Stores ops more disk store.old
+        → IfErr result (NotTaken (storing ops more disk store.new) (answer_ops id found.answer)
+        (W.contents writer.old) (W.contents writer.new)) }
+    ensures room { IfOk result (λ j.
+        MakesRoom formats.Accepting P.shows j.verdict progress.old progress.new) }
+    ensures left { IfErr result (λ _. LeavesLine P.shows progress.old progress.new) }
+{
+    let Finding {
+        judgement,
+        answer,
+        text,
+    } = found;
+    match put(store, id, answer) {
+        Ok(()) => (),
+        Err(why) => return Err(accept_fault(why)),
+    }
+    match tell(judgement.verdict, text.as_slice(), progress, writer) {
+        Ok(()) => Ok(judgement),
+        Err(fault) => Err(fault),
+    }
+}
+
+/// Evaluates a field that is checked, and accepts and tells what that came to.
+pub(crate) fn accept_shown<D: Disk, S: Disk, C: Sources, W: Write, P: Progress>(
+    alloc: Global,
+    request: &Request,
+    driver: &mut CopyDriver<D, C>,
+    store: &mut Store<S>,
+    field: &Field,
+    progress: &mut P,
+    writer: &mut W,
+) -> Result<Judgement, RunFault>
+    requires chosen { is_chosen request.now.chosen field.now ≡ true }
+    requires stands { (w : World) × IsHost driver.old.host w }
+    requires open { store.old.closed ≡ false }
+    requires there { has_field store.old.sheet.contents field.now.id ≡ true }
+    ensures written { store.old.gathers ≡ false → store.new.gathers ≡ false }
+    ensures ok { (w : World) → IsHost driver.old.host w → (ops more : List Op) → (disk : DiskView)
+        → Stores ops more disk store.old → IfOk result (ShownTook
+        (to_accept (way C.after C.clock C.wakes request.now.limit) request.now.chosen)
+        (question 0 field.now) (at w driver.old.sources driver.old.host.store.disk)
+        (left driver.new.host driver.new.sources (W.contents writer.old) (W.contents writer.new)) (storing ops more disk store.new)) }
+    ensures err { (w : World) → IsHost driver.old.host w → (ops more : List Op) → (disk : DiskView)
+        → Stores ops more disk store.old → IfErr result (FieldBroke
+        (to_accept (way C.after C.clock C.wakes request.now.limit) request.now.chosen)
+        field.now (at w driver.old.sources driver.old.host.store.disk)
+        (left driver.new.host driver.new.sources (W.contents writer.old) (W.contents writer.new)) (storing ops more disk store.new)) }
+    ensures room { IfOk result (λ j.
+        MakesRoom formats.Accepting P.shows j.verdict progress.old progress.new) }
+    ensures left { IfErr result (λ _. LeavesLine P.shows progress.old progress.new) }
+{
+    worksheet::laws::ops_make_worksheets();
+    let came = match evaluate(driver, request.limit, field) {
+        Ok(came) => came,
+        Err(fault) => return Err(fault),
+    };
+    match find_on_copy(alloc, &request.chosen, &driver.host, field, came.is_there) {
+        None => Err(RunFault::OutOfMemory),
+        Some(found) => take(store, field.id, found, progress, writer),
+    }
+}
