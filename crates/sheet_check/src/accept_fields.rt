@@ -22,7 +22,7 @@ ghost use Rattle.sheet_check.specs.inside.Accepting.{FieldBroke, FieldsBroke, Fi
 ghost use Rattle.sheet_check.specs.inside.Checking.{FieldShown, FieldWrote, FieldsEnded};
 ghost use Rattle.live.specs.Records.{left};
 
-use crate::accepting::accept_shown;
+use crate::accept_shown::accept_shown;
 use crate::checking::{Checked, show_counts, tell_closing};
 use crate::copying::open_copy;
 use crate::driving::{CopyDriver, Gave, drive_copy};

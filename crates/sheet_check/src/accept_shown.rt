@@ -18,10 +18,10 @@ ghost use Rattle.sheet_check.specs.Progress.{LeavesLine, MakesRoom};
 ghost use Rattle.sheet_check.specs.inside.Accepting.{FieldBroke, Finds, NotPut, NotTaken, ShownTook, fault_of_acceptance, storing};
 ghost use Rattle.sheet_check.specs.inside.Checking.{question};
 
+use crate::accept::{AcceptFault, accept};
 use crate::driving::CopyDriver;
 use crate::evaluating::evaluate;
 use crate::progress::Progress;
-use crate::accept::{AcceptFault, accept};
 use crate::telling::make_room;
 use arrivals::Sources;
 use block_tree::OutOfMemory;

@@ -9,8 +9,8 @@ ghost use Rattle.sheet_check.specs.inside.Comparing.{FieldReported, FieldsReport
 
 use crate::checking::{show_counts, tell_opening};
 use crate::marked::is_in_time;
-use crate::progress::Progress;
 use crate::marks::Mark;
+use crate::progress::Progress;
 use crate::telling::tell_what_came;
 use check_report::{Counts, Request};
 use disk_model::Disk;

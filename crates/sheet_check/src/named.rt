@@ -15,8 +15,8 @@ ghost use Rattle.sheet_check.specs.Progress.{SheetShows, checked_count, display}
 ghost use Rattle.sheet_check.specs.Together.{TellsBySessions, side_by_side};
 ghost use Rattle.sheet_check.specs.inside.Accepting.{GoesOn};
 
-use crate::checking::check_sheet;
 use crate::accept_fields::accept_sheet;
+use crate::checking::check_sheet;
 use crate::driving::Gave;
 use crate::progress::Progress;
 use crate::together::check_by_sessions;
