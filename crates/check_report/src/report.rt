@@ -53,7 +53,7 @@ pub enum ReportFault {
     Output,
 }
 
-/// Writes what stands first in a report, and brings it out.
+/// Writes what stands first in a report, and flushes it.
 pub fn open_report<W: Write>(format: Format, writer: &mut W) -> Result<(), WriteFault>
     ensures { OnOk result (Appends (W.contents writer.old) (W.contents writer.new)
         (opening_text format)) }
@@ -81,7 +81,7 @@ fn write_closing<W: Write>(format: Format, counts: Counts, writer: &mut W) -> Re
     }
 }
 
-/// Writes what stands last in a report, and brings it out.
+/// Writes what stands last in a report, and flushes it.
 pub fn close_report<W: Write>(
     format: Format,
     counts: Counts,
@@ -115,7 +115,7 @@ pub fn is_written(format: Format, verdict: Verdict) -> bool
     }
 }
 
-/// Writes a difference in words, and brings it out.
+/// Writes a difference in words, and flushes it.
 fn write_words<W: Write>(
     field: &Field,
     shown: &[u8],
@@ -150,7 +150,7 @@ fn report_difference<W: Write>(
     }
 }
 
-/// Writes in words where an output differs, and brings it out.
+/// Writes in words where an output differs, and flushes it.
 fn write_in_part<W: Write>(
     field: &Field,
     both: &Outputs,
@@ -188,7 +188,7 @@ fn report_change<W: Write>(
     }
 }
 
-/// Writes in words a field that shows no output, and the one that came, and brings it out.
+/// Writes in words a field that shows no output, and the one that came, and flushes it.
 fn write_added<W: Write>(field: &Field, came: &[u8], writer: &mut W) -> Result<(), WriteFault>
     ensures { OnOk result (Appends (W.contents writer.old) (W.contents writer.new)
         (printed.addition_of field.now came.now)) }
@@ -257,7 +257,7 @@ fn report_words<W: Write>(
     }
 }
 
-/// Writes a field as a test point of TAP, and brings it out.
+/// Writes a field as a test point of TAP, and flushes it.
 fn write_as_point<W: Write>(
     number: u64,
     field: &Field,
@@ -282,7 +282,7 @@ fn write_as_point<W: Write>(
     Ok(())
 }
 
-/// Writes a field as a case in JUnit's XML, and brings it out.
+/// Writes a field as a case in JUnit's XML, and flushes it.
 fn write_as_case<W: Write>(
     field: &Field,
     verdict: Verdict,
@@ -354,7 +354,7 @@ fn report_junit<W: Write>(
 }
 
 /// Writes a text that is in memory, and flushes it.
-pub fn bring_out<W: Write>(text: &[u8], writer: &mut W) -> Result<(), WriteFault>
+pub fn write_and_flush<W: Write>(text: &[u8], writer: &mut W) -> Result<(), WriteFault>
     ensures { OnOk result (Appends (W.contents writer.old) (W.contents writer.new) text.now) }
 {
     write_bytes(text, writer)?;
@@ -379,7 +379,7 @@ fn report_json<W: Write>(
     let Some(line) = case_in_memory(alloc, field, came, lost, verdict, took) else {
         return Err(ReportFault::OutOfMemory);
     };
-    match bring_out(line.as_slice(), writer) {
+    match write_and_flush(line.as_slice(), writer) {
         Ok(()) => Ok(()),
         Err(_) => Err(ReportFault::Output),
     }
@@ -400,13 +400,13 @@ fn report_accepting<W: Write>(
     let Some(reported) = acceptance_in_memory(alloc, field, came, verdict) else {
         return Err(ReportFault::OutOfMemory);
     };
-    match bring_out(reported.as_slice(), writer) {
+    match write_and_flush(reported.as_slice(), writer) {
         Ok(()) => Ok(()),
         Err(_) => Err(ReportFault::Output),
     }
 }
 
-/// Tells what a field came to, which is the case of this number, and brings it out. The field may show a
+/// Tells what a field came to, which is the case of this number, and flushes it. The field may show a
 /// reason for no answer then.
 pub fn report_case<W: Write>(
     alloc: Global,

@@ -31,7 +31,7 @@ pub struct GaveTogether {
 /// Why events weren't taken together, or what broke off.
 #[derive(Clone, Copy, Debug, PartialEq, Eq)]
 pub enum TogetherFault {
-    /// There was no memory, and none of them was taken.
+    /// There was no memory, or one of them was a checkpoint: none of them was taken.
     OutOfMemory,
     /// The disk failed while they were taken: of none of them anything may be reported.
     Lost,

@@ -21,13 +21,13 @@ sources_seen after clock wakes = record { after = after; clock = clock; wakes = 
 pub record StreamsSeen (I W E : Type 0) : Type 1 where
   pub stream : I → Option (List ℕ)
   pub written : W → Option (List ℕ)
-  pub brought : W → Bool → W → Type 0
+  pub flushed : W → Bool → W → Type 0
   pub shown : W → Option (List ℕ) → Bool → W → Type 0
   pub said : E → Option (List ℕ)
   pub tried : E → Option (List ℕ) → Bool → E → Type 0
 
 abbrev pub streams_seen : {I W E : Type 0} → read.Ghosts I → write.Ghosts W → (W → Bool → W → Type 0) → (W → Option (List ℕ) → Bool → W → Type 0) → write.Ghosts E → (E → Option (List ℕ) → Bool → E → Type 0) → StreamsSeen I W E
-streams_seen i w b s e t = record { stream = i.remaining; written = w.contents; brought = b; shown = s; said = e.contents; tried = t }
+streams_seen i w b s e t = record { stream = i.remaining; written = w.contents; flushed = b; shown = s; said = e.contents; tried = t }
 
 abbrev pub disks_seen : {D : Type 0} → disks.Ghosts D → (D → Type 0) → Closable D
 disks_seen d closed = closable d.view closed

@@ -438,9 +438,9 @@ module _ {Y D P S I W E Q : Type 0} (o : OutsideView D P S I W E) where
       × (alone.status ≢ 1 → EndsWith old new ending (Err fault.Output))
 
   -- Last of all the output is flushed, after what the program came to.
-  abbrev pub BringsOut : Outside Y D P S I W E Q → Outside Y D P S I W E Q → Ending → Ending → Type 0
-  BringsOut old new alone ending = OnlyWritten old new × ((all : Bool) × o.streams.brought old.output all new.output × EndsBrought all old new alone ending)
+  abbrev pub FlushesOutput : Outside Y D P S I W E Q → Outside Y D P S I W E Q → Ending → Ending → Type 0
+  FlushesOutput old new alone ending = OnlyWritten old new × ((all : Bool) × o.streams.flushed old.output all new.output × EndsBrought all old new alone ending)
 
   -- the whole program: it ends by its words, and then its output is flushed
   abbrev pub Performs : {T : Type 0} → (T → List Text) → Result T IoKind → Outside Y D P S I W E Q → Outside Y D P S I W E Q → Ending → Type 0
-  Performs texts words old new ending = (mid : Outside Y D P S I W E Q) × (alone : Ending) × EndsBy texts words old mid alone × BringsOut mid new alone ending
+  Performs texts words old new ending = (mid : Outside Y D P S I W E Q) × (alone : Ending) × EndsBy texts words old mid alone × FlushesOutput mid new alone ending

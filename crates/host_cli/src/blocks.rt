@@ -10,7 +10,7 @@ use std::alloc::Global;
 /// `blocks`.
 pub(crate) fn blocks<Y: System>(alloc: Global, outside: &mut Outside<Y>) -> Ending
     ensures does { DoesBlocks (outer Y.Places.Places (disks_seen Y.Disk.Disk Y.Disk.closed) (sources_seen Y.Sources.after Y.Sources.clock Y.Sources.wakes)
-        (streams_seen Y.Input.Read Y.Output.Write Y.Output.brought Y.Output.tried Y.Errors.Write Y.Errors.tried)) outside.old outside.new result }
+        (streams_seen Y.Input.Read Y.Output.Write Y.Output.flushed Y.Output.tried Y.Errors.Write Y.Errors.tried)) outside.old outside.new result }
     ensures leaves { LeavesAlone outside.old outside.new asked.blocks }
 {
     run_blocks(
@@ -24,7 +24,7 @@ pub(crate) fn blocks<Y: System>(alloc: Global, outside: &mut Outside<Y>) -> Endi
 /// `blocks --json`.
 pub(crate) fn blocks_in_json<Y: System>(alloc: Global, outside: &mut Outside<Y>) -> Ending
     ensures does { DoesBlocksInJson (outer Y.Places.Places (disks_seen Y.Disk.Disk Y.Disk.closed) (sources_seen Y.Sources.after Y.Sources.clock Y.Sources.wakes)
-        (streams_seen Y.Input.Read Y.Output.Write Y.Output.brought Y.Output.tried Y.Errors.Write Y.Errors.tried)) outside.old outside.new result }
+        (streams_seen Y.Input.Read Y.Output.Write Y.Output.flushed Y.Output.tried Y.Errors.Write Y.Errors.tried)) outside.old outside.new result }
     ensures leaves { LeavesAlone outside.old outside.new asked.blocks_json }
 {
     run_block_objects(

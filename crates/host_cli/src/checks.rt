@@ -32,7 +32,7 @@ fn check_as<Y: System>(
     path: &str,
 ) -> Compared<Y>
     ensures does { ChecksAs (outer Y.Places.Places (disks_seen Y.Disk.Disk Y.Disk.closed) (sources_seen Y.Sources.after Y.Sources.clock Y.Sources.wakes)
-        (streams_seen Y.Input.Read Y.Output.Write Y.Output.brought Y.Output.tried Y.Errors.Write Y.Errors.tried)) outside result.outside result.end path.now (check_plan request.now jobs) }
+        (streams_seen Y.Input.Read Y.Output.Write Y.Output.flushed Y.Output.tried Y.Errors.Write Y.Errors.tried)) outside result.outside result.end path.now (check_plan request.now jobs) }
     ensures leaves { result.outside.input ≡ outside.input }
 {
     let files = outside.places.open_to_read(path);
@@ -78,7 +78,7 @@ fn check_together_as<Y: System>(
     path: &str,
 ) -> Compared<Y>
     ensures does { TogetherAs (outer Y.Places.Places (disks_seen Y.Disk.Disk Y.Disk.closed) (sources_seen Y.Sources.after Y.Sources.clock Y.Sources.wakes)
-        (streams_seen Y.Input.Read Y.Output.Write Y.Output.brought Y.Output.tried Y.Errors.Write Y.Errors.tried)) outside result.outside result.end path.now (check_plan request.now jobs) }
+        (streams_seen Y.Input.Read Y.Output.Write Y.Output.flushed Y.Output.tried Y.Errors.Write Y.Errors.tried)) outside result.outside result.end path.now (check_plan request.now jobs) }
     ensures leaves { result.outside.input ≡ outside.input }
 {
     let files = outside.places.open_to_read(path);
@@ -126,7 +126,7 @@ fn compare<Y: System>(
     path: &str,
 ) -> Compared<Y>
     ensures does { Compares (outer Y.Places.Places (disks_seen Y.Disk.Disk Y.Disk.closed) (sources_seen Y.Sources.after Y.Sources.clock Y.Sources.wakes)
-        (streams_seen Y.Input.Read Y.Output.Write Y.Output.brought Y.Output.tried Y.Errors.Write Y.Errors.tried)) outside result.outside result.end path.now (check_plan request.now jobs) }
+        (streams_seen Y.Input.Read Y.Output.Write Y.Output.flushed Y.Output.tried Y.Errors.Write Y.Errors.tried)) outside result.outside result.end path.now (check_plan request.now jobs) }
     ensures leaves { result.outside.input ≡ outside.input }
 {
     if jobs <= 1 {
@@ -144,7 +144,7 @@ fn accept_as<Y: System>(
     path: &str,
 ) -> Performed<Y>
     ensures does { AcceptsHeld (outer Y.Places.Places (disks_seen Y.Disk.Disk Y.Disk.closed) (sources_seen Y.Sources.after Y.Sources.clock Y.Sources.wakes)
-        (streams_seen Y.Input.Read Y.Output.Write Y.Output.brought Y.Output.tried Y.Errors.Write Y.Errors.tried)) outside result.outside result.ending path.now request.now }
+        (streams_seen Y.Input.Read Y.Output.Write Y.Output.flushed Y.Output.tried Y.Errors.Write Y.Errors.tried)) outside result.outside result.ending path.now request.now }
     ensures leaves { result.outside.input ≡ outside.input }
 {
     let files = outside.places.open(path);
@@ -187,7 +187,7 @@ fn check_by<Y: System>(
     path: &str,
 ) -> Performed<Y>
     ensures does { ChecksBy (outer Y.Places.Places (disks_seen Y.Disk.Disk Y.Disk.closed) (sources_seen Y.Sources.after Y.Sources.clock Y.Sources.wakes)
-        (streams_seen Y.Input.Read Y.Output.Write Y.Output.brought Y.Output.tried Y.Errors.Write Y.Errors.tried)) outside result.outside result.ending path.now (check_plan request.now jobs) }
+        (streams_seen Y.Input.Read Y.Output.Write Y.Output.flushed Y.Output.tried Y.Errors.Write Y.Errors.tried)) outside result.outside result.ending path.now (check_plan request.now jobs) }
     ensures leaves { result.outside.input ≡ outside.input }
 {
     if let Err(why) = outside.places.hold() {
@@ -215,7 +215,7 @@ fn compare_next<Y: System>(
     path: &str,
 ) -> Compared<Y>
     ensures does { ComparesNext (outer Y.Places.Places (disks_seen Y.Disk.Disk Y.Disk.closed) (sources_seen Y.Sources.after Y.Sources.clock Y.Sources.wakes)
-        (streams_seen Y.Input.Read Y.Output.Write Y.Output.brought Y.Output.tried Y.Errors.Write Y.Errors.tried)) outside result.outside result.end path.now (check_plan request.now jobs) }
+        (streams_seen Y.Input.Read Y.Output.Write Y.Output.flushed Y.Output.tried Y.Errors.Write Y.Errors.tried)) outside result.outside result.end path.now (check_plan request.now jobs) }
     ensures leaves { result.outside.input ≡ outside.input }
 {
     match tell_worksheet(path, &mut outside.output) {
@@ -237,7 +237,7 @@ fn compare_each<Y: System>(
     paths: &[&str],
 ) -> Performed<Y>
     ensures does { ComparesEach (outer Y.Places.Places (disks_seen Y.Disk.Disk Y.Disk.closed) (sources_seen Y.Sources.after Y.Sources.clock Y.Sources.wakes)
-        (streams_seen Y.Input.Read Y.Output.Write Y.Output.brought Y.Output.tried Y.Errors.Write Y.Errors.tried)) (check_plan request.now jobs) [] (map (λ path. path.now) paths.now) outside result.outside result.ending }
+        (streams_seen Y.Input.Read Y.Output.Write Y.Output.flushed Y.Output.tried Y.Errors.Write Y.Errors.tried)) (check_plan request.now jobs) [] (map (λ path. path.now) paths.now) outside result.outside result.ending }
     ensures leaves { result.outside.input ≡ outside.input }
 {
     let mut total = Total::none();
@@ -268,7 +268,7 @@ fn check_paths<Y: System>(
     jobs: u32,
 ) -> Performed<Y>
     ensures does { ChecksPaths (outer Y.Places.Places (disks_seen Y.Disk.Disk Y.Disk.closed) (sources_seen Y.Sources.after Y.Sources.clock Y.Sources.wakes)
-        (streams_seen Y.Input.Read Y.Output.Write Y.Output.brought Y.Output.tried Y.Errors.Write Y.Errors.tried)) outside result.outside result.ending path.now (check_view words.now) (check_plan request.now jobs) }
+        (streams_seen Y.Input.Read Y.Output.Write Y.Output.flushed Y.Output.tried Y.Errors.Write Y.Errors.tried)) outside result.outside result.ending path.now (check_view words.now) (check_plan request.now jobs) }
     ensures leaves { result.outside.input ≡ outside.input }
 {
     if !are_several(words.paths.as_slice()) {
@@ -297,7 +297,7 @@ pub(crate) fn check_at<Y: System>(
     words: CheckWords<'_>,
 ) -> Performed<Y>
     ensures does { DoesCheck (outer Y.Places.Places (disks_seen Y.Disk.Disk Y.Disk.closed) (sources_seen Y.Sources.after Y.Sources.clock Y.Sources.wakes)
-        (streams_seen Y.Input.Read Y.Output.Write Y.Output.brought Y.Output.tried Y.Errors.Write Y.Errors.tried)) outside result.outside result.ending path.now (check_view words.entry) }
+        (streams_seen Y.Input.Read Y.Output.Write Y.Output.flushed Y.Output.tried Y.Errors.Write Y.Errors.tried)) outside result.outside result.ending path.now (check_view words.entry) }
     ensures leaves { result.outside.input ≡ outside.input }
 {
     let Some(limit) = read_limit(words.timeout) else {

@@ -12,17 +12,17 @@ use std::io::{BufWriter, Write};
 /// written, the relation says: generic code has it by that call alone.
 pub trait Outlet: Write {
     /// The output before the call, whether all was flushed, and the output after it.
-    ghost brought: { Self → Bool → Self → Type 0 };
+    ghost flushed: { Self → Bool → Self → Type 0 };
 
     /// Flushes what is kept back.
-    fn bring_out(&mut self) -> io::Result<()>
-        ensures { brought self.old (is_ok result) self.new };
+    fn flush_out(&mut self) -> io::Result<()>
+        ensures { flushed self.old (is_ok result) self.new };
 }
 
 impl<W: Write + Drop> Outlet for BufWriter<W> {
-    ghost brought = { λ _ all after. all ≡ true → writer_buffer after ≡ [] };
+    ghost flushed = { λ _ all after. all ≡ true → writer_buffer after ≡ [] };
 
-    fn bring_out(&mut self) -> io::Result<()> {
+    fn flush_out(&mut self) -> io::Result<()> {
         self.flush()
     }
 }

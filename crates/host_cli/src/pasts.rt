@@ -25,7 +25,7 @@ use std::io::Write;
 /// `history` of the worksheet at a path.
 pub(crate) fn history_at<Y: System>(alloc: Global, outside: &mut Outside<Y>, path: &str) -> Ending
     ensures does { DoesHistory (outer Y.Places.Places (disks_seen Y.Disk.Disk Y.Disk.closed) (sources_seen Y.Sources.after Y.Sources.clock Y.Sources.wakes)
-        (streams_seen Y.Input.Read Y.Output.Write Y.Output.brought Y.Output.tried Y.Errors.Write Y.Errors.tried)) outside.old outside.new result path.now }
+        (streams_seen Y.Input.Read Y.Output.Write Y.Output.flushed Y.Output.tried Y.Errors.Write Y.Errors.tried)) outside.old outside.new result path.now }
     ensures leaves { LeavesAlone outside.old outside.new (asked.history path.now) }
 {
     match outside.places.hold() {
@@ -47,7 +47,7 @@ fn show_after<Y: System>(
     changes: u32,
 ) -> Ending
     ensures does { ShowsAfter (outer Y.Places.Places (disks_seen Y.Disk.Disk Y.Disk.closed) (sources_seen Y.Sources.after Y.Sources.clock Y.Sources.wakes)
-        (streams_seen Y.Input.Read Y.Output.Write Y.Output.brought Y.Output.tried Y.Errors.Write Y.Errors.tried)) outside.old outside.new result path.now changes }
+        (streams_seen Y.Input.Read Y.Output.Write Y.Output.flushed Y.Output.tried Y.Errors.Write Y.Errors.tried)) outside.old outside.new result path.now changes }
     ensures leaves { LeavesAlone outside.old outside.new (asked.show_at path.now []) }
 {
     if let Err(why) = outside.places.hold() {
@@ -67,7 +67,7 @@ pub(crate) fn show_past_at<Y: System>(
     changes: &str,
 ) -> Ending
     ensures does { DoesShowAt (outer Y.Places.Places (disks_seen Y.Disk.Disk Y.Disk.closed) (sources_seen Y.Sources.after Y.Sources.clock Y.Sources.wakes)
-        (streams_seen Y.Input.Read Y.Output.Write Y.Output.brought Y.Output.tried Y.Errors.Write Y.Errors.tried)) outside.old outside.new result path.now changes.now }
+        (streams_seen Y.Input.Read Y.Output.Write Y.Output.flushed Y.Output.tried Y.Errors.Write Y.Errors.tried)) outside.old outside.new result path.now changes.now }
     ensures leaves { LeavesAlone outside.old outside.new (asked.show_at path.now changes.now) }
 {
     match read_number(changes.as_bytes()) {
@@ -101,7 +101,7 @@ fn export_after<Y: System>(
     changes: u32,
 ) -> Ending
     ensures does { ExportsAfter (outer Y.Places.Places (disks_seen Y.Disk.Disk Y.Disk.closed) (sources_seen Y.Sources.after Y.Sources.clock Y.Sources.wakes)
-        (streams_seen Y.Input.Read Y.Output.Write Y.Output.brought Y.Output.tried Y.Errors.Write Y.Errors.tried)) outside.old outside.new result path.now format changes }
+        (streams_seen Y.Input.Read Y.Output.Write Y.Output.flushed Y.Output.tried Y.Errors.Write Y.Errors.tried)) outside.old outside.new result path.now format changes }
     ensures leaves { LeavesAlone outside.old outside.new (asked.export_at [] path.now []) }
 {
     if let Err(why) = outside.places.hold() {
@@ -131,7 +131,7 @@ pub(crate) fn export_as_past<Y: System>(
     changes: &str,
 ) -> Ending
     ensures does { ExportsPast (outer Y.Places.Places (disks_seen Y.Disk.Disk Y.Disk.closed) (sources_seen Y.Sources.after Y.Sources.clock Y.Sources.wakes)
-        (streams_seen Y.Input.Read Y.Output.Write Y.Output.brought Y.Output.tried Y.Errors.Write Y.Errors.tried)) outside.old outside.new result path.now changes.now format }
+        (streams_seen Y.Input.Read Y.Output.Write Y.Output.flushed Y.Output.tried Y.Errors.Write Y.Errors.tried)) outside.old outside.new result path.now changes.now format }
     ensures leaves { LeavesAlone outside.old outside.new (asked.export_at [] path.now changes.now) }
 {
     match read_number(changes.as_bytes()) {
@@ -149,7 +149,7 @@ pub(crate) fn export_past_at<Y: System>(
     changes: &str,
 ) -> Ending
     ensures does { DoesExportAt (outer Y.Places.Places (disks_seen Y.Disk.Disk Y.Disk.closed) (sources_seen Y.Sources.after Y.Sources.clock Y.Sources.wakes)
-        (streams_seen Y.Input.Read Y.Output.Write Y.Output.brought Y.Output.tried Y.Errors.Write Y.Errors.tried)) outside.old outside.new result name.now path.now changes.now }
+        (streams_seen Y.Input.Read Y.Output.Write Y.Output.flushed Y.Output.tried Y.Errors.Write Y.Errors.tried)) outside.old outside.new result name.now path.now changes.now }
     ensures leaves { LeavesAlone outside.old outside.new (asked.export_at name.now path.now changes.now) }
 {
     match format_named(name) {
@@ -167,7 +167,7 @@ fn restore_after<Y: System>(
     new: &str,
 ) -> Ending
     ensures does { RestoresAfter (outer Y.Places.Places (disks_seen Y.Disk.Disk Y.Disk.closed) (sources_seen Y.Sources.after Y.Sources.clock Y.Sources.wakes)
-        (streams_seen Y.Input.Read Y.Output.Write Y.Output.brought Y.Output.tried Y.Errors.Write Y.Errors.tried)) outside.old outside.new result path.now new.now changes }
+        (streams_seen Y.Input.Read Y.Output.Write Y.Output.flushed Y.Output.tried Y.Errors.Write Y.Errors.tried)) outside.old outside.new result path.now new.now changes }
     ensures leaves { LeavesAlone outside.old outside.new (asked.restore path.now [] new.now) }
 {
     if let Err(why) = outside.places.hold() {
@@ -194,7 +194,7 @@ pub(crate) fn restore_at<Y: System>(
     new: &str,
 ) -> Ending
     ensures does { DoesRestore (outer Y.Places.Places (disks_seen Y.Disk.Disk Y.Disk.closed) (sources_seen Y.Sources.after Y.Sources.clock Y.Sources.wakes)
-        (streams_seen Y.Input.Read Y.Output.Write Y.Output.brought Y.Output.tried Y.Errors.Write Y.Errors.tried)) outside.old outside.new result path.now changes.now new.now }
+        (streams_seen Y.Input.Read Y.Output.Write Y.Output.flushed Y.Output.tried Y.Errors.Write Y.Errors.tried)) outside.old outside.new result path.now changes.now new.now }
     ensures leaves { LeavesAlone outside.old outside.new (asked.restore path.now changes.now new.now) }
 {
     match read_number(changes.as_bytes()) {

@@ -26,7 +26,7 @@ fn live_reported<Y: System, T: Tells + Copy>(
     path: &str,
 ) -> Performed<Y>
     ensures does { LivesAs (outer Y.Places.Places (disks_seen Y.Disk.Disk Y.Disk.closed) (sources_seen Y.Sources.after Y.Sources.clock Y.Sources.wakes)
-        (streams_seen Y.Input.Read Y.Output.Write Y.Output.brought Y.Output.tried Y.Errors.Write Y.Errors.tried)) manner T.voice outside result.outside result.ending path.now }
+        (streams_seen Y.Input.Read Y.Output.Write Y.Output.flushed Y.Output.tried Y.Errors.Write Y.Errors.tried)) manner T.voice outside result.outside result.ending path.now }
     ensures leaves { result.outside.progress ≡ outside.progress }
 {
     if let Err(why) = outside.places.hold() {
@@ -72,7 +72,7 @@ fn live_reported<Y: System, T: Tells + Copy>(
 /// `live` in words.
 pub(crate) fn live_at<Y: System>(alloc: Global, outside: Outside<Y>, path: &str) -> Performed<Y>
     ensures does { DoesLive (outer Y.Places.Places (disks_seen Y.Disk.Disk Y.Disk.closed) (sources_seen Y.Sources.after Y.Sources.clock Y.Sources.wakes)
-        (streams_seen Y.Input.Read Y.Output.Write Y.Output.brought Y.Output.tried Y.Errors.Write Y.Errors.tried)) in_words outside result.outside result.ending path.now }
+        (streams_seen Y.Input.Read Y.Output.Write Y.Output.flushed Y.Output.tried Y.Errors.Write Y.Errors.tried)) in_words outside result.outside result.ending path.now }
     ensures leaves { result.outside.progress ≡ outside.progress }
 {
     live_reported(
@@ -95,7 +95,7 @@ pub(crate) fn live_json_at<Y: System>(
     path: &str,
 ) -> Performed<Y>
     ensures does { DoesLive (outer Y.Places.Places (disks_seen Y.Disk.Disk Y.Disk.closed) (sources_seen Y.Sources.after Y.Sources.clock Y.Sources.wakes)
-        (streams_seen Y.Input.Read Y.Output.Write Y.Output.brought Y.Output.tried Y.Errors.Write Y.Errors.tried)) in_json outside result.outside result.ending path.now }
+        (streams_seen Y.Input.Read Y.Output.Write Y.Output.flushed Y.Output.tried Y.Errors.Write Y.Errors.tried)) in_json outside result.outside result.ending path.now }
     ensures leaves { result.outside.progress ≡ outside.progress }
 {
     live_reported(
@@ -118,7 +118,7 @@ pub(crate) fn live_partial_at<Y: System>(
     path: &str,
 ) -> Performed<Y>
     ensures does { DoesLive (outer Y.Places.Places (disks_seen Y.Disk.Disk Y.Disk.closed) (sources_seen Y.Sources.after Y.Sources.clock Y.Sources.wakes)
-        (streams_seen Y.Input.Read Y.Output.Write Y.Output.brought Y.Output.tried Y.Errors.Write Y.Errors.tried)) in_json outside result.outside result.ending path.now }
+        (streams_seen Y.Input.Read Y.Output.Write Y.Output.flushed Y.Output.tried Y.Errors.Write Y.Errors.tried)) in_json outside result.outside result.ending path.now }
     ensures leaves { result.outside.progress ≡ outside.progress }
 {
     outside.sources.tell_partial();
@@ -133,7 +133,7 @@ fn run_reported<Y: System>(
     path: &str,
 ) -> Performed<Y>
     ensures does { RunsScript (outer Y.Places.Places (disks_seen Y.Disk.Disk Y.Disk.closed) (sources_seen Y.Sources.after Y.Sources.clock Y.Sources.wakes)
-        (streams_seen Y.Input.Read Y.Output.Write Y.Output.brought Y.Output.tried Y.Errors.Write Y.Errors.tried)) strict outside result.outside result.ending path.now }
+        (streams_seen Y.Input.Read Y.Output.Write Y.Output.flushed Y.Output.tried Y.Errors.Write Y.Errors.tried)) strict outside result.outside result.ending path.now }
     ensures leaves { result.outside.progress ≡ outside.progress }
 {
     if let Err(why) = outside.places.hold() {
@@ -183,7 +183,7 @@ pub(crate) fn run_at<Y: System>(
     words: RunWords<'_>,
 ) -> Performed<Y>
     ensures does { DoesRun (outer Y.Places.Places (disks_seen Y.Disk.Disk Y.Disk.closed) (sources_seen Y.Sources.after Y.Sources.clock Y.Sources.wakes)
-        (streams_seen Y.Input.Read Y.Output.Write Y.Output.brought Y.Output.tried Y.Errors.Write Y.Errors.tried)) outside result.outside result.ending path.now (run_view words.entry) }
+        (streams_seen Y.Input.Read Y.Output.Write Y.Output.flushed Y.Output.tried Y.Errors.Write Y.Errors.tried)) outside result.outside result.ending path.now (run_view words.entry) }
     ensures leaves { result.outside.progress ≡ outside.progress }
 {
     let Some(limit) = read_limit(words.timeout) else {

@@ -4,7 +4,7 @@ ghost use Rattle.std.specs.Prelude.{◌≡◌, ◌≢◌, [], Err, map, string_b
 ghost use Rattle.command_words.specs.Asked.{eval_view, task_view};
 ghost use Rattle.command_words.specs.Asked as asked;
 ghost use Rattle.host_cli.specs.Outside.{disks_seen, outer, sources_seen, streams_seen};
-ghost use Rattle.host_cli.specs.Tasks.{BringsOut, DoesCreate, DoesEval, DoesExport, DoesRescue, DoesShow, DoesTask, EndsBy, EvaluatesAs, ExportsAs, LeavesAlone, Performs, voice_by};
+ghost use Rattle.host_cli.specs.Tasks.{FlushesOutput, DoesCreate, DoesEval, DoesExport, DoesRescue, DoesShow, DoesTask, EndsBy, EvaluatesAs, ExportsAs, LeavesAlone, Performs, voice_by};
 ghost use Rattle.program_endings.specs.Ending.{TellsFault};
 ghost use Rattle.offline_programs.specs.Saying.{saying};
 ghost use Rattle.offline_programs.specs.declared.fault.RunFault.TheVariants as fault;
@@ -35,7 +35,7 @@ use tellings::{InJson, InWords, Tells};
 /// `create` at a path.
 fn create_at<Y: System>(outside: &mut Outside<Y>, path: &str) -> Ending
     ensures does { DoesCreate (outer Y.Places.Places (disks_seen Y.Disk.Disk Y.Disk.closed) (sources_seen Y.Sources.after Y.Sources.clock Y.Sources.wakes)
-        (streams_seen Y.Input.Read Y.Output.Write Y.Output.brought Y.Output.tried Y.Errors.Write Y.Errors.tried)) outside.old outside.new result path.now }
+        (streams_seen Y.Input.Read Y.Output.Write Y.Output.flushed Y.Output.tried Y.Errors.Write Y.Errors.tried)) outside.old outside.new result path.now }
     ensures leaves { LeavesAlone outside.old outside.new (asked.create path.now) }
 {
     match outside.places.hold() {
@@ -47,7 +47,7 @@ fn create_at<Y: System>(outside: &mut Outside<Y>, path: &str) -> Ending
 /// `show` of the worksheet at a path.
 fn show_at<Y: System>(alloc: Global, outside: &mut Outside<Y>, path: &str) -> Ending
     ensures does { DoesShow (outer Y.Places.Places (disks_seen Y.Disk.Disk Y.Disk.closed) (sources_seen Y.Sources.after Y.Sources.clock Y.Sources.wakes)
-        (streams_seen Y.Input.Read Y.Output.Write Y.Output.brought Y.Output.tried Y.Errors.Write Y.Errors.tried)) outside.old outside.new result path.now }
+        (streams_seen Y.Input.Read Y.Output.Write Y.Output.flushed Y.Output.tried Y.Errors.Write Y.Errors.tried)) outside.old outside.new result path.now }
     ensures leaves { LeavesAlone outside.old outside.new (asked.show path.now) }
 {
     match outside.places.hold() {
@@ -70,7 +70,7 @@ fn eval_as<Y: System, T: Tells + Copy>(
     path: &str,
 ) -> Performed<Y>
     ensures does { EvaluatesAs (outer Y.Places.Places (disks_seen Y.Disk.Disk Y.Disk.closed) (sources_seen Y.Sources.after Y.Sources.clock Y.Sources.wakes)
-        (streams_seen Y.Input.Read Y.Output.Write Y.Output.brought Y.Output.tried Y.Errors.Write Y.Errors.tried)) T.voice plan outside result.outside result.ending path.now }
+        (streams_seen Y.Input.Read Y.Output.Write Y.Output.flushed Y.Output.tried Y.Errors.Write Y.Errors.tried)) T.voice plan outside result.outside result.ending path.now }
     ensures leaves { (result.outside.input ≡ outside.input) × (result.outside.progress ≡ outside.progress) }
 {
     if let Err(why) = outside.places.hold() {
@@ -123,7 +123,7 @@ fn eval_reported<Y: System>(
     path: &str,
 ) -> Performed<Y>
     ensures does { EvaluatesAs (outer Y.Places.Places (disks_seen Y.Disk.Disk Y.Disk.closed) (sources_seen Y.Sources.after Y.Sources.clock Y.Sources.wakes)
-        (streams_seen Y.Input.Read Y.Output.Write Y.Output.brought Y.Output.tried Y.Errors.Write Y.Errors.tried)) (voice_by json) plan outside result.outside result.ending path.now }
+        (streams_seen Y.Input.Read Y.Output.Write Y.Output.flushed Y.Output.tried Y.Errors.Write Y.Errors.tried)) (voice_by json) plan outside result.outside result.ending path.now }
     ensures leaves { (result.outside.input ≡ outside.input) × (result.outside.progress ≡ outside.progress) }
 {
     if json {
@@ -141,7 +141,7 @@ fn eval_at<Y: System>(
     words: EvalWords<'_>,
 ) -> Performed<Y>
     ensures does { DoesEval (outer Y.Places.Places (disks_seen Y.Disk.Disk Y.Disk.closed) (sources_seen Y.Sources.after Y.Sources.clock Y.Sources.wakes)
-        (streams_seen Y.Input.Read Y.Output.Write Y.Output.brought Y.Output.tried Y.Errors.Write Y.Errors.tried)) outside result.outside result.ending path.now (eval_view words.entry) }
+        (streams_seen Y.Input.Read Y.Output.Write Y.Output.flushed Y.Output.tried Y.Errors.Write Y.Errors.tried)) outside result.outside result.ending path.now (eval_view words.entry) }
     ensures leaves { LeavesAlone outside result.outside (asked.eval path.now (eval_view words.entry)) }
 {
     match read_plan(alloc, &words) {
@@ -156,7 +156,7 @@ fn eval_at<Y: System>(
 /// `rescue` from a path to a new one, which is made only where there is something to rescue.
 fn rescue_at<Y: System>(alloc: Global, outside: &mut Outside<Y>, path: &str, new: &str) -> Ending
     ensures does { DoesRescue (outer Y.Places.Places (disks_seen Y.Disk.Disk Y.Disk.closed) (sources_seen Y.Sources.after Y.Sources.clock Y.Sources.wakes)
-        (streams_seen Y.Input.Read Y.Output.Write Y.Output.brought Y.Output.tried Y.Errors.Write Y.Errors.tried)) outside.old outside.new result path.now new.now }
+        (streams_seen Y.Input.Read Y.Output.Write Y.Output.flushed Y.Output.tried Y.Errors.Write Y.Errors.tried)) outside.old outside.new result path.now new.now }
     ensures leaves { LeavesAlone outside.old outside.new (asked.rescue path.now new.now) }
 {
     if let Err(why) = outside.places.hold() {
@@ -182,7 +182,7 @@ fn export_as<Y: System>(
     path: &str,
 ) -> Ending
     ensures does { ExportsAs (outer Y.Places.Places (disks_seen Y.Disk.Disk Y.Disk.closed) (sources_seen Y.Sources.after Y.Sources.clock Y.Sources.wakes)
-        (streams_seen Y.Input.Read Y.Output.Write Y.Output.brought Y.Output.tried Y.Errors.Write Y.Errors.tried)) outside.old outside.new result path.now format }
+        (streams_seen Y.Input.Read Y.Output.Write Y.Output.flushed Y.Output.tried Y.Errors.Write Y.Errors.tried)) outside.old outside.new result path.now format }
     ensures leaves { LeavesAlone outside.old outside.new (asked.export [] path.now) }
 {
     match outside.places.hold() {
@@ -201,7 +201,7 @@ fn export_as<Y: System>(
 /// `export` in the format of this name.
 fn export_at<Y: System>(alloc: Global, outside: &mut Outside<Y>, name: &str, path: &str) -> Ending
     ensures does { DoesExport (outer Y.Places.Places (disks_seen Y.Disk.Disk Y.Disk.closed) (sources_seen Y.Sources.after Y.Sources.clock Y.Sources.wakes)
-        (streams_seen Y.Input.Read Y.Output.Write Y.Output.brought Y.Output.tried Y.Errors.Write Y.Errors.tried)) outside.old outside.new result name.now path.now }
+        (streams_seen Y.Input.Read Y.Output.Write Y.Output.flushed Y.Output.tried Y.Errors.Write Y.Errors.tried)) outside.old outside.new result name.now path.now }
     ensures leaves { LeavesAlone outside.old outside.new (asked.export name.now path.now) }
 {
     match format_named(name) {
@@ -216,7 +216,7 @@ fn export_at<Y: System>(alloc: Global, outside: &mut Outside<Y>, name: &str, pat
 /// errors. `check` alone has `progress` show something.
 pub fn do_task<Y: System>(alloc: Global, task: Task<'_>, mut outside: Outside<Y>) -> Performed<Y>
     ensures does { DoesTask (outer Y.Places.Places (disks_seen Y.Disk.Disk Y.Disk.closed) (sources_seen Y.Sources.after Y.Sources.clock Y.Sources.wakes)
-        (streams_seen Y.Input.Read Y.Output.Write Y.Output.brought Y.Output.tried Y.Errors.Write Y.Errors.tried)) outside result.outside result.ending (task_view task.entry) }
+        (streams_seen Y.Input.Read Y.Output.Write Y.Output.flushed Y.Output.tried Y.Errors.Write Y.Errors.tried)) outside result.outside result.ending (task_view task.entry) }
     ensures leaves { LeavesAlone outside result.outside (task_view task.entry) }
 {
     match task {
@@ -291,11 +291,11 @@ fn end_unsent<E: Says>(alone: Ending, errors: &mut E) -> Ending
 }
 
 /// Flushes what the output keeps back, at the end of the program.
-fn bring_out<Y: System>(outside: &mut Outside<Y>, alone: Ending) -> Ending
-    ensures { BringsOut (outer Y.Places.Places (disks_seen Y.Disk.Disk Y.Disk.closed) (sources_seen Y.Sources.after Y.Sources.clock Y.Sources.wakes)
-        (streams_seen Y.Input.Read Y.Output.Write Y.Output.brought Y.Output.tried Y.Errors.Write Y.Errors.tried)) outside.old outside.new alone result }
+fn flush_output<Y: System>(outside: &mut Outside<Y>, alone: Ending) -> Ending
+    ensures { FlushesOutput (outer Y.Places.Places (disks_seen Y.Disk.Disk Y.Disk.closed) (sources_seen Y.Sources.after Y.Sources.clock Y.Sources.wakes)
+        (streams_seen Y.Input.Read Y.Output.Write Y.Output.flushed Y.Output.tried Y.Errors.Write Y.Errors.tried)) outside.old outside.new alone result }
 {
-    match outside.output.bring_out() {
+    match outside.output.flush_out() {
         Ok(()) => alone,
         Err(_) => end_unsent(alone, &mut outside.errors),
     }
@@ -308,7 +308,7 @@ fn perform_unsent<Y: System>(
     mut outside: Outside<Y>,
 ) -> Performed<Y>
     ensures { EndsBy (outer Y.Places.Places (disks_seen Y.Disk.Disk Y.Disk.closed) (sources_seen Y.Sources.after Y.Sources.clock Y.Sources.wakes)
-        (streams_seen Y.Input.Read Y.Output.Write Y.Output.brought Y.Output.tried Y.Errors.Write Y.Errors.tried)) (λ all. map string_bytes all.items) words outside result.outside result.ending }
+        (streams_seen Y.Input.Read Y.Output.Write Y.Output.flushed Y.Output.tried Y.Errors.Write Y.Errors.tried)) (λ all. map string_bytes all.items) words outside result.outside result.ending }
 {
     match words {
         Ok(words) => match read_words(alloc, words.as_slice()) {
@@ -333,14 +333,14 @@ pub fn perform<Y: System>(
     outside: Outside<Y>,
 ) -> Performed<Y>
     ensures { Performs (outer Y.Places.Places (disks_seen Y.Disk.Disk Y.Disk.closed) (sources_seen Y.Sources.after Y.Sources.clock Y.Sources.wakes)
-        (streams_seen Y.Input.Read Y.Output.Write Y.Output.brought Y.Output.tried Y.Errors.Write Y.Errors.tried)) (λ all. map string_bytes all.items) words outside result.outside result.ending }
+        (streams_seen Y.Input.Read Y.Output.Write Y.Output.flushed Y.Output.tried Y.Errors.Write Y.Errors.tried)) (λ all. map string_bytes all.items) words outside result.outside result.ending }
 {
     let Performed {
         ending,
         mut outside,
     } = perform_unsent(alloc, words, outside);
     Performed {
-        ending: bring_out(&mut outside, ending),
+        ending: flush_output(&mut outside, ending),
         outside,
     }
 }

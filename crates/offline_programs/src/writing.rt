@@ -41,7 +41,7 @@ pub(crate) fn write_sheet<W: Write>(sheet: &Sheet, writer: &mut W) -> Result<(),
     Ok(())
 }
 
-/// Writes the texts of replies, and brings them out: whoever reads them can rely on them.
+/// Writes the texts of replies, and flushes them: whoever reads them can rely on them.
 pub fn tell_replies<W: Write>(replies: &[Reply], writer: &mut W) -> Result<(), RunFault>
     ensures ok { OnOk result
         (Appends (W.contents writer.old) (W.contents writer.new) (replies_text replies.now)) }
@@ -54,7 +54,7 @@ pub fn tell_replies<W: Write>(replies: &[Reply], writer: &mut W) -> Result<(), R
     Ok(())
 }
 
-/// Writes that a line isn't known, and brings it out.
+/// Writes that a line isn't known, and flushes it.
 pub fn tell_bad_line<W: Write>(number: u64, writer: &mut W) -> Result<(), RunFault>
     ensures ok { OnOk result
         (Appends (W.contents writer.old) (W.contents writer.new) (bad_line number)) }
@@ -65,7 +65,7 @@ pub fn tell_bad_line<W: Write>(number: u64, writer: &mut W) -> Result<(), RunFau
     Ok(())
 }
 
-/// Writes a worksheet, and brings it out.
+/// Writes a worksheet, and flushes it.
 pub fn tell_sheet<W: Write>(sheet: &Sheet, writer: &mut W) -> Result<(), RunFault>
     ensures ok { OnOk result
         (Appends (W.contents writer.old) (W.contents writer.new)

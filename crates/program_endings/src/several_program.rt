@@ -16,7 +16,7 @@ ghost use Rattle.program_endings.specs.declared.ending.Ending.{Ending};
 use crate::check_program::CheckEnding;
 use crate::ending::ended;
 use crate::{Ending, end_program};
-use check_report::{Counts, bring_out};
+use check_report::{Counts, write_and_flush};
 use offline_programs::{RunFault, Says};
 use sheet_check::CheckFault;
 use sheet_text::{WriteFault, write_line};
@@ -174,7 +174,7 @@ pub fn tell_worksheet<W: Write>(path: &str, output: &mut W) -> Result<(), WriteF
 {
     output.write_all(b"worksheet ").map_err(|_| WriteFault)?;
     write_line(path.as_bytes(), output)?;
-    bring_out(b"\n", output)?;
+    write_and_flush(b"\n", output)?;
     Ok(())
 }
 
@@ -251,7 +251,7 @@ fn write_total<W: Write>(total: Total, out: &mut W) -> Result<(), WriteFault>
     write_errors(total.errors, out)?;
     write_new(total.new, out)?;
     write_faults(total.faults, out)?;
-    bring_out(b"\n", out)?;
+    write_and_flush(b"\n", out)?;
     Ok(())
 }
 

@@ -26,7 +26,7 @@ use crate::telling::make_room;
 use arrivals::Sources;
 use block_tree::OutOfMemory;
 use check_report::{
-    Chosen, Format, Judgement, Request, Verdict, acceptance_in_memory, bring_out, brings_error,
+    Chosen, Format, Judgement, Request, Verdict, acceptance_in_memory, write_and_flush, brings_error,
 };
 use disk_model::Disk;
 use host_events::HostFault;
@@ -160,7 +160,7 @@ fn tell<W: Write, P: Progress>(
     ensures room { MakesRoom formats.Accepting P.shows verdict progress.old progress.new }
 {
     make_room(Format::Accepting, verdict, progress);
-    bring_out(text, writer).map_err(|_| RunFault::Output)
+    write_and_flush(text, writer).map_err(|_| RunFault::Output)
 }
 
 /// Accepts what a field came to, and then tells it.

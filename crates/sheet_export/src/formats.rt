@@ -218,7 +218,7 @@ pub fn write_in_format<W: Write>(
     }
 }
 
-/// Writes the same, and brings it out.
+/// Writes the same, and flushes it.
 #[tactic(auto, using(crate::proofs::Faults::writing_faults))]
 fn tell_in<W: Write>(
     alloc: Global,

@@ -77,7 +77,7 @@ fn write_words<W: Write>(format: Format, sheet: &Sheet, writer: &mut W) -> Resul
     }
 }
 
-/// The same, and brings it out.
+/// The same, and flushes it.
 pub(crate) fn tell_words<W: Write>(
     format: Format,
     sheet: &Sheet,

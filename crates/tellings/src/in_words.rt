@@ -37,7 +37,7 @@ fn show_field<W: Write>(field: Option<&Field>, writer: &mut W) -> Result<(), Run
     }
 }
 
-/// Writes the field with this number, or that there is none, and brings it out.
+/// Writes the field with this number, or that there is none, and flushes it.
 fn tell_field<W: Write>(sheet: &Sheet, id: u32, writer: &mut W) -> Result<(), RunFault>
     ensures ok { OnOk result (Appends (W.contents writer.old) (W.contents writer.new)
         (field_shown (field_in sheet.now.contents.fields id))) }
@@ -57,7 +57,7 @@ fn write_outcome<W: Write>(outcome: &Outcome, writer: &mut W) -> Result<(), RunF
     reply_text(&outcome.reply, writer).map_err(|_| RunFault::Output)
 }
 
-/// Writes the replies of outcomes, and brings them out.
+/// Writes the replies of outcomes, and flushes them.
 fn tell_outcomes<W: Write>(outcomes: &[Outcome], writer: &mut W) -> Result<(), RunFault>
     ensures ok { (line : ℕ) (sheet : Contents) → OnOk result (Appends (W.contents writer.old) (W.contents writer.new)
         (numbered_text in_words line sheet outcomes.now)) }
@@ -127,7 +127,7 @@ fn show_interrupt<W: Write>(
     }
 }
 
-/// The same, and brings it out.
+/// The same, and flushes it.
 fn tell_interrupt<W: Write>(
     name: Name,
     reported: Interrupted,
@@ -142,7 +142,7 @@ fn tell_interrupt<W: Write>(
     Ok(())
 }
 
-/// Tells that the time of a field is over, and brings it out.
+/// Tells that the time of a field is over, and flushes it.
 fn tell_over<W: Write>(id: u32, writer: &mut W) -> Result<(), RunFault>
     ensures ok { OnOk result (Appends (W.contents writer.old) (W.contents writer.new) (over_line id)) }
     ensures err { IfErr result (λ fault. fault ≡ RunFault.Output) }
@@ -152,7 +152,7 @@ fn tell_over<W: Write>(id: u32, writer: &mut W) -> Result<(), RunFault>
     Ok(())
 }
 
-/// Tells that nothing was done of a transaction, and brings it out.
+/// Tells that nothing was done of a transaction, and flushes it.
 fn tell_undone<W: Write>(first: u64, last: u64, writer: &mut W) -> Result<(), RunFault>
     ensures ok { OnOk result (Appends (W.contents writer.old) (W.contents writer.new) (undone_line first last)) }
     ensures err { IfErr result (λ fault. fault ≡ RunFault.Output) }
@@ -190,7 +190,7 @@ fn write_overs<W: Write>(overs: Option<Overs>, writer: &mut W) -> Result<(), Run
     Ok(())
 }
 
-/// Tells what an evaluation came to, and brings it out.
+/// Tells what an evaluation came to, and flushes it.
 fn tell_counts<W: Write>(counts: Counts, writer: &mut W) -> Result<(), RunFault>
     ensures ok { OnOk result (Appends (W.contents writer.old) (W.contents writer.new)
         (evaluation_text counts)) }

@@ -12,7 +12,7 @@ returns g c =
     let erring = contents c.write_errors.new.out in
     let adding = contents c.write_new.new.out in
     let counted = contents c.write_faults.new.out in
-    let written = contents c.bring_out.new.writer in
+    let written = contents c.write_and_flush.new.writer in
     let sums = summed_part c.args.total in
     let errors = errors_part c.args.total.errors in
     let new = new_part c.args.total.new in
@@ -20,4 +20,4 @@ returns g c =
     let to_errors = Appends-trans before summed erring sums errors c.in_ok-write_summed.ensures c.in_ok-write_errors.ensures in
     let to_new = Appends-trans before erring adding (sums ++ errors) new to_errors c.in_ok-write_new.ensures in
     Appends-trans before counted written (sums ++ errors ++ new ++ faults) (10 ∷ [])
-    (Appends-trans before adding counted (sums ++ errors ++ new) faults to_new c.in_ok-write_faults.ensures) c.in_ok-bring_out.ensures
+    (Appends-trans before adding counted (sums ++ errors ++ new) faults to_new c.in_ok-write_faults.ensures) c.in_ok-write_and_flush.ensures
