@@ -22,7 +22,7 @@ pub use chosen::{Chosen, Ids};
 pub use errors::{brings_error, tells_error};
 pub use ids::read_ids;
 pub use report::{
-    Format, ReportFault, write_and_flush, close_report, is_written, open_report, report_case,
+    Format, ReportFault, close_report, is_written, open_report, report_case, write_and_flush,
 };
 pub use request::{FieldWords, Request, RequestFault, read_request};
 pub use verdict::{Counts, Judgement, Verdict};

@@ -26,7 +26,8 @@ use crate::telling::make_room;
 use arrivals::Sources;
 use block_tree::OutOfMemory;
 use check_report::{
-    Chosen, Format, Judgement, Request, Verdict, acceptance_in_memory, write_and_flush, brings_error,
+    Chosen, Format, Judgement, Request, Verdict, acceptance_in_memory, brings_error,
+    write_and_flush,
 };
 use disk_model::Disk;
 use host_events::HostFault;
