@@ -22,7 +22,7 @@ use Rattle.session_engine.specs.declared.whole.Whole.TheVariants as whole
 use Rattle.session_engine.specs.declared.whole.WholeFault.{WholeFault}
 use Rattle.session_engine.specs.declared.whole.WholeFault.TheVariants as halt
 use Rattle.child_edge.specs.Wholly.{FailsWhole, ServesWhole}
-use Rattle.child_edge.proofs.Gates.{lost_at_once, took_at_once}
+use Rattle.child_edge.proofs.Gates.{lost_whole_at_once, took_at_once}
 
 -- Such commands have no effect.
 
@@ -65,4 +65,4 @@ module _ (w : World) (old new : HostView) (before : old.store.real ≡ old.store
   pub fails_whole : (events : List Event) (fault : WholeFault) → HaltsWhole w events old new fault → FailsWhole w events old new fault
   fails_whole events halt.NoRoom p = p
   fails_whole events halt.Closed p = p
-  fails_whole events halt.Disk p = record { lost = lost_at_once w old new before after stands same events p.failed; all = p.all; accepted = p.accepted }
+  fails_whole events halt.Disk p = lost_whole_at_once w old new before after stands same events p

@@ -22,6 +22,8 @@ use Rattle.child_edge.specs.Edge.{BrokeOff, Ran, Stopped}
 use Rattle.child_edge.specs.Faithful.{Relation, At, at, Entry, Carried, FirstOf, Follows, Served, ServedUpTo, due_of}
 use Rattle.child_edge.specs.Kept.{HoldsSheet}
 use Rattle.child_edge.specs.Reported.{reported}
+use Rattle.session_engine.specs.Whole.{FailedWhole}
+use Rattle.child_edge.specs.Wholly.{LostWhole}
 use Rattle.child_edge.specs.Together.{AtOnce, CarriesOut, FailsTogether, Followed, LeavesEither, LostTogether, RanTogether, Together, entries_after, trace_of}
 use Rattle.child_edge.specs.declared.together.GaveTogether.{GaveTogether}
 use Rattle.child_edge.specs.declared.together.TogetherFault.{TogetherFault}
@@ -83,6 +85,11 @@ module _ (w : World) (old new : HostView) (before : old.store.real ≡ old.store
     failed = subst (λ (d : DiskView). Rises old.store.disk.faults d.faults) after (subst (λ (d : DiskView). Rises d.faults new.store.real.faults) before p.broke);
     moments = either p.played.leads p.moments;
   }
+
+  -- the same of commands that were taken as a whole
+  pub lost_whole_at_once : (events : List Event) → FailedWhole w events old new → LostWhole w events old.store.disk new
+  unfolding lost_at_once
+  lost_whole_at_once events p = record { lost = lost_at_once events p.failed; all = p.all; accepted = p.accepted }
 
   pub stopped_at_once : (events : List Event) (outcomes : List Outcome) (f : HostFault) → StoppedGroup w events old new outcomes f → HaltsAtOnce w events old new (halt.Host f)
   stopped_at_once events outcomes f p =

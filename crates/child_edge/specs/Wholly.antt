@@ -1,5 +1,5 @@
 -- Commands that only change the worksheet, of which none is taken where one is refused. (docs/dev/EDGE.md, "A group".)
-use Rattle.std.specs.Prelude.{◌≡◌, List, [], ⊥, None, false}
+use Rattle.std.specs.Prelude.{◌≡◌, List, [], None, false}
 use Rattle.std.specs.List.{AllByRecursion, list_any}
 use Rattle.disk_model.specs.Disk.{DiskView}
 use Rattle.host_events.specs.declared.event.Event.{Event}
