@@ -12,6 +12,7 @@ use Rattle.std.proofs.lemmas.List.{length-append, length-map, length-take}
 use Rattle.std.proofs.lemmas.List.Sums.{count_by-le-length, sum_by-append}
 use Rattle.worksheet.specs.Checks.{field_in}
 use Rattle.worksheet.specs.declared.field.Field.{Field}
+use Rattle.worksheet.specs.Contents.{Contents}
 use Rattle.evaluation.specs.declared.plan.Plan.{Plan}
 use Rattle.evaluation.specs.declared.rounds.Placed.{Placed}
 use Rattle.evaluation.specs.Meant.{meant_in}
@@ -186,8 +187,8 @@ order-permutes : (b : Bool) (fields : List Field) (ids : List ℕ) → IsPermuta
 order-permutes true fields ids = IsPermutation-refl ids
 order-permutes false fields ids = rounds-permute fields ids
 
-pub order_permutes : (plan : Plan) (fields : List Field) → IsPermutation (meant_in plan fields) (asking_order plan fields)
-order_permutes plan fields = order-permutes (nat_le plan.jobs 1) fields (meant_in plan fields)
+pub order_permutes : (plan : Plan) (sheet : Contents) → IsPermutation (meant_in plan sheet) (asking_order plan sheet)
+order_permutes plan sheet = order-permutes (nat_le plan.jobs 1) sheet.fields (meant_in plan sheet)
 
 -- Sorted by their rounds.
 

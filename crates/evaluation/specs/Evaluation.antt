@@ -13,8 +13,8 @@ not_begun = record { taken = 0; first = 0; field = 0; held = hold.Free; warned =
 
 -- The program of each session that has a field which is to be evaluated was found.
 abbrev pub AreReady : Finds → Plan → Contents → Type 0
-AreReady finds plan sheet = HaveAll finds sheet.fields (asking_order plan sheet.fields) sheet.sessions
+AreReady finds plan sheet = HaveAll finds sheet.fields (asking_order plan sheet) sheet.sessions
 
 -- The session of this name is the first whose program wasn't found of those that have a field which is to be evaluated.
 abbrev pub IsUnfound : Finds → Plan → Contents → List ℕ → Type 0
-IsUnfound finds plan sheet name = IsFirstLacking finds sheet.fields (asking_order plan sheet.fields) sheet.sessions name
+IsUnfound finds plan sheet name = IsFirstLacking finds sheet.fields (asking_order plan sheet) sheet.sessions name

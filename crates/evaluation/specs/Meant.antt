@@ -1,9 +1,12 @@
 -- Which fields are evaluated, which of them are passed over, and what an evaluation comes to. (docs/use/SCRIPT.md, "Evaluating a worksheet".)
-use Rattle.std.specs.Prelude.{◌≡◌, ◌==◌, ◌<◌, ◌≤◌, ◌-◌, ◌*◌, ◌&&◌, ℕ, Bool, true, false, not, List, [], ◌∷◌, Option, Some, None, count_by, filter, find, if◌then◌else◌, is_some, length, map, slice_get}
+use Rattle.std.specs.Prelude.{◌≡◌, ◌==◌, ◌<◌, ◌≤◌, ◌-◌, ◌*◌, ◌&&◌, ◌||◌, ℕ, Bool, true, false, not, List, [], ◌∷◌, Option, Some, None, codes, count_by, filter, find, if◌then◌else◌, is_some, length, map, slice_get}
 use Rattle.std.specs.List.{list_any}
-use Rattle.worksheet.specs.Checks.{field_in}
+use Rattle.std.specs.Str.{bytes_eq}
+use Rattle.worksheet.specs.Checks.{field_in, session_named}
+use Rattle.worksheet.specs.Contents.{Contents}
 use Rattle.worksheet.specs.declared.field.Answer.{Answer}
 use Rattle.worksheet.specs.declared.field.Field.{Field}
+use Rattle.worksheet.specs.declared.field.Session.{Session}
 use Rattle.check_report.specs.Errors.{tells_error}
 use Rattle.tellings.specs.declared.note.Counts.{Counts}
 use Rattle.tellings.specs.declared.note.Overs.{Overs}
@@ -33,13 +36,34 @@ asked_for which.All fields = fields
 asked_for (which.Named ids) fields = filter (is_one_of ids) fields
 asked_for (which.From id) fields = fields_from id fields
 
--- Whether a field that is asked for is to be evaluated.
-abbrev pub is_meant : Plan → Field → Bool
-is_meant plan field = not (plan.unanswered && is_answered field)
+-- these words are `true` alone: a program that ends at once, so that it answers nothing
+abbrev pub is_true_alone : List (List ℕ) → Bool
+is_true_alone [] = false
+is_true_alone (word ∷ []) = bytes_eq word (codes "true")
+is_true_alone (word ∷ other ∷ words) = false
+
+-- such a session is one of prose
+abbrev pub has_prose : Option Session → Bool
+has_prose None = false
+has_prose (Some session) = is_true_alone session.words
+
+-- the field is prose, by its session
+abbrev pub is_prose : List Session → Field → Bool
+is_prose sessions field = has_prose (session_named sessions field.session)
+
+-- whether fields are asked for by their numbers
+abbrev pub are_named : Which → Bool
+are_named which.All = false
+are_named (which.Named ids) = true
+are_named (which.From id) = false
+
+-- Whether a field that is asked for is to be evaluated. Prose is where its number is named.
+abbrev pub is_meant : Plan → List Session → Field → Bool
+is_meant plan sessions field = not (plan.unanswered && is_answered field) && (are_named plan.which || not (is_prose sessions field))
 
 -- The numbers of the fields that are to be evaluated, each once, in the worksheet's order.
-abbrev pub meant_in : Plan → List Field → List ℕ
-meant_in plan fields = map (λ field. field.id) (filter (is_meant plan) (asked_for plan.which fields))
+abbrev pub meant_in : Plan → Contents → List ℕ
+meant_in plan sheet = map (λ field. field.id) (filter (is_meant plan sheet.sessions) (asked_for plan.which sheet.fields))
 
 -- no field has this number
 abbrev pub is_missing : List Field → ℕ → Bool
@@ -133,7 +157,10 @@ abbrev pub overs_by : Option ℕ → ℕ → Stand → Option Overs
 overs_by None all stand = None
 overs_by (Some seconds) all stand = Some (record { over = stand.overs; passed = all - stand.asked })
 
--- How many of these fields show an answer, how many don't, and what the limit of time came to.
-abbrev pub evaluation_counts : Plan → ℕ → List Field → Stand → Counts
-evaluation_counts plan all fields stand =
-    record { answered = count_by is_answered fields; unanswered = count_by (λ field. not (is_answered field)) fields; overs = overs_by plan.limit all stand }
+-- How many of a worksheet's fields show an answer, how many don't and aren't prose, and what the limit of time came to.
+abbrev pub evaluation_counts : Plan → ℕ → Contents → Stand → Counts
+evaluation_counts plan all sheet stand = record {
+  answered = count_by is_answered sheet.fields;
+  unanswered = count_by (λ field. not (is_answered field) && not (is_prose sheet.sessions field)) sheet.fields;
+  overs = overs_by plan.limit all stand;
+}

@@ -2,6 +2,7 @@
 use Rattle.std.specs.Prelude.{◌==◌, ℕ, zero, suc, Bool, true, false, List, [], ◌∷◌, ◌++◌, Option, Some, None, count_by, filter, length, map, nat_le}
 use Rattle.std.specs.Str.{bytes_eq}
 use Rattle.worksheet.specs.Checks.{field_in}
+use Rattle.worksheet.specs.Contents.{Contents}
 use Rattle.worksheet.specs.declared.field.Field.{Field}
 use Rattle.evaluation.specs.declared.plan.Plan.{Plan}
 use Rattle.evaluation.specs.declared.rounds.Placed.{Placed}
@@ -59,5 +60,5 @@ order_of plan fields meant = order_by (nat_le plan.jobs 1) fields meant
 
 -- The numbers of the fields that are to be evaluated, in the order in which they are asked: the worksheet's order where one is asked after
 -- another; where sessions go side by side first the first field of each session, then the second of each, and so on.
-abbrev pub asking_order : Plan → List Field → List ℕ
-asking_order plan fields = order_of plan fields (meant_in plan fields)
+abbrev pub asking_order : Plan → Contents → List ℕ
+asking_order plan sheet = order_of plan sheet.fields (meant_in plan sheet)

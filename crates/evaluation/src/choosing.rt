@@ -1,11 +1,13 @@
 //! Which fields are evaluated.
 ghost use Rattle.std.specs.Prelude.{◌≡◌, ◌++◌, ◌&&◌, IfOk, OnOk, find};
+ghost use Rattle.std.specs.Option.{option_copied};
 ghost use Rattle.evaluation.specs.Meant as meant;
 ghost use Rattle.evaluation.specs.inside.Choosing as choosing;
 
 use crate::plan::{Plan, Which};
+use block_tree::Octets;
 use std::alloc::{AllocError, Global};
-use worksheet::{Field, Sheet};
+use worksheet::{Field, Session, Sheet};
 
 /// Whether a field shows an answer.
 pub(crate) fn is_answered(field: &Field) -> bool
@@ -32,24 +34,62 @@ fn is_asked_for(which: &Which, before: bool, field: &Field) -> bool
     }
 }
 
-/// Whether a field that is asked for is to be evaluated.
-fn is_meant(plan: &Plan, field: &Field) -> bool
-    ensures { result ≡ meant.is_meant plan.now field.now }
+/// Whether these words are `true` alone, a program that answers nothing.
+fn is_true_alone(words: &[Octets]) -> bool
+    ensures { result ≡ meant.is_true_alone words.now }
 {
-    !(plan.unanswered && is_answered(field))
+    match words {
+        [word] => word.as_slice() == b"true".as_slice(),
+        _ => false,
+    }
+}
+
+/// Whether a session is one of prose.
+fn has_prose(session: Option<&Session>) -> bool
+    ensures { result ≡ meant.has_prose (option_copied session.entry) }
+{
+    match session {
+        None => false,
+        Some(session) => is_true_alone(session.words.as_slice()),
+    }
+}
+
+/// Whether a field is prose, by its session.
+pub(crate) fn is_prose(sheet: &Sheet, field: &Field) -> bool
+    ensures { result ≡ meant.is_prose sheet.now.contents.sessions field.now }
+{
+    has_prose(sheet.session(field.session.as_slice()))
+}
+
+/// Whether fields are asked for by their numbers.
+fn are_named(which: &Which) -> bool
+    ensures { result ≡ meant.are_named which.now }
+{
+    match which {
+        Which::Named(_) => true,
+        Which::All | Which::From(_) => false,
+    }
+}
+
+/// Whether a field that is asked for is to be evaluated.
+fn is_meant(plan: &Plan, sheet: &Sheet, field: &Field) -> bool
+    ensures { result ≡ meant.is_meant plan.now sheet.now.contents.sessions field.now }
+{
+    !(plan.unanswered && is_answered(field)) && (are_named(&plan.which) || !is_prose(sheet, field))
 }
 
 /// Puts the number of a field after these, where it is asked for and to be evaluated.
 fn put_if_meant(
     ids: &mut Vec<u32>,
     plan: &Plan,
+    sheet: &Sheet,
     asked: bool,
     field: &Field,
 ) -> Result<(), AllocError>
     ensures { OnOk result (ids.new.items
-        ≡ ids.old.items ++ choosing.id_if (asked && meant.is_meant plan.now field.now) field.now.id) }
+        ≡ ids.old.items ++ choosing.id_if (asked && meant.is_meant plan.now sheet.now.contents.sessions field.now) field.now.id) }
 {
-    if asked && is_meant(plan, field) {
+    if asked && is_meant(plan, sheet, field) {
         ids.push(field.id)?;
     }
     Ok(())
@@ -58,14 +98,14 @@ fn put_if_meant(
 /// The numbers of the fields that are to be evaluated, in the worksheet's order.
 #[tactic(auto, using(crate::proofs::Meaning::meant_steps))]
 pub(crate) fn meant_in(alloc: Global, plan: &Plan, sheet: &Sheet) -> Result<Vec<u32>, AllocError>
-    ensures { IfOk result (λ ids. ids.items ≡ meant.meant_in plan.now sheet.now.contents.fields) }
+    ensures { IfOk result (λ ids. ids.items ≡ meant.meant_in plan.now sheet.now.contents) }
 {
     let mut ids = Vec::new(alloc);
     let mut asked = false;
     let mut fields = sheet.fields();
     while let Some(field) = fields.next() {
         asked = is_asked_for(&plan.which, asked, field);
-        put_if_meant(&mut ids, plan, asked, field)?;
+        put_if_meant(&mut ids, plan, sheet, asked, field)?;
     }
     Ok(ids)
 }

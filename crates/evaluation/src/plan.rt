@@ -1,8 +1,8 @@
 //! What an evaluation is asked for, where it stands, and what it comes to.
-ghost use Rattle.std.specs.Prelude.{◌≡◌, ◌<◌, ◌^◌, length};
+ghost use Rattle.std.specs.Prelude.{◌≡◌, ◌&&◌, ◌<◌, ◌^◌, length, not};
 ghost use Rattle.evaluation.specs.Meant as meant;
 
-use crate::choosing::is_answered;
+use crate::choosing::{is_answered, is_prose};
 use crate::lasts::Last;
 use block_tree::Sequence;
 use live::Hold;
@@ -12,11 +12,11 @@ use worksheet::Sheet;
 /// Which fields of a worksheet an evaluation is asked for.
 #[derive(Debug, Drop)]
 pub enum Which {
-    /// All of them.
+    /// All of them but prose: fields of a session whose program is `true` alone, which answers nothing.
     All,
     /// Those with these numbers.
     Named(Sequence<u32>),
-    /// The one with this number, and those after it.
+    /// The one with this number, and those after it, but prose.
     From(u32),
 }
 
@@ -86,14 +86,24 @@ fn overs_by(limit: Option<u32>, all: u64, stand: &Stand) -> Option<Overs>
     }
 }
 
-/// What an evaluation of so many fields came to.
+/// Whether a field shows no answer and isn't prose.
+fn is_lacking(sheet: &Sheet, field: &Field) -> bool
+    ensures { result ≡ (not (meant.is_answered field.now) && not (meant.is_prose sheet.now.contents.sessions field.now)) }
+{
+    !is_answered(field) && !is_prose(sheet, field)
+}
+
+/// What an evaluation of so many fields came to. Prose isn't counted as unanswered.
 pub fn counts_of(plan: &Plan, all: u64, sheet: &Sheet, stand: &Stand) -> Counts
     requires { length sheet.now.contents.fields < 2 ^ 31 }
-    ensures { result ≡ meant.evaluation_counts plan.now all sheet.now.contents.fields stand.now }
+    ensures { result ≡ meant.evaluation_counts plan.now all sheet.now.contents stand.now }
 {
     Counts {
         answered: sheet.fields().filter(|field| is_answered(field)).count(),
-        unanswered: sheet.fields().filter(|field| !is_answered(field)).count(),
+        unanswered: sheet
+            .fields()
+            .filter(|field| is_lacking(sheet, field))
+            .count(),
         overs: overs_by(plan.limit, all, stand),
     }
 }

@@ -123,7 +123,7 @@ fn in_order(
 
 /// The numbers of the fields that are to be evaluated, in the order in which they are asked.
 pub fn asked_in(alloc: Global, plan: &Plan, sheet: &Sheet) -> Result<Vec<u32>, AllocError>
-    ensures { IfOk result (λ ids. ids.items ≡ rounds.asking_order plan.now sheet.now.contents.fields) }
+    ensures { IfOk result (λ ids. ids.items ≡ rounds.asking_order plan.now sheet.now.contents) }
 {
     let ids = meant_in(alloc, plan, sheet)?;
     in_order(alloc, plan, sheet, ids)

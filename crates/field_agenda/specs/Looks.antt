@@ -21,7 +21,7 @@ use Rattle.field_agenda.specs.Standing.{found}
 pub data LookFinds (finds : Finds) (plan : Plan) (sheet : Contents) (ids : List ℕ) : Stage → Type 0 where
   no_field : (id : ℕ) → missing_in plan.which sheet.fields ≡ Some id → LookFinds finds plan sheet ids (stage.NoField id)
   no_program : (name : List ℕ) → missing_in plan.which sheet.fields ≡ None → IsUnfound finds plan sheet name → LookFinds finds plan sheet ids (stage.NoProgram name)
-  all_there : missing_in plan.which sheet.fields ≡ None → AreReady finds plan sheet → ids ≡ asking_order plan sheet.fields → LookFinds finds plan sheet ids stage.Going
+  all_there : missing_in plan.which sheet.fields ≡ None → AreReady finds plan sheet → ids ≡ asking_order plan sheet → LookFinds finds plan sheet ids stage.Going
 
 -- It looks, or there was no memory for the numbers of the fields.
 pub data LooksFor {P : Type 0} (finds : Finds) (a : ByFields P) (w : World) (r : Result Turn RunFault) (b : ByFields P) : Type 0 where

@@ -56,7 +56,7 @@ pub data AsksFrom {P : Type 0} (a : ByFields P) (w : World) (k id : ℕ) (r : Re
 
 -- It comes to its end here, after that line where a strict one stops: what it came to is printed. Or the worksheet has more fields than are counted.
 pub data ComesToItsEnd {P : Type 0} (a : ByFields P) (w : World) (stopped : Option ℕ) (r : Result Turn RunFault) (b : ByFields P) : Type 0 where
-  ends_with : (counts : Counts) → counts ≡ evaluation_counts a.plan (length a.ids) (sheet_in w).fields a.stand → r ≡ Ok (turn.Show (show.Note (note.Counted counts)))
+  ends_with : (counts : Counts) → counts ≡ evaluation_counts a.plan (length a.ids) (sheet_in w) a.stand → r ≡ Ok (turn.Show (show.Note (note.Counted counts)))
       → b ≡ at_stage a (stage.Counted (record { stopped_at = stopped; counts = counts })) → ComesToItsEnd a w stopped r b
   too_many_fields : 2 ^ 31 ≤ length (sheet_in w).fields → r ≡ Err fault.InputTooLong → b ≡ a → ComesToItsEnd a w stopped r b
 

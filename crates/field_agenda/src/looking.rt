@@ -23,7 +23,7 @@ pub(crate) struct Found {
 /// How far it is, where each field is there that is asked for and these are evaluated.
 fn stage_by<P: Programs>(plan: &Plan, programs: &P, sheet: &Sheet, ids: &[u32]) -> Stage
     requires all { meant.missing_in plan.now.which sheet.now.contents.fields ≡ None }
-    requires order { ids.now ≡ asking_order plan.now sheet.now.contents.fields }
+    requires order { ids.now ≡ asking_order plan.now sheet.now.contents }
     ensures { LookFinds (P.finds programs.now) plan.now sheet.now.contents ids.now result }
 {
     match lacking_in(programs, sheet, ids) {

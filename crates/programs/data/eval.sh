@@ -46,6 +46,24 @@ printf 'set 1 w\nnew 2 b v\n' >given
 evaluates 'those without an answer' 0 'asked\nbanner a\nanswered 1\nasked\nbanner b\nanswered 4\nanswered 4 unanswered 0\n' \
     '#3 a\n> z\nz 1\n#1 a\n> w\nw 1\n#2 b\n> y\ny 1\n#4 b\n> v\nv 1\n' --unanswered --jobs 1
 
+# Prose: a session whose program is `true` alone. It is passed over and not counted, but where its number is named.
+made 'session prose plain true\nsession a plain sh count.sh\nnew 0 prose Title\nnew 1 a x\nnew 2 prose text\nnew 3 a y\n'
+for word in '' --unanswered; do
+    evaluates "prose among code $word" 0 'asked\nbanner a\nanswered 2\nasked\nanswered 4\nanswered 2 unanswered 0\n' \
+        '#1 prose\n> Title\n?\n#2 a\n> x\nx 1\n#3 prose\n> text\n?\n#4 a\n> y\ny 2\n' $word
+    printf 'clear 2\nclear 4\n' >given
+    "$tmhost" run sheet <given >text
+done
+evaluates 'prose, and code from there on' 1 'asked\nbanner a\nanswered 4\nanswered 1 unanswered 1\n' \
+    '#1 prose\n> Title\n?\n#2 a\n> x\n?\n#3 prose\n> text\n?\n#4 a\n> y\ny 1\n' --from 3
+evaluates 'prose that is named' 1 'asked\nended prose Ended lost 1\nanswered 1 unanswered 1\n' \
+    '#1 prose\n> Title\n? Ended\n#2 a\n> x\n?\n#3 prose\n> text\n?\n#4 a\n> y\ny 1\n' 1
+made 'session a plain true x\nsession b plain /usr/bin/true\nnew 0 a x\nnew 1 b y\n'
+evaluates 'no prose: another word, or a path' 1 'asked\nended a Ended lost 1\nasked\nended b Ended lost 1\nanswered 0 unanswered 2\n' \
+    '#1 a\n> x\n? Ended\n#2 b\n> y\n? Ended\n' --jobs 1
+made 'session prose plain true\nnew 0 prose Title\n'
+evaluates 'prose alone' 0 'answered 0 unanswered 0\n' '#1 prose\n> Title\n?\n'
+
 # Some of the fields: those that are named, and one with those after it. The worksheet has them in the order 3, 1, 2, 4.
 made 'session a plain sh count.sh\nsession b plain sh count.sh\nnew 0 a x\nnew 1 b y\nnew 0 a z\nnew 2 b w\neval 1\nwait\n'
 evaluates 'the fields that are named, in the order of the worksheet and each once' 1 \

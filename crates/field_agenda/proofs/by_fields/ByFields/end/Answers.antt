@@ -17,6 +17,6 @@ returns g c = λ w stopped h here.
     let s = c.sheet-sheet.ensures.stands w h in
     let at = c.stop_line-stopped_at.ensures ∙ ap (λ (x : Contents). stop_line a.plan x.fields a.stand) s ∙ sym here.is in
     ends_with c.counts_of-counts.result
-    (c.counts_of-counts.ensures ∙ ap (λ (l : List ℕ). evaluation_counts a.plan (length l) c.sheet-sheet.result.now.contents.fields a.stand) c.as_slice-all.ensures
-    ∙ ap (λ (x : Contents). evaluation_counts a.plan (length a.ids) x.fields a.stand) s) refl
+    (c.counts_of-counts.ensures ∙ ap (λ (l : List ℕ). evaluation_counts a.plan (length l) c.sheet-sheet.result.now.contents a.stand) c.as_slice-all.ensures
+    ∙ ap (λ (x : Contents). evaluation_counts a.plan (length a.ids) x a.stand) s) refl
     (ap (λ (o : Option ℕ). at_stage a (stage.Counted (record { stopped_at = o; counts = c.counts_of-counts.result }))) at)
