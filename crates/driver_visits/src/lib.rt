@@ -2,11 +2,17 @@
 //! off was durable: premise A6, as a law. The functions do nothing: their contracts are the laws.
 #![tactic(auto)]
 
+ghost use Rattle.driver.specs.Noted.{noting_rules};
 ghost use Rattle.driver.specs.Place.{agenda_rules, rules, source_rules};
+ghost use Rattle.agendas.specs.LinesRules.{lines_rules};
+ghost use Rattle.field_agenda.specs.FieldLines.{by_field_lines};
+ghost use Rattle.field_agenda.specs.FieldsRules.{fields_rules};
 ghost use Rattle.driver_visits.specs.Visits.{DrivenIsVisit, PrintedIsDurable};
 
 use arrivals::Sources;
 use driver::{Agenda, Sink};
+use evaluation::Programs;
+use tellings::Tells;
 
 /// Whatever is driven over a disk that keeps the model is a visit, to its end or to a fault.
 pub fn driven_is_visit<S: Sources, K: Sink, A: Agenda>()
@@ -16,4 +22,16 @@ pub fn driven_is_visit<S: Sources, K: Sink, A: Agenda>()
 /// What was printed was durable then, and stays so whenever a crash comes.
 pub fn printed_is_durable<S: Sources, K: Sink, A: Agenda>()
     ensures { PrintedIsDurable (rules (agenda_rules A.rules A.joins) (source_rules S.after S.wakes S.clock) K.rules) }
+{}
+
+/// The same two of lines that are taken as they come, in the words of the contract of `live`, `run --json` and `run --timeout`.
+pub fn lines_are_visits<S: Sources, T: Tells>()
+    ensures visit { DrivenIsVisit (rules lines_rules (source_rules S.after S.wakes S.clock) (noting_rules T.voice)) }
+    ensures durable { PrintedIsDurable (rules lines_rules (source_rules S.after S.wakes S.clock) (noting_rules T.voice)) }
+{}
+
+/// And of the fields of a worksheet that are evaluated, in the words of the contract of `eval`.
+pub fn fields_are_visits<P: Programs, S: Sources, T: Tells>()
+    ensures visit { DrivenIsVisit (rules (fields_rules P.finds) (source_rules S.after S.wakes S.clock) (noting_rules (by_field_lines T.voice))) }
+    ensures durable { PrintedIsDurable (rules (fields_rules P.finds) (source_rules S.after S.wakes S.clock) (noting_rules (by_field_lines T.voice))) }
 {}
