@@ -46,7 +46,7 @@ module _ {A C K : Type 0} (R : Rules A C K) (n : ℕ) (rest : List Item) (w : Wo
   failed_whole left g at_whole.NoRoom (goes_on, disk) =
       did_break R there (take_whole first events) rest [] left fault.OutOfMemory w (n, parts g c k a)
       (subst (λ (x : DiskView). Fails R there (take_whole first events) [] fault.OutOfMemory (record there { disk = x })) (sym disk) (untaken_whole first events)) (works goes_on)
-  failed_whole left g at_whole.Closed no = absurd no
+  failed_whole left g at_whole.Closed never = absurd never
   failed_whole left g at_whole.Disk l =
       did_break R there (take_whole first events) rest [] left (fault.Host hosts.Disk) w (n, parts g c k a) (lost_whole first events g l) (lost_there events h.store.disk l.lost)
 

@@ -77,7 +77,7 @@ event_data session life (reported.answer id prompt output next) =
     object (member (codes "id") (count id) (member (codes "life") (count life) (member (codes "next") (prompt_data next) (member (codes "output") (tree_data output) (member (codes "prompt") (bytes_data prompt)
     (member (codes "session") (bytes_data session) (member (codes "shown") (shown_data output) (typed (codes "answered")))))))))
 event_data session life (reported.completed id completions) =
-    object (member (codes "id") (count id) (member (codes "life") (count life) (member (codes "session") (bytes_data session) (member (codes "reported") (completions_data completions) (typed (codes "completed"))))))
+    object (member (codes "id") (count id) (member (codes "life") (count life) (member (codes "session") (bytes_data session) (member (codes "told") (completions_data completions) (typed (codes "completed"))))))
 event_data session life (reported.input line) =
     object (member (codes "life") (count life) (member (codes "session") (bytes_data session) (member (codes "text") (bytes_data line) (typed (codes "default")))))
 event_data session life (reported.ended why lost) =

@@ -115,7 +115,7 @@ abbrev pub event_named : List ℕ → Data → Option EventReported
 event_named name d =
     cond (bytes_eq name (codes "banner")) (of (option_map (λ output next. reported.banner output next) (member_in tree_in (codes "output") d)) (member_in prompt_in (codes "next") d))
     (cond (bytes_eq name (codes "answered")) (of (of (of (option_map (λ id prompt output next. reported.answer id prompt output next) (member_in count_in (codes "id") d)) (member_in bytes_in (codes "prompt") d)) (member_in tree_in (codes "output") d)) (member_in prompt_in (codes "next") d))
-    (cond (bytes_eq name (codes "completed")) (of (option_map (λ id reported_ones. reported.completed id reported_ones) (member_in count_in (codes "id") d)) (member_in (option_in completions_in) (codes "reported") d))
+    (cond (bytes_eq name (codes "completed")) (of (option_map (λ id reported_ones. reported.completed id reported_ones) (member_in count_in (codes "id") d)) (member_in (option_in completions_in) (codes "told") d))
     (cond (bytes_eq name (codes "default")) (option_map (λ line. reported.input line) (member_in bytes_in (codes "text") d))
     (cond (bytes_eq name (codes "ended")) (of (option_map (λ why items. reported.ended why items) (member_in reason_in (codes "reason") d)) (member_in (list_in lost_in) (codes "lost") d))
     (cond (bytes_eq name (codes "interrupted")) (option_map (λ outcome. reported.warned outcome) (member_in as_str (codes "outcome") d))
