@@ -7,7 +7,7 @@ use crate::lasts::Last;
 use block_tree::Sequence;
 use live::Hold;
 use tellings::{Counts, Overs};
-use worksheet::Sheet;
+use worksheet::{Field, Sheet};
 
 /// Which fields of a worksheet an evaluation is asked for.
 #[derive(Debug, Drop)]
