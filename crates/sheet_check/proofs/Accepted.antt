@@ -127,7 +127,7 @@ not_taken ops more disk ones new a refused.Disk p = inside.broken p.0 refl p.1 p
 
 evaluation-reported : {C : Type 0} (o : Way C) (id : ℕ) (s : At C) (h : HostView) (c : C) (why : RunFault) → EvaluationBroke o id s h c why → why ≡ fault.Output → ⊥
 evaluation-reported o id s h c why (checking.halted cause is of broke) e = never_output why of e
-evaluation-reported o id s h c why (checking.unremembered marks is came) e = let no : fault.OutOfMemory ≡ fault.Output = sym is ∙ e in cc
+evaluation-reported o id s h c why (checking.unremembered marks is lacks came) e = let no : fault.OutOfMemory ≡ fault.Output = sym is ∙ e in cc
 
 module _ {C : Type 0} (o : Way C) (chosen : Chosen) (field : Field) (s : At C) (h : HostView) (c : C) (a : Option (List ℕ)) (ops more : List Op) (disk : DiskView) (store : StoreView) where
   -- the evaluation broke off

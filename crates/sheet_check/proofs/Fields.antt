@@ -161,7 +161,7 @@ module _ {C : Type 0} (o : OneByOne C) (field : Field) (is_one : is_chosen o.cho
 
   broke-first : (others : List Field) (why : RunFault) → EvaluationBroke o.way field.id s h c why → FirstFailed o (field ∷ others) s h c why
   broke-first others why (inside.halted cause is of broke) = inside.halted (record { field = field; first = first others; cause = cause; is = is; of = of; broke = broke })
-  broke-first others why (inside.unremembered marks is came) = inside.unremembered came.0 is (evaluated field marks (first others) came.1) came.2
+  broke-first others why (inside.unremembered marks is lacks came) = inside.unremembered came.0 is (evaluated field marks (first others) came.1) came.2
 
   pub evaluation_failed : (a : Option (List ℕ)) (why : RunFault) → EvaluationBroke o.way field.id s h c why → FieldFailed o field s (records.left h c a a) why
   evaluation_failed a why p = ((λ others. broke-first others why p), inr (Appends-nil a))

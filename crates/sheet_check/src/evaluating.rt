@@ -1,5 +1,5 @@
 //! The evaluation of a field by itself.
-ghost use Rattle.std.specs.Prelude.{◌≡◌, ◌∷◌, ◌&&◌, ◌-◌, [], IfErr, IfOk, false, is_some, not};
+ghost use Rattle.std.specs.Prelude.{◌≡◌, ◌∷◌, ◌&&◌, ◌-◌, [], IfErr, IfOk, false, is_some, not, true};
 ghost use Rattle.session_engine.specs.World.{World, life_of};
 ghost use Rattle.session_engine.specs.Host.{IsHost};
 ghost use Rattle.child_edge.specs.Faithful.{at};
@@ -50,7 +50,7 @@ fn comes(marks: &[Mark], id: u32) -> bool
 /// The same, and a fault where there was no memory for the line.
 fn remembered(marks: &[Mark], id: u32) -> Result<bool, RunFault>
     ensures ok { IfOk result (λ came. (came ≡ comes_by marks.now id) × (marked.lacked_memory marks.now ≡ false)) }
-    ensures err { IfErr result (λ why. why ≡ RunFault.OutOfMemory) }
+    ensures err { IfErr result (λ why. (why ≡ RunFault.OutOfMemory) × (marked.lacked_memory marks.now ≡ true)) }
 {
     if lacked_memory(marks) {
         return Err(RunFault::OutOfMemory);

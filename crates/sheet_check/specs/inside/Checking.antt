@@ -1,5 +1,5 @@
 -- What the functions of a check promise each other. No public contract names this.
-use Rattle.std.specs.Prelude.{◌≡◌, ◌+◌, ◌⊎◌, ℕ, false, List, [], ◌∷◌, ◌++◌, Option, Some, Result, IfOk, IfErr}
+use Rattle.std.specs.Prelude.{◌≡◌, ◌+◌, ◌⊎◌, ℕ, false, true, List, [], ◌∷◌, ◌++◌, Option, Some, Result, IfOk, IfErr}
 use Rattle.std.specs.Io.KnownBytes.{Appends}
 use Rattle.disk_model.specs.Disk.{DiskView}
 use Rattle.worksheet.specs.declared.field.Answer.{Answer}
@@ -41,7 +41,7 @@ CameRemembered o id s h c marks = CameAlone o id s h c marks × (lacked_memory m
 -- An evaluation broke off, or there was no memory for its line.
 pub data EvaluationBroke {C : Type 0} (o : Way C) (id : ℕ) (s : At C) (h : HostView) (c : C) (why : RunFault) : Type 0 where
   halted : (cause : RunFault) → why ≡ fault_on_copy cause → IsOfEvaluation why → DriveBroke o (one_plan o id) s h c cause → EvaluationBroke o id s h c why
-  unremembered : (marks : List Mark) → why ≡ fault.OutOfMemory → CameAlone o id s h c marks → EvaluationBroke o id s h c why
+  unremembered : (marks : List Mark) → why ≡ fault.OutOfMemory → lacked_memory marks ≡ true → CameAlone o id s h c marks → EvaluationBroke o id s h c why
 
 -- What a field came to couldn't be reported: there was no memory for it, and nothing was written, or the writer failed.
 pub data Withheld (a b : Option (List ℕ)) (why : RunFault) : Type 0 where

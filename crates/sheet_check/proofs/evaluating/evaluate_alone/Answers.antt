@@ -1,4 +1,4 @@
-use Rattle.std.proofs.Common.{◌≡◌, ◌∙◌, List, ap, false, refl, subst}
+use Rattle.std.proofs.Common.{◌≡◌, ◌∙◌, List, ap, false, refl, subst, true}
 use Rattle.std.proofs.lemmas.Result.{IfErr-weaker, IfOk-weaker}
 use Rattle.child_edge.specs.Faithful.{at}
 use Rattle.offline_programs.specs.declared.fault.RunFault.TheVariants as fault
@@ -27,7 +27,9 @@ returns-in-Ok-drive_plan-clause-err g c = λ w h.
     let is = c.checking_plan.ensures ∙ ap (λ ids. checking_plan ids c.args.limit 1) c.in-Ok.ensures in
     let q = came_alone (way g.C.Children.after g.C.Sources.clock g.C.Sources.wakes c.args.limit) c.args.id (at w c.args.driver.now.sources c.args.driver.now.host.store.disk) c.drive_plan.new.driver.host c.drive_plan.new.driver.sources
     c.checking_plan.result is c.drive_plan.new.driver.sink.kept (c.in-Ok-drive_plan.ensures.ok w c.args.limit h) in
-    IfErr-weaker c.remembered.result _ _ (λ why same. unremembered c.drive_plan.new.driver.sink.kept same q) c.remembered.ensures.err
+    IfErr-weaker c.remembered.result _ _
+    (λ why p. unremembered c.drive_plan.new.driver.sink.kept p.0 (subst (λ (marks : List Mark). lacked_memory marks ≡ true) c.as_slice.ensures p.1) q)
+    c.remembered.ensures.err
 
 pub returns-in-Err-clause-err : goal.returns-in-Err-clause-err
 returns-in-Err-clause-err g c = λ w h.
