@@ -1,22 +1,23 @@
 -- A story is one of turns.
-use Rattle.std.proofs.Common.{◌≡◌, ◌≤◌, ⊎_elim, ℕ, List, [], ◌∷◌, ◌++◌, refl, ap, sym, ◌∙◌, subst, arith, length, length-append, IsTrue, Result}
+use Rattle.std.proofs.Common.{◌≡◌, ◌≤◌, ⊎_elim, ℕ, List, [], ◌∷◌, ◌++◌, refl, ap, sym, ◌∙◌, subst, arith, length, length-append, IsTrue, Result, Ok, Err, IfOk}
 use Rattle.std.specs.declared.alloc.Global.{Global}
 use Rattle.std.specs.declared.vec.Vec.{Vec}
 use Rattle.std.specs.List.{AllByRecursion}
-use Rattle.disk_model.specs.Disk.{DiskState, DiskView, History, Image, IsImage, IsRestarted, Leaves, LeavesOnly, Looks, SameDisk}
+use Rattle.disk_model.specs.Disk.{DiskState, DiskView, History, Image, IsImage, IsRestarted, Leaves, LeavesOnly, Looks, SameDisk, bytes_on}
 use Rattle.worksheet.specs.declared.op.Op.{Op}
 use Rattle.worksheet.specs.Ops.{sheet_of}
 use Rattle.worksheet.specs.Checks.{Allowed}
 use Rattle.recovery.specs.Sheets.{IsSheetImage}
 use Rattle.host_events.specs.declared.event.Event.{Event}
+use Rattle.host_events.specs.declared.outcome.HostFault.{HostFault}
 use Rattle.host_events.specs.declared.outcome.Outcome.{Outcome}
 use Rattle.session_engine.specs.declared.play.GroupFault.{GroupFault}
 use Rattle.session_engine.specs.Host.{HostView}
 use Rattle.host_laws.specs.Turns.{EachTurned, HostTurn, HostsInTurn, LeftByTurn, LeftInTurn}
-use Rattle.host_laws.specs.OneHost.{JustOpened}
+use Rattle.host_laws.specs.OneHost.{JustOpened, StepMeets}
 use Rattle.host_laws.specs.Together.{returned, whole_returned}
-use Rattle.host_laws.specs.Calls.{CallsLeavePrefixes, TookByCalls, no_call}
-use Rattle.theorem.specs.Story.{CrashedSince, Doing, HostLived, Story, PlaysGroup, nothing, a_step, a_group, a_whole, after_group, after_whole, ends, opening, host}
+use Rattle.host_laws.specs.Calls.{CallsLeavePrefixes, TookByCalls, and_step, no_call}
+use Rattle.theorem.specs.Story.{CrashedSince, Doing, HostLived, LivedSince, OpenedFrom, Story, PlaysGroup, nothing, a_step, a_group, a_whole, after_group, after_whole, ends, opening, host}
 
 -- the state at a moment since then is one of those of which something holds
 found_in : (P : Image → Type 0) (first : DiskState) (past : List DiskState) → Leaves P first → (more later earlier : List DiskState) (s : DiskState)
@@ -94,20 +95,36 @@ pub left : HostsInTurn → CallsLeavePrefixes → (room : ℕ) (first : List Op)
 left hosts calls room first before after turns allowed image story =
     hosts room first before after turns allowed image (each_turned calls room before turns after story)
 
--- a host that was opened and made one call
-pub one_call : (room : ℕ) (before : Image) (found : List Op) (disk : DiskView) (opened : HostView) → JustOpened room before found opened → SameDisk disk opened.store.disk → IsTrue disk.keeps_model
-    → (turn : HostTurn) (from to : DiskView) → Doing opened [] [] turn from to → (after : Image) → CrashedSince from.history to.history after → HostLived room before turn after
-one_call room before found disk opened begun same model turn from to doing after crashed = record {
+-- a host that was opened, was given these events by its calls, and then did this
+pub lived : (room : ℕ) (before : Image) (found : List Op) (opened : HostView) → JustOpened room before found opened → (events : List Event) (reported : List Outcome) (old : HostView)
+    → TookByCalls opened events reported old → IsTrue old.store.disk.keeps_model
+    → (turn : HostTurn) (from to : DiskView) → Doing old events reported turn from to → (after : Image) → CrashedSince from.history to.history after → HostLived room before turn after
+lived room before found opened begun events reported old took model turn from to doing after crashed = record {
   found = found;
   opened = opened;
   begun = begun;
-  events = [];
-  reported = [];
-  old = opened;
-  took = no_call;
-  keeps_model = keeps_still disk opened.store.disk same model;
+  events = events;
+  reported = reported;
+  old = old;
+  took = took;
+  keeps_model = model;
   from = from;
   to = to;
   doing = doing;
   crashed = crashed;
 }
+
+-- one that took one event
+pub by_step : (disk : DiskView) (opened new : HostView) → OpenedFrom disk opened → IsTrue disk.keeps_model → (e : Event) (answer : Result Outcome HostFault) → StepMeets e opened answer new
+    → SameDisk opened.store.disk new.store.disk → IfOk answer (λ o. LivedSince disk (record { events = e ∷ []; reported = o ∷ [] }) new.store.disk new.store.disk)
+by_step disk opened new begins model e (Ok o) meets same =
+    lived disk.room (bytes_on disk) begins.found opened begins.begun (e ∷ []) (o ∷ []) new (and_step no_call meets)
+    (keeps_still opened.store.disk new.store.disk same (keeps_still disk opened.store.disk begins.same model))
+    (record { events = e ∷ []; reported = o ∷ [] }) new.store.disk new.store.disk nothing
+by_step disk opened new begins model e (Err fault) meets same = tt
+
+-- one that did this right after it was opened
+pub at_first : (disk : DiskView) (opened : HostView) → OpenedFrom disk opened → IsTrue disk.keeps_model → (turn : HostTurn) (from to : DiskView) → Doing opened [] [] turn from to
+    → LivedSince disk turn from to
+at_first disk opened begins model turn from to doing =
+    lived disk.room (bytes_on disk) begins.found opened begins.begun [] [] opened no_call (keeps_still disk opened.store.disk begins.same model) turn from to doing

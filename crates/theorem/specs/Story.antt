@@ -1,9 +1,9 @@
 -- What may become of a disk before it is opened: hosts one after another, each ended by a crash at any moment, and what is opened then.
 -- (docs/trust/THEOREM.md.) Premises have names here: A1 to A6 (README.md, "Premises").
-use Rattle.std.specs.Prelude.{◌≤◌, ◌⊎◌, ℕ, IsTrue, List, [], ◌∷◌, ◌++◌, length, Result}
+use Rattle.std.specs.Prelude.{◌≤◌, ◌⊎◌, ℕ, IfOk, IsTrue, List, [], ◌∷◌, ◌++◌, length, Result}
 use Rattle.std.specs.declared.alloc.Global.{Global}
 use Rattle.std.specs.declared.vec.Vec.{Vec}
-use Rattle.disk_model.specs.Disk.{AtMoment, DiskState, DiskView, History, Image, InModel, IsImage, IsRestarted, Looks, bytes_on}
+use Rattle.disk_model.specs.Disk.{AtMoment, DiskState, DiskView, History, Image, InModel, IsImage, IsRestarted, Looks, SameDisk, bytes_on}
 use Rattle.worksheet.specs.declared.op.Op.{Op}
 use Rattle.worksheet.specs.Ops.{sheet_of}
 use Rattle.worksheet.specs.Checks.{Allowed}
@@ -70,6 +70,38 @@ pub record HostLived (room : ℕ) (before : Image) (turn : HostTurn) (after : Im
   pub to : DiskView
   pub doing : Doing old events reported turn from to
   pub crashed : CrashedSince from.history to.history after
+
+-- One call, as the first of such a host's life.
+
+-- A host was opened on this disk, which keeps the model, with the worksheet that its bytes are an image of. The opening changed no byte, and a
+-- crash within it leaves what was there.
+pub record OpenedFrom (disk : DiskView) (opened : HostView) : Type 0 where
+  pub found : List Op
+  pub begun : JustOpened disk.room (bytes_on disk) found opened
+  pub same : SameDisk disk opened.store.disk
+  pub looks : Looks disk.history opened.store.disk.history
+
+-- Wherever a crash comes between these two disks, a host that was opened on the first one of all had this turn.
+abbrev pub LivedSince : DiskView → HostTurn → DiskView → DiskView → Type 0
+LivedSince disk turn from to = (after : Image) → CrashedSince from.history to.history after → HostLived disk.room (bytes_on disk) turn after
+
+-- A host was opened on this disk and took one event, as the contract of `step` has it. A crash since it was opened ends the life of a host that
+-- was given the event, and one since the call, where that returned an outcome, the life of one that returned it.
+pub record LivedByStep (disk : DiskView) (e : Event) (answer : Result Outcome HostFault) (new : HostView) : Type 0 where
+  pub opened : HostView
+  pub begins : OpenedFrom disk opened
+  pub meets : StepMeets e opened answer new
+  pub within : LivedSince disk (record { events = e ∷ []; reported = [] }) opened.store.disk new.store.disk
+  pub after : IfOk answer (λ o. LivedSince disk (record { events = e ∷ []; reported = o ∷ [] }) new.store.disk new.store.disk)
+
+-- The same of a group of events, as the contract of `play_group` has it: one since the call ends the life of a host that returned what the call
+-- did.
+pub record LivedByGroup (disk : DiskView) (group : List Event) (answer : Result (Vec Outcome Global) GroupFault) (new : HostView) : Type 0 where
+  pub opened : HostView
+  pub begins : OpenedFrom disk opened
+  pub meets : GroupMeets group opened answer new
+  pub within : LivedSince disk (record { events = group; reported = [] }) opened.store.disk new.store.disk
+  pub after : LivedSince disk (record { events = group; reported = returned answer }) new.store.disk new.store.disk
 
 -- From one image of a disk to another: hosts lived one after another, each on the image that the one before it left (A3), all with the same
 -- room (A4); and openings were cut off or refused.
