@@ -52,6 +52,12 @@ pub fn took_one<D: Disk>(
     event: Event,
 ) -> Result<(Host<D>, Result<Outcome, HostFault>), OpenFault<D>>
     ensures lived { InModel (D.view disk) (IfOk result (λ r. LivedByStep (D.view disk) event r.1 r.0)) }
+
+    // That the disk failed is answered where a call of the opening did, and only there.
+    ensures faulty { IfErr result (λ e. e.cause ≡ OpenCause.Disk
+        → Rises (D.view disk).faults (D.view e.disk).faults) }
+    ensures steady { IfErr result (λ e. (e.cause ≡ OpenCause.Disk → ⊥)
+        → (D.view e.disk).faults ≡ (D.view disk).faults) }
 {
     let mut host = opened_after(alloc, disk)?;
     let answer = stepped(&mut host, event);
@@ -74,6 +80,12 @@ pub fn took_group<D: Disk>(
 ) -> Result<(Host<D>, Result<Vec<Outcome>, GroupFault>), OpenFault<D>>
     ensures lived { InModel (D.view disk)
         (IfOk result (λ r. LivedByGroup (D.view disk) events.items r.1 r.0)) }
+
+    // That the disk failed is answered where a call of the opening did, and only there.
+    ensures faulty { IfErr result (λ e. e.cause ≡ OpenCause.Disk
+        → Rises (D.view disk).faults (D.view e.disk).faults) }
+    ensures steady { IfErr result (λ e. (e.cause ≡ OpenCause.Disk → ⊥)
+        → (D.view e.disk).faults ≡ (D.view disk).faults) }
 {
     let mut host = opened_after(alloc, disk)?;
     let answer = played_group(&mut host, events);
