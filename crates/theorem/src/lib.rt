@@ -87,7 +87,7 @@ pub fn took_group<D: Disk>(
     ensures steady { IfErr result (λ e. (e.cause ≡ OpenCause.Disk → ⊥)
         → (D.view e.disk).faults ≡ (D.view disk).faults) }
 {
-    let mut host = opened_after(alloc, disk)?;
-    let answer = played_group(&mut host, events);
-    Ok((host, answer))
+    let mut opened = opened_after(alloc, disk)?;
+    let answer = played_group(&mut opened, events);
+    Ok((opened, answer))
 }
