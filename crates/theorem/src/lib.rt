@@ -72,7 +72,7 @@ fn stepped<D: Disk>(host: &mut Host<D>, event: Event) -> Result<Outcome, HostFau
     host.step(event)
 }
 
-/// The same of a group of events, all of it or none.
+/// The same of a group of events, which one gate commits.
 pub fn took_group<D: Disk>(
     alloc: Global,
     disk: D,
