@@ -1,5 +1,5 @@
 -- A host, from its opening to a crash, call after call.
-use Rattle.std.proofs.Common.{◌≡◌, ◌∙◌, ⊎_elim, ℕ, List, ◌++◌, length, take, refl, sym, ap, subst}
+use Rattle.std.proofs.Common.{◌≡◌, ◌∙◌, ⊎_elim, ℕ, List, ◌++◌, length, take, refl, sym, ap, subst, append-nil}
 use Rattle.std.proofs.lemmas.List.{take_at}
 use Rattle.std.specs.Prelude.{Result, Ok, Err}
 use Rattle.std.specs.declared.alloc.Global.{Global}
@@ -14,17 +14,19 @@ use Rattle.session_engine.specs.declared.whole.Whole.{Whole}
 use Rattle.session_engine.specs.declared.whole.Whole.TheVariants as whole
 use Rattle.session_engine.specs.declared.whole.WholeFault.{WholeFault}
 use Rattle.session_engine.specs.declared.whole.WholeFault.TheVariants as lacks
+use Rattle.session_engine.specs.declared.joining.Joint.{Joint}
+use Rattle.session_engine.specs.declared.joining.JoinFault.{JoinFault}
 use Rattle.session_engine.specs.World.{World, world_at_opening}
 use Rattle.session_engine.specs.Does.{Runs}
 use Rattle.session_engine.specs.Host.{HostView, IsHost}
 use Rattle.host_laws.specs.Turns.{CrashesAreTurns}
 use Rattle.host_laws.specs.OneHost.{JustOpened}
-use Rattle.host_laws.specs.Together.{GroupMeets, UpToMeets, WholeMeets, returned, whole_returned}
-use Rattle.host_laws.specs.Calls.{CallsLeavePrefixes, GaveBack, TookByCalls, TookNone, and_given_back, and_group, and_group_up_to, and_none, and_step, and_whole, no_call}
+use Rattle.host_laws.specs.Together.{GroupMeets, JoinedMeets, UpToMeets, WholeMeets, joint_returned, returned, whole_returned}
+use Rattle.host_laws.specs.Calls.{CallsLeavePrefixes, GaveBack, TookByCalls, TookNone, and_given_back, and_joined, and_group, and_group_up_to, and_none, and_step, and_whole, no_call}
 use Rattle.host_laws.proofs.Going.{runs_on}
 use Rattle.host_laws.proofs.Stepwise.{steps_are_turns}
 use Rattle.host_laws.proofs.Stepping.{after, within}
-use Rattle.host_laws.proofs.Groups.{as_group, groups_are_turns, groups_up_to_are_turns, runs_length, wholes_are_turns}
+use Rattle.host_laws.proofs.Groups.{as_group, groups_are_turns, groups_up_to_are_turns, joined_are_turns, runs_length, wholes_are_turns}
 
 -- a host that gave a group back stands for the world that it stood for
 stands_given_back : (w : World) (old new : HostView) (group : List Event) → IsHost old w → (answer : Result (Vec Outcome Global) GroupFault) → GroupMeets group old answer new → GaveBack answer → IsHost new w
@@ -51,7 +53,7 @@ stands_without w old new edits is (Err lacks.Disk) m none = absurd none
 
 module _ (room : ℕ) (before : Image) (found : List Op) (opened : HostView) (begun : JustOpened room before found opened) where
   -- the host stands for the world that the events lead to
-  stands_after : (events : List Event) (reported : List Outcome) (old : HostView) → TookByCalls opened events reported old
+  stands_after : (events : List Event) (reported : List Outcome) (old : HostView) → TookByCalls (world_at_opening found room opened.store.end) opened events reported old
       → (w : World) × Runs (world_at_opening found room opened.store.end) events reported w × IsHost old w
   stands_after events reported old no_call = (world_at_opening found room opened.store.end, refl, begun.stands)
   stands_after events reported old (and_step {mid = mid} {e = e} {o = o} {events = es} {reported = os} calls meets) =
@@ -80,6 +82,21 @@ module _ (room : ℕ) (before : Image) (found : List Op) (opened : HostView) (be
   stands_after events reported old (and_none {mid = mid} {edits = edits} {answer = answer} calls meets none) =
       let at = stands_after events reported mid calls in
       (at.0, at.1, stands_without at.0 mid old edits at.2 answer meets none)
+  stands_after events reported old (and_joined {w = w} {all = all} {outcomes = outcomes} {events = es} {reported = os} calls run is took) =
+      let played = took.played in (
+        played.leads,
+        subst (λ (l : List Event). Runs (world_at_opening found room opened.store.end) (es ++ l) (os ++ outcomes) played.leads) (sym (played.split ∙ append-nil played.done))
+            (runs_on (world_at_opening found room opened.store.end) es os w played.done outcomes played.leads run played.runs),
+        played.stands,
+      )
+
+  -- a crash within events more that others join, and one after them
+  within_joined : (events : List Event) (reported : List Outcome) (old : HostView) (w : World) → Runs (world_at_opening found room opened.store.end) events reported w → IsHost old w
+      → (all : List Event) (answer : Result Joint JoinFault) (new : HostView) → JoinedMeets w all old answer new
+      → CrashesAreTurns room before found (record { events = events ++ all; reported = reported }) old.store.disk new.store.disk
+      × CrashesAreTurns room before found (record { events = events ++ all; reported = reported ++ joint_returned answer }) new.store.disk new.store.disk
+  within_joined events reported old w run is all answer new meets =
+      joined_are_turns room opened.store.end before found begun.allowed begun.image begun.ends events reported w run all old new answer is meets
 
   -- a crash within commands more that are taken as a whole, and one after them
   within_whole : (events : List Event) (reported : List Outcome) (old : HostView) (w : World) → Runs (world_at_opening found room opened.store.end) events reported w → IsHost old w
@@ -115,4 +132,5 @@ calls_leave_prefixes room before found opened begun events reported old calls =
       within_group room before found opened begun events reported old at.0 at.1 at.2,
       within_up_to room before found opened begun events reported old at.0 at.1 at.2,
       within_whole room before found opened begun events reported old at.0 at.1 at.2,
+      within_joined room before found opened begun events reported old,
     )

@@ -1,5 +1,5 @@
 -- Groups are parts of turns.
-use Rattle.std.proofs.Common.{◌≡◌, ◌∙◌, ◌+◌, ⊎_elim, ℕ, suc, List, [], ◌∷◌, ◌++◌, length, refl, sym, ap, subst, append-nil, arith, length-append, IsTrue}
+use Rattle.std.proofs.Common.{◌≡◌, ◌∙◌, ⊎_elim, ℕ, suc, List, [], ◌∷◌, ◌++◌, length, refl, sym, ap, subst, append-nil, arith, length-append, IsTrue}
 use Rattle.std.specs.Prelude.{Result, Ok, Err, IfOk}
 use Rattle.std.specs.declared.alloc.Global.{Global}
 use Rattle.std.specs.declared.vec.Vec.{Vec}
@@ -14,6 +14,9 @@ use Rattle.host_events.specs.declared.event.Event.{Event}
 use Rattle.host_events.specs.declared.outcome.Outcome.{Outcome}
 use Rattle.session_engine.specs.declared.play.GroupFault.{GroupFault}
 use Rattle.session_engine.specs.declared.play.GroupFault.TheVariants as halt
+use Rattle.session_engine.specs.declared.joining.Joint.{Joint}
+use Rattle.session_engine.specs.declared.joining.JoinFault.{JoinFault}
+use Rattle.session_engine.specs.declared.joining.JoinFault.TheVariants as joins
 use Rattle.session_engine.specs.World.{World, world_at_opening, sheet_in}
 use Rattle.session_engine.specs.Does.{Runs}
 use Rattle.session_engine.specs.Crash.{HasPlayed}
@@ -24,7 +27,7 @@ use Rattle.session_engine.specs.declared.whole.Whole.{Whole}
 use Rattle.session_engine.specs.declared.whole.Whole.TheVariants as whole
 use Rattle.session_engine.specs.declared.whole.WholeFault.{WholeFault}
 use Rattle.session_engine.specs.declared.whole.WholeFault.TheVariants as lacks
-use Rattle.host_laws.specs.Together.{GroupMeets, GroupsAreTurns, GroupsUpToAreTurns, UpToMeets, WholeMeets, returned, whole_returned}
+use Rattle.host_laws.specs.Together.{GroupMeets, GroupsAreTurns, GroupsUpToAreTurns, JoinedMeets, UpToMeets, WholeMeets, joint_returned, returned, whole_returned}
 use Rattle.host_laws.proofs.Going.{plays_are_turns, runs_on}
 
 pub runs_length : (w : World) (es : List Event) (os : List Outcome) (v : World) → Runs w es os v → length es ≡ length os
@@ -160,6 +163,30 @@ module _ (room end : ℕ) (before : Image) (found : List Op) (allowed : Allowed 
         let crashes = during s.rest s.withheld s.before s.played s.moments in
         (crashes, silent m.same crashes)
 
+    -- the same of events that others joined
+    abbrev LeftJoined : Result Joint JoinFault → Type 0
+    LeftJoined answer = CrashesAreTurns room before found (record { events = events ++ group; reported = reported }) old.store.disk new.store.disk
+        × CrashesAreTurns room before found (record { events = events ++ group; reported = reported ++ joint_returned answer }) new.store.disk new.store.disk
+
+    left_joined : (answer : Result Joint JoinFault) → JoinedMeets w group old answer new → LeftJoined answer
+    left_joined (Ok joint) m =
+        let p = m.took.played in
+        (during [] (joint.outcomes.items ++ joint.later.items) new p m.took.moments, spoken [] (joint.outcomes.items ++ joint.later.items) new p p.stands.stands.images)
+    left_joined (Err joins.Checkpoint) m =
+        let crashes = stays m.halts in
+        (crashes, silent m.same crashes)
+    left_joined (Err joins.NoRoom) m =
+        let crashes = stays m.halts in
+        (crashes, silent m.same crashes)
+    left_joined (Err (joins.Stopped fault)) m =
+        let s = m.halts.1 in
+        let crashes = during (s.at ∷ s.dropped) m.halts.0 s.before s.played s.moments in
+        (crashes, silent m.same crashes)
+    left_joined (Err joins.Disk) m =
+        let s = m.halts in
+        let crashes = during s.rest s.withheld s.before s.played s.moments in
+        (crashes, silent m.same crashes)
+
     -- the same of one that stops at a refusal
     abbrev LeftUpTo : Result (Vec Outcome Global) GroupFault → Type 0
     LeftUpTo answer = CrashesAreTurns room before found (record { events = events ++ group; reported = reported }) old.store.disk new.store.disk
@@ -212,3 +239,10 @@ pub wholes_are_turns : (room end : ℕ) (before : Image) (found : List Op) → A
     × CrashesAreTurns room before found (record { events = events ++ edits; reported = reported ++ whole_returned answer }) new.store.disk new.store.disk
 wholes_are_turns room end before found allowed opens ends events reported w run edits old new answer stands m =
     left_whole room end before found allowed opens ends events reported w run edits old new stands m.before m.after answer m
+
+pub joined_are_turns : (room end : ℕ) (before : Image) (found : List Op) → Allowed found → IsSheetImage (sheet_of found) before → EndsAt before end → (events : List Event) (reported : List Outcome) (w : World)
+    → Runs (world_at_opening found room end) events reported w → (all : List Event) (old new : HostView) (answer : Result Joint JoinFault) → IsHost old w → JoinedMeets w all old answer new
+    → CrashesAreTurns room before found (record { events = events ++ all; reported = reported }) old.store.disk new.store.disk
+    × CrashesAreTurns room before found (record { events = events ++ all; reported = reported ++ joint_returned answer }) new.store.disk new.store.disk
+joined_are_turns room end before found allowed opens ends events reported w run all old new answer stands m =
+    left_joined room end before found allowed opens ends events reported w run all old new stands m.before m.after answer m

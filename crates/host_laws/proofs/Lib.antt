@@ -29,3 +29,4 @@ pub mod LinesAmong
 pub mod InFlight
 pub mod ApartAdds
 pub mod OwnReplies
+pub mod Joined

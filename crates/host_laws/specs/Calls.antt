@@ -13,10 +13,15 @@ use Rattle.session_engine.specs.declared.whole.Whole.{Whole}
 use Rattle.session_engine.specs.declared.whole.Whole.TheVariants as whole
 use Rattle.session_engine.specs.declared.whole.WholeFault.{WholeFault}
 use Rattle.session_engine.specs.declared.whole.WholeFault.TheVariants as lacks
-use Rattle.session_engine.specs.Host.{HostView}
+use Rattle.session_engine.specs.declared.joining.Joint.{Joint}
+use Rattle.session_engine.specs.declared.joining.JoinFault.{JoinFault}
+use Rattle.session_engine.specs.World.{World, world_at_opening}
+use Rattle.session_engine.specs.Does.{Runs}
+use Rattle.session_engine.specs.Groups.{TookGroup}
+use Rattle.session_engine.specs.Host.{HostView, IsHost}
 use Rattle.host_laws.specs.Turns.{CrashesAreTurns}
 use Rattle.host_laws.specs.OneHost.{JustOpened, StepMeets}
-use Rattle.host_laws.specs.Together.{GroupMeets, UpToMeets, WholeMeets, returned, whole_returned}
+use Rattle.host_laws.specs.Together.{GroupMeets, JoinedMeets, UpToMeets, WholeMeets, joint_returned, returned, whole_returned}
 
 -- The call took no event and gave all back: there was no memory, or a checkpoint was among them.
 abbrev pub GaveBack : Result (Vec Outcome Global) GroupFault → Type 0
@@ -34,32 +39,35 @@ TookNone (Err lacks.NoRoom) = Unit {0}
 TookNone (Err lacks.Closed) = ⊥
 TookNone (Err lacks.Disk) = ⊥
 
--- The host took these events, each by a step or in a group, and they returned these outcomes.
-pub data TookByCalls : HostView → List Event → List Outcome → HostView → Type 0 where
-  no_call : {h : HostView} → TookByCalls h [] [] h
+-- The host, which began in this world, took these events, each by a step or in a group, and they returned these outcomes.
+pub data TookByCalls (start : World) : HostView → List Event → List Outcome → HostView → Type 0 where
+  no_call : {h : HostView} → TookByCalls start h [] [] h
   and_step : {h mid new : HostView} {e : Event} {o : Outcome} {events : List Event} {reported : List Outcome}
-      → TookByCalls h events reported mid → StepMeets e mid (Ok o) new → TookByCalls h (events ++ e ∷ []) (reported ++ o ∷ []) new
+      → TookByCalls start h events reported mid → StepMeets e mid (Ok o) new → TookByCalls start h (events ++ e ∷ []) (reported ++ o ∷ []) new
   and_group : {h mid new : HostView} {group : List Event} {outcomes : Vec Outcome Global} {events : List Event} {reported : List Outcome}
-      → TookByCalls h events reported mid → GroupMeets group mid (Ok outcomes) new → TookByCalls h (events ++ group) (reported ++ outcomes.items) new
+      → TookByCalls start h events reported mid → GroupMeets group mid (Ok outcomes) new → TookByCalls start h (events ++ group) (reported ++ outcomes.items) new
   -- of one that stops at a refusal those that have outcomes
   and_group_up_to : {h mid new : HostView} {group : List Event} {outcomes : Vec Outcome Global} {events : List Event} {reported : List Outcome}
-      → TookByCalls h events reported mid → UpToMeets group mid (Ok outcomes) new → TookByCalls h (events ++ take (length outcomes.items) group) (reported ++ outcomes.items) new
+      → TookByCalls start h events reported mid → UpToMeets group mid (Ok outcomes) new → TookByCalls start h (events ++ take (length outcomes.items) group) (reported ++ outcomes.items) new
   -- none of a group that was given back
   and_given_back : {h mid new : HostView} {group : List Event} {answer : Result (Vec Outcome Global) GroupFault} {events : List Event} {reported : List Outcome}
-      → TookByCalls h events reported mid → GroupMeets group mid answer new ⊎ UpToMeets group mid answer new → GaveBack answer → TookByCalls h events reported new
+      → TookByCalls start h events reported mid → GroupMeets group mid answer new ⊎ UpToMeets group mid answer new → GaveBack answer → TookByCalls start h events reported new
   -- commands that were taken as a whole, and none of those that weren't
   and_whole : {h mid new : HostView} {edits : List Event} {outcomes : Vec Outcome Global} {events : List Event} {reported : List Outcome}
-      → TookByCalls h events reported mid → WholeMeets edits mid (Ok (whole.Taken outcomes)) new → TookByCalls h (events ++ edits) (reported ++ outcomes.items) new
+      → TookByCalls start h events reported mid → WholeMeets edits mid (Ok (whole.Taken outcomes)) new → TookByCalls start h (events ++ edits) (reported ++ outcomes.items) new
   and_none : {h mid new : HostView} {edits : List Event} {answer : Result Whole WholeFault} {events : List Event} {reported : List Outcome}
-      → TookByCalls h events reported mid → WholeMeets edits mid answer new → TookNone answer → TookByCalls h events reported new
+      → TookByCalls start h events reported mid → WholeMeets edits mid answer new → TookNone answer → TookByCalls start h events reported new
+  -- events with those that joined them, as the contract of `play_joining` has it of the world to which the calls before it led
+  and_joined : {h mid new : HostView} {w : World} {all : List Event} {outcomes : List Outcome} {events : List Event} {reported : List Outcome}
+      → TookByCalls start h events reported mid → Runs start events reported w → IsHost mid w → TookGroup w all outcomes mid new → TookByCalls start h (events ++ all) (reported ++ outcomes) new
 
 -- A host was opened, and given events by steps and groups. A crash after the last call leaves the worksheet after a prefix of the events that
 -- has each of them, since each was acknowledged; and so does a crash at any moment of one step or one group more, whatever that answers. One after a
 -- group, which a fault or a refusal may have stopped, leaves also each event whose outcome the group returned. Commands that are taken as a
--- whole are such a group.
+-- whole are such a group, and so are events that others join.
 abbrev pub CallsLeavePrefixes : Type 0
 CallsLeavePrefixes = (room : ℕ) (before : Image) (found : List Op) (opened : HostView) → JustOpened room before found opened
-    → (events : List Event) (reported : List Outcome) (old : HostView) → TookByCalls opened events reported old
+    → (events : List Event) (reported : List Outcome) (old : HostView) → TookByCalls (world_at_opening found room opened.store.end) opened events reported old
     → CrashesAreTurns room before found (record { events = events; reported = reported }) old.store.disk old.store.disk
     × ((e : Event) (answer : Result Outcome HostFault) (new : HostView) → StepMeets e old answer new
     → CrashesAreTurns room before found (record { events = events ++ e ∷ []; reported = reported }) old.store.disk new.store.disk)
@@ -72,3 +80,7 @@ CallsLeavePrefixes = (room : ℕ) (before : Image) (found : List Op) (opened : H
     × ((edits : List Event) (answer : Result Whole WholeFault) (new : HostView) → WholeMeets edits old answer new
     → CrashesAreTurns room before found (record { events = events ++ edits; reported = reported }) old.store.disk new.store.disk
     × CrashesAreTurns room before found (record { events = events ++ edits; reported = reported ++ whole_returned answer }) new.store.disk new.store.disk)
+    × ((w : World) → Runs (world_at_opening found room opened.store.end) events reported w → IsHost old w
+    → (all : List Event) (answer : Result Joint JoinFault) (new : HostView) → JoinedMeets w all old answer new
+    → CrashesAreTurns room before found (record { events = events ++ all; reported = reported }) old.store.disk new.store.disk
+    × CrashesAreTurns room before found (record { events = events ++ all; reported = reported ++ joint_returned answer }) new.store.disk new.store.disk)

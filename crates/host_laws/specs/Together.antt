@@ -11,9 +11,12 @@ use Rattle.host_events.specs.declared.event.Event.{Event}
 use Rattle.host_events.specs.declared.outcome.Outcome.{Outcome}
 use Rattle.session_engine.specs.declared.play.GroupFault.{GroupFault}
 use Rattle.session_engine.specs.declared.play.GroupFault.TheVariants as halt
+use Rattle.session_engine.specs.declared.joining.Joint.{Joint}
+use Rattle.session_engine.specs.declared.joining.JoinFault.{JoinFault}
+use Rattle.session_engine.specs.declared.joining.JoinFault.TheVariants as joins
 use Rattle.session_engine.specs.World.{World, world_at_opening}
 use Rattle.session_engine.specs.Does.{Runs}
-use Rattle.session_engine.specs.Groups.{HaltsGroup, HaltsUpTo, TookGroup, TookUpTo}
+use Rattle.session_engine.specs.Groups.{FailedGroup, HaltsGroup, HaltsUpTo, StoppedGroup, TookGroup, TookUpTo}
 use Rattle.session_engine.specs.Host.{EndsAt, HostView, IsHost}
 use Rattle.session_engine.specs.Whole.{HaltsWhole, MadeWhole}
 use Rattle.session_engine.specs.declared.whole.Whole.{Whole}
@@ -46,6 +49,21 @@ pub record WholeMeets (edits : List Event) (old : HostView) (answer : Result Who
   pub after : new.store.real ≡ new.store.disk
   pub same : SameDisk old.store.disk new.store.disk
 
+-- What a fault leaves of a call of `play_joining`, of all events that were to be taken.
+abbrev pub HaltsAll : World → List Event → HostView → HostView → JoinFault → Type 0
+HaltsAll w all old new joins.Checkpoint = new ≡ old
+HaltsAll w all old new joins.NoRoom = new ≡ old
+HaltsAll w all old new (joins.Stopped fault) = (reported : List Outcome) × StoppedGroup w all old new reported fault
+HaltsAll w all old new joins.Disk = FailedGroup w all old new
+
+-- The same of `play_joining`, of the world that the host stands for: what joins the events is answered by that, and these are all of them.
+pub record JoinedMeets (w : World) (all : List Event) (old : HostView) (answer : Result Joint JoinFault) (new : HostView) : Type 0 where
+  pub took : IfOk answer (λ joint. TookGroup w all (joint.outcomes.items ++ joint.later.items) old new)
+  pub halts : IfErr answer (HaltsAll w all old new)
+  pub before : old.store.real ≡ old.store.disk
+  pub after : new.store.real ≡ new.store.disk
+  pub same : SameDisk old.store.disk new.store.disk
+
 -- the outcomes that such a call returned
 abbrev pub returned : Result (Vec Outcome Global) GroupFault → List Outcome
 returned (Ok outcomes) = outcomes.items
@@ -59,6 +77,11 @@ abbrev pub whole_returned : Result Whole WholeFault → List Outcome
 whole_returned (Ok (whole.Taken outcomes)) = outcomes.items
 whole_returned (Ok (whole.Refused first last)) = []
 whole_returned (Err why) = []
+
+-- and those of events that others joined, which a fault returns none of
+abbrev pub joint_returned : Result Joint JoinFault → List Outcome
+joint_returned (Ok joint) = joint.outcomes.items ++ joint.later.items
+joint_returned (Err why) = []
 
 -- A group is a part of a turn, too. A host was opened, took events and returned their outcomes, and stands for the world that they led
 -- to; now it plays a group of events more. A crash at any moment of that, whatever it answers, makes a turn of the events with the group that

@@ -11,7 +11,9 @@ ghost use Rattle.host_laws.specs.Laws.{AnEventDoesOneThing, EachCommandHasAReply
 
 mod made;
 
-pub use made::{created_disk, opened_host, played_group, played_group_up_to, played_whole};
+pub use made::{
+    created_disk, opened_host, played_group, played_group_up_to, played_joining, played_whole,
+};
 
 /// The same is reported to a session whatever others' interpreters do. Take two histories without
 /// refusals, from worlds alike for it. Where they agree in the merged list of all commands and this

@@ -1,16 +1,18 @@
 //! Calls whose contracts say with one word of these laws what those of the host and of the journal say in several.
-ghost use Rattle.std.specs.Prelude.{◌≤◌, List, [], IfOk};
+ghost use Rattle.std.specs.Prelude.{◌≤◌, ◌++◌, List, [], IfOk};
 ghost use Rattle.disk_model.specs.Disk.{InModel, Leaves, bytes_on};
 ghost use Rattle.worksheet.specs.declared.op.Op.{Op};
 ghost use Rattle.worksheet.specs.Ops.{sheet_of};
 ghost use Rattle.recovery.specs.Sheets.{IsSheetImage};
 ghost use Rattle.host_laws.specs.OneHost.{JustOpened};
-ghost use Rattle.host_laws.specs.Together.{GroupMeets, UpToMeets, WholeMeets};
+ghost use Rattle.host_laws.specs.Together.{GroupMeets, JoinedMeets, UpToMeets, WholeMeets};
+ghost use Rattle.session_engine.specs.World.{World};
+ghost use Rattle.session_engine.specs.Host.{IsHost};
 
 use disk_model::Disk;
 use host_events::{Event, Outcome};
 use journal::{CreateFault, OpenFault, create};
-use session_engine::{Edits, GroupFault, Host, Whole, WholeFault};
+use session_engine::{Edits, GroupFault, Host, JoinFault, Joins, Joint, Whole, WholeFault};
 use std::alloc::Global;
 
 /// A host that is opened was just opened on the image that its disk had: from there the laws of turns go on.
@@ -63,6 +65,21 @@ pub fn played_whole<D: Disk>(host: &mut Host<D>, edits: Edits) -> Result<Whole, 
 {
     let _before = host.sheet();
     let played = host.play_whole(edits);
+    let _after = host.sheet();
+    played
+}
+
+/// The same of events that others join, of a world that the host stands for: what joins them is answered by that.
+pub fn played_joining<D: Disk, J: Joins>(
+    host: &mut Host<D>,
+    events: Vec<Event>,
+    joins: &mut J,
+) -> Result<Joint, JoinFault>
+    ensures { (w : World) → IsHost host.old w
+        → (more : List Event) × JoinedMeets w (events.items ++ more) host.old result host.new }
+{
+    let _before = host.sheet();
+    let played = host.play_joining(events, joins);
     let _after = host.sheet();
     played
 }

@@ -1,6 +1,6 @@
 -- What all acts leave, and where an answer came from.
-use Rattle.std.proofs.Common.{◌≡◌, ◌⊎◌, inl, inr, ⊎_elim, ℕ, List, [], ◌∷◌, ◌++◌, refl, ap, sym, subst, append-nil, append_assoc, IsTrue, Some}
-use Rattle.disk_model.specs.Disk.{DiskView, Image}
+use Rattle.std.proofs.Common.{◌≡◌, ◌∙◌, ◌⊎◌, inl, inr, ⊎_elim, ℕ, List, [], ◌∷◌, ◌++◌, refl, ap, sym, subst, append-nil, append_assoc, IsTrue, Some, None}
+use Rattle.disk_model.specs.Disk.{DiskView, Image, InModel, Leaves}
 use Rattle.disk_model.specs.inside.Moments.{started}
 use Rattle.worksheet.specs.declared.op.Op.{Op}
 use Rattle.worksheet.specs.declared.op.Op.TheVariants as op
@@ -8,8 +8,9 @@ use Rattle.worksheet.specs.declared.field.Field.{Field}
 use Rattle.worksheet.specs.declared.field.Answer.{Answer}
 use Rattle.worksheet.specs.Contents.{Contents}
 use Rattle.worksheet.specs.Ops.{sheet_of}
-use Rattle.worksheet.specs.Checks.{Allowed, AllowedFrom}
+use Rattle.worksheet.specs.Checks.{Allowed, AllowedFrom, first_refusal}
 use Rattle.worksheet.proofs.Existence.{allowed_goes_on}
+use Rattle.worksheet.proofs.NextLaws.{same_next}
 use Rattle.recovery.specs.Sheets.{IsSheetImage}
 use Rattle.recovery.specs.Laws.{OneSheet}
 use Rattle.host_laws.specs.Turns.{Has, HostsInTurn}
@@ -52,6 +53,16 @@ from_front : (os done rest : List Op) → AllowedFrom os (done ++ rest) → Allo
 from_front os [] rest from = tt
 from_front os (o ∷ done) rest from = (from.0, from_front (os ++ o ∷ []) done rest from.1)
 
+-- ops that are allowed after others are so after any that make the same worksheet, and lead to the same one
+same_after : (a b more : List Op) → Allowed a → sheet_of a ≡ sheet_of b → AllowedFrom b more → AllowedFrom a more × (sheet_of (a ++ more) ≡ sheet_of (b ++ more))
+same_after a b [] allowed same from = (tt, ap sheet_of (append-nil a) ∙ (same ∙ sym (ap sheet_of (append-nil b))))
+same_after a b (o ∷ more) allowed same from =
+    let here : first_refusal (sheet_of a) o ≡ None = subst (λ (s : Contents). first_refusal s o ≡ None) (sym same) from.0 in
+    let rest = same_after (a ++ o ∷ []) (b ++ o ∷ []) more (allowed_goes_on a o allowed here) (same_next a b o allowed same here) from.1 in (
+      (here, rest.0),
+      ap sheet_of (sym (append_assoc a (o ∷ []) more)) ∙ (rest.1 ∙ ap sheet_of (append_assoc b (o ∷ []) more)),
+    )
+
 -- What a filing left.
 module _ (before : Image) (sheet : Contents) (image : IsSheetImage sheet before) (one : OneSheet) (mid : Image) (disk back : DiskView) (ops put : List Op) (f : Files before disk ops put back) where
   abbrev Filed : List Op → Type 0
@@ -63,44 +74,32 @@ module _ (before : Image) (sheet : Contents) (image : IsSheetImage sheet before)
   model : IsTrue f.now.keeps_model
   model = subst IsTrue (sym f.same.keeps_model) f.keeps_model
 
-  some_put : HasFirst ops put mid → Filed []
-  some_put among = (
-    sheet_of (ops ++ among.done),
-    record {
-      ops = ops;
-      is = is;
-      allowed = f.allowed;
-      taken = among.done;
-      lost = among.rest;
-      split = among.split;
-      withheld = among.done;
-      has = refl;
-      from = from_front ops among.done among.rest (subst (λ (l : List Op). AllowedFrom ops l) among.split f.from);
-      now = refl;
-    },
-    among.image,
-  )
+  some_put : (reported : List Op) → HasFirst ops put reported mid → Filed reported
+  some_put reported among =
+      let from = from_front ops among.done among.rest (subst (λ (l : List Op). AllowedFrom ops l) among.split f.from) in
+      let after = same_after f.found.ops ops among.done f.found.makes.allowed (sym f.found.makes.is) from in (
+        sheet_of (ops ++ among.done),
+        record {
+          ops = f.found.ops;
+          is = is ∙ f.found.makes.is;
+          allowed = f.found.makes.allowed;
+          taken = among.done;
+          lost = among.rest;
+          split = among.split;
+          withheld = among.withheld;
+          has = among.has;
+          from = after.0;
+          now = sym after.1;
+        },
+        among.image,
+      )
 
   pub was_filing : CrashedSince f.now.history back.history mid → Filed []
-  was_filing crashed = some_put (at_crash (HasFirst ops put) f.now.history back.history mid (f.moments model) crashed)
+  was_filing crashed = some_put [] (at_crash (HasFirst ops put []) f.now.history back.history mid (f.moments model) crashed)
 
-  pub all_filed : CrashedSince back.history back.history mid → Filed put
-  all_filed crashed = (
-    sheet_of (ops ++ put),
-    record {
-      ops = ops;
-      is = is;
-      allowed = f.allowed;
-      taken = put;
-      lost = [];
-      split = sym (append-nil put);
-      withheld = [];
-      has = sym (append-nil put);
-      from = f.from;
-      now = refl;
-    },
-    at_crash (IsSheetImage (sheet_of (ops ++ put))) back.history back.history mid (started (IsSheetImage (sheet_of (ops ++ put))) back.history (f.holds model)) crashed,
-  )
+  pub all_filed : (reported : List Op) → InModel f.now (Leaves (HasFirst ops put reported) back.history.now) → CrashedSince back.history back.history mid → Filed reported
+  all_filed reported holds crashed =
+      some_put reported (at_crash (HasFirst ops put reported) back.history back.history mid (started (HasFirst ops put reported) back.history (holds model)) crashed)
 
 -- What all acts left: from a worksheet, however it was made, to another.
 pub record AllDid (room : ℕ) (before : Image) (sheet : Contents) (acts : List Act) (after : Image) : Type 0 where
@@ -119,8 +118,8 @@ all_did hosts one room before sheet acts after image (filing {mid = mid} {put = 
     let left = was_filing before sheet image one mid disk back ops put files crashed in
     let rest = all_did hosts one room mid left.0 others after left.2 more in
     record { last = rest.last; did = by_filing left.1 left.2 rest.did; image = rest.image }
-all_did hosts one room before sheet acts after image (has_filed {mid = mid} {put = put} {acts = others} disk back ops files crashed more) =
-    let left = all_filed before sheet image one mid disk back ops put files crashed in
+all_did hosts one room before sheet acts after image (has_filed {mid = mid} {put = put} {reported = reported} {acts = others} disk back ops files holds crashed more) =
+    let left = all_filed before sheet image one mid disk back ops put files reported holds crashed in
     let rest = all_did hosts one room mid left.0 others after left.2 more in
     record { last = rest.last; did = by_filing left.1 left.2 rest.did; image = rest.image }
 

@@ -1,22 +1,24 @@
 -- A story is one of turns.
-use Rattle.std.proofs.Common.{◌≡◌, ◌≤◌, ⊎_elim, ℕ, List, [], ◌∷◌, ◌++◌, refl, ap, sym, ◌∙◌, subst, arith, length, length-append, IsTrue, Result}
+use Rattle.std.proofs.Common.{◌≡◌, ◌≤◌, ⊎_elim, ℕ, List, [], ◌∷◌, ◌++◌, refl, ap, sym, ◌∙◌, subst, arith, length, length-append, IsTrue, Result, Ok, Err, IfOk}
 use Rattle.std.specs.declared.alloc.Global.{Global}
 use Rattle.std.specs.declared.vec.Vec.{Vec}
 use Rattle.std.specs.List.{AllByRecursion}
-use Rattle.disk_model.specs.Disk.{DiskState, DiskView, History, Image, IsImage, IsRestarted, Leaves, LeavesOnly, Looks, SameDisk}
+use Rattle.disk_model.specs.Disk.{DiskState, DiskView, History, Image, IsImage, IsRestarted, Leaves, LeavesOnly, Looks, SameDisk, bytes_on}
 use Rattle.worksheet.specs.declared.op.Op.{Op}
 use Rattle.worksheet.specs.Ops.{sheet_of}
 use Rattle.worksheet.specs.Checks.{Allowed}
 use Rattle.recovery.specs.Sheets.{IsSheetImage}
 use Rattle.host_events.specs.declared.event.Event.{Event}
+use Rattle.host_events.specs.declared.outcome.HostFault.{HostFault}
 use Rattle.host_events.specs.declared.outcome.Outcome.{Outcome}
 use Rattle.session_engine.specs.declared.play.GroupFault.{GroupFault}
+use Rattle.session_engine.specs.World.{world_at_opening}
 use Rattle.session_engine.specs.Host.{HostView}
 use Rattle.host_laws.specs.Turns.{EachTurned, HostTurn, HostsInTurn, LeftByTurn, LeftInTurn}
-use Rattle.host_laws.specs.OneHost.{JustOpened}
-use Rattle.host_laws.specs.Together.{returned, whole_returned}
-use Rattle.host_laws.specs.Calls.{CallsLeavePrefixes, TookByCalls, no_call}
-use Rattle.theorem.specs.Story.{CrashedSince, Doing, HostLived, Story, PlaysGroup, nothing, a_step, a_group, a_whole, after_group, after_whole, ends, opening, host}
+use Rattle.host_laws.specs.OneHost.{JustOpened, StepMeets}
+use Rattle.host_laws.specs.Together.{joint_returned, returned, whole_returned}
+use Rattle.host_laws.specs.Calls.{CallsLeavePrefixes, TookByCalls, and_step, no_call}
+use Rattle.theorem.specs.Story.{CrashedSince, Doing, HostLived, LivedSince, OpenedFrom, Story, PlaysGroup, nothing, a_step, a_group, a_joined, a_whole, after_group, after_joined, after_whole, ends, opening, host}
 
 -- the state at a moment since then is one of those of which something holds
 found_in : (P : Image → Type 0) (first : DiskState) (past : List DiskState) → Leaves P first → (more later earlier : List DiskState) (s : DiskState)
@@ -39,7 +41,7 @@ keeps_still old new same model = subst IsTrue (sym same.keeps_model) model
 
 -- a host that lived was a turn
 module _ (calls : CallsLeavePrefixes) (room : ℕ) (before : Image) (after : Image) (found : List Op) (opened : HostView) (begun : JustOpened room before found opened)
-    (events : List Event) (reported : List Outcome) (old : HostView) (took : TookByCalls opened events reported old) (model : IsTrue old.store.disk.keeps_model) where
+    (events : List Event) (reported : List Outcome) (old : HostView) (took : TookByCalls (world_at_opening found room opened.store.end) opened events reported old) (model : IsTrue old.store.disk.keeps_model) where
   -- a crash within a group, and one after it
   group_left : (group : List Event) (answer : Result (Vec Outcome Global) GroupFault) (new : HostView) → PlaysGroup group old answer new
       → LeavesOnly (LeftByTurn room before found (record { events = events ++ group; reported = reported })) old.store.disk.history new.store.disk.history
@@ -50,7 +52,7 @@ module _ (calls : CallsLeavePrefixes) (room : ℕ) (before : Image) (after : Ima
       (λ meets. let left = (calls room before found opened begun events reported old took).3 group answer new meets in (left.0 model, left.1 (keeps_still old.store.disk new.store.disk meets.same model)))
       plays
 
-  by_doing : (t : HostTurn) (from to : DiskView) → Doing old events reported t from to → CrashedSince from.history to.history after → LeftByTurn room before found t after
+  by_doing : (t : HostTurn) (from to : DiskView) → Doing (world_at_opening found room opened.store.end) old (record { events = events; reported = reported }) t from to → CrashedSince from.history to.history after → LeftByTurn room before found t after
   by_doing t from to nothing crashed =
       at_crash (LeftByTurn room before found (record { events = events; reported = reported })) old.store.disk.history old.store.disk.history after
       ((calls room before found opened begun events reported old took).0 model) crashed
@@ -69,11 +71,17 @@ module _ (calls : CallsLeavePrefixes) (room : ℕ) (before : Image) (after : Ima
   by_doing t from to (after_whole edits answer new meets) crashed =
       at_crash (LeftByTurn room before found (record { events = events ++ edits; reported = reported ++ whole_returned answer })) new.store.disk.history new.store.disk.history after
       (((calls room before found opened begun events reported old took).4 edits answer new meets).1 (keeps_still old.store.disk new.store.disk meets.same model)) crashed
+  by_doing t from to (a_joined w run is all answer new meets) crashed =
+      at_crash (LeftByTurn room before found (record { events = events ++ all; reported = reported })) old.store.disk.history new.store.disk.history after
+      (((calls room before found opened begun events reported old took).5 w run is all answer new meets).0 model) crashed
+  by_doing t from to (after_joined w run is all answer new meets) crashed =
+      at_crash (LeftByTurn room before found (record { events = events ++ all; reported = reported ++ joint_returned answer })) new.store.disk.history new.store.disk.history after
+      (((calls room before found opened begun events reported old took).5 w run is all answer new meets).1 (keeps_still old.store.disk new.store.disk meets.same model)) crashed
 
 pub host_turned : CallsLeavePrefixes → (room : ℕ) (before : Image) (turn : HostTurn) (after : Image) → (h : HostLived room before turn after)
     → LeftByTurn room before h.found turn after
 host_turned calls room before turn after h =
-    by_doing calls room before after h.found h.opened h.begun h.events h.reported h.old h.took h.keeps_model turn h.from h.to h.doing h.crashed
+    by_doing calls room before after h.found h.opened h.begun h.was.events h.was.reported h.old h.took h.keeps_model turn h.from h.to h.doing h.crashed
 
 -- an opening leaves what was there
 pub opening_leaves : (before : Image) (disk later : DiskView) (mid : Image) → IsRestarted before disk → Looks disk.history later.history
@@ -94,20 +102,35 @@ pub left : HostsInTurn → CallsLeavePrefixes → (room : ℕ) (first : List Op)
 left hosts calls room first before after turns allowed image story =
     hosts room first before after turns allowed image (each_turned calls room before turns after story)
 
--- a host that was opened and made one call
-pub one_call : (room : ℕ) (before : Image) (found : List Op) (disk : DiskView) (opened : HostView) → JustOpened room before found opened → SameDisk disk opened.store.disk → IsTrue disk.keeps_model
-    → (turn : HostTurn) (from to : DiskView) → Doing opened [] [] turn from to → (after : Image) → CrashedSince from.history to.history after → HostLived room before turn after
-one_call room before found disk opened begun same model turn from to doing after crashed = record {
+-- a host that was opened, was given these events by its calls, and then did this
+pub lived : (room : ℕ) (before : Image) (found : List Op) (opened : HostView) → JustOpened room before found opened → (was : HostTurn) (old : HostView)
+    → TookByCalls (world_at_opening found room opened.store.end) opened was.events was.reported old → IsTrue old.store.disk.keeps_model
+    → (turn : HostTurn) (from to : DiskView) → Doing (world_at_opening found room opened.store.end) old was turn from to → (after : Image) → CrashedSince from.history to.history after → HostLived room before turn after
+lived room before found opened begun was old took model turn from to doing after crashed = record {
   found = found;
   opened = opened;
   begun = begun;
-  events = [];
-  reported = [];
-  old = opened;
-  took = no_call;
-  keeps_model = keeps_still disk opened.store.disk same model;
+  was = was;
+  old = old;
+  took = took;
+  keeps_model = model;
   from = from;
   to = to;
   doing = doing;
   crashed = crashed;
 }
+
+-- one that took one event
+pub by_step : (disk : DiskView) (opened new : HostView) → OpenedFrom disk opened → IsTrue disk.keeps_model → (e : Event) (answer : Result Outcome HostFault) → StepMeets e opened answer new
+    → SameDisk opened.store.disk new.store.disk → IfOk answer (λ o. LivedSince disk (record { events = e ∷ []; reported = o ∷ [] }) new.store.disk new.store.disk)
+by_step disk opened new begins model e (Ok o) meets same =
+    lived disk.room (bytes_on disk) begins.found opened begins.begun (record { events = e ∷ []; reported = o ∷ [] }) new (and_step no_call meets)
+    (keeps_still opened.store.disk new.store.disk same (keeps_still disk opened.store.disk begins.same model))
+    (record { events = e ∷ []; reported = o ∷ [] }) new.store.disk new.store.disk nothing
+by_step disk opened new begins model e (Err fault) meets same = tt
+
+-- one that did this right after it was opened
+pub at_first : (disk : DiskView) (opened : HostView) → (begins : OpenedFrom disk opened) → IsTrue disk.keeps_model → (turn : HostTurn) (from to : DiskView)
+    → Doing (world_at_opening begins.found disk.room opened.store.end) opened (record { events = []; reported = [] }) turn from to → LivedSince disk turn from to
+at_first disk opened begins model turn from to doing =
+    lived disk.room (bytes_on disk) begins.found opened begins.begun (record { events = []; reported = [] }) opened no_call (keeps_still disk opened.store.disk begins.same model) turn from to doing

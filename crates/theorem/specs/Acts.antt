@@ -22,36 +22,39 @@ pub data Act : Type 0 where
   hosted : List HostTurn → Act
   filed : (put reported : List Op) → Act
 
--- An image of the worksheet of these ops and of some of the first of more.
-pub record HasFirst (ops more : List Op) (i : Image) : Type 0 where
+-- An image of the worksheet of these ops and of some of the first of more, with all of those that were reported.
+pub record HasFirst (ops more reported : List Op) (i : Image) : Type 0 where
   pub done : List Op
   pub rest : List Op
   pub split : more ≡ done ++ rest
+  pub withheld : List Op
+  pub has : done ≡ reported ++ withheld
   pub image : IsSheetImage (sheet_of (ops ++ done)) i
 
--- A read of a disk, which keeps the model (A1), gives this image (A3), and it was opened to put answers after these ops; this is the disk then.
--- At every moment each image was of the worksheet after some of the first of them, and at the end each is of that after all.
+-- A read of a disk, which keeps the model (A1), gives this image (A3), and it was opened to put answers after these ops, each of them allowed
+-- after those before it; this is the disk then. At every moment each image was of the worksheet after some of the first of them. At the last one
+-- the disk may have failed.
 pub record Files (before : Image) (disk : DiskView) (ops more : List Op) (back : DiskView) : Type 0 where
   pub keeps_model : IsTrue disk.keeps_model
   pub read : bytes_on disk ≡ before
   pub found : IsSheetImage (sheet_of ops) before
-  pub allowed : Allowed ops
   pub from : AllowedFrom ops more
   pub now : DiskView
   pub same : SameDisk disk now
-  pub moments : InModel now (LeavesOnly (HasFirst ops more) now.history back.history)
-  pub holds : InModel now (Leaves (IsSheetImage (sheet_of (ops ++ more))) back.history.now)
+  pub moments : InModel now (LeavesOnly (HasFirst ops more []) now.history back.history)
 
 -- Invocations of the program on the same files, one after another: those that have hosts or make reads alone, and acceptances between them. In
--- one that is cut off (A5), what it reported by then isn't known.
+-- one that is cut off (A5), what it reported by then isn't known. At the end of one that wasn't, each image has all that it reported: that is
+-- all that it put, or all but one answer, at which the disk failed.
 pub data Uses (room : ℕ) : Image → List Act → Image → Type 0 where
   no_use : {at : Image} → Uses room at [] at
   turns_of : {before mid after : Image} {turns : List HostTurn} {acts : List Act} → Invocations room before turns mid → Uses room mid acts after
       → Uses room before (hosted turns ∷ acts) after
   filing : {before mid after : Image} {put : List Op} {acts : List Act} (disk back : DiskView) (ops : List Op) → (f : Files before disk ops put back)
       → CrashedSince f.now.history back.history mid → Uses room mid acts after → Uses room before (filed put [] ∷ acts) after
-  has_filed : {before mid after : Image} {put : List Op} {acts : List Act} (disk back : DiskView) (ops : List Op) → Files before disk ops put back
-      → CrashedSince back.history back.history mid → Uses room mid acts after → Uses room before (filed put put ∷ acts) after
+  has_filed : {before mid after : Image} {put reported : List Op} {acts : List Act} (disk back : DiskView) (ops : List Op) → (f : Files before disk ops put back)
+      → InModel f.now (Leaves (HasFirst ops put reported) back.history.now)
+      → CrashedSince back.history back.history mid → Uses room mid acts after → Uses room before (filed put reported ∷ acts) after
 
 -- Some of the first of these ops were put after a worksheet, all of them that were reported.
 pub record PutAfter (before : Contents) (put reported : List Op) (after : Contents) : Type 0 where

@@ -10,8 +10,8 @@ returns-clause-hosts g c = λ model room first before turns allowed image story.
 
 pub returns-clause-programs : goal.returns-clause-programs
 returns-clause-programs g c = λ model room first before turns allowed image story.
-    let it = invocations_left c.hosts_in_turn.ensures room first before _ turns allowed image story in
-    record { left = it; opens = c.open.ensures.exact model _ it.image }
+    let visited = invocations_left c.hosts_in_turn.ensures room first before _ turns allowed image story in
+    record { left = visited; opens = c.open.ensures.exact model _ visited.image }
 
 pub returns-clause-acts : goal.returns-clause-acts
 returns-clause-acts g c = λ model room first before acts allowed image story.
