@@ -290,6 +290,19 @@ class Cram(Forms):
         # None of its cases passed, so all are run again.
         self.assertEqual(self.verdicts("--rerun", "failed", path), ["ok"])
 
+    def test_nor_where_it_cannot_be_made_again(self) -> None:
+        folder = self.place("tmp")
+        os.mkdir(folder)
+        path = self.put("a.t", f"  $ cd / && rm -rf {folder} && kill -9 $$\n  $ touch {self.place('here')}\n")
+        found = self.objects_in(folder, path)
+        self.assertEqual([str(one["came"]).partition(": mktemp: ")[0] for one in found], ["? Ended", "? setting up again went wrong"])
+        self.assertFalse(os.path.exists(self.place("here")))
+
+    def objects_in(self, folder: str, path: str) -> List[Any]:
+        report = self.place("lines")
+        self.assertEqual(self.run_suite(path, "--json", report, TMPDIR=folder).status, 1)
+        return [json.loads(line) for line in self.read(report).splitlines()]
+
     def test_what_cannot_be_taken_down_is_said(self) -> None:
         path = self.put("a.t", "  $ rm () { echo no; }\n")
         ran = self.run_suite(path)

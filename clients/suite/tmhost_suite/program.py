@@ -33,6 +33,7 @@ The front matter of SUITE names the sessions, as `sessions: {py: [tmhost-python]
 {teardown}, {xfail REASON}, {may_fail REASON}, {skip REASON}, {timeout SECONDS}, {tags A B}, {flaky N}, {whole} and others
 (clients/suite/README.md).
 What came is kept in the worksheet SUITE.run while the suite runs, so --resume goes on where a run was cut off.
+In the interpreters TMHOST_SUITE_FOLDER is the folder of the suite.
 The program is the one that TMHOST names, or tmhost on PATH. The status is 0 where all is as wanted, 1 where it isn't, and 2
 where the words are refused.
 """

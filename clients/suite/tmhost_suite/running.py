@@ -79,6 +79,7 @@ class Chain:
         self.suite = kept.suite
         self.is_fresh = True  # its interpreter isn't started, or starts empty
         self.has_run = False
+        self.broken = ""  # why its interpreter hasn't what the tool sets up for its cases
 
     @property
     def order(self) -> List[int]:
@@ -140,6 +141,8 @@ class Chain:
     def _evaluate(self, at: int, case: Case) -> Result:
         began_anew = self.is_fresh and self.has_run
         self._begin_life(at)
+        if self.broken and not case.marks.is_teardown:
+            return Result(f"? setting up again went wrong: {self.broken}", 0.0, began_anew=began_anew, is_lost=True)
         began = time.monotonic()
         until = began + (case.marks.timeout or self.suite.timeout or self.plan.seconds)
         got: List[Shown] = []
@@ -189,6 +192,8 @@ class Chain:
 
     def _begin_life(self, at: int) -> None:
         """Where its interpreter starts empty and did so before, what sets up in front of this case is evaluated once more."""
+        if self.is_fresh:
+            self.broken = ""
         if self.is_fresh and self.has_run:
             places = self.suite.of(self.session)
             self._replay([one for one in places[: places.index(at)] if self.suite.cases[one].marks.is_setup])
@@ -218,11 +223,19 @@ class Chain:
                 for cell in self.kept.cells[at]:
                     scratch.set(cell.input)
                     with contextlib.suppress(Over, Refused):
-                        self._answer(scratch, until)
+                        self._look(case, self._answer(scratch, until))
         except Lost:
             pass  # the case that comes starts another one
         finally:
             scratch.remove()
+
+
+    def _look(self, case: Case, answer: Answer) -> None:
+        """Notes why what the tool sets up went wrong, where it did."""
+        shown = shown_of(answer, self.suite.rules_of(case))
+        result = Result(shown.text, 0.0, is_error=bool(answer.errors))
+        if case.marks.is_setup and verdict_of(case, result, is_good(self.suite, case, result)) == BROKEN:
+            self.broken = shown.text
 
 
 def run(kept: Kept, plan: Plan, tell: Callable[[int], None]) -> None:
