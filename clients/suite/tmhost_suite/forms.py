@@ -9,7 +9,6 @@ from tmhost_fences.troubles import Trouble
 
 from .cases import Case, Marks
 
-
 # The variable that has the folder of a suite, in its interpreters.
 FOLDER = "TMHOST_SUITE_FOLDER"
 

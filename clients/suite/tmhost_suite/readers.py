@@ -16,7 +16,7 @@ from tmhost_fences.fields import LINE_END, Group, groups, language_in, whole
 from tmhost_fences.troubles import Missing, Trouble
 
 from .cases import Case, Marks, Suite
-from .forms import FOLDER, GAP, GP, OCTAVE, PYTHON, SHELL, Session, own_case, lines_of, session_of, whole_case
+from .forms import FOLDER, GAP, GP, OCTAVE, PYTHON, SHELL, Session, lines_of, own_case, session_of, whole_case
 from .rules import ANY_LINES, BY_GLOB, BY_PATTERN, PICTURES, Rules
 from .text import Text
 from .transcripts import is_gap, is_octave, read_gap, read_octave
