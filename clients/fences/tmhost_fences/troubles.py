@@ -11,9 +11,13 @@ class Trouble(Exception):
         self.lines = lines
 
 
+class Missing(Trouble):
+    """A module isn't installed, so nothing is known of the text."""
+
+
 def needed(module: str, package: str) -> Any:
     """A module that isn't of Python's own library."""
     try:
         return importlib.import_module(module)
     except ImportError as error:
-        raise Trouble(f"there is no {module}: install Debian's package {package} (apt-get install {package})") from error
+        raise Missing(f"there is no {module}: install Debian's package {package} (apt-get install {package})") from error

@@ -1,8 +1,9 @@
-"""The suite of examples/suite, as its README says."""
+"""The suite of examples/suite, as its README says, and the first suite of tmhost-suite's own."""
 import json
 import os
 import shutil
 import subprocess
+import unittest
 from xml.etree import ElementTree
 
 from .support import LIMIT, PROGRAM, ROOT, Case
@@ -12,6 +13,16 @@ def command_in(name: str, key: str) -> str:
     """The last command behind this key of a nightly file."""
     with open(os.path.join(ROOT, "examples/suite", name), encoding="utf-8") as file:
         return [line.partition(key)[2].strip() for line in file if line.lstrip().startswith(key)][-1]
+
+
+PAGES = os.path.join(ROOT, ".ci", "commands")
+
+
+class First(Case):
+    @unittest.skipUnless(os.path.exists(PAGES) and shutil.which("git"), "this is no checkout, or there is no git")
+    def test_the_first_suite_is_as_its_page_shows(self) -> None:
+        ran = subprocess.run([PAGES, "clients/suite/README.md"], cwd=ROOT, env={**os.environ, "TMHOST": PROGRAM}, capture_output=True, text=True, timeout=LIMIT)
+        self.assertEqual((ran.returncode, " 0 not, 0 skipped\n" in ran.stdout), (0, True), ran.stdout + ran.stderr)
 
 
 class Example(Case):

@@ -1,17 +1,28 @@
-"""Suites that are written from random sessions pass, and one byte that is changed in one wanted answer is the failure of its case alone."""
+"""Suites that are written from random sessions pass, and one byte that is changed in one wanted answer is the failure of its case alone. The text form of
+a notebook with random prose has the notebook's cases."""
+import dataclasses
+import json
 import os
 import random
 import string
+import unittest
 from typing import Any, Dict, List, Tuple
 
 from .support import Case, case
 from .values import expected
+from tmhost_suite.cases import Case as SuiteCase
+from tmhost_suite.forms import PYTHON
 from tmhost_suite.kept import Result
+from tmhost_suite.readers import as_text, read_notebook
 from tmhost_suite.running import is_good, verdict_of
 from tmhost_suite.text import Text
 
 # Of each suite one run is of the suite as it is, and some are of one with a change; more changes are judged by what came.
 SUITES, RUNS, CHANGES = 6, 2, 100
+NOTEBOOKS = 300
+# Lines of prose, many of which begin or end what may hold a fence.
+PROSE = ["", "", "text", "# Title", "```", "````", "~~~", "```py", "~~~~py", "```answer", "```error", "2", "<!--", "-->", "<pre>", "</pre>", "<div>", "- item", "  more", "> quote"]
+PROSE += ["    code", "1. one", "---", "===", "\\", "[a]: <b", "<script>", "<![CDATA[", "]]>", "| a |"]
 # Those that make no pattern of a line, and no fence.
 BYTES = [letter for letter in string.printable[:95] if letter not in "`.()"] + ["\t"]
 LETTERS = "abxyz019 .#>`-*[]()\u00e9"
@@ -70,7 +81,7 @@ class Random(Case):
         """What the suite as it is now makes of what came."""
         suite = Text(self.path, self.read()).suite
         found = [(case, Result(str(one["came"]), 0.0)) for case, one in zip(suite.cases, came)]
-        return [verdict_of(case, result.got, is_good(suite, case, result), 1) for case, result in found]
+        return [verdict_of(case, result, is_good(suite, case, result)) for case, result in found]
 
     def test_they_pass_and_each_change_is_one_failure(self) -> None:
         for _ in range(SUITES):
@@ -83,3 +94,25 @@ class Random(Case):
                 self.assertEqual(self.judged(came), wanted, self.read())
                 if at < RUNS:
                     self.assertEqual(self.verdicts(self.path), wanted, self.read())
+
+
+class Prose(unittest.TestCase):
+    def cases(self, text: str) -> List[SuiteCase]:
+        return [dataclasses.replace(case, line=1) for case in Text("", text).cases]
+
+    def test_it_takes_no_case(self) -> None:
+        chosen = random.Random(self.id())
+        kept, left_out = 0, 0
+        for _ in range(NOTEBOOKS):
+            code = [{"cell_type": "code", "metadata": {}, "source": f"x = {at}", "outputs": []} for at in range(chosen.randint(0, 4))]
+            prose = ["\n".join(chosen.choices(PROSE, k=chosen.randint(1, 5))) for _ in range(len(code) + 1)]
+            cells: List[Any] = []
+            for at, text in enumerate(prose):
+                cells += [{"cell_type": "markdown", "metadata": {}, "source": text}, *code[at : at + 1]]
+            full, said = as_text(read_notebook("a.ipynb", json.dumps({"cells": cells}), PYTHON))
+            bare, _ = as_text(read_notebook("a.ipynb", json.dumps({"cells": code}), PYTHON))
+            self.assertEqual(self.cases(full), self.cases(bare), full)
+            for text in prose:
+                kept += bool(text.strip("\n")) and text.strip("\n") in full
+            left_out += len(said)
+        self.assertTrue(kept > NOTEBOOKS and left_out > NOTEBOOKS / 3, (kept, left_out))

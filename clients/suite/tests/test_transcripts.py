@@ -87,7 +87,7 @@ endfunction
 %! plot (1)
 """
 OCTAVE_WANTED = (
-    ["ok"] * 3 + ["ok"] * 4 + ["differs"]
+    ["ok"] * 2 + ["ok"] * 4 + ["differs"]
     + ["ok", "ok", "differs", "ok", "differs", "differs", "ok", "ok", "differs"]
     + ["ok", "xfail", "ok", "xfail", "ok", "skip", "skip", "ok", "ok"]
 )
@@ -100,12 +100,22 @@ class Reading(unittest.TestCase):
         self.assertEqual(found, [(3, ("l := [1, 2,", "  3];"), "[ 1, 2, 3 ]"), (6, ('Print("a\\n\\n#b\\n");',), "a")])
         self.assertEqual([case.marks.skip is not None for case in suite.cases], [False, True, False, False, False, False, True, False, True])
 
+    def test_remarks_are_left_out_of_the_text_form(self) -> None:
+        self.assertEqual(read_gap("a.tst", GAP_TEXT, GAP).left_out, ("4 lines of remarks",))
+        self.assertEqual(read_octave("a.tst", OCTAVE_TEXT, OCTAVE).left_out, ("1 line of remarks",))
+        self.assertEqual(read_octave("a.tst", "%!assert (1)\n", OCTAVE).left_out, ())
+
+    def test_what_sets_up_is_the_tools_own_and_names_no_folder(self) -> None:
+        for suite in (read_gap("/a/b.tst", GAP_TEXT, GAP), read_octave("/a/b.tst", OCTAVE_TEXT, OCTAVE)):
+            self.assertEqual([case.is_own for case in suite.cases], [True] + [False] * (len(suite.cases) - 1))
+            self.assertNotIn("/a", "\n".join(suite.cases[0].lines))
+
     def test_a_package_of_gap_is_loaded(self) -> None:
         self.assertIn('LoadPackage("laguna", false);;', read_gap("/usr/share/gap/pkg/laguna/tst/a.tst", GAP_TEXT, GAP).cases[0].lines)
 
     def test_of_octave_no_demonstration_is_read(self) -> None:
         suite = read_octave("a.m", OCTAVE_TEXT, OCTAVE)
-        self.assertEqual(len(suite.cases), len(OCTAVE_WANTED) - 1)
+        self.assertEqual(len(suite.cases), len(OCTAVE_WANTED))
         self.assertEqual([case.line for case in suite.cases][:5], [5, 7, 10, 11, 12])
 
 
@@ -120,10 +130,12 @@ class Running(Case):
     def test_gap(self) -> None:
         found = self.verdicts(self.put("a.tst", GAP_TEXT))
         # The remark that `Print` writes looks like one of the file, as to GAP's own `Test`.
-        self.assertEqual(found[1:], ["skip", "ok", "differs", "ok", "ok", "skip", "differs", "skip"], self.outcome.output)
+        self.assertEqual(found, ["skip", "ok", "differs", "ok", "ok", "skip", "differs", "skip"], self.outcome.output)
 
     @unittest.skipUnless(shutil.which("octave-cli"), "there is no octave-cli")
     def test_octave(self) -> None:
         self.assertEqual(self.verdicts(self.put("a.tst", OCTAVE_TEXT)), OCTAVE_WANTED, self.outcome.output)
         text = self.run_suite("--convert", self.place("a.tst")).output
-        self.assertEqual(self.verdicts(self.put("a.md", text)), OCTAVE_WANTED, text)
+        self.assertNotIn(self.folder, text)
+        # Its folder is put on Octave's path first.
+        self.assertEqual(self.verdicts(self.put("a.md", text)), ["ok", *OCTAVE_WANTED], text)

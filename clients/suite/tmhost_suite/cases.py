@@ -32,7 +32,8 @@ class Marks:
 @dataclasses.dataclass(frozen=True)
 class Case:
     """`line` is that of its fence, from 1. `wanted` and `errors` are None where the text has no answer behind it, and no errors apart. `before`
-    is the prose in front of it, of a suite of another form."""
+    is the prose in front of it, of a suite of another form; `is_own` says that it stands in no such suite, but does what the program of that form does
+    around it: it is no case that is counted."""
 
     session: str
     marks: Marks
@@ -42,6 +43,7 @@ class Case:
     wanted: Optional[str]
     errors: Optional[str] = None
     before: str = ""
+    is_own: bool = False
 
     @property
     def title(self) -> str:
@@ -63,8 +65,14 @@ class Suite:
     timeout: Optional[float]
     cases: Tuple[Case, ...]
     after: str = ""  # the prose behind the last case, of a suite of another form
+    left_out: Tuple[str, ...] = ()  # what such a suite has besides, which its text form doesn't get, in words
     doubts: Tuple[str, ...] = ()  # what may not be meant as it stands
     folder: Optional[str] = None  # in which its interpreters are started; None: where tmhost-suite was
+
+    @property
+    def count(self) -> int:
+        """How many cases it has that are counted."""
+        return sum(not case.is_own for case in self.cases)
 
     def rules_of(self, case: Case) -> Rules:
         own = case.marks

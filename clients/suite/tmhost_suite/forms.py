@@ -1,4 +1,5 @@
 """What the readers of other forms share: the interpreters of their files, and cases of one field."""
+import dataclasses
 import os
 import re
 from typing import NamedTuple, Optional, Tuple
@@ -7,6 +8,9 @@ from tmhost_fences.fields import whole
 from tmhost_fences.troubles import Trouble
 
 from .cases import Case, Marks
+
+# The variable that has the folder of a suite, in its interpreters.
+FOLDER = "TMHOST_SUITE_FOLDER"
 
 
 class Session(NamedTuple):
@@ -30,6 +34,15 @@ def session_of(words: str) -> Session:
     return Session(re.sub(r"\W", "_", name, flags=re.ASCII)[:20], found)
 
 
-def whole_case(session: str, source: str, wanted: Optional[str], line: int, marks: Marks) -> Case:
+def lines_of(count: int, what: str) -> str:
+    return f"{count:,} line{'s' if count != 1 else ''} of {what}"
+
+
+def whole_case(session: str, source: str, wanted: Optional[str], line: int, marks: Marks, before: str = "") -> Case:
     lines = source.rstrip("\n").split("\n")
-    return Case(session, marks, tuple(lines), tuple(whole(lines)), line, wanted)
+    return Case(session, marks, tuple(lines), tuple(whole(lines)), line, wanted, before=before)
+
+
+def own_case(session: str, source: str, wanted: Optional[str], line: int, marks: Marks) -> Case:
+    """What the program of another form does around its cases. With "" as what is wanted it goes wrong where it says something."""
+    return dataclasses.replace(whole_case(session, source, wanted, line, marks), is_own=True)

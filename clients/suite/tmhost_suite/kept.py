@@ -12,6 +12,7 @@ from tmhost import Cell, InUse, Refused, Worksheet, find_program
 from tmhost_fences.troubles import Trouble
 
 from .cases import Suite
+from .forms import FOLDER
 from .shown import Shown, shown_of
 
 # The session of notes: what a run is of, and what came of each case. It is never started.
@@ -89,19 +90,18 @@ def remove(path: str) -> None:
             os.unlink(name)
 
 
-def program_in(folder: Optional[str]) -> Optional[List[str]]:
-    """The words of the program where its interpreters are to be started in a folder, which is that of the program."""
-    if folder is None:
-        return None
+def program_of(suite: Suite) -> List[str]:
+    """The words of the program, from which the interpreters of a suite have the variable with its folder, and the folder in which they are started."""
     program = find_program()
-    return ["sh", "-c", 'cd -- "$0" && exec "$@"', folder, os.path.abspath(program) if os.sep in program else program]
+    words = ["env", f"{FOLDER}={os.path.dirname(os.path.abspath(suite.path))}", os.path.abspath(program) if os.sep in program else program]
+    return words if suite.folder is None else ["sh", "-c", 'cd -- "$0" && exec "$@"', suite.folder, *words]
 
 
-def opened(path: str, folder: Optional[str] = None) -> Worksheet:
+def opened(path: str, suite: Optional[Suite] = None) -> Worksheet:
     until = time.monotonic() + PATIENCE
     while True:
         try:
-            return Worksheet(os.path.abspath(path), program=program_in(folder))
+            return Worksheet(os.path.abspath(path), program=program_of(suite) if suite else None)
         except InUse:
             if time.monotonic() > until:
                 raise Trouble(f"{path} is in use by another program") from None
@@ -132,7 +132,7 @@ def begin(path: str, suite: Suite) -> Kept:
         opened(path).close()  # so that the worksheet of a run that goes on isn't taken away
     remove(path)
     make(path)
-    sheet = opened(path, suite.folder)
+    sheet = opened(path, suite)
     try:
         return fill(sheet, suite)
     except BaseException:
@@ -164,7 +164,7 @@ def resume(path: str, suite: Suite) -> Optional[Kept]:
     """The run that was broken off. None where there is none, or where it was broken off before a case began."""
     if not os.path.lexists(path):
         return None
-    sheet = opened(path, suite.folder)
+    sheet = opened(path, suite)
     try:
         return found_in(sheet, suite)
     except BaseException:
@@ -209,9 +209,12 @@ def found_in(sheet: Worksheet, suite: Suite) -> Optional[Kept]:
     return kept
 
 
-def last_failed(path: str) -> List[str]:
-    """The digests of the cases that weren't passed in the last run."""
+def last_failed(path: str) -> Optional[List[str]]:
+    """The digests of the cases that weren't passed in the last run. None where what the tool sets up for them went wrong, so that none was run."""
     if not os.path.lexists(path):
         return []
     with opened(path) as sheet:
-        return [str(note["digest"]) for note in notes_in(sheet)[1:] if note.get("verdict") in ("differs", "new", "xpass")]
+        notes = notes_in(sheet)[1:]
+    if any(note.get("verdict") == "broken" for note in notes):
+        return None
+    return [str(note["digest"]) for note in notes if note.get("verdict") in ("differs", "new", "xpass")]

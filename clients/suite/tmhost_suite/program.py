@@ -33,6 +33,7 @@ The front matter of SUITE names the sessions, as `sessions: {py: [tmhost-python]
 {teardown}, {xfail REASON}, {may_fail REASON}, {skip REASON}, {timeout SECONDS}, {tags A B}, {flaky N}, {whole} and others
 (clients/suite/README.md).
 What came is kept in the worksheet SUITE.run while the suite runs, so --resume goes on where a run was cut off.
+In the interpreters TMHOST_SUITE_FOLDER is the folder of the suite.
 The program is the one that TMHOST names, or tmhost on PATH. The status is 0 where all is as wanted, 1 where it isn't, and 2
 where the words are refused.
 """
@@ -84,11 +85,12 @@ def arguments(words: List[str]) -> argparse.Namespace:
 def chooser(given: argparse.Namespace, path: str) -> Callable[[int, Case], bool]:
     """Which cases of a suite are run."""
     tags = frozenset(re.split(r"[\s,]+", given.tags)) if given.tags else None
-    failed = frozenset(worksheets.last_failed(worksheets.sheet_path(path, given.runs))) if given.rerun else None
+    last = worksheets.last_failed(worksheets.sheet_path(path, given.runs)) if given.rerun else None
+    failed = None if last is None else frozenset(last)
 
     def is_chosen(at: int, case: Case) -> bool:
         names = (str(case.line), case.title)
-        return (
+        return not case.is_own and (
             (given.only is None or any(fnmatch.fnmatchcase(name, given.only) for name in names))
             and (tags is None or bool(tags & case.marks.tags))
             and (failed is None or case.digest in failed)
@@ -115,8 +117,8 @@ def read(path: str, words: Optional[str]) -> Read:
     return found.suite, found
 
 
-def converted(path: str, words: Optional[str]) -> str:
-    """The text form of a suite."""
+def converted(path: str, words: Optional[str]) -> Tuple[str, List[str]]:
+    """The text form of a suite, and what is to be said of what it doesn't have."""
     try:
         return as_text(read(path, words)[0])
     except Trouble as trouble:
@@ -147,7 +149,7 @@ class Runner:
         suites = [found for found in map(self._read, paths) if found is not None]
         for doubt in (doubt for suite, _ in suites for doubt in suite.doubts):
             self.teller.say(doubt)
-        self.teller.begin(sum(len(suite.cases) for suite, _ in suites))
+        self.teller.begin(sum(suite.count for suite, _ in suites))
         if self.given.random:
             self.teller.say(f"in the order of --random {self.seed}")
         began = time.monotonic()
@@ -203,13 +205,15 @@ class Runner:
         self.chosen += sum(chosen(at, case) for at, case in enumerate(suite.cases))
         found = worksheets.resume(path, suite) if self.given.resume else None
         if found is not None:
-            self.teller.say(f"{suite.path}: goes on behind {len(found.results)} of {len(suite.cases)} cases")
+            done = sum(not suite.cases[at].is_own for at in found.results)
+            self.teller.say(f"{suite.path}: goes on behind {done} of {suite.count} cases")
         kept = found or worksheets.begin(path, suite)
         with kept.sheet:
             self.sheets.append(kept.sheet)
             plan = Plan(chosen, self.given.seconds, self.slots, self.ended, self.is_broken_off, self.given.fail_fast, self.seed)
             run(kept, plan, lambda at: self.teller.one_more())
         told = told_of(suite, kept.results, chosen)
+        self.troubles += reports.broken_in(suite, kept.results)
         if self.given.accept:
             with self._told_of(suite.path):
                 self._accept(text, told)
@@ -283,7 +287,9 @@ def main(words: List[str]) -> int:
     given = arguments(words)
     try:
         if given.convert:
-            sys.stdout.write("".join(converted(path, given.words) for path in given.suites))
+            for text, said in [converted(path, given.words) for path in given.suites]:
+                sys.stdout.write(text)
+                sys.stderr.write("".join(f"tmhost-suite: {line}\n" for line in said))
             return 0
         return 0 if Runner(given, standard()).run() else 1
     except (Trouble, TmhostError) as trouble:

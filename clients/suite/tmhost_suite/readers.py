@@ -3,18 +3,20 @@ Octave are in transcripts.py. Each is read as cases of one session."""
 import ast
 import dataclasses
 import doctest
+import itertools
 import json
 import os
 import re
 import shlex
+import textwrap
 from typing import Any, Callable, Dict, Iterator, List, Optional, Tuple
 
 from tmhost_fences.blocks import LINE, cut
 from tmhost_fences.fields import LINE_END, Group, groups, language_in, whole
-from tmhost_fences.troubles import Trouble
+from tmhost_fences.troubles import Missing, Trouble
 
 from .cases import Case, Marks, Suite
-from .forms import GAP, GP, OCTAVE, PYTHON, SHELL, Session, session_of, whole_case
+from .forms import FOLDER, GAP, GP, OCTAVE, PYTHON, SHELL, Session, lines_of, own_case, session_of, whole_case
 from .rules import ANY_LINES, BY_GLOB, BY_PATTERN, PICTURES, Rules
 from .text import Text
 from .transcripts import is_gap, is_octave, read_gap, read_octave
@@ -53,23 +55,37 @@ def docstrings(text: str) -> Iterator[Tuple[str, int]]:
                 yield found, node.body[0].lineno - 1
 
 
-def examples(session: str, text: str, first: int) -> Iterator[Case]:
-    for example in doctest.DocTestParser().get_examples(text):
-        skip = "by # doctest: +SKIP" if example.options.get(doctest.SKIP) else None
-        marks = Marks(skip=skip, any_spaces=example.options.get(doctest.NORMALIZE_WHITESPACE, False))
-        yield whole_case(session, example.source, wanted_of(example), first + example.lineno + 1, marks)
+def examples(session: str, text: str, first: int, before: str) -> Tuple[List[Case], str]:
+    """The examples of a text behind the prose `before`, and the prose behind the last one."""
+    cases: List[Case] = []
+    prose = [before]
+    for part in doctest.DocTestParser().parse(text):
+        if isinstance(part, str):
+            prose.append(textwrap.dedent(part).strip())
+            continue
+        skip = "by # doctest: +SKIP" if part.options.get(doctest.SKIP) else None
+        marks = Marks(skip=skip, any_spaces=part.options.get(doctest.NORMALIZE_WHITESPACE, False))
+        cases.append(whole_case(session, part.source, wanted_of(part), first + part.lineno + 1, marks, paragraphs(prose)))
+        prose = []
+    return cases, paragraphs(prose)
+
+
+def paragraphs(parts: List[str]) -> str:
+    return "\n\n".join(part for part in parts if part)
 
 
 def read_doctest(path: str, text: str, session: Session) -> Suite:
     cases: List[Case] = []
+    texts, after = [(text, 0)], ""
     if path.endswith(".py"):
-        run = f"import runpy; globals().update(runpy.run_path({os.path.abspath(path)!r}, run_name='__doctest__'))"
-        cases.append(whole_case(session.name, run, None, 1, Marks(is_setup=True)))
-        for found, first in sorted(docstrings(text), key=lambda pair: pair[1]):
-            cases += examples(session.name, found, first)
-    else:
-        cases += examples(session.name, text, 0)
-    return Suite(path, dict([session]), Rules(), None, tuple(cases))
+        name = f"__import__('os').environ[{FOLDER!r}] + {os.sep + os.path.basename(path)!r}"
+        run = f"import runpy; globals().update(runpy.run_path({name}, run_name='__doctest__'))"
+        cases.append(own_case(session.name, run, None, 1, Marks(is_setup=True)))
+        texts = sorted(docstrings(text), key=lambda pair: pair[1])
+    for found, first in texts:
+        more, after = examples(session.name, found, first, after)
+        cases += more
+    return Suite(path, dict([session]), Rules(), None, tuple(cases), after)
 
 
 # ---- cram
@@ -96,20 +112,20 @@ def cram_line(line: str) -> str:
     return line
 
 
-def cram_case(session: str, code: List[str], wanted: List[str], line: int) -> Case:
+def cram_case(session: str, code: List[str], wanted: List[str], line: int, before: str) -> Case:
     """A command, whose output goes to a file, since cram's is no terminal, with its status where that isn't 0, as cram tells it."""
     field = Group(0, LINE_END.join(["tmhost_skips || {", "{", *code, f"}} >{CRAM_OUTPUT} 2>&1", "tmhost_tells $?", "}"]))
-    return Case(session, Marks(skip_if=f"^{CRAM_SKIPS}$"), tuple(code), (field,), line, "\n".join(wanted).rstrip("\n"))
+    return Case(session, Marks(skip_if=f"^{CRAM_SKIPS}$"), tuple(code), (field,), line, "\n".join(wanted).rstrip("\n"), before=before)
 
 
 def cram_surroundings(session: str, path: str, last: int) -> Tuple[Case, Case]:
     """What cram does for each file: a folder of its own, and the variables that its manual names. They are taken away at the end. One that
     exits with 80 is skipped from there on."""
-    folder, name = os.path.split(os.path.abspath(path))
+    name = os.path.basename(path)
     begin = [
         f"CRAMTMP=$(mktemp -d -t cramtests-XXXXXX) && mkdir \"$CRAMTMP\"/{shlex.quote(name)} && cd \"$CRAMTMP\"/{shlex.quote(name)}",
         "export CRAMTMP TMPDIR=\"$CRAMTMP\" LANG=C LC_ALL=C LANGUAGE=C TZ=GMT CDPATH= COLUMNS=80 GREP_OPTIONS= TESTSHELL=/bin/bash",
-        f"export TESTDIR={shlex.quote(folder)} TESTFILE={shlex.quote(name)}",
+        f'export TESTDIR="${FOLDER}" TESTFILE={shlex.quote(name)}',
         f"tmhost_skips () {{ [ -n \"$tmhost_skip\" ] && echo '{CRAM_SKIPS}'; }}",
         f"tmhost_tells () {{ cat {CRAM_OUTPUT}; [ -z \"$(tail -c1 {CRAM_OUTPUT} | tr '\\0' x)\" ] || echo '{NO_END}'; [ $1 = 0 ] || echo \"[$1]\"; }}",
         # An expansion that fails ends the line of an interactive shell, and not the shell.
@@ -117,8 +133,8 @@ def cram_surroundings(session: str, path: str, last: int) -> Tuple[Case, Case]:
     ]
     end = "cd / && rm -rf \"$CRAMTMP\""
     return (
-        whole_case(session, "\n".join(begin), None, 1, Marks(is_setup=True)),
-        whole_case(session, end, None, last, Marks(is_teardown=True)),
+        own_case(session, "\n".join(begin), "", 1, Marks(is_setup=True)),
+        own_case(session, end, "", last, Marks(is_teardown=True)),
     )
 
 
@@ -127,6 +143,7 @@ def read_cram(path: str, text: str, session: Session) -> Suite:
     cases: List[Case] = [first]
     code: List[str] = []
     wanted: List[str] = []
+    prose: List[str] = []
     begin = 0
     for number, line in enumerate([*text.split("\n"), ""], 1):
         command, more = CRAM_CODE.fullmatch(line), CRAM_MORE.fullmatch(line)
@@ -136,9 +153,12 @@ def read_cram(path: str, text: str, session: Session) -> Suite:
             wanted.append(cram_line(line))
         else:
             if code:
-                cases.append(cram_case(session.name, code, wanted, begin))
+                cases.append(cram_case(session.name, code, wanted, begin, "\n".join(prose).strip("\n")))
+                prose = []
             code, wanted, begin = ([command[1]], [], number) if command else ([], [], number)
-    cases.append(last)
+            if not command:
+                prose.append(line)
+    cases.append(dataclasses.replace(last, before="\n".join(prose).strip("\n")))
     return Suite(path, dict([session]), Rules(), None, tuple(cases))
 
 
@@ -185,7 +205,9 @@ def read_notebook(path: str, text: str, session: Session) -> Suite:
         raise Trouble("it is no notebook of Jupyter") from None
     if language != "python" and session == PYTHON:
         raise Trouble(f"the notebook is in {language}: --words names the interpreter of its cells")
-    return Suite(path, dict([session]), Rules(without=frozenset([PICTURES])), None, tuple(cases), after, folder=os.path.dirname(os.path.abspath(path)))
+    raw = sum(text_in(cell.get("source")).count("\n") + 1 for cell in notebook["cells"] if cell.get("cell_type") == "raw")
+    left_out = (f"{lines_of(raw, 'raw cells')}, which are no Markdown",) if raw else ()
+    return Suite(path, dict([session]), Rules(without=frozenset([PICTURES])), None, tuple(cases), after, left_out, folder=os.path.dirname(os.path.abspath(path)))
 
 
 def notebook_case(session: str, cell: Dict[str, Any], language: str, number: int, before: str) -> Optional[Case]:
@@ -312,25 +334,43 @@ def case_text(case: Case, language: str) -> List[str]:
     return [*lines, ""]
 
 
-def as_text(suite: Suite) -> str:
-    """The text form of a suite of another form, with its prose where that takes nothing from its cases."""
+def as_text(suite: Suite) -> Tuple[str, List[str]]:
+    """The text form of a suite of another form, with its prose where that takes nothing from its cases, and what is to be said of what is left out."""
     rules = [*(["folder: ."] if suite.folder else []), *(["without: pictures"] if PICTURES in suite.rules.without else []), *(["spaces: any"] if suite.rules.any_spaces else []), *([f"columns: {suite.rules.columns}"] if suite.rules.columns else [])]
     front = ["---", "sessions:", *(f"  {name}: {json.dumps(list(words))}" for name, words in suite.sessions.items()), *rules, "---", ""]
     cases: List[List[str]] = [case_text(case, language_in(suite.sessions[case.session])) for case in suite.cases]
-    bare = "\n".join([*front, *(line for case in cases for line in case)])
     prose = [case.before for case in suite.cases] + [suite.after]
-    if not any(prose):
-        return bare
+    said = [f"{suite.path}: {what}, left out" for what in suite.left_out]
+    if not takes_no_case(front, prose, cases):
+        # A fence of a case begins and ends at the top of the text, so what stands beyond the cases next to a prose doesn't hang on that.
+        for at, before in enumerate(prose):
+            first = max(0, at - 1)
+            if not takes_no_case(front, ["", before, ""] if at else [before, ""], cases[first : at + 1]):
+                place = f"{suite.path}:{suite.cases[at].line}: in front of this case" if at < len(cases) else f"{suite.path}: behind the last case"
+                said.append(f"{place} {lines_of(before.count(chr(10)) + 1, 'prose')}, left out, since with it the text would have other cases")
+                prose[at] = ""
+    return joined_text(front, prose, cases), said
+
+
+def joined_text(front: List[str], prose: List[str], cases: List[List[str]]) -> str:
+    """The text of these cases, each behind its prose; the last prose stands behind them all."""
     lines = list(front)
-    for before, case in zip(prose, cases + [[]]):
+    for before, case in itertools.zip_longest(prose, cases, fillvalue=""):
         lines += [before, "", *case] if before else case
-    full = "\n".join(lines)
-    return full if has_the_same_cases(full, bare) else bare
+    return "\n".join(lines)
+
+
+def takes_no_case(front: List[str], prose: List[str], cases: List[List[str]]) -> bool:
+    """Whether the text of these cases has the same ones with this prose as without."""
+    return not any(prose) or has_the_same_cases(joined_text(front, prose, cases), joined_text(front, [], cases))
 
 
 def has_the_same_cases(text: str, other: str) -> bool:
+    """Raises Missing, where nothing can be known of that."""
     try:
         one, two = (Text("", text).cases for text in (text, other))
+    except Missing:
+        raise
     except Trouble:
         return False
     return [dataclasses.replace(case, line=1) for case in one] == [dataclasses.replace(case, line=1) for case in two]

@@ -12,7 +12,7 @@ from .cases import Case, Suite
 from .diffs import diff
 from .kept import Result
 from .rules import wrong_patterns
-from .running import WRONG
+from .running import BROKEN, WRONG
 
 NO_XML = re.compile("[^\t\n\r -\ud7ff\ue000-\ufffd\U00010000-\U0010ffff]")
 
@@ -113,10 +113,21 @@ def of_path(all_told: List[Told], path: str) -> List[Told]:
 def told_of(suite: Suite, results: "dict[int, Result]", is_chosen: Callable[[int, Case], bool]) -> List[Told]:
     told: List[Told] = []
     for at, case in enumerate(suite.cases):
+        if case.is_own:
+            continue
         result = results.get(at)
         verdict = "skip" if case.marks.skip is not None and is_chosen(at, case) else result.verdict if result else "out"
         told.append(Told(suite, case, verdict, result))
     return told
+
+
+def broken_in(suite: Suite, results: "dict[int, Result]") -> Iterator[Trouble]:
+    """What went wrong of that which the tool does around the cases of another form."""
+    for at, case in enumerate(suite.cases):
+        if case.is_own and at in results and results[at].verdict == BROKEN:
+            what = "taking it down" if case.marks.is_teardown else "setting it up"
+            left = "" if case.marks.is_teardown else ", so none of its cases was run"
+            yield Trouble(suite.path, f"{what} went wrong{left}: {readable(results[at].got)}")
 
 
 def tap_text(text: str) -> str:

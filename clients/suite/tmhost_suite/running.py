@@ -17,6 +17,7 @@ from .shown import Shown, shown_of
 GRACE = 2.0  # seconds for an interpreter that was interrupted to say so
 PASSED = ("ok", "flaky", "xfail", "skip", "setup")
 WRONG = ("differs", "new", "xpass")
+BROKEN = "broken"  # of what is the tool's own, and went wrong
 
 
 @dataclasses.dataclass
@@ -33,13 +34,15 @@ class Plan:
     seed: Optional[int] = None
 
 
-def verdict_of(case: Case, got: str, is_good: bool, tries: int) -> str:
-    if is_skipped(case, got):
+def verdict_of(case: Case, result: Result, is_good: bool) -> str:
+    if case.is_own:
+        return BROKEN if result.is_error or result.is_lost or case.wanted is not None and not is_good else "setup"
+    if is_skipped(case, result.got):
         return "skip"
     if case.marks.xfail is not None:
         return "xpass" if is_good else "xfail"
     if is_good:
-        return "flaky" if tries > 1 else "ok"
+        return "flaky" if result.tries > 1 else "ok"
     if case.marks.may_fail is not None:
         return "xfail"
     if case.wanted is None and case.errors is None:
@@ -61,7 +64,7 @@ def judge_again(kept: Kept) -> None:
     """What came before a run was broken off is compared with what is wanted now."""
     for at, result in kept.results.items():
         case = kept.suite.cases[at]
-        result.verdict = verdict_of(case, result.got, is_good(kept.suite, case, result), result.tries)
+        result.verdict = verdict_of(case, result, is_good(kept.suite, case, result))
 
 
 class Over(Exception):
@@ -76,6 +79,7 @@ class Chain:
         self.suite = kept.suite
         self.is_fresh = True  # its interpreter isn't started, or starts empty
         self.has_run = False
+        self.broken = ""  # why its interpreter hasn't what the tool sets up for its cases
 
     @property
     def order(self) -> List[int]:
@@ -93,13 +97,20 @@ class Chain:
         marks = self.suite.cases[at].marks
         return marks.is_setup or marks.is_teardown
 
+    def _is_broken(self, own: List[int]) -> bool:
+        """Whether what the tool sets up, at these places, went wrong."""
+        return any(at in self.kept.results and self.kept.results[at].verdict == BROKEN for at in own)
+
     def run(self) -> None:
         order = self.order
         done = [at for at in order if at in self.kept.results]
+        own = [at for at in order if self.suite.cases[at].is_own and self.suite.cases[at].marks.is_setup]
         for at in order:
             case = self.suite.cases[at]
             if at in self.kept.results or case.marks.skip is not None or not (self.plan.chosen(at, case) or self._is_fixed(at)):
                 continue
+            if self._is_broken(own) and not case.marks.is_teardown:
+                continue  # it would be evaluated elsewhere than in what the program of its form makes for it
             with self.plan.slots:
                 if self.plan.ended.is_set():
                     return
@@ -107,7 +118,8 @@ class Chain:
                     self._replay_done(done)
                     done = []
                 self._judge(at, case)
-            self.tell(at)
+            if not case.is_own:
+                self.tell(at)
 
     def _judge(self, at: int, case: Case) -> None:
         tries, good, result = 0, False, Result("", 0.0)
@@ -117,10 +129,11 @@ class Chain:
             good = is_good(self.suite, case, result)
         if self.plan.is_broken_off.is_set():
             return
-        result.tries, result.verdict = tries, verdict_of(case, result.got, good, tries)
+        result.tries = tries
+        result.verdict = verdict_of(case, result, good)
         self.kept.note(at, result)
         self.kept.results[at] = result
-        if self.plan.fails_fast and result.verdict in WRONG:
+        if self.plan.fails_fast and result.verdict in (*WRONG, BROKEN):
             self.plan.ended.set()
 
     # ---- one case
@@ -128,6 +141,8 @@ class Chain:
     def _evaluate(self, at: int, case: Case) -> Result:
         began_anew = self.is_fresh and self.has_run
         self._begin_life(at)
+        if self.broken and not case.marks.is_teardown:
+            return Result(f"? setting up again went wrong: {self.broken}", 0.0, began_anew=began_anew, is_lost=True)
         began = time.monotonic()
         until = began + (case.marks.timeout or self.suite.timeout or self.plan.seconds)
         got: List[Shown] = []
@@ -177,6 +192,8 @@ class Chain:
 
     def _begin_life(self, at: int) -> None:
         """Where its interpreter starts empty and did so before, what sets up in front of this case is evaluated once more."""
+        if self.is_fresh:
+            self.broken = ""
         if self.is_fresh and self.has_run:
             places = self.suite.of(self.session)
             self._replay([one for one in places[: places.index(at)] if self.suite.cases[one].marks.is_setup])
@@ -206,11 +223,19 @@ class Chain:
                 for cell in self.kept.cells[at]:
                     scratch.set(cell.input)
                     with contextlib.suppress(Over, Refused):
-                        self._answer(scratch, until)
+                        self._look(case, self._answer(scratch, until))
         except Lost:
             pass  # the case that comes starts another one
         finally:
             scratch.remove()
+
+
+    def _look(self, case: Case, answer: Answer) -> None:
+        """Notes why what the tool sets up went wrong, where it did."""
+        shown = shown_of(answer, self.suite.rules_of(case))
+        result = Result(shown.text, 0.0, is_error=bool(answer.errors))
+        if case.marks.is_setup and verdict_of(case, result, is_good(self.suite, case, result)) == BROKEN:
+            self.broken = shown.text
 
 
 def run(kept: Kept, plan: Plan, tell: Callable[[int], None]) -> None:

@@ -155,7 +155,7 @@ class Text:
         self.doubts: List[str] = doubts_in(front, path)
         self.spans: List[Dict[str, Span]] = []
         self._read(contents, blocks_of(contents, first))
-        self.suite = Suite(path, self.sessions, rules_in(front), timeout_in(front), tuple(self.cases), "", tuple(self.doubts), folder_in(front, path))
+        self.suite = Suite(path, self.sessions, rules_in(front), timeout_in(front), tuple(self.cases), doubts=tuple(self.doubts), folder=folder_in(front, path))
 
     def _read(self, lines: List[str], blocks: List[Block]) -> None:
         at = 0

@@ -4,7 +4,7 @@ import re
 from typing import Iterator, List, Optional, Tuple
 
 from .cases import Case, Marks, Suite
-from .forms import Session, whole_case
+from .forms import FOLDER, Session, lines_of, own_case, whole_case
 from .rules import ANY_LINES, BY_PATTERN, Rules
 
 GAP_PROMPT, GAP_MORE, GAP_CHOICE, GAP_END = "gap> ", "> ", "#@if", "#@fi"
@@ -12,10 +12,15 @@ GAP_PACKAGE = re.compile(r"/pkg/([\w-]+)/")
 GAP_BORDER = re.compile(r"\s*(?:START|STOP)_TEST\b.*")
 
 OCTAVE_BLOCK = re.compile(r"^%!([a-z]+)(.*(?:\n%!(?:[ \t].*)?$)*)", re.MULTILINE)
+OCTAVE_REMARK = re.compile(r"^[ \t]*(?:#|%(?!!))", re.MULTILINE)
 OCTAVE_MORE = re.compile(r"\n%!")
 OCTAVE_BUG = re.compile(r"\s*<(\*?)\d+>")
 OCTAVE_MESSAGE = re.compile(r"\s*(?:id=([\w:-]+)|<((?:\\.|[^>\\])*)>)?", re.DOTALL)
 PASSED, SKIPPED = "passed", "skipped: it wants"
+
+
+def remarks(count: int) -> Tuple[str, ...]:
+    return (lines_of(count, "remarks"),) if count else ()
 
 
 # ---- GAP
@@ -33,6 +38,15 @@ def counted(text: str) -> Iterator[Tuple[int, str]]:
         is_remark = is_remark and line.startswith("#") and not line.startswith("#@") or not line and after.startswith("#")
         if not is_remark:
             yield number, line
+
+
+def gap_remarks(text: str) -> int:
+    """How many lines are remarks, or stand in front of the first prompt, but for empty ones."""
+    lines = text.split("\n")
+    found = list(counted(text))
+    first = next((number for number, line in found if line.startswith(GAP_PROMPT)), len(lines) + 1)
+    read = {number for number, _ in found if number >= first}
+    return sum(bool(line.strip()) and number not in read for number, line in enumerate(lines, 1))
 
 
 def gap_groups(text: str) -> Iterator[Tuple[int, List[str], List[str], bool]]:
@@ -64,10 +78,10 @@ def read_gap(path: str, text: str, session: Session) -> Suite:
     that loaded."""
     package = GAP_PACKAGE.search(path)
     begin = ["SizeScreen([80, 24]);;", *([f'LoadPackage("{package[1]}", false);;'] if package else [])]
-    cases = [whole_case(session.name, "\n".join(begin), None, 1, Marks(is_setup=True))]
+    cases = [own_case(session.name, "\n".join(begin), None, 1, Marks(is_setup=True))]
     for line, code, wanted, depends in gap_groups(text):
         cases.append(whole_case(session.name, "\n".join(code), "\n".join(wanted).rstrip("\n"), line, Marks(skip=gap_skip(code, depends))))
-    return Suite(path, dict([session]), Rules(any_spaces=True), None, tuple(cases))
+    return Suite(path, dict([session]), Rules(any_spaces=True), None, tuple(cases), left_out=remarks(gap_remarks(text)))
 
 
 # ---- Octave
@@ -145,7 +159,7 @@ def read_octave(path: str, text: str, session: Session) -> Suite:
     cases: List[Case] = []
     shared = ""
     if path.endswith(".tst"):
-        cases.append(whole_case(session.name, f"addpath ('{os.path.dirname(os.path.abspath(path))}');", None, 1, Marks(is_setup=True)))
+        cases.append(own_case(session.name, f"addpath (getenv ('{FOLDER}'));", None, 1, Marks(is_setup=True)))
     for kind, code, line in octave_blocks(text):
         if kind == "shared":
             shared, begin = declared(code)
@@ -154,4 +168,4 @@ def read_octave(path: str, text: str, session: Session) -> Suite:
             found = octave_case(session.name, kind, code, shared, line)
         if found:
             cases.append(found)
-    return Suite(path, dict([session]), Rules(), None, tuple(cases))
+    return Suite(path, dict([session]), Rules(), None, tuple(cases), left_out=remarks(len(OCTAVE_REMARK.findall(text))))
