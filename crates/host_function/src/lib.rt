@@ -1,0 +1,20 @@
+//! What the host does, as a function that computes (docs/dev/HOST.md, "What an event does"). Each function does nothing: its contract is a law, that
+//! the relation which the contracts of `session_engine` cite is that function, up to the choice which is left to a host.
+#![tactic(auto)]
+
+ghost use Rattle.host_function.specs.Function.{GivesIsAFunction, RunsIsAFunction};
+
+/// An event has an outcome and leads to a world by the relation exactly where the function gives these, for memory that is refused to it or
+/// for memory that isn't.
+pub fn an_event_gives_what_is_computed()
+    ensures { GivesIsAFunction }
+{
+    plugin_core::streams_read_one_way();
+}
+
+/// The same of a list of events, for one such choice each.
+pub fn events_give_what_is_computed()
+    ensures { RunsIsAFunction }
+{
+    plugin_core::streams_read_one_way();
+}
