@@ -1,0 +1,160 @@
+"""Events and what a host told of them: as lines for `played_events`, and as terms for the kit."""
+
+from __future__ import annotations
+
+from collections.abc import Callable, Iterator
+
+from event_lists import ChildEvent, Event, Given
+
+COMMANDS = {
+    "session": "Session", "new": "New", "set": "Set", "remove": "Remove", "move": "Move", "clear": "Clear", "eval": "Eval",
+    "complete": "Complete", "complete-text": "CompleteText", "stop": "Stop", "checkpoint": "Checkpoint",
+}  # fmt: skip
+CHILDREN = {
+    "start-refused": "StartRefused", "piece": "Piece", "end": "End", "read-fault": "ReadFault", "send-fault": "SendFault",
+    "stalled": "Stalled", "stop-fault": "StopFault",
+}  # fmt: skip
+
+
+# Lines.
+
+
+def word_of(given: Given) -> str:
+    if isinstance(given, int):
+        return str(given)
+    return "x" + given.hex() if isinstance(given, bytes) else " ".join(map(word_of, given))
+
+
+def line_of(event: Event | ChildEvent) -> str:
+    if isinstance(event, Event):
+        return " ".join([event.word, *map(word_of, event.given)])
+    piece = [word_of(event.piece)] if event.word == "piece" else []
+    return " ".join(["child", word_of(event.name), str(event.life), event.word, *piece])
+
+
+# Terms.
+
+
+def escaped(byte: int) -> str:
+    """A byte as the character with its number, in a text of the kit."""
+    if byte in b'"\\':
+        return "\\" + chr(byte)
+    return chr(byte) if 32 <= byte < 127 else f"\\u{{{byte:x}}}"
+
+
+def bytes_term(text: bytes) -> str:
+    return '(codes "' + "".join(map(escaped, text)) + '")' if text else "[]"
+
+
+def list_term(terms: list[str]) -> str:
+    return "(" + " ∷ ".join([*terms, "[]"]) + ")" if terms else "[]"
+
+
+def bool_term(word: str | int) -> str:
+    return "true" if word in ("true", 1) else "false"
+
+
+def command_term(event: Event) -> str:
+    terms = [str(it) if isinstance(it, int) else bytes_term(it) if isinstance(it, bytes) else list_term([*map(bytes_term, it)]) for it in event.given]
+    if event.word == "session":
+        terms[1] = bool_term(event.given[1])
+    return f"(asked (command.{' '.join([COMMANDS[event.word], *terms])}))"
+
+
+def event_term(event: Event | ChildEvent) -> str:
+    if isinstance(event, Event):
+        return command_term(event)
+    happened = f"child.{CHILDREN[event.word]}"
+    if event.word == "piece":
+        happened = f"({happened} {bytes_term(event.piece)})"
+    return f"(came {bytes_term(event.name)} {event.life} {happened})"
+
+
+# What was told.
+
+
+class Told:
+    """The words of a line that `played_events` told, as terms."""
+
+    def __init__(self, line: str) -> None:
+        self.words: Iterator[str] = iter(line.split())
+
+    def word(self) -> str:
+        return next(self.words)
+
+    def bytes(self) -> str:
+        return bytes_term(bytes.fromhex(self.word()[1:]))
+
+    def list(self, one: Callable[[], str]) -> str:
+        return list_term([one() for _ in range(int(self.word()))])
+
+    def maybe(self, word: str, some: Callable[[str], str]) -> str:
+        """None for `-`, else what `some` makes of the word."""
+        return "None" if word == "-" else f"(Some {some(word)})"
+
+    def items(self) -> str:
+        """What stands in a block: each with what follows it."""
+        parts = [self.part() for _ in range(int(self.word()))]
+        return "".join(f"({part} " for part in parts) + "end" + ")" * len(parts)
+
+    def part(self) -> str:
+        return f"text {self.bytes()}" if self.word() == "text" else f"block {bool_term(self.word())} {self.bytes()} {self.items()}"
+
+    def tree(self) -> str:
+        return f"(tree {bool_term(self.word())} {self.bytes()} {self.items()})"
+
+    def completions(self) -> str:
+        return "no_completions" if self.word() == "bad" else f"(completions {self.bytes()} {self.list(self.bytes)})"
+
+    def closed(self, word: str) -> str:
+        if word == "banner":
+            return f"(closed.Banner {self.tree()})"
+        return f"(closed.Line {self.word()})" if word == "line" else f"(closed.Complete {self.word()} {self.completions()})"
+
+    def item(self) -> str:
+        if self.word() == "line":
+            return f"(item.Line {self.word()} {self.bytes()})"
+        return f"(item.Complete {self.word()} {self.bytes()} {self.word()})"
+
+    def ended(self, _word: str) -> str:
+        return f"(ended reason.{self.word()} {self.list(self.item)})"
+
+    def child(self) -> str:
+        name, life = self.bytes(), self.word()
+        closed = self.maybe(self.word(), self.closed)
+        default = self.maybe(self.word(), lambda word: bytes_term(bytes.fromhex(word[1:])))
+        return f"(of_child {name} {life} {closed} {default} {self.maybe(self.word(), self.ended)})"
+
+    def reply(self) -> str:
+        word = self.word()
+        if word == "child":
+            return self.child()
+        if word == "refused":
+            return f"(reply.Refused refusal.{self.word()})"
+        if word in ("done", "nothing"):
+            return {"done": "reply.Done", "nothing": "reply.Nothing"}[word]
+        return f"({ {'field': 'reply.Field', 'asked': 'reply.Asked'}[word] } {self.word()})"
+
+    def effect(self, word: str) -> str:
+        if word == "start":
+            return f"(effect.Start {self.bytes()} {self.word()} {self.list(self.bytes)})"
+        return f"(effect.Kill {self.bytes()} {self.word()})" if word == "kill" else f"(effect.Send {self.bytes()} {self.word()} {self.bytes()})"
+
+    def outcome(self) -> str:
+        return f"(outcome {self.reply()} {self.maybe(self.word(), self.effect)})"
+
+    def answer(self, word: str) -> str:
+        return f"(answer {bytes_term(bytes.fromhex(word[1:]))} {self.tree()})"
+
+    def field(self) -> str:
+        parts = [self.word(), self.bytes(), self.bytes(), self.maybe(self.word(), self.answer)]
+        return f"(field {' '.join(parts)} {self.maybe(self.word(), lambda word: 'reason.' + word)})"
+
+    def sheet(self) -> str:
+        number, fields, sessions = self.word(), [], []
+        while (word := self.word()) != "end":
+            if word == "field":
+                fields.append(self.field())
+            else:
+                sessions.append(f"(session {self.bytes()} {bool_term(self.word())} {self.list(self.bytes)})")
+        return f"(sheet {list_term(fields)} {list_term(sessions)} {number})"
