@@ -10,7 +10,7 @@ Given = Union[int, bytes, list[bytes]]
 
 
 class Event(NamedTuple):
-    """A command, by its word and what follows it."""
+    """A command, by its word and what follows it; or `again`, by which the host is closed, and opened again on its disk."""
 
     word: str
     given: tuple[Given, ...] = ()
@@ -25,10 +25,12 @@ class ChildEvent(NamedTuple):
     piece: bytes = b""
 
 
+AGAIN = Event("again")
+LAST_NUMBER = 2**32 - 1
 NAMES = [b"a", b"b", b"c-1"]
 NO_NAMES = [b"", b"a b", b"\xc3\xa9", b"n" * 33]
 WORDS = [b"sh", b"gp -q", b"x" * 20, "é".encode()]
-NO_WORDS = [[], [b""], [b"a\x1f"], [b"\xff"], [b"w"] * 17]
+NO_WORDS = [[], [b""], [b"a\x1f"], [b"\xff"], [b"w"] * 17, [b"w" * 1025]]
 INPUTS = [b"x", b"x^2 + 1", b"", b"1\t2", "é∑".encode(), b'say "\\"']
 NO_INPUTS = [b"\xc3", b"a\nb", b"\x1b", b"\xed\xa0\x80"]
 ENDS = ["end", "read-fault", "send-fault", "stalled", "start-refused", "stop-fault"]
@@ -50,12 +52,11 @@ BLOCKS = [
     b"\x02scheme:()\x05",
     b"\x02scheme:(tuple x)\x05",
     b"\x02a:\x02b:\x02c:deep\x05\x05\x05",
+    b"\x02t:" * 32 + b"\x05" * 32,
 ]
+LONG_BLOCKS = [b"\x02verbatim:\x02prompt#" + b"p" * length + b"\x05\x05" for length in (1024, 1025)]
 FAULTS = [b"\x02:\x05", b"\x02ver\x01batim:", b"\x02" + b"t" * 65, b"\x02t:" * 33, b"\x02verbatim\x05"]
 NOISE = [b"noise\n", b"\x05", b"\x1b:", b"#", b"\xff\x00"]
-
-
-LAST_NUMBER = 2**32 - 1
 
 
 class Life:
@@ -93,6 +94,8 @@ class Lists:
     def input(self) -> bytes:
         if self.chance(0.08):
             return self.rng.choice(NO_INPUTS)
+        if self.chance(0.003):
+            return b"x" * self.rng.randint(4095, 4096)
         return self.rng.choice(INPUTS) if self.chance(0.6) else bytes(self.rng.choices(b"abcxyz 0123456789+-*/=()?#", k=self.rng.randint(0, 9)))
 
     # Commands.
@@ -156,9 +159,9 @@ class Lists:
         makers += [lambda: Event("move", (self.field(), self.after())), lambda: Event("clear", (self.field(),)), lambda: Event("checkpoint")]
         weights = [2, 5, 3, 2, 9, 3, 1, 2, 2, 1]
         if not self.tabs:
-            weights[0] = 40
+            weights[0] = 150
         elif not self.fields:
-            weights[1] = 40
+            weights[1] = 60
         return self.rng.choices(makers, weights)[0]()
 
     # What comes of children.
@@ -170,6 +173,8 @@ class Lists:
             return self.rng.choice(FAULTS)
         if kind < 0.2:
             return self.rng.choice(NOISE)
+        if kind < 0.204:
+            return self.rng.choice(LONG_BLOCKS)
         return self.rng.choice(BLOCKS)
 
     def piece(self, name: bytes, life: Life) -> ChildEvent:
@@ -197,9 +202,16 @@ class Lists:
             del self.lives[name]
         return ChildEvent(name, life.number, word)
 
+    def again(self) -> Event:
+        self.lives.clear()
+        self.begun = 0
+        return AGAIN
+
     def list(self, length: int) -> list[Event | ChildEvent]:
         made: list[Event | ChildEvent] = [self.session(), self.new(), self.eval()] if self.chance(0.8) else []
         for _ in range(length):
+            if self.chance(0.015):
+                made.append(self.again())
             made.append(self.child() if self.lives and self.chance(0.55) or self.chance(0.03) else self.command())
         return made
 

@@ -3,8 +3,9 @@
 from __future__ import annotations
 
 from collections.abc import Callable, Iterator
+from typing import NamedTuple
 
-from event_lists import ChildEvent, Event, Given
+from event_lists import AGAIN, ChildEvent, Event, Given
 
 COMMANDS = {
     "session": "Session", "new": "New", "set": "Set", "remove": "Remove", "move": "Move", "clear": "Clear", "eval": "Eval",
@@ -30,6 +31,11 @@ def line_of(event: Event | ChildEvent) -> str:
         return " ".join([event.word, *map(word_of, event.given)])
     piece = [word_of(event.piece)] if event.word == "piece" else []
     return " ".join(["child", word_of(event.name), str(event.life), event.word, *piece])
+
+
+def lines_of(room: int, events: list[Event | ChildEvent]) -> list[str]:
+    """A list: a new disk with so much room, the events, and that the worksheet is to be told."""
+    return [f"list {room}", *map(line_of, events), "sheet"]
 
 
 # Terms.
@@ -158,3 +164,66 @@ class Told:
             else:
                 sessions.append(f"(session {self.bytes()} {bool_term(self.word())} {self.list(self.bytes)})")
         return f"(sheet {list_term(fields)} {list_term(sessions)} {number})"
+
+
+# Cases.
+
+LACKS_MEMORY = "refused OutOfMemory"
+
+
+def parted(rows: list[tuple[Event | ChildEvent, str]]) -> list[list[tuple[Event | ChildEvent, str]]]:
+    """Events with what was told of each, in parts between which the host is opened again."""
+    parts: list[list[tuple[Event | ChildEvent, str]]] = [[]]
+    for row in rows:
+        if row[0] == AGAIN:
+            parts.append([])
+        else:
+            parts[-1].append(row)
+    return parts
+
+
+class Case(NamedTuple):
+    """A list of events, by its number, on a disk with so much room, and the lines that the host told of it: that it is there, one for each event, the worksheet."""
+
+    number: int
+    room: int
+    all_events: list[Event | ChildEvent]
+    told: list[str]
+
+    @property
+    def events(self) -> list[Event | ChildEvent]:
+        """Those before the first fault: a fault is no outcome, and closes the host."""
+        for place, line in enumerate(self.told[1:-1]):
+            if line.split()[0] == "fault":
+                return self.all_events[:place]
+        return self.all_events
+
+    def front(self, count: int) -> Case:
+        """So many of its events, under that number, without the worksheet."""
+        return Case(count, self.room, self.all_events[:count], [*self.told[: count + 1], ""])
+
+    def kinds(self) -> Iterator[str]:
+        """What was told, in a word each."""
+        for line in self.told[1 : len(self.events) + 1]:
+            words = line.split()
+            if words[0] == "child":
+                yield "ended" if "ended" in words else {"-": "closed nothing"}.get(words[3], words[3])
+            else:
+                yield " ".join(words[:2]) if words[0] == "refused" else words[0]
+        if len(self.events) < len(self.all_events):
+            yield "fault " + self.told[len(self.events) + 1].split()[1]
+
+    def equation(self) -> str:
+        """That the function gives what the host told."""
+        parts = parted(list(zip(self.events, self.told[1:])))
+        given = list_term([f"({choices_term(part)}, {list_term([event_term(event) for event, _ in part])})" for part in parts])
+        outcomes = list_term([list_term([Told(line).outcome() for _, line in part]) for part in parts])
+        if not self.told[-1]:
+            return f"(parts_give (opened {self.room}) {given}).0\n    ≡ {outcomes}"
+        return f"parts_give (opened {self.room}) {given}\n    ≡ ({outcomes}, {Told(self.told[-1]).sheet()})"
+
+
+def choices_term(part: list[tuple[Event | ChildEvent, str]]) -> str:
+    """Whether memory was refused to each event, as the host told it: none where it was refused to none."""
+    lacking = [line.startswith(LACKS_MEMORY) for _, line in part]
+    return list_term(["true" if lacks else "false" for lacks in lacking]) if any(lacking) else "[]"

@@ -21,20 +21,20 @@ use Rattle.host_events.specs.declared.outcome.Outcome.{Outcome}
 use Rattle.session_engine.specs.World.{World, Going, life_of, with_number}
 use Rattle.session_engine.specs.Refused.{command_refusals, command_takes_memory}
 use Rattle.session_engine.specs.Does.{Does, ChildDoes, CommandDoes, MayDo, Gives, Runs, following, steps}
-use Rattle.host_function.specs.Function.{reader_after, fault_of, child_done, accepted_done, command_done, done, given, all_given, GivesIsAFunction, RunsIsAFunction}
+use Rattle.host_function.specs.Function.{reader_after, machine_fault, child_done, accepted_done, command_done, event_done, given, all_given, is_lack, GivesIsAFunction, RunsIsAFunction, MemoryIsTheOnlyChoice}
 
 -- What the machine has read is a reading of the stream.
 
 alive_reads : (s : List ℕ) → IsAlive (reader_after s).mode → Reads s (reader_after s).out None
 alive_reads s alive = let r = alive_read limits roomy s alive in ((r.tail, r.stream), r.sound)
 
-reads : (s : List ℕ) → Reads s (reader_after s).out (fault_of (reader_after s).mode)
+reads : (s : List ℕ) → Reads s (reader_after s).out (machine_fault (reader_after s).mode)
 reads s = by_mode (reader_after s).mode refl
   where
     alive_so : (mode : Mode) → (reader_after s).mode ≡ mode → IsAlive mode → Reads s (reader_after s).out None
     alive_so mode is alive = alive_reads s (subst IsAlive (sym is) alive)
 
-    by_mode : (mode : Mode) → (reader_after s).mode ≡ mode → Reads s (reader_after s).out (fault_of mode)
+    by_mode : (mode : Mode) → (reader_after s).mode ≡ mode → Reads s (reader_after s).out (machine_fault mode)
     by_mode outside is = alive_so outside is tt
     by_mode (tag_of start marks levels name) is = alive_so (tag_of start marks levels name) is tt
     by_mode (body_of start marks levels) is = alive_so (body_of start marks levels) is tt
@@ -52,7 +52,7 @@ module _ (w : World) where
   child_may None (child.Piece piece) = refl
   child_may (Some l) (child.Piece piece) =
       let s = stream_of (l.past ++ received piece ∷ []) in
-      ((reader_after s).out, fault_of (reader_after s).mode, reads s, refl)
+      ((reader_after s).out, machine_fault (reader_after s).mode, reads s, refl)
   child_may l child.End = refl
   child_may l child.ReadFault = refl
   child_may l child.SendFault = refl
@@ -69,7 +69,7 @@ module _ (w : World) where
   command_may refuses c (Some r) = refl
   command_may refuses c None = accepted_may c refuses (command_takes_memory w c) refl
 
-  may : (refuses : Bool) (e : Event) → MayDo w e (done refuses w e)
+  may : (refuses : Bool) (e : Event) → MayDo w e (event_done refuses w e)
   may refuses (event.Command c) = command_may refuses c (first_of (command_refusals w c))
   may refuses (event.Child name number e) = child_may (with_number number (life_of w name)) e
 
@@ -81,7 +81,7 @@ module _ (one : OneReading) (w : World) where
   child_is None (child.Piece piece) d is = is
   child_is (Some l) (child.Piece piece) d is =
       let s = stream_of (l.past ++ received piece ∷ []) in
-      let r = one s is.0 (reader_after s).out is.1 (fault_of (reader_after s).mode) is.2 (reads s) in
+      let r = one s is.0 (reader_after s).out is.1 (machine_fault (reader_after s).mode) is.2 (reads s) in
       is.3
       ∙ ap (λ (bs : List Outer). steps w l piece bs (step_of l.past l.blocks piece bs is.1)) r.0
       ∙ ap (λ (k : Option Kind). steps w l piece (reader_after s).out (step_of l.past l.blocks piece (reader_after s).out k)) r.1
@@ -96,7 +96,7 @@ module _ (one : OneReading) (w : World) where
   command_is c None d (inl is) = (false, is)
   command_is c None d (inr is) = (true, is.1 ∙ ap (λ (takes : Bool). accepted_done takes w c) (sym is.0))
 
-  done_is : (e : Event) (d : Does) → MayDo w e d → (refuses : Bool) × (d ≡ done refuses w e)
+  done_is : (e : Event) (d : Does) → MayDo w e d → (refuses : Bool) × (d ≡ event_done refuses w e)
   done_is (event.Command c) d is = command_is c (first_of (command_refusals w c)) d is
   done_is (event.Child name number e) d is = (false, child_is (with_number number (life_of w name)) e d is)
 
@@ -106,7 +106,7 @@ module _ (one : OneReading) (w : World) where
       (r.0, ap (λ (d : Does). (d.reported, following w d)) (sym r.1) ∙ ap (λ (p : Outcome). (p, following w gives.0)) (sym gives.2) ∙ ap (λ (u : World). (o, u)) (sym gives.3))
 
 gives_so : (refuses : Bool) (w : World) (e : Event) (o : Outcome) (v : World) → given refuses w e ≡ (o, v) → Gives w e o v
-gives_so refuses w e o v is = (done refuses w e, may w refuses e, ap (λ p. p.0) (sym is), ap (λ p. p.1) (sym is))
+gives_so refuses w e o v is = (event_done refuses w e, may w refuses e, ap (λ p. p.0) (sym is), ap (λ p. p.1) (sym is))
 
 pub gives_is_a_function : OneReading → GivesIsAFunction
 gives_is_a_function one w e o v = (given_is one w e o v, λ p. gives_so p.0 w e o v p.1)
@@ -135,3 +135,32 @@ runs_is_a_function one w es os v = (
   runs_is one w es os v,
   λ p. subst (λ (r : List Outcome × World). Runs w es r.0 r.1) p.1 (runs_so p.0 w es),
 )
+
+-- Where nothing is refused for lack of memory.
+
+never_both : (b : Bool) → b ≡ true → b ≡ false → ⊥
+never_both b here gone = cc
+
+module _ (one : OneReading) (w : World) where
+  command_settled : (c : Command) (r : Option Refusal) (d : Does) → CommandDoes w c r d → is_lack d.reported.reply ≡ false → d ≡ command_done false w c r
+  command_settled c (Some r) d is none = is
+  command_settled c None d (inl is) none = is
+  command_settled c None d (inr is) none = absurd (never_both (is_lack d.reported.reply) (ap (λ (f : Does). is_lack f.reported.reply) is.1) none)
+
+  settled : (e : Event) (d : Does) → MayDo w e d → is_lack d.reported.reply ≡ false → d ≡ event_done false w e
+  settled (event.Command c) d is none = command_settled c (first_of (command_refusals w c)) d is none
+  settled (event.Child name number e) d is none = child_is one w (with_number number (life_of w name)) e d is
+
+  given_settled : (e : Event) (o : Outcome) (v : World) → Gives w e o v → is_lack o.reply ≡ false → given false w e ≡ (o, v)
+  given_settled e o v gives none =
+      let r = settled e gives.0 gives.1 (subst (λ (p : Outcome). is_lack p.reply ≡ false) gives.2 none) in
+      ap (λ (d : Does). (d.reported, following w d)) (sym r) ∙ ap (λ (p : Outcome). (p, following w gives.0)) (sym gives.2) ∙ ap (λ (u : World). (o, u)) (sym gives.3)
+
+pub memory_is_the_only_choice : OneReading → MemoryIsTheOnlyChoice
+memory_is_the_only_choice one w [] [] v is none = ap (λ (u : World). ([], u)) (sym is)
+memory_is_the_only_choice one w (e ∷ es) (o ∷ os) v (mid, gives, later) none =
+    let first = given_settled one w e o mid gives none.0 in
+    let rest = memory_is_the_only_choice one mid es os v later none.1 in
+    ap (λ (p : Outcome × World). (p.0 ∷ (all_given [] p.1 es).0, (all_given [] p.1 es).1)) first ∙ ap (λ (p : List Outcome × World). (o ∷ p.0, p.1)) rest
+memory_is_the_only_choice one w [] (o ∷ os) v is none = absurd is
+memory_is_the_only_choice one w (e ∷ es) [] v is none = absurd is

@@ -1,5 +1,6 @@
 -- What the host does, as a function. One choice is left to it: whether memory is refused to a command. (docs/dev/HOST.md, "What an event does".)
 use Rattle.std.specs.Prelude.{◌≡◌, ◌↔◌, ◌&&◌, ℕ, List, [], ◌∷◌, ◌++◌, Bool, true, false, Option, Some, None}
+use Rattle.std.specs.List.{AllByRecursion}
 use Rattle.meta_format.specs.Limits.{limits}
 use Rattle.meta_format.specs.Faults.{Kind}
 use Rattle.meta_format.specs.inside.Machine.{Mode, outside, tag_of, body_of, escape_of, broken, State, start_state, run}
@@ -15,6 +16,7 @@ use Rattle.host_events.specs.declared.event.ChildEvent.TheVariants as child
 use Rattle.host_events.specs.declared.event.Event.{Event}
 use Rattle.host_events.specs.declared.event.Event.TheVariants as event
 use Rattle.host_events.specs.declared.outcome.Outcome.{Outcome}
+use Rattle.host_events.specs.declared.reply.Reply.{Reply}
 use Rattle.host_events.specs.declared.reply.Reply.TheVariants as reply
 use Rattle.session_engine.specs.World.{World, Going, life_of, with_number}
 use Rattle.session_engine.specs.Refused.{command_refusals, command_takes_memory}
@@ -27,18 +29,18 @@ abbrev pub reader_after : List ℕ → State
 reader_after s = run limits start_state s
 
 -- the fault at which it stopped, if it did
-abbrev pub fault_of : Mode → Option Kind
-fault_of outside = None
-fault_of (tag_of start marks levels name) = None
-fault_of (body_of start marks levels) = None
-fault_of (escape_of start marks levels) = None
-fault_of (broken kind at) = Some kind
+abbrev pub machine_fault : Mode → Option Kind
+machine_fault outside = None
+machine_fault (tag_of start marks levels name) = None
+machine_fault (body_of start marks levels) = None
+machine_fault (escape_of start marks levels) = None
+machine_fault (broken kind at) = Some kind
 
 -- What is done.
 
 -- a piece of a life that goes on, where this is the machine after its stream with the piece
 abbrev pub piece_done : World → Going → List ℕ → State → Does
-piece_done w l piece q = steps w l piece q.out (step_of l.past l.blocks piece q.out (fault_of q.mode))
+piece_done w l piece q = steps w l piece q.out (step_of l.past l.blocks piece q.out (machine_fault q.mode))
 
 -- an event of a child, where this is the life with its number, if that goes on
 abbrev pub child_done : World → Option Going → ChildEvent → Does
@@ -62,9 +64,9 @@ command_done refuses w c (Some r) = tells w (reply.Refused r)
 command_done refuses w c None = accepted_done (refuses && command_takes_memory w c) w c
 
 -- an event, by whether memory is refused
-abbrev pub done : Bool → World → Event → Does
-done refuses w (event.Command c) = command_done refuses w c (first_of (command_refusals w c))
-done refuses w (event.Child name number e) = child_done w (with_number number (life_of w name)) e
+abbrev pub event_done : Bool → World → Event → Does
+event_done refuses w (event.Command c) = command_done refuses w c (first_of (command_refusals w c))
+event_done refuses w (event.Child name number e) = child_done w (with_number number (life_of w name)) e
 
 -- What events give.
 
@@ -74,7 +76,7 @@ outcome_and_world w d = (d.reported, following w d)
 
 -- the outcome of an event, and the world after it, by whether memory is refused to it
 abbrev pub given : Bool → World → Event → Outcome × World
-given refuses w e = outcome_and_world w (done refuses w e)
+given refuses w e = outcome_and_world w (event_done refuses w e)
 
 -- an outcome, and those of the events after it
 abbrev pub and_then : Outcome × World → (World → List Outcome × World) → List Outcome × World
@@ -96,3 +98,14 @@ GivesIsAFunction = (w : World) (e : Event) (o : Outcome) (v : World) → Gives w
 -- The same of events one after another, for a choice of each.
 abbrev pub RunsIsAFunction : Type 0
 RunsIsAFunction = (w : World) (es : List Event) (os : List Outcome) (v : World) → Runs w es os v ↔ ((choices : List Bool) × (all_given choices w es ≡ (os, v)))
+
+-- a refusal for lack of memory
+abbrev pub is_lack : Reply → Bool
+is_lack (reply.Refused refusal.OutOfMemory) = true
+is_lack _ = false
+
+-- Where no event is refused for lack of memory there is no choice: the outcomes, and the world, are those that the function gives where
+-- memory is refused to none.
+abbrev pub MemoryIsTheOnlyChoice : Type 0
+MemoryIsTheOnlyChoice = (w : World) (es : List Event) (os : List Outcome) (v : World) → Runs w es os v → AllByRecursion (λ o. is_lack o.reply ≡ false) os
+    → all_given [] w es ≡ (os, v)

@@ -2,7 +2,7 @@
 //! the relation which the contracts of `session_engine` cite is that function, up to the choice which is left to a host.
 #![tactic(auto)]
 
-ghost use Rattle.host_function.specs.Function.{GivesIsAFunction, RunsIsAFunction};
+ghost use Rattle.host_function.specs.Function.{GivesIsAFunction, MemoryIsTheOnlyChoice, RunsIsAFunction};
 
 /// An event has an outcome and leads to a world by the relation exactly where the function gives these, for memory that is refused to it or
 /// for memory that isn't.
@@ -15,6 +15,13 @@ pub fn an_event_gives_what_is_computed()
 /// The same of a list of events, for one such choice each.
 pub fn events_give_what_is_computed()
     ensures { RunsIsAFunction }
+{
+    plugin_core::streams_read_one_way();
+}
+
+/// Where none of the outcomes is a refusal for lack of memory, they are what the function gives where memory is refused to no event.
+pub fn memory_is_the_only_choice()
+    ensures { MemoryIsTheOnlyChoice }
 {
     plugin_core::streams_read_one_way();
 }
