@@ -89,7 +89,7 @@ class Lists:
         return self.rng.choice(known) if known and not self.chance(0.06) else self.rng.choice([0, 1, 2, self.next_field, LAST_NUMBER])
 
     def after(self) -> int:
-        return 0 if self.chance(0.3) else self.field()
+        return 0 if not self.fields or self.chance(0.3) else self.field()
 
     def input(self) -> bytes:
         if self.chance(0.08):
@@ -159,9 +159,9 @@ class Lists:
         makers += [lambda: Event("move", (self.field(), self.after())), lambda: Event("clear", (self.field(),)), lambda: Event("checkpoint")]
         weights = [2, 5, 3, 2, 9, 3, 1, 2, 2, 1]
         if not self.tabs:
-            weights[0] = 150
+            weights[0] = 200
         elif not self.fields:
-            weights[1] = 60
+            weights[1] = 200
         return self.rng.choices(makers, weights)[0]()
 
     # What comes of children.

@@ -16,6 +16,8 @@ CHILDREN = {
     "stalled": "Stalled", "stop-fault": "StopFault",
 }  # fmt: skip
 
+REPLIES = {"done": "reply.Done", "nothing": "reply.Nothing", "field": "reply.Field", "asked": "reply.Asked"}
+
 
 # Lines.
 
@@ -56,14 +58,20 @@ def list_term(terms: list[str]) -> str:
     return "(" + " ∷ ".join([*terms, "[]"]) + ")" if terms else "[]"
 
 
-def bool_term(word: str | int) -> str:
-    return "true" if word in ("true", 1) else "false"
+def given_term(given: Given) -> str:
+    if isinstance(given, int):
+        return str(given)
+    return bytes_term(given) if isinstance(given, bytes) else list_term([*map(bytes_term, given)])
+
+
+def bool_term(word: str) -> str:
+    return "true" if word == "true" else "false"
 
 
 def command_term(event: Event) -> str:
-    terms = [str(it) if isinstance(it, int) else bytes_term(it) if isinstance(it, bytes) else list_term([*map(bytes_term, it)]) for it in event.given]
+    terms = [given_term(given) for given in event.given]
     if event.word == "session":
-        terms[1] = bool_term(event.given[1])
+        terms[1] = bool_term("true" if event.given[1] else "false")
     return f"(asked (command.{' '.join([COMMANDS[event.word], *terms])}))"
 
 
@@ -138,8 +146,8 @@ class Told:
         if word == "refused":
             return f"(reply.Refused refusal.{self.word()})"
         if word in ("done", "nothing"):
-            return {"done": "reply.Done", "nothing": "reply.Nothing"}[word]
-        return f"({ {'field': 'reply.Field', 'asked': 'reply.Asked'}[word] } {self.word()})"
+            return REPLIES[word]
+        return f"({REPLIES[word]} {self.word()})"
 
     def effect(self, word: str) -> str:
         if word == "start":
