@@ -21,7 +21,7 @@ use Rattle.host_events.specs.declared.outcome.Outcome.{Outcome}
 use Rattle.session_engine.specs.World.{World, Going, life_of, with_number}
 use Rattle.session_engine.specs.Refused.{command_refusals, command_takes_memory}
 use Rattle.session_engine.specs.Does.{Does, ChildDoes, CommandDoes, MayDo, Gives, Runs, following, steps}
-use Rattle.host_function.specs.Function.{reader_after, machine_fault, child_done, accepted_done, command_done, event_done, given, all_given, is_lack, GivesIsAFunction, RunsIsAFunction, MemoryIsTheOnlyChoice}
+use Rattle.host_function.specs.Function.{reader_after, machine_fault, child_done, accepted_done, command_done, event_done, given, all_given, is_lack, ReadingIsAFunction, GivesIsAFunction, RunsIsAFunction, MemoryIsTheOnlyChoice}
 
 -- What the machine has read is a reading of the stream.
 
@@ -43,6 +43,14 @@ reads s = by_mode (reader_after s).mode refl
         let q = reader_after s in
         let r = broken_stopped limits roomy s at q.at q.out kind (ap (λ (mode : Mode). record { at = q.at; out = q.out; mode = mode }) is) in
         (at, record { first = r.first; front = r.front; rest = r.rest; is = r.is; at_is = r.at_is; tail = r.tail; stream = r.stream })
+
+pub reading_is_a_function : OneReading → ReadingIsAFunction
+reading_is_a_function one s blocks fault = (
+  λ r.
+      let same = one s (reader_after s).out blocks (machine_fault (reader_after s).mode) fault (reads s) r in
+      ap (λ (bs : List Outer). (bs, machine_fault (reader_after s).mode)) same.0 ∙ ap (λ (k : Option Kind). (blocks, k)) same.1,
+  λ is. subst (λ (p : List Outer × Option Kind). Reads s p.0 p.1) is (reads s),
+)
 
 -- What is computed is in the relation.
 

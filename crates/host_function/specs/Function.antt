@@ -2,13 +2,14 @@
 use Rattle.std.specs.Prelude.{◌≡◌, ◌↔◌, ◌&&◌, ℕ, List, [], ◌∷◌, ◌++◌, Bool, true, false, Option, Some, None}
 use Rattle.std.specs.List.{AllByRecursion}
 use Rattle.meta_format.specs.Limits.{limits}
+use Rattle.meta_format.specs.Stream.{Outer}
 use Rattle.meta_format.specs.Faults.{Kind}
 use Rattle.meta_format.specs.inside.Machine.{Mode, outside, tag_of, body_of, escape_of, broken, State, start_state, run}
 use Rattle.worksheet.specs.declared.refusal.Refusal.{Refusal}
 use Rattle.worksheet.specs.declared.refusal.Refusal.TheVariants as refusal
 use Rattle.worksheet.specs.Checks.{first_of}
 use Rattle.plugin_core.specs.Past.{received, stream_of}
-use Rattle.plugin_core.specs.Steps.{step_of}
+use Rattle.plugin_core.specs.Steps.{Reads, step_of}
 use Rattle.block_tree.specs.declared.reason.Reason.TheVariants as reason
 use Rattle.host_events.specs.declared.command.Command.{Command}
 use Rattle.host_events.specs.declared.event.ChildEvent.{ChildEvent}
@@ -35,6 +36,10 @@ machine_fault (tag_of start marks levels name) = None
 machine_fault (body_of start marks levels) = None
 machine_fault (escape_of start marks levels) = None
 machine_fault (broken kind at) = Some kind
+
+-- the blocks of a stream, and its fault, if it has one
+abbrev pub read_as : List ℕ → List Outer × Option Kind
+read_as s = ((reader_after s).out, machine_fault (reader_after s).mode)
 
 -- What is done.
 
@@ -90,6 +95,10 @@ all_given [] w (e ∷ es) = and_then (given false w e) (λ v. all_given [] v es)
 all_given (refuses ∷ choices) w (e ∷ es) = and_then (given refuses w e) (λ v. all_given choices v es)
 
 -- The laws.
+
+-- A stream has these blocks and this fault, or none, exactly where they are computed.
+abbrev pub ReadingIsAFunction : Type 0
+ReadingIsAFunction = (s : List ℕ) (blocks : List Outer) (fault : Option Kind) → Reads s blocks fault ↔ (read_as s ≡ (blocks, fault))
 
 -- What the relation has of an event is what the function gives for a choice, and all of it.
 abbrev pub GivesIsAFunction : Type 0

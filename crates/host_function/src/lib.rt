@@ -2,7 +2,15 @@
 //! the relation which the contracts of `session_engine` cite is that function, up to the choice which is left to a host.
 #![tactic(auto)]
 
-ghost use Rattle.host_function.specs.Function.{GivesIsAFunction, MemoryIsTheOnlyChoice, RunsIsAFunction};
+ghost use Rattle.host_function.specs.Function.{GivesIsAFunction, MemoryIsTheOnlyChoice, ReadingIsAFunction, RunsIsAFunction};
+
+/// A stream has the blocks and the fault that a machine finds byte by byte, and no others: the one part of the relation that speaks of what
+/// there is, and not of how it is found.
+pub fn a_stream_reads_as_is_computed()
+    ensures { ReadingIsAFunction }
+{
+    plugin_core::streams_read_one_way();
+}
 
 /// An event has an outcome and leads to a world by the relation exactly where the function gives these, for memory that is refused to it or
 /// for memory that isn't.
