@@ -123,6 +123,8 @@ of fields that aren't evaluated are missing. Where no field has one of the numbe
 nothing is evaluated: that is the fault 37 NoField. Nor is anything where the\n\
 program of a session isn't there: 44 NoProgram. With --unanswered only those of\n\
 all, of the IDs or from the ID on that show no answer are evaluated.\n\n\
+Prose is passed over and not counted, but where its ID is given: fields of a\n\
+session whose program is `true` alone.\n\n\
 With --strict it stops after the first field that is lost or refused: the fields\n\
 after it keep what they show, and standard error has `stopped at line N`, where the\n\
 Nth field that is evaluated has the lines 2N - 1 and 2N. With --stop-at-error it\n\
@@ -139,7 +141,7 @@ field of each session is asked, then the second of each, and so on. With --stric
 order. With --jobs N (1 to 64) fields of up to N sessions wait at a time, and with\n\
 --timeout the time of those begins when the last of them was asked. It goes with no\n\
 --strict and no --stop-at-error.\n\n\
-Status: 0 where each field of the worksheet shows an answer, and none was over or\n\
+Status: 0 where each field but prose shows an answer, and none was over or\n\
 passed over; 1 where that isn't so, or at a fault; 2 where the words are refused; 3\n\
 where --strict or --stop-at-error stopped it.\n\n\
 Example: tmhost eval --timeout 10 sheet 3 7";

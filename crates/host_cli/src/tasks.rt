@@ -325,8 +325,8 @@ fn perform_unsent<Y: System>(
     }
 }
 
-/// The whole program: does the task that its words ask for, or tells why there is none, and brings its
-/// output out. The words may be missing for this kind of error.
+/// The whole program: does the task that its words ask for, or tells why there is none, and flushes its
+/// output. The words may be missing for this kind of error.
 pub fn perform<Y: System>(
     alloc: Global,
     words: Result<Vec<String>, io::ErrorKind>,

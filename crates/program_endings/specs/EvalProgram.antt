@@ -41,7 +41,7 @@ abbrev pub are_none_over : Option Overs → Bool
 are_none_over None = true
 are_none_over (Some overs) = (overs.over == 0) && (overs.passed == 0)
 
--- 0 where each field of the worksheet shows an answer, and none was over or passed over
+-- 0 where each field of the worksheet but prose shows an answer, and none was over or passed over
 abbrev pub counts_status : Counts → ℕ
 counts_status counts = if (counts.unanswered == 0) && are_none_over counts.overs then 0 else 1
 

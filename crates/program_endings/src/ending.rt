@@ -13,7 +13,7 @@ use std::io::{Read, Write};
 pub struct Ending {
     /// The exit status: 0 where all was done or help was shown; 1 where the program met a fault, the
     /// stream has one or an open block, a check isn't passed, or after an evaluation a field of the
-    /// worksheet shows no answer, was over or passed over; 2 where the words ask for nothing that there is;
+    /// worksheet that isn't prose shows no answer, was over or passed over; 2 where the words ask for nothing that there is;
     /// 3 where a strict run or a strict evaluation stopped.
     pub status: u8,
     /// Whether all that it had to say, on standard output and on standard error, went out.

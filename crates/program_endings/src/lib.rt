@@ -1,6 +1,6 @@
 //! How each program ends over a disk and interpreters: its exit status, and what it says on which stream.
-//! What the programs do stands in `offline_programs`, `sheet_programs`, `live`, `evaluation`, `sheet_check`
-//! and `sheet_export`, and which of them runs for which words in `host_cli`.
+//! What the programs do stands in `offline_programs`, `sheet_programs`, `driver` with `agendas` and `field_agenda`,
+//! `sheet_check` and `sheet_export`, and which of them runs for which words in `host_cli`.
 #![tactic(auto)]
 
 mod accept_program;
