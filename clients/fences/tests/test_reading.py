@@ -11,7 +11,7 @@ from tmhost_fences.troubles import Trouble
 class Infos(unittest.TestCase):
     def test_names_and_words(self) -> None:
         for text, name, words, is_chunk in (
-            ("py", "py", [], False), ("py {hide}", "py", ["hide"], False), ("py {.hide fold}", "py", [".hide", "fold"], False), ("{.py .hide}", "py", [".hide"], False),
+            ("py", "py", [], False), ("py {hide}", "py", ["hide"], False), ("py {.hide fold}", "py", [".hide", "fold"], False), ("py {whole, hide}", "py", ["whole", "hide"], False), ("{.py .hide}", "py", [".hide"], False),
             ("py{hide}", "py{hide}", ["hide"], False), ("", "", [], False), ("{}", "", [], False), ("{hide=1}", "", [], False), ("{#py}", "", [], False),
             ("{py}", "py", [], True), ("{r, echo=FALSE}", "r", [], True), ("{r setup, eval=F}", "r", [], True), ("{ python }", "python", [], True), ("{code-cell} ipython3", "code-cell", [], True),
         ):
@@ -56,5 +56,13 @@ class Front(unittest.TestCase):
         front = front_of(["---", "sessions: {a: b  c, d: [e]}", "...", "text"])
         self.assertEqual((front.lines, front.sessions), (3, {"a": ("b", "c"), "d": ("e",)}))
         self.assertEqual(front_of(["---", "title: sessions", "---"]).lines, 0)
-        with self.assertRaisesRegex(Trouble, "no mapping of names"):
+        with self.assertRaisesRegex(Trouble, "no mapping of names, as in `sessions: {py"):
             front_of(["---", "sessions: [a]", "---"])
+
+    def test_whether_fences_are_whole(self) -> None:
+        given: List[List[str]] = [[], ["fences: whole"]]
+        self.assertEqual([front_of(["---", "sessions: {a: b}", *more, "---"]).is_whole for more in given], [False, True])
+        self.assertFalse(front_of(["---", "fences: whole", "---"]).is_whole)  # it is no text of ours
+        for word in ("lines", "[whole]", ""):
+            with self.assertRaisesRegex(Trouble, "`fences` can only be `whole`"):
+                front_of(["---", "sessions: {a: b}", f"fences: {word}", "---"])

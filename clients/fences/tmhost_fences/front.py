@@ -1,4 +1,4 @@
-"""The front matter of a text: YAML between two lines of `---`, in which the sessions stand."""
+"""The front matter of a text: YAML between two lines of `---`, in which the sessions stand, and `fences: whole` where each fence is one field."""
 import dataclasses
 import re
 from typing import Any, Dict, List, Sequence, Tuple
@@ -9,6 +9,7 @@ NAME = re.compile(r"[A-Za-z0-9_]{1,20}", re.ASCII)  # without a hyphen: names of
 WORD = re.compile(r"[^\x00-\x20\ud800-\udfff]+")
 MOST_WORDS = 16
 LONGEST_WORD = 1024  # bytes
+WHOLE = "whole"
 NAMES_SESSIONS = re.compile(r"^[ \t]*[\"']?sessions[\"']?[ \t]*:", re.MULTILINE)
 
 Sessions = Dict[str, Tuple[str, ...]]
@@ -16,10 +17,11 @@ Sessions = Dict[str, Tuple[str, ...]]
 
 @dataclasses.dataclass(frozen=True)
 class Front:
-    """How many lines it has, and the words of each session."""
+    """How many lines it has, the words of each session, and whether each fence is one field."""
 
     lines: int
     sessions: Sessions
+    is_whole: bool = False
 
 
 def matter_end(lines: Sequence[str]) -> int:
@@ -33,10 +35,11 @@ def front_of(lines: Sequence[str]) -> Front:
     """The front matter of a text of these lines. What names no sessions is a part of the text like any other."""
     end = matter_end(lines)
     text = "\n".join(lines[1 : max(1, end - 1)])
-    return Front(end, sessions_in(text)) if NAMES_SESSIONS.search(text) else Front(0, {})
+    return Front(end, *read_in(text)) if NAMES_SESSIONS.search(text) else Front(0, {})
 
 
-def sessions_in(text: str) -> Sessions:
+def read_in(text: str) -> Tuple[Sessions, bool]:
+    """The sessions, and whether each fence is one field."""
     yaml = needed("yaml", "python3-yaml")
     try:
         # The base loader takes each scalar as it is written, so a session `no` or a word `010` is what it looks like.
@@ -44,11 +47,16 @@ def sessions_in(text: str) -> Sessions:
     except (yaml.YAMLError, RecursionError) as error:
         raise Trouble(f"the front matter is no YAML: {' '.join(str(error).split())}") from error
     found: Sessions = {}
+    is_whole = False
     for key, value in pairs(yaml, root, "the front matter"):
+        if key == "fences":
+            is_whole = isinstance(value, yaml.ScalarNode) and value.value == WHOLE
+            if not is_whole:
+                raise Trouble(f"`fences` can only be `{WHOLE}`")
         if key == "sessions":
             for name, words in pairs(yaml, value, "`sessions`") if not is_nothing(yaml, value) else []:
                 add(found, name, words_in(yaml, name, words))
-    return found
+    return found, is_whole
 
 
 def add(found: Sessions, name: str, words: Tuple[str, ...]) -> None:
@@ -66,7 +74,7 @@ def is_nothing(yaml: Any, node: Any) -> bool:
 def pairs(yaml: Any, node: Any, what: str) -> List[Tuple[str, Any]]:
     """The keys and values of a mapping."""
     if not isinstance(node, yaml.MappingNode):
-        raise Trouble(f"{what} is no mapping of names")
+        raise Trouble(f"{what} is no mapping of names, as in `sessions: {{py: [tmhost-python]}}`")
     return [(str(key.value), value) for key, value in node.value]
 
 

@@ -28,7 +28,7 @@ class Info:
 def info_of(text: str) -> Info:
     found = CHUNK.match(text)
     options = {key.lower(): value.strip("\"'") for key, value in OPTION.findall(text)}
-    attributes = [word for part in ATTRIBUTES.findall(text) for word in part.split()]
+    attributes = [word for part in ATTRIBUTES.findall(text) for word in re.split(r"[\s,]+", part) if word]
     if found:
         return Info(found[1], (), options, True)
     first = (text.split() or [""])[0]

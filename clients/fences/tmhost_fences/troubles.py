@@ -1,6 +1,9 @@
 """What keeps a text from being read, or woven, or imported."""
 import importlib
+import sys
 from typing import Any
+
+OF_PIP = {"markdown_it": "markdown-it-py", "yaml": "pyyaml"}  # names under which pip has a module, where it has another one
 
 
 class Trouble(Exception):
@@ -20,4 +23,5 @@ def needed(module: str, package: str) -> Any:
     try:
         return importlib.import_module(module)
     except ImportError as error:
-        raise Missing(f"there is no {module}: install Debian's package {package} (apt-get install {package})") from error
+        by_pip = f"{sys.executable} -m pip install {OF_PIP.get(module, module)}"
+        raise Missing(f"there is no {module}: install Debian's package {package} (apt-get install {package}), or {by_pip}") from error

@@ -6,6 +6,8 @@ import resource
 import shutil
 import signal
 import subprocess
+import sys
+import tempfile
 import time
 
 from .support import COMMAND, PROGRAM, ROOT, Case, Done, code, needs_nbformat, needs_program, notebook
@@ -97,8 +99,24 @@ class Making(Case):
 
     def test_programs_that_are_none(self) -> None:
         self.not_made("can't be started", TMHOST="/nowhere/tmhost")
-        self.not_made("no tmhost on PATH", TMHOST="", PATH="/nowhere")
         self.not_made("tmhost create ended with status 1", TMHOST="/bin/false")
+
+    def test_where_no_program_is(self) -> None:
+        """A copy of the command in a place without a program."""
+        place = tempfile.mkdtemp(prefix="tmhost-import-test.")
+        self.addCleanup(shutil.rmtree, place)
+        for name in ("import", "fences", "python"):
+            shutil.copytree(os.path.join(ROOT, "clients", name), os.path.join(place, "clients", name), ignore=shutil.ignore_patterns("tests", "__pycache__"))
+        os.mkdir(os.path.join(place, "bin"))
+        os.symlink(sys.executable, os.path.join(place, "bin", "python3"))
+        environment = {**os.environ, "TMHOST": "", "PATH": os.path.join(place, "bin")}
+        command = os.path.join(place, "clients", "import", "tmhost-import")
+        os.makedirs(os.path.join(place, "adapters", "bin"))
+        shutil.copy("/bin/true", os.path.join(place, "adapters", "bin", "tmhost-python"))
+        done = subprocess.run([command, "new"], input=notebook(code("x")).encode(), capture_output=True, env=environment, cwd=self.folder)
+        self.assertEqual((done.returncode, done.stdout), (1, b""))
+        self.assertIn(b"there is no tmhost on PATH, and TMHOST names none\n", done.stderr)
+        self.assertEqual(os.listdir(self.folder), [])
 
     def test_a_folder_that_is_not_there(self) -> None:
         done = self.do("nowhere/new", data=notebook(code("x")))
@@ -168,7 +186,8 @@ class Words(Case):
         """It finds its parts and the adapters beside itself, also through a link."""
         share, here = self.path("share/tmhost"), os.path.dirname(COMMAND)
         shutil.copytree(os.path.join(here, "tmhost_import"), os.path.join(share, "clients/import/tmhost_import"))
-        shutil.copytree(os.path.join(here, "../fences/tmhost_fences"), os.path.join(share, "clients/fences/tmhost_fences"))
+        for name in ("fences/tmhost_fences", "python/tmhost"):
+            shutil.copytree(os.path.join(here, "..", name), os.path.join(share, "clients", name))
         shutil.copy(COMMAND, os.path.join(share, "clients/import"))
         os.symlink("share/tmhost/clients/import/tmhost-import", self.path("link"))
         environment = {**os.environ, "PATH": "/usr/bin:/bin"}

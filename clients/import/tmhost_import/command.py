@@ -25,8 +25,8 @@ reads it, and becomes a field for each of its statements. Nothing is evaluated. 
 session `prose` whose only word is `true`, but with --no-prose. What is not to be evaluated (`eval=FALSE`, `#| eval: false`,
 `active="md"`) is text.
 Languages with an interpreter: {", ".join(LANGUAGES)}.
-The program is the one that TMHOST names, or tmhost on PATH. The status is 0 where the worksheet is made, 1 where it
-isn't, which is told, and 2 where the words are refused.
+The program is the one that TMHOST names, tmhost on PATH, or the one that was built or installed with this. The status
+is 0 where the worksheet is made, 1 where it isn't, which is told, and 2 where the words are refused.
 """
 
 

@@ -5,11 +5,11 @@ program, no part of a worksheet is left there, and no file is touched that someb
 """
 import os
 import re
-import shutil
 import signal
 import subprocess
 import tempfile
 
+from tmhost import find_program
 from tmhost_fences.troubles import Trouble
 
 from .fields import Sheet
@@ -19,11 +19,11 @@ ENDING = (signal.SIGINT, signal.SIGTERM, signal.SIGHUP)
 
 
 def program() -> str:
-    """The path of tmhost: that of TMHOST, or the one on PATH."""
-    found = os.environ.get("TMHOST") or shutil.which("tmhost")
-    if not found:
-        raise Trouble("there is no tmhost on PATH, and TMHOST names none")
-    return found
+    """The path of tmhost."""
+    try:
+        return find_program()
+    except FileNotFoundError as error:
+        raise Trouble(str(error)) from None
 
 
 def refuse_taken(new: str) -> None:

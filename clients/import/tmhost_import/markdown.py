@@ -58,6 +58,7 @@ class Reader:
     def __init__(self, text: str, given: Words, has_prose: bool, has_chunks: bool) -> None:
         self.lines, self.has_prose, self.has_chunks = lines_of(text), has_prose, has_chunks
         front = front_of(self.lines)
+        self.is_whole = front.is_whole
         self.document = Document(words=front.sessions)
         self.sessions = Sessions({**front.sessions, **given}, True)
         self.own = {*front.sessions, *given} if front.sessions else None
@@ -79,7 +80,7 @@ class Reader:
         if self.own is not None and (is_chunk or name not in self.own):
             return None
         code = "\n".join(block.content).rstrip("\n")
-        is_whole = bool(block.info.flags(WHOLE))
+        is_whole = self.is_whole or bool(block.info.flags(WHOLE))
         return Cell(f"the block in line {block.begin + 1}", code, None, (name,), True, f"blocks of {plain(name)}", is_whole=is_whole)
 
     def is_field(self, block: Block) -> bool:

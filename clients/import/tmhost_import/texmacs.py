@@ -5,14 +5,12 @@ A file is a tree: `<name|argument|..>`, or over several lines `<\\name>`, `<|nam
 """
 import re
 import unicodedata
-from typing import Union
 
 from tmhost_fences.cork import CORK, QUOTES
 from tmhost_fences.troubles import Trouble
 
-from .cells import Cell, Document, plain, prose_cell
-
-Tree = Union[str, "list[Tree]"]
+from .cells import Cell, Document, fenced, plain, prose_cell
+from .markup import DISPLAYS, TABLES, NoCode, Prose, Tree, code
 
 TOKEN = re.compile(
     r"<\\([^\s<>|\\]+)(\|?)|<\|([^\s<>|\\]+)(\|?)>|</([^\s<>|\\]+)>|<#[0-9A-F ]*>|<([^\s<>|\\/]+)(\|?)|(\||>)|((?:\\[^\n]|[^<>|\\])+|\\\n?)", re.DOTALL)
@@ -20,7 +18,9 @@ ESCAPED = re.compile(r"\\(.)", re.DOTALL)
 LETTER = re.compile(r"<(#[0-9A-Fa-f]+|[A-Za-z][\w-]*)>")
 IO = {"input", "unfolded-io", "folded-io", "input-math", "unfolded-io-math", "folded-io-math"}
 HEADINGS = {"chapter": "#", "chapter*": "#", "section": "##", "section*": "##", "subsection": "###", "subsection*": "###", "doc-title": "#"}
-HIDDEN = {"output", "TeXmacs", "style", "initial", "references", "auxiliary", "label", "hide-preamble"}
+HIDDEN = {"output", "style", "initial", "references", "auxiliary", "label", "hide-preamble"}
+SCRIPTS = {"script-input", "script-output"}  # with the language, the session, the input and the output
+LISTING = re.compile(r"(?:(\w+)-)?code|verbatim")  # blocks of code that is shown
 LANGUAGES = {"r": "R", "shell": "sh", "pari": "gp", "macaulay2": "M2", "sympy": "python"}
 
 
@@ -108,9 +108,9 @@ def unescaped(text: str) -> str:
     return ESCAPED.sub(lambda found: "" if found[1] in ";\n" else found[1], text)
 
 
-def lines_of(tree: Tree) -> str:
-    """The input of a field: paragraphs are lines, and escaped blanks those that were typed."""
-    lines = [line.strip(" \t") for line in text_of(tree).split("\n")]
+def lines_of(tree: Tree, language: str = "", is_mathematics: bool = False) -> str:
+    """The input of a field: paragraphs are lines, and escaped blanks those that were typed. NoCode, where it has formulas of which no code is known."""
+    lines = [line.strip(" \t") for line in text_of(code(tree, language, is_mathematics)).split("\n")]
     return letters(unescaped("\n".join(lines).strip("\n")))
 
 
@@ -125,7 +125,8 @@ def fields(tree: Tree) -> "list[list[Tree]]":
 
 def is_block(tree: "list[Tree]") -> bool:
     """Whether a tree is no part of a line."""
-    return tree[0] in HEADINGS or tree[0] in HIDDEN or any(isinstance(part, list) and (part[:1] == ["document"] or is_block(part)) for part in tree[1:] if part)
+    is_one = any(tree[0] in names for names in (HEADINGS, HIDDEN, SCRIPTS, DISPLAYS, TABLES)) or tree[0] == "session"
+    return is_one or any(isinstance(part, list) and (part[:1] == ["document"] or is_block(part)) for part in tree[1:] if part)
 
 
 class Taken:
@@ -134,6 +135,7 @@ class Taken:
     def __init__(self) -> None:
         self.document = Document()
         self.text: list[str] = []
+        self.words = Prose()
         self.number = 0
 
     def take(self, tree: Tree) -> None:
@@ -147,18 +149,28 @@ class Taken:
                 line = ""
                 self.block(part)
             else:
-                line += text_of(part)
+                line += self.words.words(part)
         self.paragraphs(line)
 
     def paragraphs(self, text: str) -> None:
         self.text += [letters(unescaped(" ".join(one.split()))).strip() for one in re.split(r"\n\s*\n", text)]
 
     def block(self, tree: "list[Tree]") -> None:
-        if tree[0] == "session" and len(tree) == 4:
+        name = str(tree[0])
+        listing = LISTING.fullmatch(name)
+        if name == "session" and len(tree) == 4:
             self.session(text_of(tree[1]), text_of(tree[2]), tree[3])
-        elif tree[0] in HEADINGS:
-            self.text.append(f"{HEADINGS[str(tree[0])]} {letters(unescaped(text_of(tree)))}")
-        elif tree[0] == "document":
+        elif name in SCRIPTS and len(tree) == 5:
+            self.session(text_of(tree[1]), text_of(tree[2]), ["document", ["input", "", tree[3], tree[4]]])
+        elif name in HEADINGS:
+            self.text.append(f"{HEADINGS[name]} {letters(unescaped(''.join(map(self.words.words, tree[1:]))))}")
+        elif name in DISPLAYS:
+            self.paragraphs(self.words.formulas.display(tree))
+        elif name in TABLES:
+            self.text.append(letters(unescaped(self.words.table(tree))))
+        elif listing:
+            self.text.append(fenced(lines_of(["document", *tree[1:]]), listing[1] if listing[1] and listing[1] != "verbatim" else "text"))
+        elif name == "document":
             self.take(tree)
         elif tree[0] not in HIDDEN:
             for part in tree[1:]:
@@ -178,7 +190,11 @@ class Taken:
         own = hint if variant in ("default", hint) else variant
         for io in fields(body):
             self.number += 1
-            text = lines_of(io[2]) if len(io) > 2 else ""
+            try:
+                text = lines_of(io[2], LANGUAGES.get(hint, hint), "math" in str(io[0])) if len(io) > 2 else ""
+            except NoCode:
+                self.document.left_out["inputs with formulas of which no code is known"] += 1
+                continue
             if text and not text.startswith("%tmhost"):
                 kind = f"inputs of {plain(hint)}"
                 self.document.cells.append(Cell(f"input {self.number}", text, re.sub(r"[^A-Za-z0-9_-]", "-", own)[:32], (LANGUAGES.get(hint, hint),), True, kind))
@@ -196,6 +212,10 @@ def read(data: bytes, has_prose: bool) -> Document:
         if isinstance(part, list) and part[:1] == ["body"]:
             taken.take(["document", *part[1:]])
     taken.prose()
+    if taken.words.pictures and has_prose:
+        taken.document.left_out["pictures"] += taken.words.pictures
+    if taken.words.formulas.unknown and has_prose:
+        taken.document.notes.append(f"words of TeXmacs in formulas that stand by their names: {taken.words.formulas.unknown}")
     if not has_prose:
         taken.document.cells = [cell for cell in taken.document.cells if not cell.is_prose]
     return taken.document

@@ -23,7 +23,7 @@ def options() -> argparse.ArgumentParser:
     one = commands.add_parser(
         "install", help="make a kernel that Jupyter finds",
         description="Makes a kernel for an interpreter, whose worksheets stand beside the notebooks, or with --sheet for a session of one worksheet.",
-        epilog="Languages, for which the words are known: " + ", ".join(LANGUAGES) + ". The program is the one that TMHOST names, or tmhost on PATH.")
+        epilog="Languages, for which the words are known: " + ", ".join(LANGUAGES) + ". The program is the one that TMHOST names, tmhost on PATH, or the one that was built or installed with this.")
     one.add_argument("--sheet", default="", metavar="SHEET", help="the worksheet")
     one.add_argument("--session", default="", metavar="NAME", help="the session's name; by itself the language, or the worksheet's only one")
     one.add_argument("--name", default="", help="the kernel's name")

@@ -10,7 +10,7 @@ import { ask } from "./talk.js";
 function stateOf(session, isThere) {
   if (!isThere) return "no connection";
   if (session.waiting) return `${session.waiting} to answer`;
-  if (session.isMissing) return `no program ${visible(session.words.split(" ")[0])} on this machine`;
+  if (session.missing !== null) return `no program ${visible(session.missing)} on this machine`;
   return session.runs ? "idle" : "not started";
 }
 
@@ -28,11 +28,29 @@ function itemOf(session, isThere) {
     node.disabled = !isFit || !isThere;
     item.append(node);
   }
-  if (session.isMissing && isThere) {
+  if (session.missing !== null && isThere) {
     item.classList.add("missing");
     item.append(button("chooseWords", "Choose one", `Choose the program of ${name}`));
   }
   return item;
+}
+
+let made = ""; // the session that was made last, till the list below has it
+
+/**
+ * Has the next new cell be of a session that was just made.
+ * @param {string} name
+ */
+export function offerSession(name) {
+  made = name;
+  offerMade(byId("which", HTMLSelectElement));
+}
+
+/** @param {HTMLSelectElement} which */
+function offerMade(which) {
+  if (![...which.options].some((one) => one.value === made)) return;
+  which.value = made;
+  made = "";
 }
 
 /** @type {(sessions: Map<string, Session>, isThere: boolean) => void} */
@@ -49,6 +67,7 @@ export function showSessions(sessions, isThere) {
   const names = code.map((session) => session.name);
   which.replaceChildren(...names.map((one) => new Option(one, one)));
   which.value = names.includes(kept) ? kept : names[0] ?? "";
+  offerMade(which);
   which.parentElement?.toggleAttribute("hidden", names.length === 0); // its label: there is nothing to choose
 }
 

@@ -35,7 +35,7 @@ export interface Session {
   words: string;
   tab: boolean;
   runs: boolean;
-  isMissing: boolean; // the program that its words name isn't here
+  missing: string | null; // the program that its words name, or that its adapter starts, which isn't here
   waiting: number;
   isProse: boolean;
 }

@@ -276,13 +276,13 @@ class Session(Case):
     def go_on(self) -> None:
         self.do("answers of an earlier process", lambda: None, SAYS % 3, is_there)
         self.do("evaluate again", lambda: self.at(1, "Control+Enter"), OUTPUT % 1, "after")
-        self.do("a session that can't start", lambda: self.make_session("c", "/nothing/there"), "document.querySelectorAll('#sessions li').length", 3)
+        self.do("a session that can't start", lambda: self.make_session("c", "/nothing/there"), "document.querySelectorAll('#sessions li').length", 3,
+                "document.querySelector('#which').value", "c")
         self.do("a cell of it", self.cell_of_c, NOTE, begins("session c can't be started: there is no program /nothing/there. Its words are: /nothing/there"),
                 "document.querySelector('.cell:last-child').dataset.state", "empty")
         self.do("remove it", lambda: self.tab.twice("d"), NOTE, "")
 
     def cell_of_c(self) -> None:
-        self.tab.value("document.querySelector('#which').value = 'c'")
         self.tab.click("[data-do=addCell]")
         self.tab.until(IS_EDITING, is_there)
         self.typed("x", "Control+Enter")

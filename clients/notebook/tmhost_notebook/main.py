@@ -29,7 +29,7 @@ def words() -> argparse.ArgumentParser:
         "       tmhost-notebook pack SHEET FILE.zip\n       tmhost-notebook unpack FILE.zip FOLDER",
         description="Opens a worksheet of tmhost as a page in the browser, and prints its address. Where there is no worksheet it is made. "
         "What the page shows as saved is on the disk. Of a folder it opens a page with the list of its worksheets.",
-        epilog="The program is the one that TMHOST names, or tmhost on PATH. Interpreters are started in the folder in which this is started, "
+        epilog="The program is the one that TMHOST names, tmhost on PATH, or the one that was built or installed with this. Interpreters are started in the folder in which this is started, "
         "and those of FOLDER in that. `pack` writes a worksheet, with its drafts, own adapters and pictures of prose, as one file for a colleague; `unpack` makes "
         "it in a folder, and runs nothing.",
     )

@@ -13,13 +13,13 @@ import zipfile
 from typing import Any, Dict, List, Optional, Tuple
 
 from tmhost.program import search_path
+from tmhost.starting import missing_program
 
 from . import in_prose
 from .drafts import END, places_of
 from .exported import FILES, NotExported, copy_of
 from .folder import NotDone, free_path, is_name, sync_folder
 from .rewording import reword, told
-from .startable import is_found
 
 FORMAT = 1
 MANIFEST = "manifest.json"
@@ -174,7 +174,8 @@ def unpacked(file: zipfile.ZipFile, folder: str, program: Optional[str]) -> List
         for end in ends:
             os.rename(new + end, path + end)
         sync_folder(folder)
-    return says + [f"session {one['name']}: there is no program {one['words'][0]} here" for one in sessions if not is_found(one["words"][0])]
+    missing = [(one["name"], missing_program(one["words"])) for one in sessions]
+    return says + [f"session {name}: there is no program {found[0]} here" for name, found in missing if found]
 
 
 def word_of(file: zipfile.ZipFile, place: str, own: str, word: str) -> str:

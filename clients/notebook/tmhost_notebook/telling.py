@@ -194,7 +194,7 @@ def session_facts(session: Session, fed: int) -> Message:
         "words": " ".join(session.words),
         "tab": session.tab,
         "runs": session.life is not None,
-        "isMissing": session.life is None and startable.is_missing(session),
+        "missing": startable.missing(session) if session.life is None else None,
         "waiting": session.waiting + fed,
         "isProse": prose.is_prose(session),
     }

@@ -10,6 +10,7 @@ import sys
 import threading
 import time
 import unittest
+import unittest.mock
 from typing import List
 
 from support import PROGRAM, SECONDS, WORDS, Case, eventually, is_there, needs_program
@@ -204,7 +205,8 @@ class Programs(Case):
         before = {name: os.environ.pop(name, None) for name in ("TMHOST", "PATH")}
         try:
             os.environ["PATH"] = self.folder
-            self.assertRaises(FileNotFoundError, find_program)
+            with unittest.mock.patch("tmhost.program.own_program", return_value=None):
+                self.assertRaises(FileNotFoundError, find_program)
             os.environ["TMHOST"] = "here"
             self.assertEqual(find_program(), "here")
         finally:

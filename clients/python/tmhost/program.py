@@ -22,8 +22,12 @@ GRACE = 10.0  # seconds that it has for its end behind that of its output
 
 Program = Union[None, str, Sequence[str]]
 
-# The commands of the adapters, in a repository and where it is installed.
-COMMANDS = os.path.join(os.path.dirname(os.path.dirname(os.path.dirname(os.path.dirname(os.path.realpath(__file__))))), "adapters", "bin")
+# The repository in which this package lies, or where it is installed with the other clients, and the commands of the adapters there.
+ROOT = os.path.dirname(os.path.dirname(os.path.dirname(os.path.dirname(os.path.realpath(__file__)))))
+COMMANDS = os.path.join(ROOT, "adapters", "bin")
+# The programs of that place: where one of the first is built its script `tmhost` starts the right one; the last lies where `make install` puts it.
+BUILT = [os.path.join(ROOT, "crates", "tmhost", "out", *names) for names in (("tmhost",), ("checked", "tmhost"))]
+SCRIPT, INSTALLED = os.path.join(ROOT, "tmhost"), os.path.join(os.path.dirname(os.path.dirname(ROOT)), "bin", "tmhost")
 
 
 def search_path() -> str:
@@ -32,11 +36,19 @@ def search_path() -> str:
     return os.pathsep.join([COMMANDS, path]) if os.path.isdir(COMMANDS) else path
 
 
+def own_program() -> Optional[str]:
+    """The program of the place in which this package lies. None where it would have to be built first, which takes minutes."""
+    if any(map(os.path.isfile, BUILT)):
+        return shutil.which(SCRIPT)
+    return shutil.which(INSTALLED) if os.path.basename(ROOT) == "tmhost" else None
+
+
 def find_program() -> str:
-    """The program that the environment variable TMHOST names, or the one on PATH."""
-    found = os.environ.get("TMHOST") or shutil.which("tmhost")
+    """The program that the environment variable TMHOST names, the one on PATH, or that of the place in which this package lies."""
+    found = os.environ.get("TMHOST") or shutil.which("tmhost") or own_program()
     if not found:
-        raise FileNotFoundError("there is no tmhost on PATH, and TMHOST names none")
+        how = f"; {SCRIPT} --version builds one" if os.path.isfile(SCRIPT) else ""
+        raise FileNotFoundError(f"there is no tmhost on PATH, and TMHOST names none{how}")
     return found
 
 

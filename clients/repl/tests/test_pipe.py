@@ -19,6 +19,21 @@ class Pipe(Case):
             self.pairs(), [("hello", "hello"), ("say two\\nlines", "two\nlines"), ("say", ""), ("  spaced ", "  spaced "), ("last", "last")]
         )
 
+    def test_the_session_of_a_worksheet(self) -> None:
+        """It needs no name where there is one alone; prose has none that evaluates."""
+        self.assertEqual(self.pipe("", "--create", self.sheet), (2, "", "tmhost-repl: name a session and the words of its interpreter (there are: none)\n"))
+        self.make()
+        self.pipe("%session prose true\n", self.sheet, "t")
+        self.assertEqual(self.pipe("hello\n", self.sheet), (0, "hello\n", ""))
+        self.pipe("%session u cat\n", self.sheet, "t")
+        self.assertEqual(self.pipe("x\n", self.sheet), (2, "", "tmhost-repl: name a session (there are: t, u)\n"))
+
+    def test_what_starts_no_interpreter(self) -> None:
+        self.make()
+        status, out, errors = self.pipe("%session u tmhost-nothing\nx\n", self.sheet, "t")
+        self.assertEqual((status, out), (1, ""))
+        self.assertTrue(errors.startswith("tmhost-repl: u: there is no program tmhost-nothing\n"), errors)
+
     def test_bytes_as_they_are(self) -> None:
         """Also those that aren't UTF-8; bytes below 32 as the program shows them."""
         self.make()

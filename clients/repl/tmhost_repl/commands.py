@@ -3,6 +3,7 @@
 from typing import Callable, Dict, List, Optional, Tuple, Union
 
 from tmhost import BadLine, Cell, Refused, Worksheet
+from tmhost.starting import doubt
 
 from .console import Console
 from .evaluation import Evaluator, Outcome
@@ -57,6 +58,9 @@ class Commands:
 
     def enter(self, session: str) -> None:
         self.session = session
+        why = doubt(self.worksheet.sessions[session].words)
+        if why:
+            self.console.note(harmless(f"{session}: {why}"))
         self.lines.enter(self.worksheet.sessions[session])
 
     def _list(self, words: List[str]) -> None:

@@ -9,7 +9,7 @@ from typing import List, Optional
 
 from tmhost import BadLine, Refused, TmhostError, Worksheet
 
-from .commands import Commands, Mistake, ensure, explained
+from .commands import PROSE, Commands, Mistake, ensure, explained
 from .completion import Draft
 from .console import Console, Terminal, new_console
 from .evaluation import Evaluator, control_c_raises
@@ -22,14 +22,15 @@ def options(words: List[str]) -> argparse.Namespace:
     parser = argparse.ArgumentParser(
         prog="tmhost-repl",
         description="A worksheet at a terminal: each line is a field at its end, and its answer is shown when it is on the disk.",
-        epilog="The program is the one that TMHOST names, or tmhost on PATH. In a pipe the status is 1 where an answer was lost. %help, as "
+        epilog="The program is the one that TMHOST names, tmhost on PATH, or the one that was built or installed with this. In a pipe the status is 1 where an answer was lost. %help, as "
         "a line, tells what else can be done.",
     )
     parser.add_argument("--create", action="store_true", help="make the worksheet where it isn't there, without a question")
     parser.add_argument("--tab", action="store_true", help="the session that WORDS make answers completions at TAB")
     parser.add_argument("sheet", metavar="SHEET", help="the file of the worksheet")
-    parser.add_argument("session", metavar="SESSION", help="the session that the lines go to")
-    parser.add_argument("words", metavar="WORDS", nargs=argparse.REMAINDER, help="what starts its interpreter, where the session is new")
+    parser.add_argument("session", metavar="SESSION", nargs="?", help="the session that the lines go to, where the worksheet hasn't just one")
+    more = parser.add_argument("words", metavar="WORDS", nargs=argparse.REMAINDER, help="what starts its interpreter, where the session is new")
+    more.required = False  # as it is told where nothing is given
     return parser.parse_args(words)
 
 
@@ -44,8 +45,13 @@ def opened(given: argparse.Namespace, console: Console) -> Worksheet:
 
 
 def begin(given: argparse.Namespace, worksheet: Worksheet) -> None:
-    """Makes the session, where it isn't there."""
-    if given.words:
+    """Makes the session, where it isn't there; without a name it is the only one, beside that of prose."""
+    if given.session is None:
+        names = [session.name for session in worksheet.sessions.values() if session.words != PROSE]
+        if len(names) != 1:
+            raise Mistake(f"name a session{' and the words of its interpreter' * (not names)} (there are: {', '.join(names) or 'none'})")
+        given.session = names[0]
+    elif given.words:
         ensure(worksheet, given.session, given.words, given.tab)
     elif given.session not in worksheet.sessions:
         there = ", ".join(worksheet.sessions) or "none"

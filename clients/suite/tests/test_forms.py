@@ -230,7 +230,7 @@ class Notebooks(Forms):
         lacking = os.pathsep.join([self.place("lacking"), os.environ.get("PYTHONPATH", "")])
         ran = self.run_suite("--convert", path, PYTHONPATH=lacking)
         self.assertEqual((ran.status, ran.output), (1, ""))
-        self.assertEqual(ran.errors, f"tmhost-suite: {path}: there is no markdown_it: install Debian's package python3-markdown-it (apt-get install python3-markdown-it)\n")
+        self.assertEqual(ran.errors, f"tmhost-suite: {path}: there is no markdown_it: install Debian's package python3-markdown-it (apt-get install python3-markdown-it), or {sys.executable} -m pip install markdown-it-py\n")
 
     def test_it_runs_in_its_folder(self) -> None:
         path = self.notebook("python", [("open('a.ipynb').read(1)", [self.result("'{'")])])

@@ -5,7 +5,7 @@ import os
 import subprocess
 import unittest
 import xml.etree.ElementTree
-from typing import Any, List
+from typing import Any, List, Tuple
 
 from .support import HERE, Case, case, environment, without_seconds, words
 
@@ -83,6 +83,10 @@ class Verdicts(Case):
             file.write(text)
         self.assertEqual(self.verdicts(self.path), ["differs", "ok"])
         self.assertIn("no case of the session c has an answer: do its words start an interpreter here? ./nothing here\n", self.outcome.output)
+        with open(self.path, "w", encoding="utf-8") as file:
+            file.write(text.replace("[./nothing, here]", "[sh]").replace("---\n", "---\ntimeout: 0.5\n", 1))
+        self.assertEqual(self.verdicts(self.path), ["differs", "ok"])
+        self.assertIn("no case of the session c has an answer: sh by itself has no blocks for its answers: the words tmhost-sh start it with an adapter\n", self.outcome.output)
         self.write(case("say x", "x"), more="folder: none\n")
         self.assertIn("`folder` is " + self.place("none") + ", which is no folder", self.run_suite(self.path).errors)
 
@@ -258,6 +262,20 @@ class Reports(Case):
         suite = xml.etree.ElementTree.parse(report).getroot()[0]
         self.assertEqual((suite.get("tests"), suite.get("failures"), suite.get("skipped")), ("4", "1", "2"))
         self.assertEqual([[child.tag for child in one] for one in suite], [[], ["failure"], ["skipped"], ["skipped"]])
+
+    def test_names_in_junit_stay(self) -> None:
+        """Where the text above changes; the line is apart from the name."""
+        cases = [case("say 1", "1"), case("x\ny"), case("say 1", "1")]
+        names: List[List[Tuple[str, str, str]]] = []
+        above: List[List[str]] = [[], [case("say new", "new")]]
+        for more in above:
+            self.write(*more, *cases)
+            self.run_suite(self.path, "--junit", self.place("report.xml"), GITHUB_WORKSPACE=self.folder)
+            found = xml.etree.ElementTree.parse(self.place("report.xml")).getroot()[0][len(more) :]
+            names.append([(one.get("name", ""), one.get("file", ""), one.get("line", "")) for one in found])
+        self.assertEqual([[one[0] for one in these] for these in names], [["say 1", "x", "say 1 (2)"]] * 2)
+        self.assertEqual({one[1] for these in names for one in these}, {os.path.basename(self.path)})
+        self.assertNotEqual([one[2] for one in names[0]], [one[2] for one in names[1]])
 
     def test_json_is_by_its_schema(self) -> None:
         try:

@@ -18,6 +18,19 @@ class Reading(unittest.TestCase):
         found = read("One.\n\n```a\nx\n```\n\n```answer\n1\n2\n```\n\n~~~b {whole}\ny\n\nz\n~~~\n\n```c\nno\n```\n").cases
         self.assertEqual([(one.session, one.lines, one.wanted, one.line) for one in found], [("a", ("x",), "1\n2", 6), ("b", ("y", "", "z"), None, 15)])
 
+    def test_a_fence_with_the_name_of_an_adapter(self) -> None:
+        """Its author may have meant the session that this starts, so it is told."""
+        found = read("```python\nx\n```\n\n```json\n1\n```\n", "---\nsessions: {py: [tmhost-python], a: [x]}\n---\n")
+        self.assertEqual(found.doubts, ["suite.md: line 4: no session has the name 'python' of this fence, which is no case: is py meant?"])
+
+    def test_a_title(self) -> None:
+        titles = [one.title for one in read("```a\n\n x\ny\n```\n\n```a\ntmhost_skips || {\n{\nseq 3\n} >out\n}\n```\n\n```a\n{\n```\n").cases]
+        self.assertEqual(titles, ["x", "seq 3", "{"])
+
+    def test_fences_that_are_whole(self) -> None:
+        fields = [[field.input for field in read("```a\nx\ny\n```\n", FRONT[:-4] + more + "---\n").cases[0].fields] for more in ("", "fences: whole\n")]
+        self.assertEqual(fields, [["x", "y"], ["x\u2028y"]])
+
     def test_an_empty_answer_is_wanted_empty(self) -> None:
         self.assertEqual([one.wanted for one in read("```a\nx\n```\n```answer\n```\n").cases], [""])
 

@@ -2,12 +2,15 @@
 import dataclasses
 import hashlib
 import json
+import re
 from decimal import Decimal
 from typing import Dict, FrozenSet, List, Optional, Tuple
 
 from tmhost_fences.fields import Group
 
 from .rules import Normal, Rules
+
+AROUND = re.compile(r"tmhost_skips \|\| \{|\{")  # what stands before the code of a command of cram, where --convert wrote it
 
 
 @dataclasses.dataclass(frozen=True)
@@ -47,8 +50,9 @@ class Case:
 
     @property
     def title(self) -> str:
-        """Its first line that has anything, in at most 60 characters."""
-        first = next((line.strip() for line in self.lines if line.strip()), "")
+        """Its first line that has anything, in at most 60 characters; of a converted command of cram not what was put around it."""
+        lines = [line.strip() for line in self.lines if line.strip()]
+        first = next((line for line in lines if not AROUND.fullmatch(line)), "".join(lines[:1]))
         return first if len(first) <= 60 else first[:57] + "..."
 
     @property

@@ -34,8 +34,8 @@ The front matter of SUITE names the sessions, as `sessions: {py: [tmhost-python]
 (clients/suite/README.md).
 What came is kept in the worksheet SUITE.run while the suite runs, so --resume goes on where a run was cut off.
 In the interpreters TMHOST_SUITE_FOLDER is the folder of the suite.
-The program is the one that TMHOST names, or tmhost on PATH. The status is 0 where all is as wanted, 1 where it isn't, and 2
-where the words are refused.
+The program is the one that TMHOST names, tmhost on PATH, or the one that was built or installed with this.
+The status is 0 where all is as wanted, 1 where it isn't, and 2 where the words are refused.
 """
 INTERRUPTED = 130
 

@@ -193,13 +193,22 @@ def junit(all_told: List[Told], troubles: List[Trouble]) -> Iterator[str]:
     yield "</testsuites>"
 
 
+def lasting_names(own: List[Told]) -> Iterator[str]:
+    """A name for each case of a text, which stays where the text above it changes: its title, and which one it is of several with that."""
+    count: Dict[str, int] = {}
+    for title in (told.case.title for told in own):
+        count[title] = count.get(title, 0) + 1
+        yield title if count[title] == 1 else f"{title} ({count[title]})"
+
+
 def junit_suite(path: str, own: List[Told], troubles: List[str]) -> Iterator[str]:
     wrong, skipped = sum(told.is_wrong for told in own), sum(told.verdict in ("skip", "xfail") for told in own)
     seconds = sum(told.seconds for told in own)
     counts = f'tests="{len(own) + len(troubles)}" failures="{wrong}" errors="{len(troubles)}" skipped="{skipped}" time="{seconds:.3f}"'
     yield f"<testsuite name={xml_attribute(path)} {counts}>"
-    for told in own:
-        head = f'<testcase classname={xml_attribute(path)} name={xml_attribute(f"{told.case.line}: {told.case.title}")} time="{told.seconds:.3f}"'
+    place = f"classname={xml_attribute(path)} file={xml_attribute(path_in_repository(path))}"
+    for told, name in zip(own, lasting_names(own)):
+        head = f'<testcase {place} line="{told.case.line}" name={xml_attribute(name)} time="{told.seconds:.3f}"'
         if told.is_wrong:
             kind = "error" if told.is_error else "answer"
             yield f'{head}><failure message={xml_attribute(told.verdict)} type="{kind}">{xml_text(chr(10).join(told.diff))}</failure></testcase>'

@@ -3,12 +3,14 @@ import sys
 import threading
 from typing import Dict, List, Set, TextIO, Tuple
 
+from tmhost.starting import doubt
+
 from .reports import Told, readable
 
 COLOURS = {"-": "31", "+": "32", "@": "36"}
 BOLD = "1"
 ORDER = ("ok", "flaky", "xfail", "skip", "differs", "new", "xpass")
-SILENT = ("? Ended", "? StartRefused", "? Stalled")
+SILENT = ("? Ended", "? StartRefused", "? Stalled", "? over ")  # how what came of a case without an answer begins
 CLEAR = "\r\x1b[K"
 
 
@@ -57,9 +59,11 @@ class Teller:
             if told.result:
                 sessions.setdefault((told.suite.path, told.case.session), []).append(told)
         for (path, name), own in sessions.items():
-            if any(told.is_wrong for told in own) and all(told.got in SILENT for told in own):
-                words = " ".join(own[0].suite.sessions[name])
-                self.say(readable(f"{path}: no case of the session {name} has an answer: do its words start an interpreter here? {words}"))
+            if any(told.is_wrong for told in own) and all(told.got.startswith(SILENT) for told in own):
+                words = own[0].suite.sessions[name]
+                named = doubt(words) if "/" not in words[0] else None  # a path is that in the folder in which it is started
+                why = named or f"do its words start an interpreter here? {' '.join(words)}"
+                self.say(readable(f"{path}: no case of the session {name} has an answer: {why}"))
 
     def tell_slowest(self, all_told: List[Told], count: int) -> None:
         slowest = sorted((told for told in all_told if told.result), key=lambda told: -told.seconds)[:count]

@@ -17,7 +17,7 @@ from .marks import has_marks, read_marks, seconds, session_in
 from .rules import FORMULAS, PICTURES, Normal, Rules, allowance, normal_of
 
 ANSWER, ERROR = "answer", "error"
-WORDS = ("sessions", "normal", "tolerance", "timeout", "spaces", "columns", "without", "errors", "folder")
+WORDS = ("sessions", "normal", "tolerance", "timeout", "spaces", "columns", "without", "errors", "folder", "fences")
 RUN = re.compile("`+")
 COLUMNS = re.compile(r"[1-9][0-9]{0,5}", re.ASCII)
 
@@ -144,7 +144,8 @@ class Text:
     def __init__(self, path: str, text: str) -> None:
         self.lines: List[str] = LINE.findall(text)
         contents = [cut(line)[0] for line in self.lines]
-        self.sessions = front_of(contents).sessions
+        found = front_of(contents)
+        self.sessions, self.is_whole = found.sessions, found.is_whole
         if not self.sessions:
             raise Trouble("the text names no sessions: its first lines must be as `---`, `sessions: {py: [tmhost-python]}`, `---`")
         first = matter_end(contents)
@@ -166,7 +167,10 @@ class Text:
             if name in (ANSWER, ERROR) and name not in self.sessions:
                 raise Trouble(f"line {block.begin + 1}: an {name} stands behind no case")
             if name is None or name not in self.sessions:
-                if name and has_marks(block.info_text):
+                named = next((one for one, words in self.sessions.items() if name and os.path.basename(words[0]) == f"tmhost-{name}"), None)
+                if named:
+                    self.doubts.append(f"{self.path}: line {block.begin + 1}: no session has the name {ascii(name)} of this fence, which is no case: is {named} meant?")
+                elif name and has_marks(block.info_text):
                     self.doubts.append(f"{self.path}: line {block.begin + 1}: no session has the name {ascii(name)} of this fence, which is no case")
                 continue
             found: Dict[str, Block] = {}
@@ -185,7 +189,7 @@ class Text:
             if not one.is_closed:
                 raise Trouble(f"the fence in line {one.begin + 1} isn't closed")
         lines = list(block.content)
-        fields = tuple(whole(lines) if marks.is_whole else groups(lines, language_in(self.sessions[session])))
+        fields = tuple(whole(lines) if self.is_whole or marks.is_whole else groups(lines, language_in(self.sessions[session])))
         if not fields:
             raise Trouble(f"line {line}: the case has no code")
         wanted, errors = ("\n".join(found[kind].content) if kind in found else None for kind in (ANSWER, ERROR))

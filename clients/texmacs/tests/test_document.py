@@ -51,6 +51,18 @@ class Documents(unittest.TestCase):
         wanted = [field for field in fields_of(self.sheet) if field[1]]  # an empty one isn't read
         self.assertEqual(self.read_back(self.exported()), wanted, f"seed {seed}")
 
+    def test_formulas_of_prose(self) -> None:
+        """They are TeXmacs' own, and formulas again in what is made of the document; what is none stays."""
+        text = "Let $x_{1}$ and $\\frac{1}{2}$ be as in # for 5$ or $ 6 $.\u2028\u2028## On $\\alpha$\u2028\u2028$$x\\leq 2$$"
+        with Worksheet(self.sheet, create=True, program=PROGRAM) as sheet:
+            sheet.session("prose", ["true"])
+            sheet.new("prose", text)
+        document = self.exported().decode("latin-1")
+        self.assertIn("  Let <math|x<rsub|1>> and <math|<frac|1|2>> be as in # for 5$ or $ 6 $.\n", document)
+        self.assertIn("  <\\equation*>\n    x\\<leq\\>2\n  </equation*>\n", document)
+        self.assertIn(r"<section*|On <math|\<alpha\>>>", document)
+        self.assertEqual(self.read_back(document.encode("latin-1")), [("prose", text)])
+
     def test_answers_and_text(self) -> None:
         with Worksheet(self.sheet, create=True, program=PROGRAM) as sheet:
             sheet.session("a", INTERPRETER)

@@ -21,6 +21,17 @@ class Lines(Case):
         self.assertEqual((first.id, second.id, second.prompt), ("1", "2", "3] "))
         self.assertEqual(self.kept(), {"1": ("say one", "one"), "2": ("say two\u2028three", "two\u2028three")})
 
+    def test_a_folder_with_a_long_path(self) -> None:
+        """The socket is there, whose path is longer than a socket's may be."""
+        self.make()
+        home = os.path.join(self.folder, "x" * 60, "y" * 60)
+        os.makedirs(home)
+        texmacs = TeXmacs(home, self.sheet, "t:x", "/d/a.tm")
+        self.open.append(texmacs)
+        self.assertEqual(texmacs.evaluate("say one").text, "one")
+        places = os.listdir(os.path.join(home, ".cache", "tmhost-texmacs"))
+        self.assertEqual(len([name for name in places if name.endswith(".socket")]), 1)
+
     def test_a_line_that_is_evaluated_again_is_the_same_field(self) -> None:
         self.make()
         texmacs = self.texmacs()

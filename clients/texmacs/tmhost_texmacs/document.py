@@ -16,6 +16,7 @@ TAIL = "</body>\n\n<\\initial>\n  <\\collection>\n  </collection>\n</initial>\n"
 HEADINGS = {"#": "chapter*", "##": "section*", "###": "subsection*"}
 PROSE = ["true"]  # the words of a session of prose
 CONTROL = re.compile(r"[\x00-\x08\x0b-\x1f\x7f]")
+IN_PROSE = re.compile(r"(\$\$[^$]+\$\$|\$(?!\s)[^$]+(?<!\s)\$)")  # a formula
 
 
 def printed(text: Union[str, bytes]) -> str:
@@ -74,12 +75,25 @@ def field_of(field: Field) -> str:
     return f"    <\\unfolded-io>\n{prompt}    <|unfolded-io>\n{text}    <|unfolded-io>\n{answered(field.answer, indent)}    </unfolded-io>\n"
 
 
+def words(text: str) -> str:
+    """A line of prose. Formulas between dollars are TeXmacs' own, where they are known."""
+    told = ""
+    for one in IN_PROSE.split(text):
+        tree = formula(one) if one.startswith("$") else None
+        told += tree or (" " * one.startswith(" ") + line(one.strip()) + " " * one.endswith(" ") if one.strip() else one)
+    return told or line("")
+
+
 def prose(field: Field) -> Iterator[str]:
     """The paragraphs and headings of a text."""
     for one in re.split(r"\n\s*\n", "\n".join(field.lines)):
         mark, _, title = one.partition(" ")
         name = HEADINGS.get(mark) if "\n" not in one else None
-        yield f"  <{name}|{line(title.strip())}>\n" if name else f"  {line(' '.join(one.split()))}\n"
+        large = formula(one) if one.startswith("$$") else None
+        if large:
+            yield f"  <\\equation*>\n    {large[len('<math|') : -1]}\n  </equation*>\n"
+        else:
+            yield f"  <{name}|{words(title.strip())}>\n" if name else f"  {words(' '.join(one.split()))}\n"
 
 
 def sessions(sheet: Worksheet, fields: List[Field]) -> Iterator[str]:

@@ -16,7 +16,7 @@ from typing import BinaryIO, Dict, List, Optional, Tuple
 from tmhost import Event, Finished, InUse, TmhostError, Worksheet
 
 from .offered import ensured, none_of
-from .places import folder_of_pictures
+from .places import address_of, folder_of_pictures
 from .speech import Speech, whole
 from .talk import Gone, Interrupt, Left, Place, Talk, at_work
 
@@ -139,7 +139,8 @@ class Door:
         self.path, self.listener = path, socket.socket(socket.AF_UNIX)
         if os.path.lexists(path):
             os.unlink(path)
-        self.listener.bind(path)
+        with address_of(path) as address:
+            self.listener.bind(address)
         self.listener.listen()
         self.file = os.stat(path).st_ino
 

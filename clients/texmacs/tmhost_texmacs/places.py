@@ -1,8 +1,11 @@
 """Where things lie: the socket of a worksheet's keeper, and pictures."""
 
+import contextlib
 import hashlib
 import os
+from typing import Iterator
 
+LONGEST_ADDRESS = 107  # bytes of a socket's path, for Linux
 DEFAULT_FOLDER = "~/tmhost"  # of the worksheets of documents that have no name yet
 
 
@@ -21,6 +24,19 @@ def socket_of(sheet: str) -> str:
     """The socket of the program that keeps a worksheet open."""
     name = hashlib.sha256(os.fsencode(os.path.realpath(sheet))).hexdigest()[:24]
     return os.path.join(private_folder(), name + ".socket")
+
+
+@contextlib.contextmanager
+def address_of(path: str) -> Iterator[str]:
+    """The path by which a socket is bound or found. Where it is too long for one it goes by its folder, which is held open for that."""
+    if len(os.fsencode(path)) <= LONGEST_ADDRESS:
+        yield path
+        return
+    folder = os.open(os.path.dirname(path), os.O_PATH | os.O_DIRECTORY)
+    try:
+        yield f"/proc/self/fd/{folder}/{os.path.basename(path)}"
+    finally:
+        os.close(folder)
 
 
 def folder_of_pictures() -> str:

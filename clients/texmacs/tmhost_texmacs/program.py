@@ -18,7 +18,7 @@ from tmhost import TmhostError, Worksheet
 from . import keeper, scheme
 from .document import document
 from .offered import adapters
-from .places import sheet_of, socket_of
+from .places import address_of, sheet_of, socket_of
 from .speech import END, escaped, whole
 
 PIECE = 65_536
@@ -72,7 +72,8 @@ def greeted(path: str, hello: bytes) -> Tuple[Optional[socket.socket], Optional[
     """A connection that was joined; or none, and why it was refused, where somebody was there."""
     connection = socket.socket(socket.AF_UNIX)
     try:
-        connection.connect(path)
+        with address_of(path) as address:
+            connection.connect(address)
         connection.sendall(hello)
         told = line_of(connection)
     except OSError:

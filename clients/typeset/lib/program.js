@@ -12,6 +12,7 @@ const HELP = `usage: tmhost-typeset [OPTIONS] [PAGE]
 Reads a page that \`tmhost export html\` wrote, from PAGE or from standard input, and writes it with its formulas set as MathML
 and its prose as what Markdown says. What can't be set stays as its TeX, and all else as it is.
 
+  --title TEXT        the page's title, in place of the worksheet's name
   --prose NAME        the fields of session NAME that have no answer are prose (prose, and prose-2 and so on); may stand more than once
   --no-prose          no field is
   --report            say of each formula and each field of prose that stays as it is why it does, on standard error
@@ -29,7 +30,11 @@ const PROSE = /^prose(-\d{1,6})?$/; // as tmhost-notebook and tmhost-import name
 const SECONDS = "60";
 const SHOWN = 60; // characters of a formula in a report
 
-/** @typedef {{report: boolean, help: boolean, seconds: number, means: import("./typeset.js").Means, page: string | null}} Words */
+const TITLES = [/(<title>)[^<]*(<\/title>)/, /(<h1 dir="ltr">)[^<]*(<\/h1>)/]; // where a page has its title, in which no text has a mark
+/** @type {Record<string, string>} */
+const REFERENCES = { "&": "&amp;", "<": "&lt;", ">": "&gt;", '"': "&quot;", "'": "&#39;" };
+
+/** @typedef {{report: boolean, help: boolean, seconds: number, means: import("./typeset.js").Means, page: string | null, title: string | null}} Words */
 
 /** The command ends with a status, and says why. */
 class Fault extends Error {
@@ -47,7 +52,7 @@ class Fault extends Error {
 function readWords(words) {
   /** @type {import("node:util").ParseArgsConfig["options"]} */
   const options = {
-    report: { type: "boolean" }, help: { type: "boolean" }, seconds: { type: "string" }, katex: { type: "string" },
+    report: { type: "boolean" }, help: { type: "boolean" }, seconds: { type: "string" }, katex: { type: "string" }, title: { type: "string" },
     "markdown-it": { type: "string" }, prose: { type: "string", multiple: true }, "no-prose": { type: "boolean" },
   };
   let read;
@@ -57,10 +62,11 @@ function readWords(words) {
     throw new Fault(2, error instanceof Error ? error.message : "words that are refused");
   }
   const { values, positionals } = read;
-  const { report, help, seconds = SECONDS } = /** @type {Record<string, any>} */ (values);
+  const { report, help, seconds = SECONDS, title = null } = /** @type {Record<string, any>} */ (values);
+  if (title !== null && /[\0-\x1f\x7f]/.test(title)) throw new Fault(2, "a title with a control character");
   if (!/^[0-9]{1,6}$/.test(seconds)) throw new Fault(2, `no number of seconds: ${seconds}`);
   if (positionals.length > 1) throw new Fault(2, "more than one page");
-  return { report: report === true, help: help === true, seconds: Number(seconds), means: meansOf(values), page: positionals[0] ?? null };
+  return { report: report === true, help: help === true, seconds: Number(seconds), means: meansOf(values), page: positionals[0] ?? null, title };
 }
 
 /** @type {(values: Record<string, any>) => import("./typeset.js").Means} */
@@ -119,12 +125,24 @@ function tell(left, { formulas, prose }, report) {
   process.stderr.write(lines.join(""));
 }
 
+/**
+ * The page with another title, whose letters are bytes here.
+ * @type {(page: Buffer, title: string) => Buffer}
+ */
+function titled(page, title) {
+  const escaped = title.replace(/[&<>"']/g, (mark) => REFERENCES[mark]);
+  const bytes = Buffer.from(escaped).toString("latin1");
+  let text = page.toString("latin1");
+  for (const place of TITLES) text = text.replace(place, (_, before, after) => before + bytes + after);
+  return Buffer.from(text, "latin1");
+}
+
 /** @type {(words: string[]) => Promise<void>} */
 async function run(words) {
-  const { report, help, seconds, means, page } = readWords(words);
+  const { report, help, seconds, means, page, title } = readWords(words);
   if (help) return write(HELP);
   const made = await typeset(await readPage(page), means, Date.now() + 1000 * seconds);
-  await write(made.page);
+  await write(title === null ? made.page : titled(made.page, title));
   tell(made.left, made, report);
 }
 

@@ -46,6 +46,16 @@ test("bytes that are no UTF-8 stay, beside formulas and in them", () => {
   assert.ok(made.includes("<title>\u00e9\u0080</title>"));
 });
 
+test("another title", () => {
+  const before = pageOf("course.sheet", [{ output: span("$x$") }, { output: "&lt;title&gt;course.sheet" }]);
+  const made = run(before, "--title", 'Sums <& "\u00e9">').page.toString();
+  const wanted = "Sums &lt;&amp; &quot;\u00e9&quot;&gt;";
+  assert.equal(made, run(before).page.toString().replace("<title>course.sheet<", `<title>${wanted}<`).replace('<h1 dir="ltr">course.sheet<', `<h1 dir="ltr">${wanted}<`));
+  assert.equal(made.split(wanted).length, 3);
+  assert.equal(run("no page", "--title", "x").page.toString(), "no page");
+  assert.equal(run(before, "--title", "a\nb").status, 2);
+});
+
 test("formulas outside of outputs are none", () => {
   const before = pageOf("$x$", [{ session: "$x$", prompt: "$x$", input: '<span class="tex">$x$</span>', output: "$x$" }]);
   assert.equal(run(before).page.toString(), before);

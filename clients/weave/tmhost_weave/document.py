@@ -76,6 +76,7 @@ class Document:
         contents = [cut(line)[0] for line in self.lines]
         front = front_of(contents)
         self.sessions = front.sessions
+        self.always: FrozenSet[str] = frozenset([WHOLE] if front.is_whole else [])  # flags that each fence has
         self.fences: List[Fence] = []
         self.strays: List[int] = []  # lines, from 1, at which an answer begins that belongs to no fence
         self.others: Counter[str] = collections.Counter()  # fences of no session, by what stands at them
@@ -110,7 +111,7 @@ class Document:
         # Readers differ in what they make of a part of a tab. The quote's optional space, since else it would take the first one of a line.
         prefix = block.before_end.expandtabs(TAB) + (" " if block.before_end.endswith(">") else "")
         language = language_in(self.sessions[named[0]])
-        return Fence(*named, block.content, block.begin, block.end, finder.end + first, prefix, block.is_in_container, language, old)
+        return Fence(named[0], named[1] | self.always, block.content, block.begin, block.end, finder.end + first, prefix, block.is_in_container, language, old)
 
     def woven(self, shown: Sequence[Shown]) -> str:
         """The text with these answers behind its fences, in place of those that stand there."""

@@ -1,5 +1,7 @@
 """Evaluates the stale fields of a text, in its order."""
-from typing import Dict, List, Optional, Set
+import contextlib
+import threading
+from typing import Callable, Dict, Iterator, List, Optional, Set
 
 from tmhost import Cell, Lost, Refused, TimedOut, Worksheet
 
@@ -7,25 +9,42 @@ from .plan import MARK, Plan, Wanted
 
 BELOW = "what stands below is of a replay, and is removed"
 UNTRIED = "not evaluated, since what stands before it in its session has no answer"
+PATIENCE = 30.0  # seconds after which it is said that a field has no answer yet
 
 
 class Evaluator:
-    def __init__(self, sheet: Worksheet, plan: Plan, seconds: Optional[float]) -> None:
-        self.sheet, self.plan, self.seconds = sheet, plan, seconds
+    """`begun` is told of each field, how many there are before it and how many in all; `late` of one that has no answer after some time."""
+
+    def __init__(
+        self, sheet: Worksheet, plan: Plan, seconds: Optional[float], begun: Callable[[Wanted, int, int], None], late: Callable[[Wanted, float], None]
+    ) -> None:
+        self.sheet, self.plan, self.seconds, self.begun, self.late = sheet, plan, seconds, begun, late
         self.replayed: Dict[str, int] = {}  # how many fields were, of each session that has an interpreter
         self.others: Dict[str, int] = {}  # how many of those were answered otherwise than what is kept
         self.failed: Set[str] = set()  # sessions of which no further field is evaluated
         self._scratch: List[Cell] = []
 
     def evaluate_all(self) -> None:
-        for wanted in self.plan.wanted:
-            if not wanted.is_kept:
+        stale = [wanted for wanted in self.plan.wanted if not wanted.is_kept]
+        for place, wanted in enumerate(stale):
+            self.begun(wanted, place, len(stale))
+            with self._watched(wanted):
                 wanted.failure = self._failure(wanted)
-                if wanted.failure and not wanted.fence.is_pure:
-                    self.failed.add(wanted.session)
+            if wanted.failure and not wanted.fence.is_pure:
+                self.failed.add(wanted.session)
         # The mark that stands in front of the others goes last.
         for cell in reversed(self._scratch):
             cell.remove()
+
+    @contextlib.contextmanager
+    def _watched(self, wanted: Wanted) -> Iterator[None]:
+        timer = threading.Timer(PATIENCE, self.late, [wanted, PATIENCE])
+        timer.daemon = True
+        timer.start()
+        try:
+            yield
+        finally:
+            timer.cancel()
 
     def _failure(self, wanted: Wanted) -> Optional[str]:
         """Evaluates a field, and tells why it has no answer."""

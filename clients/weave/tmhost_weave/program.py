@@ -2,6 +2,7 @@
 import argparse
 import os
 import sys
+import tempfile
 from typing import List
 
 from tmhost import TmhostError
@@ -13,10 +14,10 @@ from .weaving import Weave
 ABOUT = "Evaluates the code in a CommonMark text, and puts each answer behind its fence."
 NOTES = """
 The front matter of TEXT names the sessions, as `sessions: {py: [tmhost-python]}`. Behind the session of a fence may
-stand {whole}, {pure}, {hide} and {fold}. The answers are kept in the worksheet beside TEXT, whose name ends in .sheet.
-The program is the one that TMHOST names, or tmhost on PATH. The status is 0 where all fields are answered, 1 where one
-isn't, where a fence such as {r} or r {hide} is that of no session, where --check says that something would change, or
-where something went wrong, and 2 where the words are refused.
+stand {whole}, {pure}, {hide} and {fold}; `fences: whole` in the front matter makes each fence one field. The answers are kept in the worksheet beside TEXT, whose name ends in .sheet.
+The program is the one that TMHOST names, tmhost on PATH, or the one that was built or installed with this. The status is 0 where all fields are answered, 1 where one
+isn't, where a fence such as {r} or r {hide} is that of no session, where --check says that something would change or
+--test that an answer is another one, or where something went wrong, and 2 where the words are refused.
 """
 INTERRUPTED = 130
 
@@ -31,13 +32,21 @@ def seconds(word: str) -> float:
 def arguments(words: List[str]) -> argparse.Namespace:
     parser = argparse.ArgumentParser("tmhost-weave", None, ABOUT, NOTES, formatter_class=argparse.RawDescriptionHelpFormatter)
     parser.add_argument("text", metavar="TEXT")
-    parser.add_argument("--check", action="store_true", help="evaluate nothing, write nothing, and say what would change")
+    what = parser.add_mutually_exclusive_group()
+    what.add_argument("--check", action="store_true", help="evaluate nothing, write nothing, and say what would change")
+    what.add_argument("--test", action="store_true", help="evaluate all anew, write nothing, and show which answers of TEXT are others now, as for a CI")
     parser.add_argument("--output", metavar="FILE", help="where the woven text goes, in place of TEXT (-: standard output)")
     parser.add_argument("--seconds", type=seconds, metavar="N", help="how long a field may take (no limit)")
-    return parser.parse_args(words)
+    given = parser.parse_args(words)
+    if given.test and given.output is not None:
+        parser.error("--test writes nothing, so there is no --output for it")
+    return given
 
 
 def run(given: argparse.Namespace) -> bool:
+    if given.test:
+        with tempfile.TemporaryDirectory(prefix="tmhost-weave-") as folder:
+            return Weave(given.text, None, folder).test(given.seconds)
     with locked(os.path.realpath(given.text)):
         weave = Weave(given.text, given.output)
         return weave.check() if given.check else weave.weave(given.seconds)

@@ -1,12 +1,14 @@
 """A text woven or checked, over the worksheet beside it."""
 import contextlib
+import difflib
 import itertools
 import os
 import re
 import sys
-from typing import Dict, List, Optional
+from typing import Dict, Iterator, List, Optional
 
 from tmhost import Field, Session
+from tmhost.starting import doubt
 
 from .answers import ANSWER, ERROR, FORMULA, NO_ANSWER, PICTURE, Piece, Shown
 from .document import FOLD, HIDE, Document
@@ -14,12 +16,13 @@ from .evaluation import Evaluator
 from .files import new_name, put, read
 from .formulas import parts_of
 from .pictures import Pictures
-from .plan import Plan
+from .plan import Plan, Wanted
 from .sheets import LARGE, fit, largest_file, make, opened, sheet_path
 from tmhost_fences.troubles import Trouble
 
 MOST_TOLD = 5  # kinds of fences, in a message
 LONGEST_INFO = 40  # characters of what stands at one
+CLEAR = "\r\x1b[K"  # takes a line of a terminal away
 LONG_RUN = re.compile("`{255,}")  # cmark counts the backquotes of a fence up to 255, so a line of more would close any
 
 
@@ -61,12 +64,14 @@ def why_nothing(document: Document) -> str:
 
 
 class Weave:
-    """`output` is where the woven text goes: None for the text itself, "-" for standard output."""
+    """`output` is where the woven text goes: None for the text itself, "-" for standard output. `folder` is where the worksheet lies, if not beside the text."""
 
-    def __init__(self, name: str, output: Optional[str]) -> None:
+    def __init__(self, name: str, output: Optional[str], folder: Optional[str] = None) -> None:
         self.name, self.path = name, os.path.realpath(name)
         self.target = None if output == "-" else self.path if output is None else os.path.realpath(output)
-        self.sheet_path = sheet_path(self.path)
+        self.sheet_path = sheet_path(os.path.join(folder, os.path.basename(self.path)) if folder else self.path)
+        self.keeps = folder is None  # what was evaluated
+        self.shows_progress = sys.stderr.isatty()
         if self.sheet_path == self.path:
             raise Trouble("the text has the name of its worksheet")
         self.data = read(self.path)
@@ -81,7 +86,15 @@ class Weave:
             self.say(why_nothing(self.document))
 
     def say(self, text: str) -> None:
-        print(f"{self.name}: {text}", file=sys.stderr)
+        print(f"{CLEAR * self.shows_progress}{self.name}: {text}", file=sys.stderr)
+
+    def begun(self, wanted: Wanted, before: int, count: int) -> None:
+        """Shows on a terminal how far it is."""
+        if self.shows_progress:
+            print(f"{CLEAR}{self.name}: line {wanted.line}, {before} of {count} evaluated", end="", file=sys.stderr, flush=True)
+
+    def late(self, wanted: Wanted, seconds: float) -> None:
+        self.say(f"line {wanted.line}: {wanted.fence.session}: no answer after {seconds:g} seconds, and it waits on (--seconds N ends a field)")
 
     # ---- the worksheet
 
@@ -96,10 +109,17 @@ class Weave:
                 sheet.checkpoint()
             plan = Plan(self.document, sheet.sessions, sheet.fields)
             fit(sheet, plan)
-            evaluator = Evaluator(sheet, plan, seconds)
-            evaluator.evaluate_all()
+            for name in plan.words:
+                why = doubt(plan.words[name]) if plan.stale(name) else None
+                if why:
+                    self.say(f"{plan.of(name)[0].fence.session}: {why}")
+            evaluator = Evaluator(sheet, plan, seconds, self.begun, self.late)
+            try:
+                evaluator.evaluate_all()
+            finally:
+                print(CLEAR * self.shows_progress, end="", file=sys.stderr, flush=True)
             self.fields = {field.id: field for field in sheet.fields}
-        for name in plan.words:
+        for name in plan.words if self.keeps else ():
             self.tell(name, plan, evaluator)
         return plan
 
@@ -160,10 +180,38 @@ class Weave:
         """Whether all is answered that is meant to be evaluated."""
         plan = self.evaluated(seconds)
         self.write(self.woven(plan))
+        return self.is_answered(plan)
+
+    def is_answered(self, plan: Plan) -> bool:
+        """The same; says what isn't, and where a figure may be shown too early."""
         failures = [wanted for wanted in plan.wanted if wanted.failure]
         for wanted in failures:
             self.say(f"line {wanted.line}: {wanted.fence.session}: {wanted.failure}")
+        for line in self.early(plan):
+            self.say(f"line {line}: its figure is shown before the lines after it draw: {{whole}} at the fence, or `fences: whole` in the front matter, makes them one field")
         return not failures and not self.document.unevaluated
+
+    def early(self, plan: Plan) -> Iterator[int]:
+        """The first line of each fence of Python that leaves a figure open, where others come after it: it is shown with that line, as far as it is drawn."""
+        told = set()
+        for wanted, after in zip(plan.wanted, plan.wanted[1:]):
+            field = self.fields.get(wanted.id or 0)
+            is_inside = wanted.fence is after.fence and wanted.fence.language == "python" and "show(" not in wanted.input
+            if is_inside and wanted.fence.begin not in told and field and field.answer and any(kind == PICTURE for _, kind in parts_of(field.answer.output) or ()):
+                told.add(wanted.fence.begin)
+                yield wanted.line
+
+    def test(self, seconds: Optional[float]) -> bool:
+        """Whether all is answered, and as the text shows it. The worksheet is one that nobody keeps, and nothing is written."""
+        plan = self.evaluated(seconds)
+        woven = self.woven(plan)
+        old, new = (text_of(data).splitlines() for data in (self.data, woven))
+        for line in difflib.unified_diff(old, new, self.name, f"{self.name}, evaluated now", lineterm=""):
+            print(line.encode("utf-8", "surrogateescape").decode("utf-8", "backslashreplace"))
+        missing = self.pictures.missing() if woven == self.data else []
+        for name in missing:
+            print(f"{self.name}: the picture {name} isn't there")
+        return self.is_answered(plan) and woven == self.data and not missing
 
     def check(self) -> bool:
         """Whether all is answered that is meant to be evaluated, and nothing would change; says what would."""

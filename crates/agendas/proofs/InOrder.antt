@@ -1,7 +1,7 @@
 -- A run of lines takes those of its input, in order.
 use Rattle.std.proofs.Common.{◌≡◌, ◌∙◌, ℕ, ◌+◌, List, [], ◌∷◌, ◌++◌, ap, append_assoc, append-nil, arith, length, length-append, refl, subst, sym, Ok, Err}
 use Rattle.std.proofs.lemmas.List.{length-map}
-use Rattle.std.specs.Prelude.{◌⊎◌, IfSome, Option, None, Some, Result, map}
+use Rattle.std.specs.Prelude.{IfSome, Option, None, Some, Result, map}
 use Rattle.session_engine.specs.World.{World}
 use Rattle.host_events.specs.declared.event.Event.{Event}
 use Rattle.session_engine.specs.Joining.{ToBeTaken, alone, asking, with_more}
@@ -160,6 +160,10 @@ module _ {C K : Type 0} (sources : SourceRules C) (sink : SinkRules K) where
   fails_so p q i entries why (step.too_many_whole first events many) = same_lines p.agenda p.agenda refl refl refl refl
   fails_so p q i entries why (step.untaken_whole first events) = same_lines p.agenda p.agenda refl refl refl refl
   fails_so p q i entries why (step.lost_whole first events h l) = same_lines p.agenda p.agenda refl refl refl refl
+  fails_so p q i entries why (step.untaken_edits up_to events) = same_lines p.agenda p.agenda refl refl refl refl
+  fails_so p q i entries why (step.lost_edits up_to events h l) = same_lines p.agenda p.agenda refl refl refl refl
+  fails_so p q i entries why (step.broken_alone x f h gone) = same_lines p.agenda p.agenda refl refl refl refl
+  fails_so p q i entries why (step.unreceived seat) = same_lines p.agenda p.agenda refl refl refl refl
   fails_so p q i entries why (step.unwritten line x h failed) = same_lines p.agenda p.agenda refl refl refl refl
   fails_so p q i entries why (step.unnumbered line many) = same_lines p.agenda p.agenda refl refl refl refl
   fails_so p q i entries why step.unstalled = same_lines p.agenda p.agenda refl refl refl refl
@@ -174,6 +178,10 @@ module _ {C K : Type 0} (sources : SourceRules C) (sink : SinkRules K) where
   step_leads p q todo next s (step.joins events outcomes first more later followed a w c d rest j t) = moved p.agenda p.agenda a j.answered.2 (same_lines p.agenda p.agenda refl refl refl refl)
   step_leads p q todo next s (step.takes_whole first events outcomes w d rest t) = same_lines p.agenda p.agenda refl refl refl refl
   step_leads p q todo next s (step.refuses_whole first events outcomes one rest r) = same_lines p.agenda p.agenda refl refl refl refl
+  step_leads p q todo next s (step.takes_edits up_to events done outcomes w d rest first t) = same_lines p.agenda p.agenda refl refl refl refl
+  step_leads p q todo next s (step.takes_alone x o w d rest gives kept) = same_lines p.agenda p.agenda refl refl refl refl
+  step_leads p q todo next s (step.carries o answer c rest went) = same_lines p.agenda p.agenda refl refl refl refl
+  step_leads p q todo next s (step.receives seat x c rest was) = same_lines p.agenda p.agenda refl refl refl refl
   step_leads p q todo next s (step.rewrites line o w d rest gives kept) = same_lines p.agenda p.agenda refl refl refl refl
   step_leads p q todo next s (step.stalls_all rest) = same_lines p.agenda p.agenda refl refl refl refl
   step_leads p q todo next s (step.interrupts name reported c rest i) = same_lines p.agenda p.agenda refl refl refl refl

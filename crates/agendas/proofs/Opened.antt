@@ -1,6 +1,6 @@
 -- How a transaction that is open came of the lines that were taken.
 use Rattle.std.proofs.Common.{◌≡◌, ◌∙◌, inl, inr, ℕ, ◌+◌, Bool, true, false, List, [], ◌∷◌, ◌++◌, ap, ap₂, append_assoc, refl, subst, sym}
-use Rattle.std.specs.Prelude.{◌⊎◌, ◌&&◌, not, cond, length, map, nat_lt, Option, Some, None}
+use Rattle.std.specs.Prelude.{◌&&◌, not, cond, length, map, nat_lt, Option, Some, None}
 use Rattle.host_events.specs.declared.event.Event.{Event}
 use Rattle.host_events.specs.declared.event.Event.TheVariants as event
 use Rattle.session_engine.specs.World.{World}

@@ -1,5 +1,5 @@
 -- What is taken of an input.
-use Rattle.std.proofs.Common.{◌≡◌, ◌≤◌, ◌∙◌, ap, arith, refl, subst, ℕ, Option, List, [], ◌∷◌, ◌++◌, length, take, drop}
+use Rattle.std.proofs.Common.{◌≡◌, ◌≤◌, ◌∙◌, ap, arith, subst, ℕ, Option, List, [], ◌∷◌, ◌++◌, length, take, drop}
 use Rattle.std.specs.Prelude.{slice_index_or}
 use Rattle.host_events.specs.declared.event.Event.{Event}
 use Rattle.arrivals.specs.Held.{Held}

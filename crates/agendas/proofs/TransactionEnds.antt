@@ -1,7 +1,7 @@
 -- Commands that are taken all or not at all are those of a transaction of the input.
 use Rattle.std.proofs.Common.{◌≡◌, ◌∙◌, inl, inr, ℕ, ◌+◌, ◌-◌, Bool, true, false, true≢false, List, [], ◌∷◌, ◌++◌, ap, append_assoc, arith, length, length-append, refl, subst, sym, Ok}
 use Rattle.std.proofs.lemmas.List.{length-map}
-use Rattle.std.specs.Prelude.{◌⊎◌, ◌&&◌, not, cond, IfSome, nat_lt, Option, None, Some, Result, map}
+use Rattle.std.specs.Prelude.{◌&&◌, not, cond, IfSome, nat_lt, Option, None, Some, Result, map}
 use Rattle.session_engine.specs.World.{World}
 use Rattle.session_engine.specs.Whole.{is_edit}
 use Rattle.host_events.specs.declared.command.Command.{Command}

@@ -6,7 +6,7 @@ use Rattle.session_engine.specs.Groups.{is_refusal}
 use Rattle.child_calls.specs.declared.seat.Seat.{Seat}
 use Rattle.child_edge.specs.Seats.{waits}
 use Rattle.child_edge.specs.declared.interrupting.Interrupted.{Interrupted}
-use Rattle.sheet_programs.specs.Strict.{is_wrong}
+use Rattle.live.specs.Wrong.{is_wrong}
 use Rattle.tellings.specs.declared.note.Note.{Note}
 use Rattle.tellings.specs.declared.note.Note.TheVariants as note
 use Rattle.live.specs.declared.holding.Hold.{Hold}

@@ -1,5 +1,5 @@
 -- The lines that were taken are those of the input, in its order, each once.
-use Rattle.std.specs.Prelude.{◌≡◌, ℕ, ◌+◌, List, ◌++◌, Some, IfSome, length}
+use Rattle.std.specs.Prelude.{◌≡◌, ◌+◌, List, ◌++◌, Some, IfSome, length}
 use Rattle.arrivals.specs.Lines.{InputLine}
 use Rattle.driver.specs.Items.{Item, RunStep}
 use Rattle.driver.specs.Place.{RunPlace, SinkRules, SourceRules, rules}

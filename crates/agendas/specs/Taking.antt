@@ -6,7 +6,7 @@ use Rattle.arrivals.specs.Lines.{InputLine, whole}
 use Rattle.arrivals.specs.Held.{Held, KeepsLines, Readiness, left_with, to_come}
 use Rattle.offline_programs.specs.declared.fault.RunFault.{RunFault}
 use Rattle.offline_programs.specs.declared.fault.RunFault.TheVariants as fault
-use Rattle.sheet_programs.specs.Together.{lines_events}
+use Rattle.live.specs.LineEvents.{lines_events}
 use Rattle.driver.specs.Steps.{most_together}
 use Rattle.tellings.specs.declared.note.Note.TheVariants as note
 use Rattle.live.specs.declared.live_line.LiveLine.{LiveLine}

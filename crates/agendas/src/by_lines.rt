@@ -14,7 +14,7 @@ use arrivals::{InputLines, Woken};
 use child_calls::Seat;
 use child_edge::waiting_lives;
 use disk_model::Disk;
-use driver::{Agenda, Came, Turn};
+use driver::{Agenda, Came, MOST_COUNTED, Turn};
 use live::{Hold, Manner};
 use offline_programs::RunFault;
 use session_engine::{BufferedHost, Host, Joined, Joins};
@@ -22,9 +22,6 @@ use std::alloc::Global;
 use std::io::Read;
 use std::mem;
 use tellings::Note;
-
-/// The most lines after which those of another group can be counted.
-const MOST_COUNTED: u64 = u64::MAX - 1_025;
 
 /// Lines that are taken as they come, or one after the other, in a manner (docs/use/SCRIPT.md, "Live").
 ///

@@ -3,7 +3,7 @@ ghost use Rattle.std.specs.Prelude.{◌≡◌, ◌+◌, ◌≤◌, ◌++◌, ◌
 ghost use Rattle.host_events.specs.declared.event.Event.TheVariants as asks;
 ghost use Rattle.session_engine.specs.Gathers.{is_checkpoint};
 ghost use Rattle.sheet_text.specs.Script.{line_of};
-ghost use Rattle.sheet_programs.specs.Together.{line_events};
+ghost use Rattle.live.specs.LineEvents.{line_events};
 ghost use Rattle.driver.specs.Steps.{most_together};
 ghost use Rattle.live.specs.Saying.{SaysGrouped};
 ghost use Rattle.live.specs.Gathering.{Gathered, GathersOne};

@@ -1,9 +1,8 @@
 //! What the next turn is about.
-ghost use Rattle.std.specs.Prelude.{◌≡◌, true};
+ghost use Rattle.std.specs.Prelude.{◌≡◌};
 ghost use Rattle.live.specs.Saying.{IsTimed};
-ghost use Rattle.live.specs.Arrivals.{IsOver};
 ghost use Rattle.agendas.specs.Matters as matters;
-ghost use Rattle.agendas.specs.Matters.{IsMatter, TimeIsOver};
+ghost use Rattle.agendas.specs.Matters.{IsMatter};
 
 use crate::waits::{is_free, is_limited, is_over, is_timed};
 use arrivals::Woken;

@@ -14,7 +14,7 @@ use child_edge::MOST_TOGETHER;
 use driver::{Came, Show, Turn};
 use host_events::{Command, Outcome, Reply};
 use live::{Hold, LiveLine, read_live_line};
-use session_engine::AddFault;
+use session_engine::{AddFault, is_refusal};
 use sheet_text::{LineFault, ScriptLine};
 use std::alloc::{AllocError, Global};
 use tellings::Note;
@@ -147,16 +147,6 @@ pub(crate) fn choose_in_transaction(
         Ok(said) => choose(transaction, number, said),
         Err(LineFault::BadLine) => Ok(break_at(transaction, number)),
         Err(LineFault::OutOfMemory) => Err(AllocError),
-    }
-}
-
-/// Whether an outcome is a refusal.
-fn is_refusal(outcome: &Outcome) -> bool
-    ensures { result ≡ groups.is_refusal outcome.now }
-{
-    match &outcome.reply {
-        Reply::Refused(_) => true,
-        Reply::Done | Reply::Field(_) | Reply::Asked(_) | Reply::Child(_) | Reply::Nothing => false,
     }
 }
 

@@ -1,5 +1,5 @@
 //! Bytes that were read, and the lines in them.
-ghost use Rattle.std.specs.Prelude.{◌≡◌, ◌≤◌, ◌<◌, ◌+◌, ◌-◌, ℕ, List, [], IfOk, IfSome, OnOk, OnErr, true, false, length, take, drop, slice_range};
+ghost use Rattle.std.specs.Prelude.{◌≡◌, ◌≤◌, ◌<◌, ◌+◌, ◌-◌, ℕ, List, IfOk, IfSome, OnOk, OnErr, true, false, length, take, drop, slice_range};
 ghost use Rattle.std.specs.Io.KnownBytes.{IsAtEnd, ReadConsumes};
 ghost use Rattle.bstr.specs.Text.{without_terminator};
 ghost use Rattle.arrivals.specs.Held.{ReadAdds, GivesLine, IsNextLine, IsUnended, KeepsLines, Readiness, Same, is_given, nothing_held, to_come};

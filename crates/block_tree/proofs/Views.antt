@@ -1,7 +1,7 @@
 -- When rows of items are the same.
 use Rattle.std.proofs.lemmas.List.{length-map}
 use Rattle.std.proofs.Common.{◌≡◌, suc, false, ◌&&◌, length, List, [], ◌∷◌, map, refl, ap, sym, ◌∙◌}
-use Rattle.std.proofs.lemmas.Bool.{and_parts, and_from, true≢false, false≢true, and_right}
+use Rattle.std.proofs.lemmas.Bool.{and_right}
 use Rattle.block_tree.specs.Tree.{Items, Piece, text_piece, block_piece, items_from, put}
 use Rattle.block_tree.specs.Same.{same_items, same_piece}
 use Rattle.block_tree.specs.View.{piece_of, tree_out}

@@ -4,6 +4,7 @@ use Rattle.std.specs.Io.KnownBytes.{Appends}
 use Rattle.block_tree.specs.declared.reason.Reason.{Reason}
 use Rattle.worksheet.specs.declared.field.Answer.{Answer}
 use Rattle.worksheet.specs.declared.field.Field.{Field}
+use Rattle.check_report.specs.declared.cases.Case as code
 use Rattle.check_report.specs.declared.report.Format.{Format}
 use Rattle.check_report.specs.declared.report.Format.TheVariants as format
 use Rattle.check_report.specs.declared.report.ReportFault.{ReportFault}
@@ -33,6 +34,10 @@ pub record Case : Type 0 where
 
 abbrev pub case : Field → Option Answer → Option Reason → Verdict → Option Took → Case
 case field came lost verdict took = record { field = field; came = came; lost = lost; verdict = verdict; took = took }
+
+-- the same of one that a report is given, which has a number too
+abbrev pub case_in : code.Case → Case
+case_in c = case c.field.now c.came.now c.lost c.verdict c.took
 
 -- what is said of it in a format that programs read
 abbrev pub point_of : Case → Point

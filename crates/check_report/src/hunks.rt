@@ -1,6 +1,5 @@
 //! How one text became another, as one hunk of a unified diff.
 ghost use Rattle.std.specs.Prelude.{◌≡◌, ◌<◌, ◌++◌, IfOk, IfSome, OnOk, [], drop, get_or, length, map, reverse, take};
-ghost use Rattle.std.specs.Fmt.{decimal};
 ghost use Rattle.std.specs.Io.KnownBytes.{Appends};
 ghost use Rattle.std.specs.List.{common_prefix_len, flat_map};
 ghost use Rattle.std.specs.Str.{bytes_eq};

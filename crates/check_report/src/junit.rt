@@ -1,9 +1,10 @@
 //! A report in JUnit's XML.
-ghost use Rattle.std.specs.Prelude.{◌≡◌, OnOk};
+ghost use Rattle.std.specs.Prelude.{OnOk};
 ghost use Rattle.std.specs.Io.KnownBytes.{Appends};
 ghost use Rattle.check_report.specs.Points.{point};
 ghost use Rattle.check_report.specs.Junit as junit;
 
+use crate::cases::Case;
 use crate::verdict::Verdict;
 use crate::writing::{write_bytes, write_id, write_number};
 use crate::xml::write_text;
@@ -139,20 +140,22 @@ fn write_result_end<W: Write>(verdict: Verdict, out: &mut W) -> Result<(), Write
 /// Writes a case.
 #[tactic(auto, using(crate::proofs::Written::steps))]
 pub(crate) fn write_case<W: Write>(
-    id: u32,
-    session: &[u8],
-    input: &[u8],
-    verdict: Verdict,
-    took: Option<Took>,
+    case: &Case<'_>,
     reported: &[u8],
     out: &mut W,
 ) -> Result<(), WriteFault>
     ensures { OnOk result (Appends (W.contents out.old) (W.contents out.new)
-        (junit.junit_case (point id session.now input.now verdict took reported.now))) }
+        (junit.junit_case (point case.now.field.now.id case.now.field.now.session case.now.field.now.input case.now.verdict case.now.took reported.now))) }
 {
-    write_start(id, session, input, took, out)?;
-    write_result_start(verdict, out)?;
+    write_start(
+        case.field.id,
+        case.field.session.as_slice(),
+        case.field.input.as_bytes(),
+        case.took,
+        out,
+    )?;
+    write_result_start(case.verdict, out)?;
     write_text(reported, out)?;
-    write_result_end(verdict, out)?;
+    write_result_end(case.verdict, out)?;
     Ok(())
 }

@@ -3,6 +3,7 @@
 #![tactic(auto)]
 
 mod brief;
+mod cases;
 mod chosen;
 mod errors;
 mod hunks;
@@ -14,16 +15,17 @@ mod report;
 mod request;
 mod tap;
 mod verdict;
+mod wording;
 mod words;
 mod writing;
 mod xml;
 
+pub use cases::Case;
 pub use chosen::{Chosen, Ids};
 pub use errors::{brings_error, tells_error};
 pub use ids::read_ids;
-pub use report::{
-    Format, ReportFault, close_report, is_written, open_report, report_case, write_and_flush,
-};
+pub use report::{Format, ReportFault, close_report, is_written, open_report, report_case};
 pub use request::{FieldWords, Request, RequestFault, read_request};
 pub use verdict::{Counts, Judgement, Verdict};
 pub use words::acceptance_in_memory;
+pub use writing::write_and_flush;

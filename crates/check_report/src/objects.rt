@@ -4,55 +4,41 @@ ghost use Rattle.std.specs.Io.KnownBytes.{Appends};
 ghost use Rattle.serde_json.specs.View.{view};
 ghost use Rattle.sheet_json.specs.Objects.{telling_data};
 ghost use Rattle.sheet_json.specs.Sheets.{telling_line};
-ghost use Rattle.check_report.specs.Json.{checked_reported, json_head, json_tail};
+ghost use Rattle.check_report.specs.Json.{json_head, json_tail};
+ghost use Rattle.check_report.specs.Reports.{case_in, telling_of};
 ghost use Rattle.check_report.specs.inside.Closing.{first_part, second_part};
 
+use crate::cases::Case;
 use crate::verdict::{Counts, Verdict};
 use crate::writing::{write_bytes, write_id};
-use block_tree::Reason;
 use serde_json::Value;
 use sheet_json::{
-    Took, differs_value, left_out_value, new_value, reported_bytes, same_value, unanswered_value,
+    differs_value, left_out_value, new_value, reported_bytes, same_value, unanswered_value,
 };
 use sheet_text::WriteFault;
 use std::alloc::{AllocError, Global};
 use std::io::Write;
-use worksheet::{Answer, Field};
 
 /// What a field came to, as a value.
-fn case_value(
-    alloc: Global,
-    field: &Field,
-    came: &Option<Answer>,
-    lost: Option<Reason>,
-    verdict: Verdict,
-    took: Option<Took>,
-) -> Result<Value, AllocError>
+fn case_value(alloc: Global, case: &Case<'_>) -> Result<Value, AllocError>
     ensures { IfOk result (λ value. view value
-        ≡ telling_data (checked_reported field.now came.now lost verdict took)) }
+        ≡ telling_data (telling_of (case_in case.now))) }
 {
-    match verdict {
-        Verdict::Same => same_value(alloc, field, took),
-        Verdict::Differs => differs_value(alloc, field, came, took),
-        Verdict::Unanswered => unanswered_value(alloc, field, lost, took),
-        Verdict::LeftOut => left_out_value(alloc, field, took),
-        Verdict::New => new_value(alloc, field, came, took),
+    match case.verdict {
+        Verdict::Same => same_value(alloc, case.field, case.took),
+        Verdict::Differs => differs_value(alloc, case.field, case.came, case.took),
+        Verdict::Unanswered => unanswered_value(alloc, case.field, case.lost, case.took),
+        Verdict::LeftOut => left_out_value(alloc, case.field, case.took),
+        Verdict::New => new_value(alloc, case.field, case.came, case.took),
     }
 }
 
 /// The line of what a field came to, in memory. None where there is none for it.
-pub(crate) fn case_in_memory(
-    alloc: Global,
-    field: &Field,
-    came: &Option<Answer>,
-    lost: Option<Reason>,
-    verdict: Verdict,
-    took: Option<Took>,
-) -> Option<Vec<u8>>
+pub(crate) fn case_in_memory(alloc: Global, case: &Case<'_>) -> Option<Vec<u8>>
     ensures { IfSome result (λ line. line.items
-        ≡ telling_line (checked_reported field.now came.now lost verdict took)) }
+        ≡ telling_line (telling_of (case_in case.now))) }
 {
-    let Ok(value) = case_value(alloc, field, came, lost, verdict, took) else {
+    let Ok(value) = case_value(alloc, case) else {
         return Option::None;
     };
     match reported_bytes(alloc, &value) {

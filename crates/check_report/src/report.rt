@@ -2,30 +2,23 @@
 ghost use Rattle.std.specs.Prelude.{◌≡◌, IfErr, OnOk};
 ghost use Rattle.std.specs.Io.KnownBytes.{Appends};
 ghost use Rattle.check_report.specs.Points.{point};
-ghost use Rattle.check_report.specs.Reports.{Unreported, case as case_of, case_text, closing_text, is_written as is_written_in, is_written_in_words as is_written_words, opening_text};
+ghost use Rattle.check_report.specs.Reports.{Unreported, case_in, case_text, closing_text, is_written as is_written_in, is_written_in_words as is_written_words, opening_text, telling_of};
 ghost use Rattle.check_report.specs.Words as printed;
 ghost use Rattle.check_report.specs.Tap as taps;
 ghost use Rattle.check_report.specs.Junit as junits;
-ghost use Rattle.check_report.specs.Json.{checked_reported};
 ghost use Rattle.sheet_json.specs.Sheets.{telling_line};
 
-use crate::brief::brief_in_memory;
-use crate::hunks::{Hunk, find_hunk};
+use crate::cases::Case;
 use crate::junit::{write_case, write_head, write_tail};
 use crate::objects::{case_in_memory, write_end, write_hello};
 use crate::tap::{write_plan, write_point, write_version};
 use crate::verdict::{Counts, Verdict};
-use crate::words::{
-    Outputs, acceptance_in_memory, outputs_in_memory, verdict_in_memory, write_accepted_counts,
-    write_addition, write_change, write_counts, write_difference,
-};
-use crate::writing::write_bytes;
-use block_tree::Reason;
-use sheet_json::Took;
+use crate::wording::{report_accepting, report_whole, report_words};
+use crate::words::{verdict_in_memory, write_accepted_counts, write_counts};
+use crate::writing::write_and_flush;
 use sheet_text::WriteFault;
 use std::alloc::Global;
 use std::io::Write;
-use worksheet::{Answer, Field};
 
 /// How a report is written.
 #[derive(Clone, Copy, Debug, PartialEq, Eq)]
@@ -115,268 +108,73 @@ pub fn is_written(format: Format, verdict: Verdict) -> bool
     }
 }
 
-/// Writes a difference in words, and flushes it.
-fn write_words<W: Write>(
-    field: &Field,
-    shown: &[u8],
-    came: &[u8],
-    writer: &mut W,
-) -> Result<(), WriteFault>
-    ensures { OnOk result (Appends (W.contents writer.old) (W.contents writer.new)
-        (printed.difference_of field.now shown.now came.now)) }
-{
-    write_difference(field, shown, came, writer)?;
-    writer.flush().map_err(|_| WriteFault)?;
-    Ok(())
-}
-
-/// Tells in words how an answer differs from that of its field, or that none came.
-fn report_difference<W: Write>(
-    alloc: Global,
-    field: &Field,
-    came: &Option<Answer>,
-    writer: &mut W,
-) -> Result<(), ReportFault>
-    ensures ok { OnOk result (Appends (W.contents writer.old) (W.contents writer.new)
-        (printed.difference_text field.now came.now)) }
-    ensures err { IfErr result (Unreported (W.contents writer.old) (W.contents writer.new)) }
-{
-    let Some(both) = outputs_in_memory(alloc, field, came) else {
-        return Err(ReportFault::OutOfMemory);
-    };
-    match write_words(field, both.shown.as_slice(), both.came.as_slice(), writer) {
-        Ok(()) => Ok(()),
-        Err(_) => Err(ReportFault::Output),
-    }
-}
-
-/// Writes in words where an output differs, and flushes it.
-fn write_in_part<W: Write>(
-    field: &Field,
-    both: &Outputs,
-    hunk: Hunk,
-    writer: &mut W,
-) -> Result<(), WriteFault>
-    ensures { OnOk result (Appends (W.contents writer.old) (W.contents writer.new)
-        (printed.change_of hunk field.now both.now.shown.items both.now.came.items)) }
-{
-    write_change(field, both, hunk, writer)?;
-    writer.flush().map_err(|_| WriteFault)?;
-    Ok(())
-}
-
-/// Tells in words where the output of an answer differs from that of its field.
-fn report_change<W: Write>(
-    alloc: Global,
-    field: &Field,
-    came: &Option<Answer>,
-    writer: &mut W,
-) -> Result<(), ReportFault>
-    ensures ok { OnOk result (Appends (W.contents writer.old) (W.contents writer.new)
-        (printed.change_text field.now came.now)) }
-    ensures err { IfErr result (Unreported (W.contents writer.old) (W.contents writer.new)) }
-{
-    let Some(both) = outputs_in_memory(alloc, field, came) else {
-        return Err(ReportFault::OutOfMemory);
-    };
-    let Some(hunk) = find_hunk(alloc, both.shown.as_slice(), both.came.as_slice()) else {
-        return Err(ReportFault::OutOfMemory);
-    };
-    match write_in_part(field, &both, hunk, writer) {
-        Ok(()) => Ok(()),
-        Err(_) => Err(ReportFault::Output),
-    }
-}
-
-/// Writes in words a field that shows no output, and the one that came, and flushes it.
-fn write_added<W: Write>(field: &Field, came: &[u8], writer: &mut W) -> Result<(), WriteFault>
-    ensures { OnOk result (Appends (W.contents writer.old) (W.contents writer.new)
-        (printed.addition_of field.now came.now)) }
-{
-    write_addition(field, came, writer)?;
-    writer.flush().map_err(|_| WriteFault)?;
-    Ok(())
-}
-
-/// Tells in words the answer that came to a field which shows none.
-fn report_addition<W: Write>(
-    alloc: Global,
-    field: &Field,
-    came: &Option<Answer>,
-    writer: &mut W,
-) -> Result<(), ReportFault>
-    ensures ok { OnOk result (Appends (W.contents writer.old) (W.contents writer.new)
-        (printed.new_text field.now came.now)) }
-    ensures err { IfErr result (Unreported (W.contents writer.old) (W.contents writer.new)) }
-{
-    let Some(came) = brief_in_memory(alloc, came) else {
-        return Err(ReportFault::OutOfMemory);
-    };
-    match write_added(field, came.as_slice(), writer) {
-        Ok(()) => Ok(()),
-        Err(_) => Err(ReportFault::Output),
-    }
-}
-
-/// Tells a field in words, with whole outputs.
-fn report_whole<W: Write>(
-    alloc: Global,
-    field: &Field,
-    came: &Option<Answer>,
-    verdict: Verdict,
-    writer: &mut W,
-) -> Result<(), ReportFault>
-    ensures ok { OnOk result (Appends (W.contents writer.old) (W.contents writer.new)
-        (printed.whole_text field.now came.now verdict)) }
-    ensures err { IfErr result (Unreported (W.contents writer.old) (W.contents writer.new)) }
-{
-    match verdict {
-        Verdict::Same | Verdict::LeftOut => Ok(()),
-        Verdict::Differs | Verdict::Unanswered => report_difference(alloc, field, came, writer),
-        Verdict::New => report_addition(alloc, field, came, writer),
-    }
-}
-
-/// Tells a field in words.
-fn report_words<W: Write>(
-    alloc: Global,
-    field: &Field,
-    came: &Option<Answer>,
-    verdict: Verdict,
-    writer: &mut W,
-) -> Result<(), ReportFault>
-    ensures ok { OnOk result (Appends (W.contents writer.old) (W.contents writer.new)
-        (printed.verdict_text field.now came.now verdict)) }
-    ensures err { IfErr result (Unreported (W.contents writer.old) (W.contents writer.new)) }
-{
-    match verdict {
-        Verdict::Same | Verdict::LeftOut => Ok(()),
-        Verdict::Differs => report_change(alloc, field, came, writer),
-        Verdict::Unanswered => report_difference(alloc, field, came, writer),
-        Verdict::New => report_addition(alloc, field, came, writer),
-    }
-}
-
 /// Writes a field as a test point of TAP, and flushes it.
 fn write_as_point<W: Write>(
-    number: u64,
-    field: &Field,
-    verdict: Verdict,
-    took: Option<Took>,
+    case: &Case<'_>,
     reported: &[u8],
     writer: &mut W,
 ) -> Result<(), WriteFault>
     ensures { OnOk result (Appends (W.contents writer.old) (W.contents writer.new)
-        (taps.tap_point number (point field.now.id field.now.session field.now.input verdict took reported.now))) }
+        (taps.tap_point case.now.number (point case.now.field.now.id case.now.field.now.session case.now.field.now.input case.now.verdict case.now.took reported.now))) }
 {
-    write_point(
-        number,
-        field.id,
-        field.session.as_slice(),
-        verdict,
-        took,
-        reported,
-        writer,
-    )?;
+    write_point(case, reported, writer)?;
     writer.flush().map_err(|_| WriteFault)?;
     Ok(())
 }
 
 /// Writes a field as a case in JUnit's XML, and flushes it.
 fn write_as_case<W: Write>(
-    field: &Field,
-    verdict: Verdict,
-    took: Option<Took>,
+    case: &Case<'_>,
     reported: &[u8],
     writer: &mut W,
 ) -> Result<(), WriteFault>
     ensures { OnOk result (Appends (W.contents writer.old) (W.contents writer.new)
-        (junits.junit_case (point field.now.id field.now.session field.now.input verdict took reported.now))) }
+        (junits.junit_case (point case.now.field.now.id case.now.field.now.session case.now.field.now.input case.now.verdict case.now.took reported.now))) }
 {
-    write_case(
-        field.id,
-        field.session.as_slice(),
-        field.input.as_bytes(),
-        verdict,
-        took,
-        reported,
-        writer,
-    )?;
+    write_case(case, reported, writer)?;
     writer.flush().map_err(|_| WriteFault)?;
     Ok(())
 }
 
 /// Tells a field as a test point of TAP.
-fn report_point<W: Write>(
-    alloc: Global,
-    number: u64,
-    field: &Field,
-    came: &Option<Answer>,
-    verdict: Verdict,
-    took: Option<Took>,
-    writer: &mut W,
-) -> Result<(), ReportFault>
+fn report_point<W: Write>(alloc: Global, case: &Case<'_>, writer: &mut W) -> Result<(), ReportFault>
     ensures ok { OnOk result (Appends (W.contents writer.old) (W.contents writer.new)
-        (taps.tap_point number (point field.now.id field.now.session field.now.input verdict took
-        (printed.verdict_text field.now came.now verdict)))) }
+        (taps.tap_point case.now.number (point case.now.field.now.id case.now.field.now.session case.now.field.now.input case.now.verdict case.now.took
+        (printed.verdict_text case.now.field.now case.now.came.now case.now.verdict)))) }
     ensures err { IfErr result (Unreported (W.contents writer.old) (W.contents writer.new)) }
 {
-    let Some(reported) = verdict_in_memory(alloc, field, came, verdict) else {
+    let Some(reported) = verdict_in_memory(alloc, case.field, case.came, case.verdict) else {
         return Err(ReportFault::OutOfMemory);
     };
-    match write_as_point(number, field, verdict, took, reported.as_slice(), writer) {
+    match write_as_point(case, reported.as_slice(), writer) {
         Ok(()) => Ok(()),
         Err(_) => Err(ReportFault::Output),
     }
 }
 
 /// Tells a field as a case in JUnit's XML.
-fn report_junit<W: Write>(
-    alloc: Global,
-    field: &Field,
-    came: &Option<Answer>,
-    verdict: Verdict,
-    took: Option<Took>,
-    writer: &mut W,
-) -> Result<(), ReportFault>
+fn report_junit<W: Write>(alloc: Global, case: &Case<'_>, writer: &mut W) -> Result<(), ReportFault>
     ensures ok { OnOk result (Appends (W.contents writer.old) (W.contents writer.new)
-        (junits.junit_case (point field.now.id field.now.session field.now.input verdict took
-        (printed.verdict_text field.now came.now verdict)))) }
+        (junits.junit_case (point case.now.field.now.id case.now.field.now.session case.now.field.now.input case.now.verdict case.now.took
+        (printed.verdict_text case.now.field.now case.now.came.now case.now.verdict)))) }
     ensures err { IfErr result (Unreported (W.contents writer.old) (W.contents writer.new)) }
 {
-    let Some(reported) = verdict_in_memory(alloc, field, came, verdict) else {
+    let Some(reported) = verdict_in_memory(alloc, case.field, case.came, case.verdict) else {
         return Err(ReportFault::OutOfMemory);
     };
-    match write_as_case(field, verdict, took, reported.as_slice(), writer) {
+    match write_as_case(case, reported.as_slice(), writer) {
         Ok(()) => Ok(()),
         Err(_) => Err(ReportFault::Output),
     }
 }
 
-/// Writes a text that is in memory, and flushes it.
-pub fn write_and_flush<W: Write>(text: &[u8], writer: &mut W) -> Result<(), WriteFault>
-    ensures { OnOk result (Appends (W.contents writer.old) (W.contents writer.new) text.now) }
-{
-    write_bytes(text, writer)?;
-    writer.flush().map_err(|_| WriteFault)?;
-    Ok(())
-}
-
 /// Tells a field as a line of JSON.
-fn report_json<W: Write>(
-    alloc: Global,
-    field: &Field,
-    came: &Option<Answer>,
-    lost: Option<Reason>,
-    verdict: Verdict,
-    took: Option<Took>,
-    writer: &mut W,
-) -> Result<(), ReportFault>
+fn report_json<W: Write>(alloc: Global, case: &Case<'_>, writer: &mut W) -> Result<(), ReportFault>
     ensures ok { OnOk result (Appends (W.contents writer.old) (W.contents writer.new)
-        (telling_line (checked_reported field.now came.now lost verdict took))) }
+        (telling_line (telling_of (case_in case.now)))) }
     ensures err { IfErr result (Unreported (W.contents writer.old) (W.contents writer.new)) }
 {
-    let Some(line) = case_in_memory(alloc, field, came, lost, verdict, took) else {
+    let Some(line) = case_in_memory(alloc, case) else {
         return Err(ReportFault::OutOfMemory);
     };
     match write_and_flush(line.as_slice(), writer) {
@@ -385,50 +183,23 @@ fn report_json<W: Write>(
     }
 }
 
-/// Tells a field in words, where answers that differ are accepted.
-fn report_accepting<W: Write>(
-    alloc: Global,
-    field: &Field,
-    came: &Option<Answer>,
-    verdict: Verdict,
-    writer: &mut W,
-) -> Result<(), ReportFault>
-    ensures ok { OnOk result (Appends (W.contents writer.old) (W.contents writer.new)
-        (printed.acceptance_text field.now came.now verdict)) }
-    ensures err { IfErr result (Unreported (W.contents writer.old) (W.contents writer.new)) }
-{
-    let Some(reported) = acceptance_in_memory(alloc, field, came, verdict) else {
-        return Err(ReportFault::OutOfMemory);
-    };
-    match write_and_flush(reported.as_slice(), writer) {
-        Ok(()) => Ok(()),
-        Err(_) => Err(ReportFault::Output),
-    }
-}
-
-/// Tells what a field came to, which is the case of this number, and flushes it. The field may show a
-/// reason for no answer then.
+/// Tells what a field came to, which is a case, and flushes it.
 pub fn report_case<W: Write>(
     alloc: Global,
     format: Format,
-    number: u64,
-    field: &Field,
-    came: &Option<Answer>,
-    lost: Option<Reason>,
-    verdict: Verdict,
-    took: Option<Took>,
+    case: &Case<'_>,
     writer: &mut W,
 ) -> Result<(), ReportFault>
     ensures ok { OnOk result (Appends (W.contents writer.old) (W.contents writer.new)
-        (case_text format number (case_of field.now came.now lost verdict took))) }
+        (case_text format case.now.number (case_in case.now))) }
     ensures err { IfErr result (Unreported (W.contents writer.old) (W.contents writer.new)) }
 {
     match format {
-        Format::Text => report_words(alloc, field, came, verdict, writer),
-        Format::Whole => report_whole(alloc, field, came, verdict, writer),
-        Format::Tap => report_point(alloc, number, field, came, verdict, took, writer),
-        Format::Junit => report_junit(alloc, field, came, verdict, took, writer),
-        Format::Json => report_json(alloc, field, came, lost, verdict, took, writer),
-        Format::Accepting => report_accepting(alloc, field, came, verdict, writer),
+        Format::Text => report_words(alloc, case, writer),
+        Format::Whole => report_whole(alloc, case, writer),
+        Format::Tap => report_point(alloc, case, writer),
+        Format::Junit => report_junit(alloc, case, writer),
+        Format::Json => report_json(alloc, case, writer),
+        Format::Accepting => report_accepting(alloc, case, writer),
     }
 }

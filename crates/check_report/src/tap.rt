@@ -1,9 +1,10 @@
 //! A report as TAP, version 13.
-ghost use Rattle.std.specs.Prelude.{[], OnOk};
+ghost use Rattle.std.specs.Prelude.{OnOk};
 ghost use Rattle.std.specs.Io.KnownBytes.{Appends};
 ghost use Rattle.check_report.specs.Points.{point};
 ghost use Rattle.check_report.specs.Tap as tap;
 
+use crate::cases::Case;
 use crate::verdict::Verdict;
 use crate::writing::{write_bytes, write_id, write_number};
 use sheet_json::Took;
@@ -177,19 +178,21 @@ fn write_took<W: Write>(took: Option<Took>, out: &mut W) -> Result<(), WriteFaul
 /// Writes a test point, what it took, and what is reported of it as comments.
 #[tactic(auto, using(crate::proofs::Written::steps))]
 pub(crate) fn write_point<W: Write>(
-    number: u64,
-    id: u32,
-    session: &[u8],
-    verdict: Verdict,
-    took: Option<Took>,
+    case: &Case<'_>,
     reported: &[u8],
     out: &mut W,
 ) -> Result<(), WriteFault>
     ensures { OnOk result (Appends (W.contents out.old) (W.contents out.new)
-        (tap.tap_point number (point id session.now [] verdict took reported.now))) }
+        (tap.tap_point case.now.number (point case.now.field.now.id case.now.field.now.session case.now.field.now.input case.now.verdict case.now.took reported.now))) }
 {
-    write_point_line(number, id, session, verdict, out)?;
-    write_took(took, out)?;
+    write_point_line(
+        case.number,
+        case.field.id,
+        case.field.session.as_slice(),
+        case.verdict,
+        out,
+    )?;
+    write_took(case.took, out)?;
     write_comments(reported, out)?;
     Ok(())
 }

@@ -1,16 +1,13 @@
 -- What a fault of the host leaves.
-use Rattle.std.proofs.Common.{◌≡◌, ℕ, ◌≤◌, refl, sym, ◌∙◌, subst, true, arith}
+use Rattle.std.proofs.Common.{◌≡◌, refl, ◌∙◌, true, arith}
 use Rattle.std.specs.Prelude.{Result, Ok, Err, IfErr, OnErr}
-use Rattle.std.specs.Bool.{IsTrue}
 use Rattle.disk_model.specs.Disk.{DiskView, SameDisk}
-use Rattle.disk_model.specs.inside.Moments.{at_end}
-use Rattle.recovery.specs.Sheets.{IsEither}
 use Rattle.host_events.specs.declared.event.Event.{Event}
 use Rattle.host_events.specs.declared.outcome.HostFault.{HostFault}
 use Rattle.host_events.specs.declared.outcome.HostFault.TheVariants as faults
 use Rattle.session_engine.specs.World.{World}
 use Rattle.session_engine.specs.Host.{HostView, IsHost}
-use Rattle.session_engine.specs.Faults.{CauseOf, Failed}
+use Rattle.session_engine.specs.Faults.{Failed}
 use Rattle.child_edge.specs.Edge.{Stopped}
 
 pub stopped_if : {T : Type 0} (r : Result T HostFault) (w : World) (e : Event) (old new : HostView) → IsHost old w → IfErr r (Failed w e old new) → SameDisk old.store.disk new.store.disk

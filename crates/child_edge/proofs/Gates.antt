@@ -1,9 +1,9 @@
 -- Events that are taken together, and what follows them.
 use Rattle.std.proofs.Common.{◌≡◌, ◌+◌, ℕ, List, [], ◌∷◌, ◌++◌, Option, Some, None, refl, ap, sym, ◌∙◌, subst, append-nil, append_assoc, slice_get, length, arith, inl, inr}
+use Rattle.std.specs.Prelude.{Bool}
 use Rattle.disk_model.specs.Disk.{DiskView, Leaves, LeavesOnly, Rises, SameDisk}
 use Rattle.recovery.specs.Sheets.{IsSheetImage, IsSheetOf}
 use Rattle.host_events.specs.declared.event.Event.{Event}
-use Rattle.host_events.specs.declared.outcome.Effect.{Effect}
 use Rattle.host_events.specs.declared.outcome.Outcome.{Outcome}
 use Rattle.host_events.specs.declared.outcome.HostFault.{HostFault}
 use Rattle.host_events.specs.declared.outcome.HostFault.TheVariants as faults
@@ -18,13 +18,14 @@ use Rattle.session_engine.specs.Groups.{FailedGroup, HaltsGroup, StoppedGroup, T
 use Rattle.session_engine.specs.declared.play.GroupFault.{GroupFault}
 use Rattle.session_engine.specs.declared.play.GroupFault.TheVariants as group
 use Rattle.child_calls.specs.Calls.{Answer}
-use Rattle.child_edge.specs.Edge.{BrokeOff, Ran, Stopped}
+use Rattle.child_edge.specs.Edge.{BrokeOff, Ran}
 use Rattle.child_edge.specs.Faithful.{Relation, At, at, Entry, Carried, FirstOf, Follows, Served, ServedUpTo, due_of}
 use Rattle.child_edge.specs.Kept.{HoldsSheet}
 use Rattle.child_edge.specs.Reported.{reported}
 use Rattle.session_engine.specs.Whole.{FailedWhole}
 use Rattle.child_edge.specs.Wholly.{LostWhole}
-use Rattle.child_edge.specs.Together.{AtOnce, CarriesOut, FailsTogether, Followed, LeavesEither, LostTogether, RanTogether, Together, entries_after, trace_of}
+use Rattle.child_edge.specs.EditGroups.{LastIf, LostEdits}
+use Rattle.child_edge.specs.Together.{CarriesOut, FailsTogether, Followed, LeavesEither, LostTogether, RanTogether, Together, entries_after, trace_of}
 use Rattle.child_edge.specs.declared.together.GaveTogether.{GaveTogether}
 use Rattle.child_edge.specs.declared.together.TogetherFault.{TogetherFault}
 use Rattle.child_edge.specs.declared.together.TogetherFault.TheVariants as halt
@@ -49,7 +50,7 @@ cause-after w e a b d faults.OutOfMemory kept cause = (refl, cause.1)
 cause-after w e a b d faults.JournalFull kept cause = (refl, cause.1, cause.2)
 
 module _ (w : World) (old new : HostView) (before : old.store.real ≡ old.store.disk) (after : new.store.real ≡ new.store.disk) (stands : IsHost old w) (same : SameDisk old.store.real new.store.real) where
-  either : (v : World) → FlushesTo (sheet_in v) old.store new.store → LeavesEither w v old.store.disk new.store.disk
+  pub either : (v : World) → FlushesTo (sheet_in v) old.store new.store → LeavesEither w v old.store.disk new.store.disk
   either v flushes = λ model.
       subst (λ (d : DiskView). LeavesOnly (IsSheetOf (sheet_in w) (sheet_in v)) old.store.disk.history d.history) after
       (subst (λ (d : DiskView). LeavesOnly (IsSheetOf (sheet_in w) (sheet_in v)) d.history new.store.real.history) before
@@ -90,6 +91,11 @@ module _ (w : World) (old new : HostView) (before : old.store.real ≡ old.store
   pub lost_whole_at_once : (events : List Event) → FailedWhole w events old new → LostWhole w events old.store.disk new
   unfolding lost_at_once
   lost_whole_at_once events p = record { lost = lost_at_once events p.failed; all = p.all; accepted = p.accepted }
+
+  -- the same of commands of which none is taken after one that was refused, or all are
+  pub lost_edits_at_once : (up_to : Bool) (events : List Event) (p : FailedGroup w events old new) → LastIf up_to p.withheld → LostEdits up_to w events old.store.disk new
+  unfolding lost_at_once
+  lost_edits_at_once up_to events p last = record { lost = lost_at_once events p; last = last }
 
   pub stopped_at_once : (events : List Event) (outcomes : List Outcome) (f : HostFault) → StoppedGroup w events old new outcomes f → HaltsAtOnce w events old new (halt.Host f)
   stopped_at_once events outcomes f p =

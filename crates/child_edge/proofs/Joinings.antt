@@ -1,5 +1,5 @@
 -- Events that are taken together with those that join them.
-use Rattle.std.proofs.Common.{◌≡◌, ◌∷◌, ◌++◌, ◌+◌, [], ℕ, zero, suc, List, Option, Some, None, refl, sym, ap, ◌∙◌, subst, append_assoc, append-nil, slice_get, length, length-append, arith, inl, inr}
+use Rattle.std.proofs.Common.{◌≡◌, ◌∷◌, ◌++◌, ◌+◌, [], ℕ, zero, suc, List, Option, Some, None, refl, sym, ap, ◌∙◌, subst, append_assoc, append-nil, slice_get, length, length-append, arith, inr}
 use Rattle.disk_model.specs.Disk.{SameDisk}
 use Rattle.host_events.specs.declared.event.Event.{Event}
 use Rattle.host_events.specs.declared.outcome.Outcome.{Outcome}
@@ -7,16 +7,14 @@ use Rattle.host_events.specs.declared.outcome.HostFault.{HostFault}
 use Rattle.host_events.specs.declared.reply.Reply.{Reply}
 use Rattle.session_engine.specs.World.{World}
 use Rattle.session_engine.specs.Host.{HostView, IsHost}
-use Rattle.session_engine.specs.Groups.{StoppedGroup}
 use Rattle.session_engine.specs.Joining.{Asking, HaltsJoined, JoinsAfter, ToBeTaken, TookJoined}
 use Rattle.session_engine.specs.declared.joining.Joint.{Joint}
-use Rattle.session_engine.specs.declared.joining.JoinFault.{JoinFault}
 use Rattle.session_engine.specs.declared.joining.JoinFault.TheVariants as stops
 use Rattle.child_edge.specs.Edge.{BrokeOff, Ran}
 use Rattle.child_edge.specs.Faithful.{Relation, At, at, Entry, FirstOf}
 use Rattle.child_edge.specs.Reported.{reported}
 use Rattle.child_edge.specs.Together.{CarriesOut, Followed, Together, entries_after, trace_of}
-use Rattle.child_edge.specs.Joined.{FailsJoined, JoiningEdge, RanJoined, joining_edge}
+use Rattle.child_edge.specs.Joined.{FailsJoined, RanJoined, joining_edge}
 use Rattle.child_edge.specs.declared.joined.GaveJoined.{GaveJoined}
 use Rattle.child_edge.specs.declared.together.TogetherFault.{TogetherFault}
 use Rattle.child_edge.specs.declared.together.TogetherFault.TheVariants as halt
@@ -126,10 +124,6 @@ module _ (A : Asking) (w : World) (events : List Event) (old new : HostView) (be
 
   pub stopped_with_joined : (f : HostFault) → HaltsJoined A w events old new (stops.Stopped f) → HaltsWithJoined A w events old new (halt.Host f)
   stopped_with_joined f (all, to_be, outcomes, p) = (all, to_be, stopped_at_once w old new before after stands same all outcomes f p)
-
--- where no event was taken the disk is as it was
-pub none_with_joined : (A : Asking) (w : World) (events : List Event) (old new : HostView) → IsHost old w → A.unasked → new ≡ old → HaltsWithJoined A w events old new halt.OutOfMemory
-none_with_joined A w events old new stands unasked is = (unasked, subst (λ (x : HostView). IsHost x w) (sym is) stands, ap (λ (x : HostView). x.store.disk) is)
 
 -- All of it.
 

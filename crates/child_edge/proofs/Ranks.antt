@@ -15,17 +15,7 @@ use Rattle.session_engine.specs.Does.{Does, MayDo, ends_life, tells}
 use Rattle.child_calls.specs.Calls.{Answer, done, fault, piece, end}
 use Rattle.child_calls.specs.Calls as calls
 use Rattle.child_edge.specs.Faithful.{due_of}
-
-abbrev pub rank_of : Event → ℕ
-rank_of (Child name life child.StartRefused) = 1
-rank_of (Child name life child.StopFault) = 1
-rank_of (Child name life child.SendFault) = 2
-rank_of _ = 3
-
--- as many events come of what is due
-abbrev pub rank : Option Event → ℕ
-rank None = 0
-rank (Some e) = rank_of e
+use Rattle.child_edge.specs.inside.Ranks.{rank, rank_of}
 
 pub rank-none : (due : Option Event) → rank due ≤ 0 → due ≡ None
 rank-none None h = refl

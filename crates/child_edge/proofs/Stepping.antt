@@ -1,5 +1,5 @@
 -- A wait goes on by one life.
-use Rattle.std.proofs.Common.{◌≡◌, ℕ, suc, zero, ◌+◌, ◌≤◌, ◌<◌, Bool, List, [], ◌∷◌, ◌++◌, Some, None, refl, sym, ap, ◌∙◌, subst, append_assoc, append-nil, add-one, length, slice_get, nat_lt, inl, inr, arith}
+use Rattle.std.proofs.Common.{◌≡◌, ℕ, ◌+◌, ◌≤◌, ◌<◌, List, [], ◌++◌, Some, None, refl, sym, ap, ◌∙◌, subst, append_assoc, append-nil, length, slice_get, nat_lt, inl, inr, arith}
 use Rattle.host_events.specs.declared.event.Event.{Event}
 use Rattle.child_edge.specs.declared.waiting.Waiting.{Waiting}
 use Rattle.child_calls.specs.declared.seat.Seat.{Seat}

@@ -1,5 +1,5 @@
 -- A run is a timeline of its disk.
-use Rattle.std.proofs.Common.{◌≡◌, ⊎_elim, ℕ, zero, suc, Bool, List, [], ◌∷◌, ◌++◌, Option, Some, None, refl, sym, ap, ◌∙◌, subst, append-nil}
+use Rattle.std.proofs.Common.{◌≡◌, ⊎_elim, ℕ, zero, suc, Bool, List, [], ◌∷◌, ◌++◌, Option, Some, None, refl, sym, ap, subst, append-nil}
 use Rattle.std.specs.Bool.{IsTrue}
 use Rattle.disk_model.specs.Disk.{DiskView, Image, InModel, LeavesOnly}
 use Rattle.disk_model.specs.inside.Moments.{started, weakens, goes_on}
@@ -10,10 +10,10 @@ use Rattle.host_events.specs.declared.outcome.Outcome.{Outcome}
 use Rattle.host_events.specs.declared.outcome.HostFault.{HostFault}
 use Rattle.host_events.specs.declared.outcome.HostFault.TheVariants as faults
 use Rattle.session_engine.specs.World.{World, sheet_in}
-use Rattle.session_engine.specs.Does.{Does, Gives, following}
+use Rattle.session_engine.specs.Does.{Gives, following}
 use Rattle.session_engine.specs.Host.{HostView, OnDisk}
 use Rattle.session_engine.specs.Faults.{CauseOf}
-use Rattle.session_engine.specs.Crash.{LeftAmong, Moments, MomentsBefore}
+use Rattle.session_engine.specs.Crash.{LeftAmong, Moments}
 use Rattle.session_engine.proofs.Playing.{EitherSheet, either_sheet}
 use Rattle.child_edge.specs.Kept.{HoldsSheet, Kept}
 use Rattle.host_events.specs.declared.reply.Reply.{Reply}

@@ -1,5 +1,5 @@
 -- Runs that broke off, because the host had a fault or because there was no memory for a reply.
-use Rattle.std.specs.Prelude.{◌≡◌, ℕ, ◌≤◌, Bool, List, ◌++◌, Some, None, length, slice_get, nat_lt}
+use Rattle.std.specs.Prelude.{◌≡◌, ℕ, ◌≤◌, List, ◌++◌, Some, None, length, slice_get, nat_lt}
 use Rattle.host_events.specs.declared.event.Event.{Event}
 use Rattle.child_calls.specs.declared.seat.Seat.{Seat}
 use Rattle.child_edge.specs.Seats.{waits}

@@ -1,5 +1,5 @@
 -- What a run on a host leaves, where it came to its end and where it broke off.
-use Rattle.std.specs.Prelude.{◌≡◌, ℕ, List, [], ◌++◌, Bool, true, false, option_map, Result, Ok, Err}
+use Rattle.std.specs.Prelude.{◌≡◌, ℕ, List, [], ◌++◌, Bool, true, option_map, Result, Ok, Err}
 use Rattle.std.specs.declared.vec.Vec.{Vec}
 use Rattle.disk_model.specs.Disk.{DiskView, SameDisk}
 use Rattle.host_events.specs.declared.event.ChildEvent.{ChildEvent}

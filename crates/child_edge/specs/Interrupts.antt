@@ -2,7 +2,6 @@
 use Rattle.std.specs.Prelude.{◌≡◌, List, [], ◌∷◌, ℕ, Option, Some, None, option_map}
 use Rattle.worksheet.specs.Checks.{session_named}
 use Rattle.worksheet.specs.declared.field.Session.{Session}
-use Rattle.session_engine.specs.declared.host.LifeView.{LifeView}
 use Rattle.session_engine.specs.World.{World, life_of, sheet_in}
 use Rattle.child_calls.specs.declared.seat.Seat.{Seat}
 use Rattle.child_calls.specs.Calls.{interrupt, Answer, done, fault, piece, end, no_memory}

@@ -12,4 +12,5 @@ pub mod Interrupts
 pub mod Together
 pub mod Joined
 pub mod Wholly
+pub mod EditGroups
 pub mod inside

@@ -1,13 +1,10 @@
 -- A wait that is taken life by life. (docs/dev/EDGE.md, "A faithful run".)
-use Rattle.std.specs.Prelude.{◌≡◌, ℕ, ◌≤◌, ◌+◌, ◌-◌, ◌*◌, ◌^◌, Bool, true, false, List, ◌++◌, None, length, nat_lt}
-use Rattle.host_events.specs.declared.reply.Reply.{Reply}
+use Rattle.std.specs.Prelude.{◌≡◌, ℕ, ◌≤◌, ◌+◌, ◌-◌, ◌*◌, ◌^◌, List, ◌++◌, None, length, nat_lt}
 use Rattle.session_engine.specs.World.{World}
-use Rattle.session_engine.specs.Host.{HostView}
 use Rattle.child_edge.specs.declared.waiting.Waiting.{Waiting}
 use Rattle.child_edge.specs.Limits.{most_turns}
 use Rattle.child_edge.specs.Seats.{waits}
-use Rattle.child_edge.specs.Faithful.{Relation, At, at, Entry, FirstOf, Taken, Turns, Waited, hearing}
-use Rattle.child_edge.specs.Edge.{Ran}
+use Rattle.child_edge.specs.Faithful.{Relation, At, Entry, FirstOf, Taken, Turns, hearing}
 
 -- The wait has not taken a life yet.
 pub record IsBegun (wait : Waiting) (w : World) : Type 0 where

@@ -1,2 +1,3 @@
 pub mod Gating
+pub mod Ranks
 pub mod Joining

@@ -24,7 +24,7 @@ use std::alloc::{AllocError, Global};
 pub const MOST_TURNS: u32 = 100_000;
 
 /// The most events that come of one: it, the fault of its effect, and the fault of that one's effect.
-pub(crate) const MOST_EVENTS: usize = 3;
+pub const MOST_EVENTS: usize = 3;
 
 /// Why a command or a wait broke off.
 #[derive(Clone, Copy, Debug, PartialEq, Eq)]
@@ -76,8 +76,8 @@ fn fault_event(effect: &Effect) -> Event
     }
 }
 
-/// Carries an effect out, and gives the event of the fault that it met.
-pub(crate) fn carry_out<C: Children>(children: &mut C, effect: &Option<Effect>) -> Option<Event>
+/// Carries an effect out by one call, and gives the event of the fault that it met.
+pub fn carry_out<C: Children>(children: &mut C, effect: &Option<Effect>) -> Option<Event>
     ensures { (a : Option Answer) × Carried C.after children.old effect.now a children.new
         × (result ≡ due_of effect.now a) }
 {
@@ -90,8 +90,9 @@ pub(crate) fn carry_out<C: Children>(children: &mut C, effect: &Option<Effect>) 
     }
 }
 
-/// The step of a host at one event, with what it leaves of the disk.
-fn step<D: Disk>(host: &mut Host<D>, event: Event) -> Result<Outcome, HostFault>
+/// The step of a host at one event, with what it leaves of the disk: what the event gives is durable, and its effect isn't carried
+/// out yet.
+pub fn step<D: Disk>(host: &mut Host<D>, event: Event) -> Result<Outcome, HostFault>
     ensures same { SameDisk host.old.store.disk host.new.store.disk }
     ensures ok { (w : World) → IsHost host.old w → IfOk result (Took w event host.old host.new) }
     ensures err { (w : World) → IsHost host.old w

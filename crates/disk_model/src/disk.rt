@@ -1,5 +1,5 @@
 //! A disk as a journal sees it.
-ghost use Rattle.std.specs.Prelude.{◌≡◌, ◌+◌, ◌≤◌, length, take, drop, IsTrue, IfOk, OnOk};
+ghost use Rattle.std.specs.Prelude.{◌≡◌, ◌+◌, ◌≤◌, length, take, drop, IfOk, OnOk};
 ghost use Rattle.disk_model.specs.Disk.{DiskView, InModel, Called, Looks, Writes, Syncs, IsImage, area_of, greatest_room, bytes_on};
 
 /// The greatest room of a disk, in bytes.

@@ -1,5 +1,5 @@
 //! A disk in memory, which keeps a record of its calls.
-ghost use Rattle.std.specs.Prelude.{◌≡◌, ◌≤◌, ◌<◌, ◌+◌, ◌^◌, ◌++◌, ◌∷◌, [], length, take, drop, IfOk, OnOk, OnErr};
+ghost use Rattle.std.specs.Prelude.{◌≡◌, ◌≤◌, ◌<◌, ◌+◌, ◌^◌, [], length, take, drop, IfOk, OnOk, OnErr};
 ghost use Rattle.disk_model.specs.Disk.{Called, InModel, Looks, Syncs, Writes, area_of, greatest_room, overwritten, bytes_on};
 ghost use Rattle.disk_model.specs.Calls.{Notes, after_sync, after_write, fresh, history_after, started_with, step, with_area};
 ghost use Rattle.disk_model.specs.inside.Replay.{stays_an_image};

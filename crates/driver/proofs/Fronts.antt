@@ -1,5 +1,5 @@
 -- Where a run leads, and what it leaves of the disk at every moment.
-use Rattle.std.proofs.Common.{◌≡◌, inl, inr, List, [], ◌∷◌, ◌++◌, Some, refl, sym, ap, subst, append-nil, append_assoc, ◌∙◌}
+use Rattle.std.proofs.Common.{◌≡◌, inl, inr, List, [], ◌∷◌, ◌++◌, refl, sym, ap, subst, append-nil, append_assoc, ◌∙◌}
 use Rattle.std.specs.Prelude.{◌⊎◌}
 use Rattle.disk_model.specs.Disk.{DiskView}
 use Rattle.host_events.specs.declared.event.Event.{Event}
@@ -19,7 +19,7 @@ use Rattle.host_events.specs.declared.outcome.HostFault.TheVariants as faults
 use Rattle.offline_programs.specs.declared.fault.RunFault.{RunFault}
 use Rattle.driver.specs.Items.{Item, RunStep, after_fault, entries_of, print_fault, halt}
 use Rattle.driver.specs.Place.{RunPlace, Rules, run_at}
-use Rattle.driver.specs.Steps.{Fails, Goes, Run, asks, breaks, broken, broken_joined, prints_fault, hears, heeds, interrupts, joins, lost, lost_joined, rewrites, stalls_all, takes, prints, too_many, too_many_heard, uncounted, uncounted_line, unheard, unjoined, unnumbered, unsaid, unstalled, untaken, unprinted, unwatched, unwritten, watches, takes_whole, refuses_whole, lost_whole, too_many_whole, untaken_whole}
+use Rattle.driver.specs.Steps.{Fails, Goes, Run, asks, breaks, broken, broken_joined, prints_fault, hears, heeds, interrupts, joins, lost, lost_joined, rewrites, stalls_all, takes, prints, too_many, too_many_heard, uncounted, uncounted_line, unheard, unjoined, unnumbered, unsaid, unstalled, untaken, unprinted, unwatched, unwritten, watches, takes_whole, refuses_whole, lost_whole, too_many_whole, untaken_whole, broken_alone, carries, lost_edits, receives, takes_alone, takes_edits, unreceived, untaken_edits}
 use Rattle.driver.specs.Laws.{LeavesFrontsOf, all_printed, broke_at, lost_at, trace}
 use Rattle.driver.proofs.Courses.{Course, course_up_to, either_moments, events_append, moments_on, outcomes_append, runs_on}
 use Rattle.driver.proofs.Gates.{at_once_course, together_course, up_to_course}
@@ -43,6 +43,10 @@ fails_lead R p q i entries why (broken_joined events all a bs e f w c d h all_ar
 fails_lead R p q i entries why (too_many_whole first events many) = refl
 fails_lead R p q i entries why (untaken_whole first events) = refl
 fails_lead R p q i entries why (lost_whole first events h l) = refl
+fails_lead R p q i entries why (untaken_edits up_to events) = refl
+fails_lead R p q i entries why (lost_edits up_to events h l) = refl
+fails_lead R p q i entries why (broken_alone x f h stopped) = refl
+fails_lead R p q i entries why (unreceived seat) = refl
 fails_lead R p q i entries why (unwritten line f h stopped) = refl
 fails_lead R p q i entries why (unnumbered line many) = refl
 fails_lead R p q i entries why unstalled = refl
@@ -58,6 +62,10 @@ step_leads R p mid todo next s (joins events outcomes first more later followed 
     (together_course R.sources.after (run_at p) (events ++ more) (outcomes ++ later) followed (at w c d) t).runs
 step_leads R p mid todo next s (takes_whole first events outcomes w d rest t) = (at_once_course p.world events outcomes w p.disk d t.kept).runs
 step_leads R p mid todo next s (refuses_whole first events before last rest r) = refl
+step_leads R p mid todo next s (takes_edits up_to events done outcomes w d rest first t) = (at_once_course p.world done outcomes w p.disk d t.kept).runs
+step_leads R p mid todo next s (takes_alone x o w d rest gives kept) = (w, gives, refl)
+step_leads R p mid todo next s (carries o answer c rest went) = refl
+step_leads R p mid todo next s (receives seat x c rest was) = refl
 step_leads R p mid todo next s (rewrites line o w d rest g k) = (w, g, refl)
 step_leads R p mid todo next s (stalls_all rest) = refl
 step_leads R p mid todo next s (interrupts name reported c rest i) = refl
@@ -134,6 +142,12 @@ fails_leave R p q i entries why held (too_many_whole first events many) = nothin
 fails_leave R p q i entries why held (untaken_whole first events) = nothing_done p q held refl
 fails_leave R p q i entries why held (lost_whole first events h l) =
     lost_at events p.disk h l.lost refl (either_moments p.world l.lost.taken l.lost.withheld l.lost.leads p.disk h.store.disk l.lost.runs l.lost.moments)
+fails_leave R p q i entries why held (untaken_edits up_to events) = nothing_done p q held refl
+fails_leave R p q i entries why held (lost_edits up_to events h l) =
+    lost_at events p.disk h l.lost refl (either_moments p.world l.lost.taken l.lost.withheld l.lost.leads p.disk h.store.disk l.lost.runs l.lost.moments)
+fails_leave R p q i entries why held (broken_alone x f h stopped) =
+    broke_at p.disk h x f stopped refl (course_up_to p.world p.disk [] p.world p.disk x f h held (no_step p.world p.disk) stopped)
+fails_leave R p q i entries why held (unreceived seat) = nothing_done p q held refl
 fails_leave R p q i entries why held (unwritten line f h stopped) =
     broke_at p.disk h (event.Command command.Checkpoint) f stopped refl (course_up_to p.world p.disk [] p.world p.disk (event.Command command.Checkpoint) f h held (no_step p.world p.disk) stopped)
 fails_leave R p q i entries why held (unnumbered line many) = nothing_done p q held refl

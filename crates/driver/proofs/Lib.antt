@@ -1,6 +1,7 @@
 pub mod Courses
 pub mod Gates
 pub mod Running
+pub mod Singly
 pub mod Order
 pub mod Fronts
 pub mod Doing

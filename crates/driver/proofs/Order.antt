@@ -10,7 +10,7 @@ use Rattle.offline_programs.specs.declared.fault.RunFault.TheVariants as fault
 use Rattle.driver.specs.Reports.{Report, printed_text}
 use Rattle.driver.specs.Items.{Item, RunStep, after_fault, entries_of, broke, print_fault, halt, printed}
 use Rattle.driver.specs.Place.{RunPlace, Rules, Tries, run_at}
-use Rattle.driver.specs.Steps.{Fails, Goes, Run, asks, breaks, prints_fault, hears, heeds, interrupts, joins, rewrites, stalls_all, takes, prints, watches, takes_whole, refuses_whole}
+use Rattle.driver.specs.Steps.{Fails, Goes, Run, asks, breaks, prints_fault, hears, heeds, interrupts, joins, rewrites, stalls_all, takes, prints, watches, takes_whole, refuses_whole, takes_alone, takes_edits, carries, receives}
 use Rattle.driver.specs.Laws.{CutAt, PrintedAfter, trace}
 use Rattle.driver.proofs.Courses.{Course, course_on, goes_course}
 use Rattle.driver.proofs.Gates.{at_once_course, together_course}
@@ -46,6 +46,10 @@ step_course R p mid todo next s (joins events outcomes first more later followed
     inl (together_course R.sources.after (run_at p) (events ++ more) (outcomes ++ later) followed (at w c d) t)
 step_course R p mid todo next s (takes_whole first events outcomes w d rest t) = inl (at_once_course p.world events outcomes w p.disk d t.kept)
 step_course R p mid todo next s (refuses_whole first events before last rest r) = inl (no_step p.world p.disk)
+step_course R p mid todo next s (takes_edits up_to events done outcomes w d rest first t) = inl (at_once_course p.world done outcomes w p.disk d t.kept)
+step_course R p mid todo next s (takes_alone x o w d rest gives kept) = inl (goes_course p.world p.disk (entries_of s) w d (w, d, gives, kept, (refl, refl)))
+step_course R p mid todo next s (carries o answer c rest went) = inl (no_step p.world p.disk)
+step_course R p mid todo next s (receives seat x c rest was) = inl (no_step p.world p.disk)
 step_course R p mid todo next s (rewrites line o w d rest g k) =
     inl (goes_course p.world p.disk (entries_of s) w d (w, d, g, k, (refl, refl)))
 step_course R p mid todo next s (stalls_all rest) = inl (no_step p.world p.disk)

@@ -1,6 +1,6 @@
 -- A run as it is seen by less of its agenda and of its sink: the agenda and the sink by maps of them, of which what each may do goes over.
-use Rattle.std.proofs.Common.{◌≡◌, ℕ, List, [], ◌∷◌, ap, Err, Ok}
-use Rattle.std.specs.Prelude.{Bool, Option, Result, Some, true}
+use Rattle.std.proofs.Common.{ℕ, List, [], ◌∷◌, ap, Err, Ok}
+use Rattle.std.specs.Prelude.{Bool, Option, Result, true}
 use Rattle.disk_model.specs.Disk.{DiskView}
 use Rattle.arrivals.specs.declared.sources.Woken.{Woken}
 use Rattle.host_events.specs.declared.event.Event.{Event}
@@ -58,6 +58,10 @@ module _ {A B C K L : Type 0} (R : Rules A C K) (S : AgendaRules B) (written : L
   fails_seen p q i entries why (step.too_many_whole first events many) = step.too_many_whole first events many
   fails_seen p q i entries why (step.untaken_whole first events) = step.untaken_whole first events
   fails_seen p q i entries why (step.lost_whole first events h l) = step.lost_whole first events h l
+  fails_seen p q i entries why (step.untaken_edits up_to events) = step.untaken_edits up_to events
+  fails_seen p q i entries why (step.lost_edits up_to events h l) = step.lost_edits up_to events h l
+  fails_seen p q i entries why (step.broken_alone x f h stopped) = step.broken_alone x f h stopped
+  fails_seen p q i entries why (step.unreceived seat) = step.unreceived seat
   fails_seen p q i entries why (step.unwritten line x h stopped) = step.unwritten line x h stopped
   fails_seen p q i entries why (step.unnumbered line many) = step.unnumbered line many
   fails_seen p q i entries why step.unstalled = step.unstalled
@@ -73,6 +77,10 @@ module _ {A B C K L : Type 0} (R : Rules A C K) (S : AgendaRules B) (written : L
       step.joins events outcomes first more later followed (f a) w c d rest (asks_seen p.agenda a p.world events outcomes first more j) t
   step_seen p q todo next s (step.takes_whole first events outcomes w d rest t) = step.takes_whole first events outcomes w d rest t
   step_seen p q todo next s (step.refuses_whole first events before last rest r) = step.refuses_whole first events before last rest r
+  step_seen p q todo next s (step.takes_edits up_to events done outcomes w d rest first t) = step.takes_edits up_to events done outcomes w d rest first t
+  step_seen p q todo next s (step.takes_alone x o w d rest gives kept) = step.takes_alone x o w d rest gives kept
+  step_seen p q todo next s (step.carries o answer c rest went) = step.carries o answer c rest went
+  step_seen p q todo next s (step.receives seat x c rest was) = step.receives seat x c rest was
   step_seen p q todo next s (step.rewrites line o w d rest gives kept) = step.rewrites line o w d rest gives kept
   step_seen p q todo next s (step.stalls_all rest) = step.stalls_all rest
   step_seen p q todo next s (step.interrupts name reported c rest i) = step.interrupts name reported c rest i

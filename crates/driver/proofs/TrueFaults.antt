@@ -22,7 +22,8 @@ use Rattle.offline_programs.specs.declared.fault.RunFault.{RunFault}
 use Rattle.offline_programs.specs.declared.fault.RunFault.TheVariants as fault
 use Rattle.driver.specs.declared.turn.Turn.{Turn}
 use Rattle.driver.specs.declared.turn.Turn.TheVariants as turn
-use Rattle.driver.specs.Items.{Item, RunStep, after_fault, ask, entries_of, items_by, notes, printing, printing_joined, print_fault, halt}
+use Rattle.driver.specs.Items.{Item, RunStep, after_fault, ask, entries_of, items_by, notes, printing_joined, print_fault, halt, taking_due}
+use Rattle.child_edge.specs.Faithful.{due_of}
 use Rattle.driver.specs.Items as item
 use Rattle.driver.specs.Place.{RunPlace, Rules, run_at}
 use Rattle.driver.specs.Steps.{Fails, Goes, Run}
@@ -75,6 +76,10 @@ IsDoing (item.watch q) = Unit {0}
 IsDoing (item.hear seat most) = Unit {0}
 IsDoing (item.take from events) = Unit {0}
 IsDoing (item.take_whole first events) = Unit {0}
+IsDoing (item.take_edits up_to events) = Unit {0}
+IsDoing (item.take_alone e) = Unit {0}
+IsDoing (item.carry o) = Unit {0}
+IsDoing (item.receive seat) = Unit {0}
 IsDoing (item.join events) = Unit {0}
 IsDoing (item.rewrite line) = Unit {0}
 IsDoing item.stall = Unit {0}
@@ -99,6 +104,9 @@ turn_doing (turn.Watch input patience) = (tt, (tt, tt))
 turn_doing (turn.Hear seat most) = (tt, (tt, tt))
 turn_doing (turn.Lines first events) = (tt, (tt, tt))
 turn_doing (turn.Whole first events) = (tt, (tt, tt))
+turn_doing (turn.Edits up_to events) = (tt, (tt, tt))
+turn_doing (turn.Alone e) = (tt, (tt, tt))
+turn_doing (turn.Receive seat) = (tt, (tt, tt))
 turn_doing (turn.Checkpoint line) = (tt, (tt, tt))
 turn_doing turn.Stall = (tt, (tt, tt))
 turn_doing (turn.Interrupt name) = (tt, (tt, tt))
@@ -108,8 +116,9 @@ notes_doing : (n : Option Note) → AreDoing (notes n)
 notes_doing None = tt
 notes_doing (Some n) = (tt, tt)
 
-printing_doing : (from : Option ℕ) (outcomes : List Outcome) (replies : List Reply) → AreDoing (printing from outcomes replies)
-printing_doing from outcomes replies = (tt, (tt, (tt, tt)))
+due_doing : (due : Option Event) (rest : List Item) → AreDoing rest → AreDoing (taking_due due ++ rest)
+due_doing None rest all = all
+due_doing (Some e) rest all = (tt, all)
 
 joined_doing : (first : Option ℕ) (outcomes later : List Outcome) (replies : List Reply) (rest : List Item) → AreDoing rest → AreDoing (printing_joined first outcomes later replies rest)
 joined_doing None outcomes later replies rest all = (tt, (tt, (tt, all)))
@@ -128,6 +137,10 @@ left_doing (item.watch q ∷ rest) a b all = tt
 left_doing (item.hear seat most ∷ rest) a b all = tt
 left_doing (item.take from events ∷ rest) a b all = tt
 left_doing (item.take_whole first events ∷ rest) a b all = tt
+left_doing (item.take_edits up_to events ∷ rest) a b all = tt
+left_doing (item.take_alone e ∷ rest) a b all = tt
+left_doing (item.carry o ∷ rest) a b all = tt
+left_doing (item.receive seat ∷ rest) a b all = tt
 left_doing (item.join events ∷ rest) a b all = tt
 left_doing (item.rewrite line ∷ rest) a b all = tt
 left_doing (item.stall ∷ rest) a b all = tt
@@ -144,6 +157,10 @@ left_since (item.watch q ∷ rest) a b c same t = tt
 left_since (item.hear seat most ∷ rest) a b c same t = tt
 left_since (item.take from events ∷ rest) a b c same t = tt
 left_since (item.take_whole first events ∷ rest) a b c same t = tt
+left_since (item.take_edits up_to events ∷ rest) a b c same t = tt
+left_since (item.take_alone e ∷ rest) a b c same t = tt
+left_since (item.carry o ∷ rest) a b c same t = tt
+left_since (item.receive seat ∷ rest) a b c same t = tt
 left_since (item.join events ∷ rest) a b c same t = tt
 left_since (item.rewrite line ∷ rest) a b c same t = tt
 left_since (item.stall ∷ rest) a b c same t = tt
@@ -172,6 +189,10 @@ module _ {A C K : Type 0} (R : Rules A C K) (own : (a : A) (w : World) (n : ℕ)
   fails_true p q i entries why (step.too_many_whole first events many) = tt
   fails_true p q i entries why (step.untaken_whole first events) = tt
   fails_true p q i entries why (step.lost_whole first events h l) = l.lost.failed
+  fails_true p q i entries why (step.untaken_edits up_to events) = tt
+  fails_true p q i entries why (step.lost_edits up_to events h l) = l.lost.failed
+  fails_true p q i entries why (step.broken_alone x f h stopped) = cause_true f p.world x p.disk h.store.disk stopped.cause
+  fails_true p q i entries why (step.unreceived seat) = tt
   fails_true p q i entries why (step.unwritten line f h stopped) = cause_true f p.world _ p.disk h.store.disk stopped.cause
   fails_true p q i entries why (step.unnumbered line many) = tt
   fails_true p q i entries why step.unstalled = tt
@@ -187,6 +208,10 @@ module _ {A C K : Type 0} (R : Rules A C K) (own : (a : A) (w : World) (n : ℕ)
       inl (joined_doing first outcomes later (reported (entries_after followed)) rest all.1)
   step_doing p mid todo next s (step.takes_whole first events outcomes w d rest t) all = inl (tt, (tt, (tt, all.1)))
   step_doing p mid todo next s (step.refuses_whole first events before last rest r) all = inl (tt, (tt, (tt, all.1)))
+  step_doing p mid todo next s (step.takes_edits up_to events done outcomes w d rest first t) all = inl (tt, (tt, (tt, all.1)))
+  step_doing p mid todo next s (step.takes_alone x o w d rest gives kept) all = inl (tt, all.1)
+  step_doing p mid todo next s (step.carries o answer c rest went) all = inl (tt, (tt, (tt, due_doing (due_of o.effect answer) rest all.1)))
+  step_doing p mid todo next s (step.receives seat x c rest was) all = inl (tt, all.1)
   step_doing p mid todo next s (step.rewrites line o w d rest gives kept) all = inl (tt, (tt, (tt, all.1)))
   step_doing p mid todo next s (step.stalls_all rest) all = inl (tt, all.1)
   step_doing p mid todo next s (step.interrupts name reported c rest i) all = inl (tt, all.1)

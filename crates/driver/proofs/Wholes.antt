@@ -17,7 +17,7 @@ use Rattle.driver.specs.Items.{Item, heed, print, printing, refused_whole, took,
 use Rattle.driver.specs.Reports.{came, followed, lines}
 use Rattle.driver.specs.Place.{RunPlace, Rules}
 use Rattle.driver.specs.Steps.{Fails, Goes, fault_of_whole, lost_whole, most_together, refuses_whole, takes_whole, too_many_whole, uncounted_line, untaken_whole}
-use Rattle.driver.specs.Runs.{DidSteps, left_by_answer, lost_there, parts, seen, stopped, works}
+use Rattle.driver.specs.Runs.{DidSteps, left_by_answer, lost_there, parts, seen, works}
 use Rattle.driver.specs.inside.Wholes.{printing_whole}
 use Rattle.driver.proofs.Running.{did_break, did_one}
 

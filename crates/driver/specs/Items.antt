@@ -5,6 +5,7 @@ use Rattle.host_events.specs.declared.event.Event.TheVariants.{Child}
 use Rattle.host_events.specs.declared.event.ChildEvent.TheVariants as child
 use Rattle.host_events.specs.declared.outcome.Outcome.{Outcome}
 use Rattle.host_events.specs.declared.reply.Reply.{Reply}
+use Rattle.child_calls.specs.Calls.{Answer}
 use Rattle.child_calls.specs.declared.seat.Seat.{Seat}
 use Rattle.child_edge.specs.Faithful.{Entry}
 use Rattle.child_edge.specs.Together.{Followed, trace_of}
@@ -32,6 +33,14 @@ pub data Item : Type 0 where
   take : Option ℕ → List Event → Item
   -- these commands of the lines from this one on are taken as one group, all of them or none
   take_whole : ℕ → List Event → Item
+  -- these commands, which only change the worksheet, are taken as one group: all of them, or up to the first that is refused
+  take_edits : Bool → List Event → Item
+  -- this event is taken by itself
+  take_alone : Event → Item
+  -- the effect of this outcome is carried out, and then it is printed
+  carry : Outcome → Item
+  -- this life is received from, and what it gives is taken by itself
+  receive : Seat → Item
   -- these events of lives are taken as one group, with those that the agenda says join them
   join : List Event → Item
   -- the journal is rewritten, for which this line asks
@@ -57,6 +66,9 @@ pub data RunStep : Type 0 where
   took : List Event → List Outcome → List Followed → RunStep
   -- one of these commands was refused, so none was taken
   refused_whole : List Event → Outcome → RunStep
+  took_alone : Event → Outcome → RunStep
+  carried : Outcome → Option Answer → RunStep
+  received : Event → RunStep
   rewrote : Entry → RunStep
   stalled : List Seat → RunStep
   interrupted : List ℕ → Interrupted → RunStep
@@ -75,6 +87,9 @@ items_by (turn.Watch input patience) = watch (asked input patience) ∷ ask ∷ 
 items_by (turn.Hear seat most) = hear seat most ∷ ask ∷ []
 items_by (turn.Lines first events) = take (Some first) events.items ∷ ask ∷ []
 items_by (turn.Whole first edits) = take_whole first edits ∷ ask ∷ []
+items_by (turn.Edits up_to edits) = take_edits up_to edits ∷ ask ∷ []
+items_by (turn.Alone event) = take_alone event ∷ ask ∷ []
+items_by (turn.Receive seat) = receive seat ∷ ask ∷ []
 items_by (turn.Checkpoint line) = rewrite line ∷ ask ∷ []
 items_by turn.Stall = stall ∷ ask ∷ []
 items_by (turn.Interrupt name) = interrupt name ∷ ask ∷ []
@@ -87,6 +102,11 @@ group_of (Some first) outcomes = report.lines first outcomes
 
 abbrev pub printing : Option ℕ → List Outcome → List Reply → List Item
 printing from outcomes replies = print (group_of from outcomes) ∷ print (report.followed replies) ∷ heed (came outcomes replies) ∷ []
+
+-- the event of the fault that a call met is taken likewise
+abbrev pub taking_due : Option Event → List Item
+taking_due None = []
+taking_due (Some e) = take_alone e ∷ []
 
 -- What lives gave is printed, then what those gave that joined, by the numbers of their lines from this one on, and then what followed all of it; the
 -- agenda heeds it all at once. Then there is the rest.
@@ -112,13 +132,16 @@ after_fault why = print_fault why ∷ []
 abbrev pub stalls : Seat → Event
 stalls seat = Child seat.name seat.life child.Stalled
 
--- the entries of the trace
+-- the entries of the trace; what the effect's call of an event by itself was answered, a later step says
 abbrev pub entries_of : RunStep → List Entry
 entries_of (chose t) = []
 entries_of (watched q w) = []
 entries_of (heard events) = []
 entries_of (took events outcomes followed) = trace_of events outcomes followed
 entries_of (refused_whole events o) = []
+entries_of (took_alone e o) = record { event = e; outcome = o; answer = None } ∷ []
+entries_of (carried o a) = []
+entries_of (received e) = []
 entries_of (rewrote b) = b ∷ []
 entries_of (stalled seats) = []
 entries_of (interrupted name result) = []

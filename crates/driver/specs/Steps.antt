@@ -16,11 +16,15 @@ use Rattle.session_engine.specs.declared.whole.WholeFault.{WholeFault}
 use Rattle.session_engine.specs.declared.whole.WholeFault.TheVariants as at_whole
 use Rattle.child_calls.specs.declared.seat.Seat.{Seat}
 use Rattle.child_edge.specs.Edge.{Stopped}
-use Rattle.child_edge.specs.Faithful.{Entry, at}
+use Rattle.child_calls.specs.Calls.{Answer}
+use Rattle.child_edge.specs.EditGroups.{EditsKept, LostEdits, TakesFirst}
+use Rattle.child_edge.specs.declared.edit_groups.EditsFault.{EditsFault}
+use Rattle.child_edge.specs.declared.edit_groups.EditsFault.TheVariants as at_edits
+use Rattle.child_edge.specs.Faithful.{Carried, Entry, at, due_of}
 use Rattle.child_edge.specs.Interrupts.{Interrupts}
 use Rattle.child_edge.specs.Kept.{Kept}
 use Rattle.child_edge.specs.Seats.{waits}
-use Rattle.child_edge.specs.Together.{Followed, LostTogether, Together, TogetherUpTo, entries_after}
+use Rattle.child_edge.specs.Together.{Followed, HearsOne, LostTogether, Together, TogetherUpTo, entries_after}
 use Rattle.child_edge.specs.Reported.{reported}
 use Rattle.child_edge.specs.Wholly.{AllTaken, LostWhole}
 use Rattle.child_edge.specs.declared.together.TogetherFault.{TogetherFault}
@@ -35,7 +39,7 @@ use Rattle.offline_programs.specs.declared.fault.RunFault.TheVariants as fault
 use Rattle.driver.specs.declared.turn.Turn.{Turn}
 use Rattle.driver.specs.Reports.{TurnCame, Report, interrupt_came, lines, printed_text}
 use Rattle.driver.specs.Place.{RunPlace, Rules, Tries, run_at}
-use Rattle.driver.specs.Items.{Item, RunStep, after_fault, ask, broke, chose, print_fault, printed_fault, halt, hear, heard, heed, heeded, interrupt, interrupted, items_by, join, notes, refused_whole, rewrite, rewrote, stall, stalled, stalls, take, print, printing, printing_joined, printed, took, watch, watched, take_whole}
+use Rattle.driver.specs.Items.{Item, RunStep, after_fault, ask, broke, carried, carry, chose, print_fault, printed_fault, halt, hear, heard, heed, heeded, interrupt, interrupted, items_by, join, notes, refused_whole, rewrite, rewrote, stall, stalled, stalls, take, print, printing, printing_joined, printed, receive, received, take_alone, take_edits, taking_due, took, took_alone, watch, watched, take_whole}
 use Rattle.driver.specs.Hearing.{HeardReady}
 
 -- the most events that are taken as one group
@@ -47,6 +51,11 @@ abbrev pub fault_of_whole : WholeFault → RunFault
 fault_of_whole at_whole.NoRoom = fault.OutOfMemory
 fault_of_whole at_whole.Disk = fault.Host hosts.Disk
 fault_of_whole at_whole.Closed = fault.Host hosts.Closed
+
+-- the fault of a run where commands that only change the worksheet weren't taken
+abbrev pub fault_of_edits : EditsFault → RunFault
+fault_of_edits at_edits.OutOfMemory = fault.OutOfMemory
+fault_of_edits at_edits.Lost = fault.Host hosts.Disk
 
 -- the fault of a run where events weren't taken as one group
 abbrev pub fault_at_gate : TogetherFault → RunFault
@@ -91,6 +100,15 @@ pub data Fails {A C K : Type 0} (R : Rules A C K) (p : RunPlace A C K) : Item �
   untaken_whole : (first : ℕ) (events : List Event) → Fails R p (take_whole first events) [] fault.OutOfMemory p
   lost_whole : (first : ℕ) (events : List Event) (h : HostView) → LostWhole p.world events p.disk h
       → Fails R p (take_whole first events) [] (fault.Host hosts.Disk) (record p { disk = h.store.disk })
+  -- The same of commands that only change the worksheet: of none of them anything is printed.
+  untaken_edits : (up_to : Bool) (events : List Event) → Fails R p (take_edits up_to events) [] fault.OutOfMemory p
+  lost_edits : (up_to : Bool) (events : List Event) (h : HostView) → LostEdits up_to p.world events p.disk h
+      → Fails R p (take_edits up_to events) [] (fault.Host hosts.Disk) (record p { disk = h.store.disk })
+  -- the host had this fault at an event by itself
+  broken_alone : (e : Event) (f : HostFault) (h : HostView) → Stopped p.disk h p.world e f
+      → Fails R p (take_alone e) [] (fault.Host f) (record p { disk = h.store.disk })
+  -- there was no memory, and nothing was received
+  unreceived : (seat : Seat) → Fails R p (receive seat) [] fault.OutOfMemory p
   -- the host had this fault at the checkpoint
   unwritten : (line : ℕ) (f : HostFault) (h : HostView) → Stopped p.disk h p.world (event.Command command.Checkpoint) f
       → Fails R p (rewrite line) [] (fault.Host f) (record p { disk = h.store.disk })
@@ -128,6 +146,18 @@ pub data Goes {A C K : Type 0} (R : Rules A C K) (p : RunPlace A C K) : List Ite
   refuses_whole : (first : ℕ) (events : List Event) (before : List Outcome) (last : Outcome) (rest : List Item)
       → RefusedAt p.world events before last
       → Goes R p (take_whole first events ∷ rest) (refused_whole events last) (printing (Some (first + length before)) (last ∷ []) [] ++ rest) p
+  -- The first of these commands were taken: all that they give is durable at once, and none has an effect.
+  takes_edits : (up_to : Bool) (events done : List Event) (outcomes : List Outcome) (w : World) (d : DiskView) (rest : List Item)
+      → TakesFirst up_to events done outcomes → EditsKept p.world done outcomes w p.disk d
+      → Goes R p (take_edits up_to events ∷ rest) (took done outcomes []) (printing None outcomes [] ++ rest) (record p { world = w; disk = d })
+  -- An event was taken, and what it gives is durable before its effect is carried out.
+  takes_alone : (e : Event) (o : Outcome) (w : World) (d : DiskView) (rest : List Item) (g : Gives p.world e o w) → Kept p.world g.0 w p.disk d
+      → Goes R p (take_alone e ∷ rest) (took_alone e o) (carry o ∷ rest) (record p { world = w; disk = d })
+  -- An effect is one call. Then what the event gave is printed, and heeded; where the call met a fault, its event is taken by itself, too.
+  carries : (o : Outcome) (answer : Option Answer) (c : C) (rest : List Item) → Carried R.sources.after p.sources o.effect answer c
+      → Goes R p (carry o ∷ rest) (carried o answer) (printing None (o ∷ []) [] ++ taking_due (due_of o.effect answer) ++ rest) (record p { sources = c })
+  receives : (seat : Seat) (e : Event) (c : C) (rest : List Item) → HearsOne R.sources.after seat p.sources e c
+      → Goes R p (receive seat ∷ rest) (received e) (take_alone e ∷ rest) (record p { sources = c })
   rewrites : (line : ℕ) (o : Outcome) (w : World) (d : DiskView) (rest : List Item) (g : Gives p.world (event.Command command.Checkpoint) o w) → Kept p.world g.0 w p.disk d
       → Goes R p (rewrite line ∷ rest) (rewrote (record { event = event.Command command.Checkpoint; outcome = o; answer = None })) (printing (Some line) (o ∷ []) [] ++ rest) (record p { world = w; disk = d })
   stalls_all : (rest : List Item) → Goes R p (stall ∷ rest) (stalled (waits p.world)) (take None (map stalls (waits p.world)) ∷ rest) p

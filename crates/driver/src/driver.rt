@@ -1,5 +1,5 @@
 //! The driver, and its loop.
-ghost use Rattle.std.specs.Prelude.{◌≡◌, ◌≤◌, ◌+◌, ◌<◌, ◌^◌, ℕ, List, [], ◌∷◌, ◌++◌, Option, Some, None, IfOk, IfSome, IsSomeAnd, length, map, true, false};
+ghost use Rattle.std.specs.Prelude.{◌≡◌, ◌≤◌, ◌+◌, ◌<◌, ◌^◌, ℕ, List, [], ◌∷◌, ◌++◌, Option, Some, None, IfOk, IfSome, IsSomeAnd, length, true, false};
 ghost use Rattle.disk_model.specs.Disk.{SameDisk};
 ghost use Rattle.session_engine.specs.World.{World};
 ghost use Rattle.session_engine.specs.Host.{IsHost};
@@ -31,7 +31,7 @@ use std::slice;
 use worksheet::Name;
 
 /// The greatest number of a line from which on those of a group can be counted.
-pub(crate) const MOST_COUNTED: u64 = u64::MAX - 1_025;
+pub const MOST_COUNTED: u64 = u64::MAX - 1_025;
 
 /// A host, the sources of what comes to it, the sink of what comes of that, and the agenda that says what is next.
 pub struct Driver<D: Disk, S, K, A> {
@@ -326,6 +326,9 @@ impl<D: Disk, S: Sources, K: Sink, A: Agenda> Driver<D, S, K, A> {
             Turn::Hear(seat, most) => and_again(self.hear(seat, most)),
             Turn::Lines(first, events) => and_again(self.take_and_print(Some(first), events)),
             Turn::Whole(first, edits) => and_again(self.take_whole(first, edits)),
+            Turn::Edits(up_to, edits) => and_again(self.take_edits(up_to, edits)),
+            Turn::Alone(event) => and_again(self.take_alone(event)),
+            Turn::Receive(seat) => and_again(self.receive(seat)),
             Turn::Checkpoint(line) => and_again(self.rewrite(line)),
             Turn::Stall => and_again(self.stall()),
             Turn::Interrupt(name) => and_again(self.interrupt(name)),

@@ -1,8 +1,8 @@
 //! Faults of a run.
 ghost use Rattle.std.specs.Prelude.{◌≡◌, true, false};
-ghost use Rattle.driver.specs.Steps.{fault_at_gate, fault_of_whole};
+ghost use Rattle.driver.specs.Steps.{fault_at_gate, fault_of_edits, fault_of_whole};
 
-use child_edge::TogetherFault;
+use child_edge::{EditsFault, TogetherFault};
 use host_events::HostFault;
 use offline_programs::RunFault;
 use session_engine::WholeFault;
@@ -26,6 +26,16 @@ pub(crate) fn whole_fault(fault: WholeFault) -> RunFault
         WholeFault::NoRoom => RunFault::OutOfMemory,
         WholeFault::Disk => RunFault::Host(HostFault::Disk),
         WholeFault::Closed => RunFault::Host(HostFault::Closed),
+    }
+}
+
+/// The fault of a run, where commands that only change the worksheet weren't taken.
+pub(crate) fn edits_fault(fault: EditsFault) -> RunFault
+    ensures { result ≡ fault_of_edits fault }
+{
+    match fault {
+        EditsFault::OutOfMemory => RunFault::OutOfMemory,
+        EditsFault::Lost => RunFault::Host(HostFault::Disk),
     }
 }
 

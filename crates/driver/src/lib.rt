@@ -3,7 +3,9 @@
 #![tactic(auto)]
 
 pub mod agenda;
+mod alone;
 pub mod driver;
+mod edits;
 mod faults;
 mod hearing;
 mod joint;
@@ -18,10 +20,11 @@ pub mod voiced;
 mod whole;
 
 pub use agenda::Agenda;
-pub use driver::Driver;
+pub use driver::{Driver, MOST_COUNTED};
 pub use noting::Noting;
 pub use over::{Over, run_over};
 pub use report::{Came, Show};
 pub use sink::Sink;
+pub use stalls::stalled;
 pub use turn::Turn;
 pub use voiced::Voiced;

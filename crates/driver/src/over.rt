@@ -1,10 +1,5 @@
 //! A program over a disk.
-ghost use Rattle.std.specs.Prelude.{◌≡◌, List, option_map, ℕ};
 ghost use Rattle.disk_model.specs.Disk.{SameDisk};
-ghost use Rattle.session_engine.specs.World.{World, life_of, sheet_in};
-ghost use Rattle.session_engine.specs.Host.{number_in};
-ghost use Rattle.child_edge.specs.Seats.{running};
-ghost use Rattle.child_edge.specs.Stops.{Stops};
 ghost use Rattle.driver.specs.Place.{agenda_rules, rules, source_rules};
 ghost use Rattle.driver.specs.Over.{Over as IsOver, program_parts};
 

@@ -7,7 +7,7 @@ use host_events::{ChildEvent, Event};
 use std::alloc::{AllocError, Global};
 
 /// The event that a life has stalled.
-fn stalled(seat: Seat) -> Event
+pub fn stalled(seat: Seat) -> Event
     ensures { result ≡ stalls seat }
 {
     Event::Child {

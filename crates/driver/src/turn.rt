@@ -23,6 +23,12 @@ pub enum Turn {
     Lines(u64, Vec<Event>),
     /// These commands are taken as one group, all of them or none: one of each line from the one with this number on.
     Whole(u64, Edits),
+    /// These commands are taken as one group: all of them, or up to the first that is refused.
+    Edits(bool, Edits),
+    /// This event is taken by itself: it is durable, its effect is carried out, and what it gave is printed; then what comes of that.
+    Alone(Event),
+    /// What this life has is received, and taken by itself.
+    Receive(Seat),
     /// The journal is rewritten, for which the line with this number asks.
     Checkpoint(u64),
     /// Each life in which an item waits has stalled: that is taken as one group.

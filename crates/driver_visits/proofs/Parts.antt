@@ -1,6 +1,6 @@
 -- A run in two parts: what is reported, and what isn't.
 use Rattle.std.proofs.Common.{◌≡◌, inl, inr, List, [], ◌∷◌, ◌++◌, refl, sym, ap, subst, append-nil, ◌∙◌}
-use Rattle.std.specs.Prelude.{◌⊎◌, Some}
+use Rattle.std.specs.Prelude.{◌⊎◌}
 use Rattle.disk_model.specs.Disk.{DiskView}
 use Rattle.host_events.specs.declared.command.Command.TheVariants as command
 use Rattle.host_events.specs.declared.event.Event.{Event}
@@ -21,7 +21,7 @@ use Rattle.offline_programs.specs.declared.fault.RunFault.{RunFault}
 use Rattle.theorem.specs.Programs.{EndedAs, at_event, in_group, well}
 use Rattle.driver.specs.Items.{Item, RunStep, entries_of}
 use Rattle.driver.specs.Place.{RunPlace, Rules, run_at}
-use Rattle.driver.specs.Steps.{Fails, Run, broken, broken_joined, lost, lost_joined, too_many, too_many_heard, uncounted, uncounted_line, unheard, unjoined, unnumbered, unprinted, unsaid, unstalled, untaken, lost_whole, too_many_whole, untaken_whole, unwatched, unwritten}
+use Rattle.driver.specs.Steps.{Fails, Run, broken, broken_joined, lost, lost_joined, too_many, too_many_heard, uncounted, uncounted_line, unheard, unjoined, unnumbered, unprinted, unsaid, unstalled, untaken, lost_whole, too_many_whole, untaken_whole, broken_alone, lost_edits, unreceived, untaken_edits, unwatched, unwritten}
 use Rattle.driver.specs.Laws.{trace}
 use Rattle.driver.proofs.Courses.{Course, course_on, course_up_to, either_moments, left_within}
 use Rattle.driver.proofs.Fronts.{after, fault_stays}
@@ -97,6 +97,10 @@ fails_parted R p q i entries why (broken_joined events all a bs e f w c d h all_
 fails_parted R p q i entries why (too_many_whole first events many) = ended_well p.world p.disk q.disk refl
 fails_parted R p q i entries why (untaken_whole first events) = ended_well p.world p.disk q.disk refl
 fails_parted R p q i entries why (lost_whole first events h l) = at_loss p.world p.disk events h l.lost
+fails_parted R p q i entries why (untaken_edits up_to events) = ended_well p.world p.disk q.disk refl
+fails_parted R p q i entries why (lost_edits up_to events h l) = at_loss p.world p.disk events h l.lost
+fails_parted R p q i entries why (broken_alone x f h stopped) = at_fault p.world p.disk [] p.world p.disk x f h (no_step p.world p.disk) stopped
+fails_parted R p q i entries why (unreceived seat) = ended_well p.world p.disk q.disk refl
 fails_parted R p q i entries why (unwritten line f h stopped) = at_fault p.world p.disk [] p.world p.disk (event.Command command.Checkpoint) f h (no_step p.world p.disk) stopped
 fails_parted R p q i entries why (unnumbered line many) = ended_well p.world p.disk q.disk refl
 fails_parted R p q i entries why unstalled = ended_well p.world p.disk q.disk refl

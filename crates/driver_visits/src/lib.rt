@@ -5,6 +5,7 @@
 ghost use Rattle.driver.specs.Noted.{noting_rules};
 ghost use Rattle.driver.specs.Place.{agenda_rules, rules, source_rules};
 ghost use Rattle.agendas.specs.LinesRules.{lines_rules};
+ghost use Rattle.script_agenda.specs.Run.{running_rules};
 ghost use Rattle.field_agenda.specs.FieldLines.{by_field_lines};
 ghost use Rattle.field_agenda.specs.FieldsRules.{fields_rules};
 ghost use Rattle.driver_visits.specs.Visits.{DrivenIsVisit, PrintedIsDurable};
@@ -28,6 +29,12 @@ pub fn printed_is_durable<S: Sources, K: Sink, A: Agenda>()
 pub fn lines_are_visits<S: Sources, T: Tells>()
     ensures visit { DrivenIsVisit (rules lines_rules (source_rules S.after S.wakes S.clock) (noting_rules T.voice)) }
     ensures durable { PrintedIsDurable (rules lines_rules (source_rules S.after S.wakes S.clock) (noting_rules T.voice)) }
+{}
+
+/// Of a script that is run, in the words of the contract of `run`.
+pub fn scripts_are_visits<S: Sources>()
+    ensures visit { DrivenIsVisit (running_rules (source_rules S.after S.wakes S.clock)) }
+    ensures durable { PrintedIsDurable (running_rules (source_rules S.after S.wakes S.clock)) }
 {}
 
 /// And of the fields of a worksheet that are evaluated, in the words of the contract of `eval`.

@@ -1,5 +1,5 @@
 -- The fields that are to be evaluated, round by round.
-use Rattle.std.proofs.Common.{◌≡◌, ◌⊎◌, inl, inr, ◌+◌, ◌≤◌, ◌<◌, ◌^◌, ◌==◌, ℕ, zero, suc, Bool, true, false, List, [], ◌∷◌, ◌++◌, Some, None, Option, refl, ap, sym, ◌∙◌, subst, append_assoc, append-nil, add-one, length, arith, rules, map, take, slice_get, get_or, nat_cmp, is_lt, suc-le-suc, zero-le}
+use Rattle.std.proofs.Common.{◌≡◌, ◌⊎◌, inl, inr, ◌+◌, ◌≤◌, ◌<◌, ◌==◌, ℕ, zero, suc, Bool, true, false, List, [], ◌∷◌, ◌++◌, Some, None, Option, refl, ap, sym, ◌∙◌, subst, append_assoc, append-nil, add-one, length, arith, rules, map, take, slice_get, get_or, nat_cmp, is_lt, suc-le-suc, zero-le}
 use Rattle.std.specs.Prelude.{◌≢◌, All, cond, eqb, nat_le}
 use Rattle.std.proofs.lemmas.Bool.{ne_eqb}
 use Rattle.std.proofs.lemmas.Bool.Decides.{eqb_tells, nat_tests}

@@ -1,5 +1,5 @@
 -- Programs are looked for, session by session.
-use Rattle.std.proofs.Common.{◌≡◌, ℕ, Bool, true, false, List, [], ◌∷◌, sym, subst}
+use Rattle.std.proofs.Common.{◌≡◌, ℕ, true, false, List, [], ◌∷◌, sym, subst}
 use Rattle.worksheet.specs.declared.field.Field.{Field}
 use Rattle.worksheet.specs.declared.field.Session.{Session}
 use Rattle.evaluation.specs.Programs.{Finds, HaveAll, IsFirstLacking, HasItsProgram, is_needed, program_of}

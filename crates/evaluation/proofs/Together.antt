@@ -14,7 +14,7 @@ use Rattle.child_edge.specs.Seats.{life_view, seat, seat_of, seats_of, waits}
 use Rattle.evaluation.specs.declared.plan.Plan.{Plan}
 use Rattle.evaluation.specs.declared.plan.Stand.{Stand}
 use Rattle.evaluation.specs.Meant.{IsAsked, is_passed, stop_line}
-use Rattle.evaluation.specs.Beside.{IsFirstWaiting, NoneJoins, NoneWaits, has_room_beside, is_busy, is_waiting_one, joins}
+use Rattle.evaluation.specs.Beside.{NoneJoins, has_room_beside, is_busy, is_waiting_one, joins}
 use Rattle.evaluation.specs.inside.Beside.{NoneBetween, SeatsLeft, is_due, one_if}
 use Rattle.evaluation.proofs.Meaning.{next_here}
 
@@ -72,21 +72,6 @@ pub between_less : (w : World) (meant : List ℕ) (low high end : ℕ) → NoneB
 between_less w meant low high end so less = record { each = λ k a b. so.each k a (omega (arith, b, less)) }
 
 pub ruleset between_steps = (none_between, one_between, between_less)
-
-pub late_found : (w : World) (meant : List ℕ) (stand : Stand) (at id : ℕ) → stand.first ≤ at → at < stand.taken → slice_get meant at ≡ Some id → is_waiting_one w (slice_get meant at) ≡ true → NoneBetween w meant stand.first at
-    → IsFirstWaiting w meant stand (at + 1) id
-late_found w meant stand at id low high there waits_for before =
-    let back : at + 1 - 1 ≡ at = omega arith in
-    record {
-      low = omega (arith, low);
-      high = omega (arith, high);
-      there = ap (slice_get meant) back ∙ there;
-      waits_for = ap (is_waiting_one w) (sym there) ∙ waits_for;
-      earlier = λ k a b. before.each k a (omega (arith, b));
-    }
-
-pub late_none : (w : World) (meant : List ℕ) (stand : Stand) (at : ℕ) → stand.taken ≤ at → NoneBetween w meant stand.first at → NoneWaits w meant stand
-late_none w meant stand at end so = record { each = λ k a b. so.each k a (omega (arith, b, end)) }
 
 -- Which field joins them.
 

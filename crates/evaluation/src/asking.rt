@@ -125,7 +125,7 @@ pub(crate) fn is_due(plan: &Plan, sheet: &Sheet, ids: &[u32], stand: &Stand) -> 
 }
 
 /// The number at this place.
-pub(crate) fn id_at(ids: &[u32], place: usize) -> u32
+pub fn id_at(ids: &[u32], place: usize) -> u32
     requires { place < length ids.now }
     ensures { slice_get ids.now place ≡ Some result }
 {

@@ -1,9 +1,8 @@
 -- What an agenda of fields says, by what its functions found.
-use Rattle.std.proofs.Common.{◌≡◌, ◌∙◌, ◌+◌, ◌<◌, ◌^◌, ◌≤◌, ℕ, List, [], ◌∷◌, None, Some, Ok, ap, get_or, inl, inr, length, map, refl, slice_get, subst, sym, true}
+use Rattle.std.proofs.Common.{◌≡◌, ◌∙◌, ◌+◌, ◌<◌, ◌^◌, ◌≤◌, ℕ, List, [], ◌∷◌, None, Some, Ok, ap, get_or, inl, inr, length, map, refl, slice_get, subst, true}
 use Rattle.std.specs.Prelude.{◌≢◌, ◌⊎◌, IfSome, Option}
 use Rattle.std.proofs.lemmas.Option.{slice_get-get_or}
 use Rattle.worksheet.specs.Contents.{Contents}
-use Rattle.worksheet.specs.declared.field.Field.{Field}
 use Rattle.session_engine.specs.World.{World, sheet_in}
 use Rattle.session_engine.specs.Gathers.{NoCheckpoints}
 use Rattle.arrivals.specs.declared.sources.Input.TheVariants as input
@@ -20,7 +19,7 @@ use Rattle.evaluation.specs.declared.plan.Stand.{Stand}
 use Rattle.field_agenda.specs.declared.by_fields.ByFields.{ByFields}
 use Rattle.field_agenda.specs.declared.stage.FieldDoing.TheVariants as doing
 use Rattle.field_agenda.specs.Says.{GoesUnheard, IsUncounted, NoneLate, asks_field, stalls, watches}
-use Rattle.field_agenda.specs.Standing.{asked_together, does_now, lasts_after}
+use Rattle.field_agenda.specs.Standing.{asked_together, does_now}
 use Rattle.field_agenda.specs.Together.{group_at}
 
 -- the number at a place of what a slice shows

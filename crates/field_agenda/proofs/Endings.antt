@@ -10,7 +10,9 @@ use Rattle.tellings.specs.declared.note.Note.{Note}
 use Rattle.driver.specs.declared.report.Show.TheVariants as show
 use Rattle.driver.specs.declared.turn.Turn.{Turn}
 use Rattle.driver.specs.declared.turn.Turn.TheVariants as turn
-use Rattle.driver.specs.Items.{Item, RunStep, after_fault, ask, group_of, halt, items_by, notes, print, print_fault, printing_joined}
+use Rattle.driver.specs.Items.{Item, RunStep, after_fault, ask, group_of, items_by, notes, print, printing_joined, taking_due}
+use Rattle.host_events.specs.declared.event.Event.{Event}
+use Rattle.child_edge.specs.Faithful.{due_of}
 use Rattle.driver.specs.Items.{stalls as stalls_now}
 use Rattle.driver.specs.Items as item
 use Rattle.driver.specs.Reports.{Report, TurnCame, came, interrupt_came, lines, lives, shown}
@@ -26,7 +28,6 @@ use Rattle.field_agenda.specs.declared.by_fields.ByFields.{ByFields}
 use Rattle.field_agenda.specs.declared.stage.Stage.{Stage}
 use Rattle.field_agenda.specs.declared.stage.Stage.TheVariants as stage
 use Rattle.field_agenda.specs.FieldsRules.{fields_rules}
-use Rattle.field_agenda.specs.Heeds.{FieldsHeed}
 use Rattle.field_agenda.specs.Looks.{LooksFor, looked, unlooked}
 use Rattle.field_agenda.specs.Says.{AsksFrom, ComesToItsEnd, FieldsSay, FieldsGoOn, GoesUnheard, SaysAt, asked, asks, ends, ends_with, goes_unheard, hears, interrupts, interrupts_of, stalls, too_many_fields, unasked, uncounted, watches}
 use Rattle.field_agenda.specs.Stages.{IsEnded}
@@ -40,6 +41,10 @@ IsLastItem (item.watch q) = ⊥
 IsLastItem (item.hear seat most) = ⊥
 IsLastItem (item.take from events) = ⊥
 IsLastItem (item.take_whole first events) = ⊥
+IsLastItem (item.take_edits up_to events) = ⊥
+IsLastItem (item.take_alone e) = ⊥
+IsLastItem (item.carry o) = ⊥
+IsLastItem (item.receive seat) = ⊥
 IsLastItem (item.join events) = ⊥
 IsLastItem (item.rewrite line) = ⊥
 IsLastItem item.stall = ⊥
@@ -66,6 +71,10 @@ following i (j ∷ rest) other last = last
 before : (i : Item) (rest : List Item) → AsksLast rest → AsksLast (i ∷ rest)
 before i [] last = absurd last
 before i (j ∷ rest) last = last
+
+due_before : (due : Option Event) (rest : List Item) → AsksLast rest → AsksLast (taking_due due ++ rest)
+due_before None rest last = last
+due_before (Some e) rest last = before (item.take_alone e) rest last
 
 -- what is printed of a group, and then heeded
 thrice : (s t : Report) (c : TurnCame) (rest : List Item) → AsksLast rest → AsksLast (item.print s ∷ item.print t ∷ item.heed c ∷ rest)
@@ -147,6 +156,9 @@ module _ {P : Type 0} where
   open_by finds a w now (turn.Hear seat most) b said = inl tt
   open_by finds a w now (turn.Lines first events) b said = inl tt
   open_by finds a w now (turn.Whole first events) b said = inl tt
+  open_by finds a w now (turn.Edits up_to events) b said = inl tt
+  open_by finds a w now (turn.Alone e) b said = inl tt
+  open_by finds a w now (turn.Receive seat) b said = inl tt
   open_by finds a w now (turn.Checkpoint line) b said = inl tt
   open_by finds a w now turn.Stall b said = inl tt
   open_by finds a w now (turn.Interrupt name) b said = inl tt
@@ -165,6 +177,12 @@ module _ {P C K : Type 0} (finds : P → Finds) (sources : SourceRules C) (sink 
       inl (thrice (group_of (Some first) outcomes) (followed_of []) (came outcomes []) rest (following (item.take_whole first events) rest (λ no. no) last))
   stays_open p q todo next s last (step.refuses_whole first events outcomes one rest r) =
       inl (thrice (group_of (Some (first + length outcomes)) (one ∷ [])) (followed_of []) (came (one ∷ []) []) rest (following (item.take_whole first events) rest (λ no. no) last))
+  stays_open p q todo next s last (step.takes_edits up_to events done outcomes w d rest first t) =
+      inl (thrice (group_of None outcomes) (followed_of []) (came outcomes []) rest (following (item.take_edits up_to events) rest (λ no. no) last))
+  stays_open p q todo next s last (step.takes_alone x o w d rest gives kept) = inl (before (item.carry o) rest (following (item.take_alone x) rest (λ no. no) last))
+  stays_open p q todo next s last (step.carries o answer c rest went) =
+      inl (thrice (group_of None (o ∷ [])) (followed_of []) (came (o ∷ []) []) (taking_due (due_of o.effect answer) ++ rest) (due_before (due_of o.effect answer) rest (following (item.carry o) rest (λ no. no) last)))
+  stays_open p q todo next s last (step.receives seat x c rest was) = inl (before (item.take_alone x) rest (following (item.receive seat) rest (λ no. no) last))
   stays_open p q todo next s last (step.rewrites line o w d rest gives kept) =
       inl (thrice (group_of (Some line) (o ∷ [])) (followed_of []) (came (o ∷ []) []) rest (following (item.rewrite line) rest (λ no. no) last))
   stays_open p q todo next s last (step.stalls_all rest) = inl (before (item.take None (map stalls_now (waits p.world))) rest (following item.stall rest (λ no. no) last))

@@ -1,5 +1,5 @@
 -- A fault that an agenda of fields has is true of any disk: it is none of the disk's.
-use Rattle.std.proofs.Common.{◌≡◌, inl, inr, ℕ, sym, subst, Ok, Err}
+use Rattle.std.proofs.Common.{◌≡◌, ℕ, sym, subst, Ok, Err}
 use Rattle.std.specs.Prelude.{Option, Result}
 use Rattle.disk_model.specs.Disk.{DiskView}
 use Rattle.session_engine.specs.World.{World}

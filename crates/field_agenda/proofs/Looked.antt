@@ -1,6 +1,6 @@
 -- Fields and programs are looked for before anything is done.
 use Rattle.std.proofs.Common.{◌≡◌, ◌∙◌, inl, inr, ℕ, ◌+◌, List, [], ◌∷◌, ◌++◌, ap, refl, sym, subst, Ok, Err}
-use Rattle.std.specs.Prelude.{◌⊎◌, Option, None, Some, Result}
+use Rattle.std.specs.Prelude.{◌⊎◌, Option, Result}
 use Rattle.host_events.specs.declared.event.Event.{Event}
 use Rattle.session_engine.specs.World.{World, sheet_in}
 use Rattle.session_engine.specs.Joining.{ToBeTaken, alone, asking, with_more}
@@ -23,7 +23,7 @@ use Rattle.field_agenda.specs.FieldsRules.{fields_rules}
 use Rattle.field_agenda.specs.Joins.{FieldsJoin, none_join, some_join}
 use Rattle.field_agenda.specs.Looks.{LookFinds, LooksFor, all_there, looked, no_field, no_program, unlooked}
 use Rattle.field_agenda.specs.LooksFirst.{DidNothing, IsUnderWay, LookedFirst, all_found, in_vain, not_looked}
-use Rattle.field_agenda.specs.Says.{AsksFrom, ComesToItsEnd, FieldsSay, FieldsGoOn, GoesUnheard, SaysAt, asked, asks, ends, ends_with, goes_unheard, hears, interrupts, stalls, too_many_fields, unasked, uncounted, watches}
+use Rattle.field_agenda.specs.Says.{AsksFrom, ComesToItsEnd, FieldsGoOn, GoesUnheard, SaysAt, asked, asks, ends, ends_with, goes_unheard, hears, interrupts, stalls, too_many_fields, unasked, uncounted, watches}
 use Rattle.field_agenda.specs.Standing.{found, seen_due}
 use Rattle.field_agenda.proofs.Endings.{none_to_do}
 
@@ -90,6 +90,10 @@ module _ {P C K : Type 0} (finds : P → Finds) (sources : SourceRules C) (sink 
   fails_on p q i entries why under (step.too_many_whole first events many) = under
   fails_on p q i entries why under (step.untaken_whole first events) = under
   fails_on p q i entries why under (step.lost_whole first events h l) = under
+  fails_on p q i entries why under (step.untaken_edits up_to events) = under
+  fails_on p q i entries why under (step.lost_edits up_to events h l) = under
+  fails_on p q i entries why under (step.broken_alone x f h gone) = under
+  fails_on p q i entries why under (step.unreceived seat) = under
   fails_on p q i entries why under (step.unwritten line x h failed) = under
   fails_on p q i entries why under (step.unnumbered line many) = under
   fails_on p q i entries why under step.unstalled = under
@@ -104,6 +108,10 @@ module _ {P C K : Type 0} (finds : P → Finds) (sources : SourceRules C) (sink 
   step_on p q todo next s under (step.joins events outcomes first more later followed a w c d rest j t) = joins_on p.agenda j.world first more a under j.answered
   step_on p q todo next s under (step.takes_whole first events outcomes w d rest t) = under
   step_on p q todo next s under (step.refuses_whole first events outcomes one rest r) = under
+  step_on p q todo next s under (step.takes_edits up_to events done outcomes w d rest first t) = under
+  step_on p q todo next s under (step.takes_alone x o w d rest gives kept) = under
+  step_on p q todo next s under (step.carries o answer c rest went) = under
+  step_on p q todo next s under (step.receives seat x c rest was) = under
   step_on p q todo next s under (step.rewrites line o w d rest gives kept) = under
   step_on p q todo next s under (step.stalls_all rest) = under
   step_on p q todo next s under (step.interrupts name reported c rest i) = under

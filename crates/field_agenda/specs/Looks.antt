@@ -1,5 +1,5 @@
 -- What an agenda of fields looks for before the first of them is asked.
-use Rattle.std.specs.Prelude.{◌≡◌, ◌⊎◌, ℕ, List, [], Some, None, Result, Ok, Err}
+use Rattle.std.specs.Prelude.{◌≡◌, ℕ, List, Some, None, Result, Ok, Err}
 use Rattle.worksheet.specs.Contents.{Contents}
 use Rattle.session_engine.specs.World.{World, sheet_in}
 use Rattle.offline_programs.specs.declared.fault.RunFault.{RunFault}

@@ -25,8 +25,6 @@ use Rattle.agendas.specs.Matters.{others}
 use Rattle.evaluation.specs.Beside.{IsFirstWaiting, IsLate, NoneJoins, NoneWaits, joins}
 use Rattle.evaluation.specs.Meant.{EndsHere, IsAsked, evaluation_counts}
 use Rattle.evaluation.specs.Programs.{Finds}
-use Rattle.evaluation.specs.declared.plan.EvalEnd.{EvalEnd}
-use Rattle.evaluation.specs.declared.plan.Plan.{Plan}
 use Rattle.evaluation.specs.declared.plan.Stand.{Stand}
 use Rattle.field_agenda.specs.declared.by_fields.ByFields.{ByFields}
 use Rattle.field_agenda.specs.declared.stage.Stage.{Stage}

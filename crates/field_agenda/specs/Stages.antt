@@ -1,6 +1,6 @@
 -- The end of an evaluation.
-use Rattle.std.specs.Prelude.{◌≡◌, ℕ, List, [], ◌∷◌}
-use Rattle.driver.specs.Items.{Item, RunStep, ask}
+use Rattle.std.specs.Prelude.{List, [], ◌∷◌}
+use Rattle.driver.specs.Items.{RunStep, ask}
 use Rattle.driver.specs.Place.{RunPlace, SinkRules, SourceRules, rules}
 use Rattle.driver.specs.Steps.{Run}
 use Rattle.evaluation.specs.Programs.{Finds}

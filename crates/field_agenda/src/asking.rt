@@ -1,7 +1,7 @@
 //! Which fields are asked together.
-ghost use Rattle.std.specs.Prelude.{◌≡◌, ◌+◌, ◌-◌, ◌<◌, ◌≤◌, ◌^◌, ℕ, IfOk, IfSome, List, Option, Some, None, get_or, length, map, slice_get, true};
+ghost use Rattle.std.specs.Prelude.{◌≡◌, ◌+◌, ◌-◌, ◌<◌, ◌≤◌, ◌^◌, ℕ, IfOk, IfSome, List, Option, Some, None, length, map, slice_get, true};
 ghost use Rattle.std.specs.Option.{option_copied};
-ghost use Rattle.session_engine.specs.World.{World, sheet_in};
+ghost use Rattle.session_engine.specs.World.{World};
 ghost use Rattle.session_engine.specs.Host.{IsHost};
 ghost use Rattle.driver.specs.Steps.{most_together};
 ghost use Rattle.evaluation.specs.Meant.{EndsHere, IsAsked};
@@ -16,7 +16,7 @@ use block_tree::Sequence;
 use child_edge::MOST_TOGETHER;
 use disk_model::Disk;
 use evaluation::Plan;
-use evaluation::asking::{is_after_lost, next_of, stop_line};
+use evaluation::asking::{id_at, is_after_lost, next_of, stop_line};
 use evaluation::beside::{is_session_busy, wait_in_fewer};
 use evaluation::lasts::{Last, after_asking};
 use evaluation::plan::Stand;
@@ -93,14 +93,6 @@ fn goes_with<D: Disk>(
         return false;
     }
     has_room(host, plan, group.len()) && may_go_with(host, plan, lasts, group, id)
-}
-
-/// The number at this place.
-fn id_at(ids: &[u32], place: usize) -> u32
-    requires { place < length ids.now }
-    ensures { slice_get ids.now place ≡ Some result }
-{
-    ids[place]
 }
 
 /// The fields that are asked together, where the one at this place is asked.

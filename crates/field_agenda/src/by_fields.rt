@@ -28,7 +28,7 @@ use block_tree::Sequence;
 use child_calls::Seat;
 use child_edge::Interrupted;
 use disk_model::Disk;
-use driver::{Agenda, Came, Show, Turn};
+use driver::{Agenda, Came, MOST_COUNTED, Show, Turn};
 use evaluation::asking::stop_line;
 use evaluation::beside::{Late, joining};
 use evaluation::plan::{Stand, counts_of};
@@ -41,9 +41,6 @@ use std::alloc::{AllocError, Global};
 use std::mem;
 use tellings::Note;
 use worksheet::{Field, Sheet};
-
-/// The most fields that may have been asked, so that those of another group can be counted.
-const MOST_COUNTED: u64 = u64::MAX - 1_025;
 
 /// The most fields that are counted. A worksheet has fewer.
 const MOST_FIELDS: usize = (1 << 31) - 1;
@@ -131,9 +128,8 @@ pub(crate) struct Asking {
 }
 
 impl<P: Programs> ByFields<P> {
-    ghost use Rattle.field_agenda.specs.FieldsRules.{fields_rules};
     ghost use Rattle.field_agenda.specs.Looks.{LooksFor};
-    ghost use Rattle.field_agenda.specs.Says.{AsksFrom, ComesToItsEnd, FieldsGoOn, GoesUnheard, IsUncounted, MayBeAsked, asked_with};
+    ghost use Rattle.field_agenda.specs.Says.{AsksFrom, ComesToItsEnd, FieldsGoOn, GoesUnheard, asked_with};
     ghost use Rattle.field_agenda.specs.Standing.{does_at, does_now, first_fields, warned_from};
     ghost use Rattle.field_agenda.specs.declared.stage.FieldDoing.TheVariants as does;
 

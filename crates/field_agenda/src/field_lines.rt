@@ -2,7 +2,6 @@
 
 ghost use Rattle.std.specs.Prelude.{◌≡◌, ◌+◌, ◌<◌, ◌^◌, IfErr, OnOk, length};
 ghost use Rattle.std.specs.Io.KnownBytes.{Appends};
-ghost use Rattle.worksheet.specs.Contents.{Contents};
 ghost use Rattle.tellings.specs.Voice.{IsWithheld, numbered_text};
 ghost use Rattle.field_agenda.specs.FieldLines as lines;
 

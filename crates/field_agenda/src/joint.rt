@@ -68,7 +68,7 @@ fn are_joined<D: Disk>(host: &BufferedHost<D>, events: &[Event]) -> bool
 
 impl<P: Programs> ByFields<P> {
     ghost use Rattle.field_agenda.specs.Says.{MayBeAsked};
-    ghost use Rattle.field_agenda.specs.Joins.{FieldsJoin, JoinsFrom, goes_on};
+    ghost use Rattle.field_agenda.specs.Joins.{FieldsJoin, JoinsFrom};
 
     /// Whether fields are asked by the gate of what is being done, if any can be: that is what lives have, and no other life is due.
     fn may_join(&self) -> bool

@@ -1,7 +1,5 @@
 //! What is looked for before the first field is asked.
 ghost use Rattle.std.specs.Prelude.{◌≡◌, IfOk};
-ghost use Rattle.session_engine.specs.World.{World, sheet_in};
-ghost use Rattle.session_engine.specs.Host.{IsHost};
 ghost use Rattle.evaluation.specs.Meant as meant;
 ghost use Rattle.evaluation.specs.Rounds.{asking_order};
 ghost use Rattle.field_agenda.specs.Looks.{LookFinds};

@@ -1,8 +1,7 @@
 //! The time that fields have.
-ghost use Rattle.std.specs.Prelude.{◌≡◌, ◌⊎◌, ◌≤◌, IfSome, None, false, length, true};
+ghost use Rattle.std.specs.Prelude.{◌≡◌, ◌≤◌, IfSome, None, length};
 ghost use Rattle.session_engine.specs.World.{World};
 ghost use Rattle.session_engine.specs.Host.{IsHost};
-ghost use Rattle.live.specs.Arrivals.{IsOver};
 ghost use Rattle.field_agenda.specs.Says.{IsLateNow, NoneLate};
 ghost use Rattle.field_agenda.specs.Standing as standing;
 

@@ -425,7 +425,7 @@ module _ {Y D P S I W E Q : Type 0} (o : OutsideView D P S I W E) where
       (λ error. Refuses old new ending (kind_of error) × OnlyWritten old new)
 
   -- How the program ends by its words, before its output is flushed. Words that can't be had are no text, or there was no memory for them.
-  pub record EndsBy {T : Type 0} (texts : T → List Text) (words : Result T IoKind) (old new : Outside Y D P S I W E Q) (ending : Ending) : Type 0 where
+  pub record EndsWithin {T : Type 0} (texts : T → List Text) (words : Result T IoKind) (old new : Outside Y D P S I W E Q) (ending : Ending) : Type 0 where
     pub no_memory : IfErr words (λ k. k ≡ io_kind.OutOfMemory → EndsWith old new ending (Err fault.OutOfMemory))
     pub no_text : IfErr words (λ k. k ≢ io_kind.OutOfMemory → (new.errors ≡ old.errors) × (ending.status ≡ 2))
     pub no_words : IfErr words (λ k. OnlyWritten old new × (new.output ≡ old.output))
@@ -443,4 +443,4 @@ module _ {Y D P S I W E Q : Type 0} (o : OutsideView D P S I W E) where
 
   -- the whole program: it ends by its words, and then its output is flushed
   abbrev pub Performs : {T : Type 0} → (T → List Text) → Result T IoKind → Outside Y D P S I W E Q → Outside Y D P S I W E Q → Ending → Type 0
-  Performs texts words old new ending = (mid : Outside Y D P S I W E Q) × (alone : Ending) × EndsBy texts words old mid alone × FlushesOutput mid new alone ending
+  Performs texts words old new ending = (mid : Outside Y D P S I W E Q) × (alone : Ending) × EndsWithin texts words old mid alone × FlushesOutput mid new alone ending

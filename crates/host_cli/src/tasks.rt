@@ -4,7 +4,7 @@ ghost use Rattle.std.specs.Prelude.{◌≡◌, ◌≢◌, [], Err, map, string_b
 ghost use Rattle.command_words.specs.Asked.{eval_view, task_view};
 ghost use Rattle.command_words.specs.Asked as asked;
 ghost use Rattle.host_cli.specs.Outside.{disks_seen, outer, sources_seen, streams_seen};
-ghost use Rattle.host_cli.specs.Tasks.{FlushesOutput, DoesCreate, DoesEval, DoesExport, DoesRescue, DoesShow, DoesTask, EndsBy, EvaluatesAs, ExportsAs, LeavesAlone, Performs, voice_by};
+ghost use Rattle.host_cli.specs.Tasks.{FlushesOutput, DoesCreate, DoesEval, DoesExport, DoesRescue, DoesShow, DoesTask, EndsWithin, EvaluatesAs, ExportsAs, LeavesAlone, Performs, voice_by};
 ghost use Rattle.program_endings.specs.Ending.{TellsFault};
 ghost use Rattle.offline_programs.specs.Saying.{saying};
 ghost use Rattle.offline_programs.specs.declared.fault.RunFault.TheVariants as fault;
@@ -307,7 +307,7 @@ fn perform_unsent<Y: System>(
     words: Result<Vec<String>, io::ErrorKind>,
     mut outside: Outside<Y>,
 ) -> Performed<Y>
-    ensures { EndsBy (outer Y.Places.Places (disks_seen Y.Disk.Disk Y.Disk.closed) (sources_seen Y.Sources.after Y.Sources.clock Y.Sources.wakes)
+    ensures { EndsWithin (outer Y.Places.Places (disks_seen Y.Disk.Disk Y.Disk.closed) (sources_seen Y.Sources.after Y.Sources.clock Y.Sources.wakes)
         (streams_seen Y.Input.Read Y.Output.Write Y.Output.flushed Y.Output.tried Y.Errors.Write Y.Errors.tried)) (λ all. map string_bytes all.items) words outside result.outside result.ending }
 {
     match words {

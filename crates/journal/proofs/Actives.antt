@@ -47,10 +47,6 @@ first_as_before : (area : Area) (old i : Image) → i.first ≡ old.first → Fi
 first_as_before First old i same = tt
 first_as_before Second old i same = same
 
-first_kept : (area : Area) (step : List ℕ → List ℕ → Type 0) (old a b : Image) → FirstKept area old a → ChangesArea area step a b → FirstKept area old b
-first_kept First step old a b before change = tt
-first_kept Second step old a b before change = change.0 ∙ before
-
 -- area First of two images, of which the active areas are the same
 pub first_of_both : (area : Area) (old i j : Image) → FirstKept area old i → FirstKept area old j → area_of area i ≡ area_of area j → i.first ≡ j.first
 first_of_both First old i j one two same = same

@@ -1,10 +1,10 @@
 -- What a crash leaves while a journal is rewritten.
-use Rattle.std.proofs.Common.{◌≡◌, ◌==◌, if◌then◌else◌, inl, inr, ℕ, ◌+◌, ◌<◌, ◌≤◌, true, false, Bool, List, [], ◌∷◌, ◌++◌, length, get_or, drop, take, refl, sym, ◌∙◌, ap, subst, arith, length-drop, take-append-drop, Result, Ok, Err, IsTrue}
+use Rattle.std.proofs.Common.{◌≡◌, ◌==◌, if◌then◌else◌, inl, inr, ℕ, ◌+◌, ◌<◌, ◌≤◌, true, false, Bool, List, [], ◌∷◌, ◌++◌, length, get_or, drop, take, refl, sym, ◌∙◌, ap, subst, arith, length-drop, take-append-drop, Result, Ok, IsTrue}
 use Rattle.std.proofs.lemmas.List.{take-take, take_more, drop_more}
-use Rattle.disk_model.specs.Disk.{Called, DiskView, Rises, Image, History, IsImage, ChangesArea, Leaves, LeavesOnly, Torn, Writes, Syncs, area_of, content_of, other_area, overwritten}
+use Rattle.disk_model.specs.Disk.{DiskView, Image, History, IsImage, ChangesArea, Leaves, LeavesOnly, Torn, Writes, Syncs, area_of, content_of, other_area, overwritten}
 use Rattle.disk_model.specs.declared.disk.Area.{Area}
 use Rattle.disk_model.specs.declared.disk.Area.TheVariants.{First, Second}
-use Rattle.disk_model.specs.inside.Moments.{started, goes_on, weakens, at_end, stays}
+use Rattle.disk_model.specs.inside.Moments.{goes_on, weakens, at_end, stays}
 use Rattle.journal.specs.Area.{HasHeader, StandsFor, IsPayload, body_of, closed_gate, end_of, first_gate, header, named_by, names_second, open_gate, records, selector_at}
 use Rattle.journal.specs.Kept.{EitherStands, ImageStandsFor, Keeps, active_area}
 use Rattle.journal.specs.Limits.{longest_payload}
@@ -22,10 +22,6 @@ pub end_take_le : (ps : List (List ℕ)) (i : ℕ) → end_of (take i ps) ≤ en
 end_take_le ps i = omega (arith, ap end_of (take-append-drop i ps), end-append (take i ps) (drop i ps))
 
 -- What is spared.
-
-pub spared_same : (area : Area) (i : Image) → SparedBy area i i
-spared_same First i = (refl, omega arith, refl)
-spared_same Second i = refl
 
 pub spared_on : (area : Area) (i j k : Image) → SparedBy area i j → SparedBy area j k → SparedBy area i k
 spared_on First i j k one two = (two.0 ∙ one.0, omega (arith, one.1, two.1), two.2 ∙ one.2)
@@ -47,9 +43,6 @@ spared_torn First at n i j following change = (
   change.1,
 )
 spared_torn Second at n i j following change = change.0
-
-pub spares_none : (area : Area) (h : History) → LeavesOnly (Spares area h.now) h h
-spares_none area h = started (Spares area h.now) h (λ i image. (i, image, spared_same area i))
 
 -- runs of calls, one after another
 pub spares_on : (area : Area) (h0 h1 h2 : History) → LeavesOnly (Spares area h0.now) h0 h1 → LeavesOnly (Spares area h1.now) h1 h2 → LeavesOnly (Spares area h0.now) h0 h2
@@ -137,29 +130,6 @@ ready area h0 h1 end payloads others keeps named run spared laid durable = recor
 
 -- Calls without a failure.
 
-pub went_none : (v : DiskView) → Went v v
-went_none v = record { room = refl; keeps_model = refl; steady = refl }
-
-pub went_on : {T E : Type 0} (r : Result T E) (u : T) (old mid new : DiskView) → r ≡ Ok u → Went old mid → Called r mid new → Went old new
-went_on (Ok x) u old mid new is went call = record { room = call.room ∙ went.room; keeps_model = call.keeps_model ∙ went.keeps_model; steady = call.cause ∙ went.steady }
-went_on (Err e) u old mid new is went call = cc
-
-pub called_on : {T E : Type 0} (r : Result T E) (old mid new : DiskView) → Went old mid → Called r mid new → Called r old new
-called_on (Ok x) old mid new went call = record {
-  room = call.room ∙ went.room;
-  keeps_model = call.keeps_model ∙ went.keeps_model;
-  later = omega (arith, call.later, went.steady);
-  bounded = call.bounded;
-  cause = call.cause ∙ went.steady;
-}
-called_on (Err e) old mid new went call = record {
-  room = call.room ∙ went.room;
-  keeps_model = call.keeps_model ∙ went.keeps_model;
-  later = omega (arith, call.later, went.steady);
-  bounded = call.bounded;
-  cause = subst (λ (n : ℕ). Rises n new.faults) went.steady call.cause;
-}
-
 pub went_still : (old new : DiskView) → Went old new → IsTrue old.keeps_model → IsTrue new.keeps_model
 went_still old new went model = subst IsTrue (sym went.keeps_model) model
 
@@ -189,16 +159,7 @@ module _ (area : Area) (end : ℕ) (bytes : List ℕ) (payloads : List (List ℕ
         header_is = record { selector = sel; is = two.is };
         lays = record { gate = two.gate; more = two.rest; is = refl; closed = two.closed; each = two.each };
       }
-  -- Nothing was laid yet.
-
-pub none_laid : (area : Area) (a : Image) (rest : List ℕ) (selector : ℕ) → area_of area a ≡ header selector ++ (closed_gate ∷ rest) → StandsFor longest_payload (area_of area a) []
-none_laid area a rest selector is = record {
-  rest = closed_gate ∷ rest;
-  header_is = record { selector = selector; is = is };
-  lays = record { gate = closed_gate; more = rest; is = refl; closed = λ h. omega (arith, h); each = tt };
-}
-
--- The selector.
+  -- The selector.
 
 -- any byte at its place, and all else as it was
 selector_torn : (a b : List ℕ) (selector : ℕ) (rest : List ℕ) → a ≡ header selector ++ rest → Torn selector_at 1 a b → b ≡ header (get_or b selector_at 0) ++ rest

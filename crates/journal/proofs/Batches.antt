@@ -1,5 +1,5 @@
 -- Batches of records, and the area in which one is laid.
-use Rattle.std.proofs.Common.{◌≡◌, ℕ, ◌+◌, ◌<◌, ◌≤◌, List, [], ◌∷◌, ◌++◌, length, get_or, take, drop, refl, sym, ap, ◌∙◌, arith, append_assoc, length-append, append-nil, Result, Ok, Err, OnOk}
+use Rattle.std.proofs.Common.{◌≡◌, ℕ, ◌+◌, ◌<◌, ◌≤◌, List, [], ◌∷◌, ◌++◌, length, get_or, take, drop, refl, sym, ap, ◌∙◌, arith, append_assoc, length-append, Result, Ok, Err, OnOk}
 use Rattle.std.proofs.lemmas.List.{take_at, take_more}
 use Rattle.disk_model.specs.Disk.{ChangesArea, DiskView, Image, InModel, Writes, area_of, bytes_on, overwritten}
 use Rattle.disk_model.specs.declared.disk.Area.{Area}
@@ -9,9 +9,6 @@ use Rattle.journal.specs.Sources.{HoldsEach}
 use Rattle.journal.specs.inside.Batches.{IsBatch}
 use Rattle.journal.proofs.Actives.{changed}
 use Rattle.journal.proofs.Bytes.{ArePayloads-append, ArePayloads-push, end-append, records-append, records-push}
-
-pub batch_none : (payloads : List (List ℕ)) (from : ℕ) → IsBatch payloads from from []
-batch_none payloads from = record { those = []; split = sym (append-nil (take from payloads)); are = refl; each = tt }
 
 pub batch_more : (payloads : List (List ℕ)) (from next : ℕ) (bytes longer : List ℕ) → IsBatch payloads from next bytes → next < length payloads
     → IsPayload longest_payload (get_or payloads next []) → longer ≡ bytes ++ record_of (get_or payloads next []) → IsBatch payloads from (next + 1) longer

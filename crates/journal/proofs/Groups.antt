@@ -1,5 +1,5 @@
 -- The bytes of payloads that become durable together.
-use Rattle.std.proofs.Common.{◌≡◌, ◌≢◌, ℕ, zero, suc, ◌+◌, ◌≤◌, List, [], ◌∷◌, ◌++◌, length, take, drop, refl, sym, ◌∙◌, ap, ap₂, subst, arith, append_assoc, length-append}
+use Rattle.std.proofs.Common.{◌≡◌, ℕ, zero, suc, ◌+◌, ◌≤◌, List, [], ◌∷◌, ◌++◌, length, take, drop, refl, sym, ◌∙◌, ap, ap₂, subst, arith, append_assoc, length-append}
 use Rattle.std.specs.Int.{to_be_bytes, from_be_bytes, w32}
 use Rattle.std.specs.Prelude.{set}
 use Rattle.std.proofs.lemmas.List.{take_at, drop_at}
@@ -32,9 +32,6 @@ group_is bytes ps is =
 pub seen : (bytes : List ℕ) (ps : List (List ℕ)) → IsGroup longest_payload bytes ps → IsGroup longest_payload bytes (group_of bytes)
 seen bytes ps is = subst (λ (qs : List (List ℕ)). IsGroup longest_payload bytes qs) (sym (group_is bytes ps is)) is
 
-pub group_none : IsGroup longest_payload (closed_gate ∷ []) []
-group_none = record { is = refl; each = tt }
-
 set_at : (xs ys : List ℕ) (y z n : ℕ) → n ≡ length xs → set (xs ++ y ∷ ys) n z ≡ xs ++ z ∷ ys
 set_at [] ys y z n is = rw is refl
 set_at (x ∷ xs) ys y z zero is = absurd (omega (arith, is))
@@ -53,18 +50,5 @@ group_more bytes longer ps payload frame last group is_payload are at is = recor
   each = ArePayloads-push longest_payload ps payload group.each is_payload;
 }
 
--- bytes of one byte have no payload, and others have one
-pub none_by_length : (bytes : List ℕ) (ps : List (List ℕ)) → IsGroup longest_payload bytes ps → length bytes ≡ 1 → ps ≡ []
-none_by_length bytes [] group one = refl
-none_by_length bytes (p ∷ ps) group one = absurd (omega (arith, one, ap length group.is, length-append (record_of p ++ records ps) (closed_gate ∷ []), length-append (record_of p) (records ps)))
-
-pub length_of_none : (bytes : List ℕ) (ps : List (List ℕ)) → IsGroup longest_payload bytes ps → ps ≡ [] → length bytes ≡ 1
-length_of_none bytes ps group none = ap length group.is ∙ ap (λ (qs : List (List ℕ)). length (records qs ++ closed_gate ∷ [])) none
-
 pub length_of : (bytes : List ℕ) (ps : List (List ℕ)) → IsGroup longest_payload bytes ps → length bytes ≡ length (records ps) + 1
 length_of bytes ps group = ap length group.is ∙ length-append (records ps) (closed_gate ∷ [])
-
--- of others the first one is an open gate
-pub gate_first : (bytes : List ℕ) (ps : List (List ℕ)) → IsGroup longest_payload bytes ps → ps ≢ [] → open_gate ∷ drop 1 bytes ≡ records ps ++ closed_gate ∷ []
-gate_first bytes [] group some = absurd (some refl)
-gate_first bytes (p ∷ ps) group some = ap (λ (l : List ℕ). open_gate ∷ drop 1 l) group.is

@@ -1,5 +1,5 @@
 -- What is true of a disk while payloads are owed to it.
-use Rattle.std.proofs.Common.{◌≡◌, ℕ, ◌+◌, ◌<◌, ◌≤◌, ◌^◌, Bool, true, false, List, [], ◌∷◌, ◌++◌, length, refl, sym, ◌∙◌, ap, subst, arith, append-nil, append_assoc, length-append, Result, Ok}
+use Rattle.std.proofs.Common.{◌≡◌, ℕ, ◌+◌, ◌<◌, ◌≤◌, Bool, true, false, List, [], ◌∷◌, ◌++◌, length, refl, sym, ◌∙◌, ap, subst, arith, append-nil, append_assoc, length-append, Result, Ok}
 use Rattle.std.specs.Prelude.{nat_le}
 use Rattle.std.proofs.lemmas.Bool.Decides.{nat_tests}
 use Rattle.disk_model.specs.Disk.{AreaImage, AreaState, Image, DiskView, History, IsImage, LeavesOnly, Syncs, Writes, area_of, bytes_on, content_of, other_area}
@@ -15,7 +15,7 @@ use Rattle.journal.specs.Limits.{longest_payload}
 use Rattle.journal.specs.Owed.{appended_on, owed_disk, owed_on, synced_on, written_on}
 use Rattle.journal.specs.inside.Active.{IsActive}
 use Rattle.journal.proofs.Actives.{active_at_sync, active_at_write, at_other, changed, has_room, others_at_write, same_at_sync}
-use Rattle.journal.proofs.Bytes.{ArePayloads-push, one_group, records-push}
+use Rattle.journal.proofs.Bytes.{one_group, records-push}
 use Rattle.journal.proofs.Steps.{added, after4, known}
 use Rattle.journal.proofs.Unique.{laid_out_once}
 

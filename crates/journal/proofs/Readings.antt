@@ -63,12 +63,6 @@ looked_ill result P old new failed call rises looks = record {
 pub same_area : (P : Type 0) (old new : DiskView) → Reads P old new → IsTrue old.keeps_model → content_of new.history ≡ content_of old.history
 same_area P old new reads model = (reads.looks model).content
 
--- a fact of a disk's bytes, after calls that read
-pub still_so : (Q : Image → Type 0) (P : Type 0) (old new : DiskView) → Reads P old new → InModel old (Q (content_of old.history)) → InModel new (Q (content_of new.history))
-still_so Q P old new reads so model =
-    let before = subst IsTrue reads.same.keeps_model model in
-    subst Q (sym (same_area P old new reads before)) (so before)
-
 -- and of the bytes before them
 pub so_before : (Q : Image → Type 0) (P : Type 0) (old new : DiskView) → Reads P old new → InModel new (Q (content_of new.history)) → InModel old (Q (content_of old.history))
 so_before Q P old new reads so model = subst Q (same_area P old new reads model) (so (keeps P old new reads model))

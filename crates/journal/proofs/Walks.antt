@@ -3,7 +3,7 @@ use Rattle.std.proofs.Common.{◌≡◌, ◌≢◌, ℕ, ◌+◌, ◌-◌, ◌<�
 use Rattle.std.specs.Int.{to_be_bytes, from_be_bytes, w32}
 use Rattle.std.proofs.lemmas.List.{drop_at, length-take-le, take-append-le}
 use Rattle.std.proofs.lemmas.Nat.{from_be_bytes-to_be_bytes_4}
-use Rattle.journal.specs.Area.{HasHeader, HeaderOf, header, records, record_of, IsPayload, StandsFor, end_of, first_gate, open_gate}
+use Rattle.journal.specs.Area.{HasHeader, header, records, record_of, IsPayload, StandsFor, end_of, first_gate, open_gate}
 use Rattle.journal.specs.Damage.{IsBroken, Walked}
 use Rattle.journal.specs.Front.{HasFront}
 use Rattle.journal.specs.Limits.{longest_payload}
@@ -107,14 +107,6 @@ header_shown front area begins enough has =
       record { selector = s; is = sym (take-append-drop 10 front) ∙ ap (λ (l : List ℕ). l ++ drop 10 front) same },
       omega (arith, length-drop 10 front),
     )
-
--- and what shows a header has it
-pub header_there : (front area rest : List ℕ) → Begins front area → HeaderOf front rest → 0 < length rest → HasHeader area
-header_there front area rest begins is some = (
-  rest ++ begins.0,
-  record { selector = is.selector; is = begins.1 ∙ ap (λ (l : List ℕ). l ++ begins.0) is.is ∙ append_assoc (header is.selector) rest begins.0 },
-  omega (arith, length-append rest begins.0),
-)
 
 -- at a whole record the step names its length
 pub reported_here : (payload rest : List ℕ) (step : Step) → IsPayload longest_payload payload → 0 < length rest → IsStep longest_payload (record_of payload ++ rest) step → step ≡ steps.Record (length payload)

@@ -45,11 +45,6 @@ pub more_fits : (items shown part new : List ℕ) (n len : ℕ) → n ≡ length
 more_fits items shown part new n len size below taken is =
     omega (arith, ap length is, length-append items part, ap length taken, length-take (len - n) shown)
 
--- and there is some part
-pub more_is_read : (items shown part new : List ℕ) (n len : ℕ) → n ≡ length items → n < len → 0 < length shown → part ≡ take (len - n) shown → new ≡ items ++ part → length items < length new
-more_is_read items shown part new n len size below some taken is =
-    omega (arith, ap length is, length-append items part, ap length taken, length-take (len - n) shown)
-
 pub shown_after : (w : Window) (area : List ℕ) (at : ℕ) → w.start ≤ at → at ≤ w.start + length w.bytes.items → Shows w area → Begins (drop (at - w.start) w.bytes.items) (drop at area)
 shown_after w area at from to shows =
     let here : drop (at - w.start) (drop w.start area) ≡ drop at area = drop-drop (at - w.start) w.start area ∙ ap (λ (n : ℕ). drop n area) (omega arith) in

@@ -2,7 +2,7 @@
 ghost use Rattle.std.specs.Prelude.{◌≡◌, ◌<◌, ◌≤◌, ◌+◌, ◌++◌, ◌∷◌, [], List, ℕ, get_or, length, IfOk, OnOk, vec_capacity, vec_len};
 ghost use Rattle.disk_model.specs.Disk.{InModel, Called, Leaves, LeavesOnly, area_of, bytes_on, greatest_room, other_area};
 ghost use Rattle.journal.specs.Area.{ArePayloads, HasHeader, IsPayload, StandsFor, closed_gate, end_of, first_gate, record_of, records};
-ghost use Rattle.journal.specs.Kept.{EitherStands, FitsAgain, Keeps, active_area};
+ghost use Rattle.journal.specs.Kept.{EitherStands, FitsAgain, Keeps};
 ghost use Rattle.journal.specs.Limits.{longest_payload};
 ghost use Rattle.journal.specs.Sources.{HoldsEach};
 ghost use Rattle.journal.specs.inside.Active.{HasEnd, IsActive};

@@ -2,7 +2,7 @@
 ghost use Rattle.std.specs.Prelude.{◌≡◌, ◌<◌, ◌≤◌, ◌+◌, ◌++◌, ◌∷◌, [], List, ℕ, length, IfNone, IfSome, OnOk};
 ghost use Rattle.disk_model.specs.Disk.{InModel, Called, Leaves, LeavesOnly, area_of, bytes_on, greatest_room, other_area};
 ghost use Rattle.journal.specs.Area.{HasHeader, IsPayload, StandsFor, body_of, closed_gate, end_of, first_gate};
-ghost use Rattle.journal.specs.Kept.{EitherStands, FitsAgain, Keeps, active_area};
+ghost use Rattle.journal.specs.Kept.{EitherStands, FitsAgain, Keeps};
 ghost use Rattle.journal.specs.Limits.{longest_payload};
 ghost use Rattle.journal.specs.inside.Active.{HasEnd, IsActive};
 ghost use Rattle.journal.specs.inside.Again.{IsReadyToTurn, SparedBy, Spares, naming};

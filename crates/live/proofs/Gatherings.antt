@@ -1,7 +1,6 @@
 -- Lines that were there together, and were gathered.
 use Rattle.std.proofs.Common.{◌≡◌, ◌⊎◌, ◌≤◌, inl, inr, ℕ, true, List, [], ◌∷◌, ◌++◌, refl, ap, sym, ◌∙◌, subst, length, length-append, arith, append-nil, append_assoc, map}
 use Rattle.std.specs.List.{AllByRecursion}
-use Rattle.host_events.specs.declared.command.Command.{Command}
 use Rattle.host_events.specs.declared.event.Event.{Event}
 use Rattle.host_events.specs.declared.event.Event.TheVariants as event
 use Rattle.arrivals.specs.Lines.{InputLine, whole}
@@ -9,7 +8,7 @@ use Rattle.arrivals.specs.Held.{GivesLine, Held, IsNextLine, Readiness, left_wit
 use Rattle.arrivals.specs.declared.buffer.NextLine.{NextLine}
 use Rattle.arrivals.proofs.Peeking.{peeked_is_given}
 use Rattle.sheet_text.specs.Script.{line_of}
-use Rattle.sheet_programs.specs.Together.{line_events, lines_events}
+use Rattle.live.specs.LineEvents.{line_events, lines_events}
 use Rattle.live.specs.Saying.{SaysGrouped}
 use Rattle.live.specs.Gathering.{Gathered, GathersOne}
 

@@ -1,7 +1,6 @@
 -- Whose turn it may be: what a watch is asked while a wait holds lines back, and what it returns. (docs/dev/EDGE.md, "Live".)
 use Rattle.std.specs.Prelude.{ℕ, ◌-◌, ◌≤◌, Bool, false, true, Option, Some, None, IsSomeAnd}
 use Rattle.arrivals.specs.Lines.{InputLine, whole, too_long}
-use Rattle.arrivals.specs.Watching.{asked}
 use Rattle.arrivals.specs.declared.sources.Input.{Input}
 use Rattle.arrivals.specs.declared.sources.Input.TheVariants as input
 use Rattle.live.specs.LiveLines.{live_line_of}

@@ -5,7 +5,7 @@ use Rattle.host_events.specs.declared.event.Event.{Event}
 use Rattle.arrivals.specs.Lines.{whole}
 use Rattle.arrivals.specs.Held.{Held, Readiness, left_with}
 use Rattle.sheet_text.specs.Script.{line_of}
-use Rattle.sheet_programs.specs.Together.{line_events, lines_events}
+use Rattle.live.specs.LineEvents.{line_events, lines_events}
 use Rattle.live.specs.Saying.{SaysGrouped}
 
 -- The next line was there and was given. It says a command that may be in a group, and its event was put after the others.

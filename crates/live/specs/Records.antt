@@ -1,10 +1,19 @@
 -- What the relations of a live worksheet speak of: clocks and watches of sources, and in which manner lines come.
-use Rattle.std.specs.Prelude.{ℕ, Bool, true, false, Option, None}
+use Rattle.std.specs.Prelude.{ℕ, Bool, true, false, List, Option, None}
 use Rattle.arrivals.specs.Watching.{Asked}
 use Rattle.arrivals.specs.declared.sources.Woken.{Woken}
+use Rattle.session_engine.specs.Host.{HostView}
 use Rattle.live.specs.declared.manner.Manner.{Manner}
--- Those of any program: what a call leaves, and what is outside.
-pub use Rattle.sheet_programs.specs.Records.{Left, Outside, left, outside}
+
+-- What a call leaves: the host and the sources after it, the interpreters among them, and all that was written, before it and after it.
+pub record Left (C : Type 0) : Type 0 where
+  pub host : HostView
+  pub sources : C
+  pub out : Option (List ℕ)
+  pub now : Option (List ℕ)
+
+abbrev pub left : {C : Type 0} → HostView → C → Option (List ℕ) → Option (List ℕ) → Left C
+left host sources out now = record { host = host; sources = sources; out = out; now = now }
 
 -- The relation of a clock: the sources, and what it may read while they stand so, in milliseconds.
 abbrev pub Clock : Type 0 → Type 1

@@ -6,7 +6,6 @@ use Rattle.host_events.specs.declared.reply.Reply.{Reply}
 use Rattle.host_events.specs.declared.reply.Reply.TheVariants as reply
 use Rattle.session_engine.specs.Gathers.{is_checkpoint}
 use Rattle.session_engine.specs.World.{World, sheet_in}
-use Rattle.child_edge.specs.Faithful.{at}
 use Rattle.child_edge.specs.Seats.{waits}
 use Rattle.worksheet.specs.Checks.{has_field, has_session}
 use Rattle.sheet_text.specs.Script.{line_of}

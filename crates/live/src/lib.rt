@@ -4,7 +4,9 @@
 pub mod holding;
 mod live_line;
 mod manner;
+mod wrong;
 
 pub use holding::{Hold, RESPITE, go_on, wait_for};
 pub use live_line::{LiveLine, read_live_line};
 pub use manner::Manner;
+pub use wrong::{any_wrong, is_wrong};

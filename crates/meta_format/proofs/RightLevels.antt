@@ -6,7 +6,7 @@ use Rattle.block_tree.specs.inside.Nodes.{item_marks, node_marks}
 use Rattle.block_tree.specs.declared.tree.Item.{Item}
 use Rattle.block_tree.specs.declared.tree.Item.TheVariants.{Text, Block}
 use Rattle.block_tree.specs.declared.tree.Node.{Node}
-use Rattle.std.proofs.Common.{◌≡◌, ℕ, Bool, true, false, not, ◌&&◌, List, [], ◌∷◌, ◌++◌, map, refl, sym, ap, ◌∙◌}
+use Rattle.std.proofs.Common.{◌≡◌, ℕ, Bool, true, not, ◌&&◌, List, [], ◌∷◌, ◌++◌, map, refl, ap, ◌∙◌}
 use Rattle.std.proofs.lemmas.Bool.{and_parts, and_from}
 use Rattle.std.proofs.lemmas.List.{map-append}
 use Rattle.block_tree.specs.inside.Nodes.{Tested, all_right}

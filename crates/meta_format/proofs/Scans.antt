@@ -1,5 +1,5 @@
 -- One byte of many.
-use Rattle.std.proofs.Common.{◌≡◌, ℕ, List, [], ◌∷◌, ◌++◌, refl, sym, ap, ◌∙◌, append-nil, Option, Some, None, Result, Ok, Err}
+use Rattle.std.proofs.Common.{◌≡◌, ℕ, List, [], ◌∷◌, ◌++◌, refl, sym, ap, ◌∙◌, append-nil, Option, Some, None, Ok, Err}
 use Rattle.std.specs.Prelude.{option_to_list}
 use Rattle.meta_format.specs.Limits.{Limits}
 use Rattle.meta_format.specs.Stream.{Outer}
@@ -49,12 +49,6 @@ scan_stop most old mid new before found s c stop.TooLong rest h k = halted most 
 scan_stop most old mid new before found s c stop.OutOfMemory rest h k = tt
 
 pub ruleset byte_rules = (scan_none, scan_one, scan_stop, outers_push)
-
--- one byte, and then the others
-pub scans_more : (most : Limits) (old mid new : Scanner) (before between found : List Found) (c : ℕ) (rest : List ℕ) (r : Result (Unit {0}) Stop)
-    → run most (scan_state old (outers before)) (c ∷ []) ≡ scan_state mid (outers between)
-    → run most (scan_state old (outers before)) (c ∷ rest) ≡ run most (scan_state mid (outers between)) rest
-scans_more most old mid new before between found c rest r h = ap (λ q. run most q rest) h
 
 fell : (most : Limits) (mid : State) (c at : ℕ) (out : List Outer) (kind : Kind) (rest : List ℕ) (q : State)
     → run most mid (c ∷ []) ≡ record { at = at; out = out; mode = broken kind at } → run most mid (c ∷ rest) ≡ q → q ≡ record { at = at; out = out; mode = broken kind at }

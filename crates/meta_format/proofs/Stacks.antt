@@ -1,5 +1,5 @@
 -- The last level of a stack.
-use Rattle.std.proofs.Common.{◌≡◌, ℕ, zero, suc, ◌+◌, ◌-◌, ◌<◌, List, [], ◌∷◌, ◌++◌, length, get_or, set, refl, ap, sym, ◌∙◌, append_assoc, append-nil, arith, map}
+use Rattle.std.proofs.Common.{◌≡◌, ℕ, zero, suc, ◌+◌, ◌-◌, List, [], ◌∷◌, ◌++◌, length, get_or, set, ap, sym, ◌∙◌, append_assoc, append-nil, arith}
 use Rattle.block_tree.proofs.Trees.{marks_roll, marks_out, item_marks_text, item_marks_block}
 use Rattle.std.specs.List.{flat_map}
 

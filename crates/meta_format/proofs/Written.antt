@@ -1,10 +1,10 @@
 -- The canonical spelling, item by item.
-use Rattle.std.proofs.Common.{◌≡◌, ℕ, suc, ◌+◌, ◌≤◌, Bool, true, false, cond, List, [], ◌∷◌, ◌++◌, length, map, drop, take, refl, sym, ap, ◌∙◌, subst, append_assoc, append-nil, arith}
+use Rattle.std.proofs.Common.{◌≡◌, ℕ, ◌+◌, true, List, [], ◌∷◌, ◌++◌, length, take, refl, ap, ◌∙◌, append_assoc, append-nil}
 use Rattle.std.proofs.lemmas.Bool.{cond_both}
 use Rattle.std.specs.List.{flat_map}
 use Rattle.block_tree.specs.Tree.{Items, Tree, end, text, block}
 use Rattle.block_tree.specs.Shape.{is_block_within}
-use Rattle.block_tree.specs.View.{piece_text, piece_block, tree_out, tree_roll}
+use Rattle.block_tree.specs.View.{piece_text, piece_block, tree_out}
 use Rattle.meta_format.specs.Limits.{Limits}
 use Rattle.meta_format.specs.Spelling.{is_special, SpellsText, nothing, plain, escaped, SpellsItems, no_item, text_first, block_first, Spells}
 use Rattle.meta_format.specs.Canonical.{escape, canonical_items, canonical}

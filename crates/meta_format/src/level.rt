@@ -1,8 +1,8 @@
 //! The levels that are open.
 
-ghost use Rattle.std.specs.Prelude.{◌≡◌, ◌≤◌, ◌<◌, ◌+◌, ℕ, List, [], ◌∷◌, ◌++◌, map, length, vec_len, OnOk, IfOk, IfSome, IfNone, take, slice_get, ◌-◌, true, All};
-ghost use Rattle.block_tree.specs.inside.Marks.{Mark, letter, open_mark, close_mark};
-ghost use Rattle.block_tree.specs.inside.Nodes.{node_marks as marks, item_marks, is_right_node};
+ghost use Rattle.std.specs.Prelude.{◌≡◌, ◌≤◌, ◌<◌, ◌+◌, [], ◌∷◌, ◌++◌, map, vec_len, OnOk, IfOk, IfSome, IfNone, ◌-◌, true, All};
+ghost use Rattle.block_tree.specs.inside.Marks.{letter, open_mark, close_mark};
+ghost use Rattle.block_tree.specs.inside.Nodes.{node_marks as marks, is_right_node};
 ghost use Rattle.block_tree.specs.Shape.{is_tag_name, longest_tag};
 ghost use Rattle.meta_format.specs.inside.Levels.{level_marks, stack_marks, IsRight, IsLevel};
 

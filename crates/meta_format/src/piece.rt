@@ -1,6 +1,6 @@
 //! The bytes of a piece.
 
-ghost use Rattle.std.specs.Prelude.{◌≡◌, ◌<◌, ◌≤◌, ◌+◌, ℕ, List, [], ◌∷◌, ◌++◌, OnOk, IfOk, IfErr, Err, drop, length};
+ghost use Rattle.std.specs.Prelude.{◌≡◌, ◌<◌, ◌≤◌, ◌+◌, [], ◌∷◌, OnOk, IfOk, IfErr, Err, drop, length};
 ghost use Rattle.meta_format.specs.inside.Machine.{run};
 ghost use Rattle.meta_format.specs.inside.Scan.{most_of, IsPlaced, Scans, scan_state};
 ghost use Rattle.meta_format.specs.Found.{outers};

@@ -1,6 +1,6 @@
 //! One byte after another.
 
-ghost use Rattle.std.specs.Prelude.{◌≡◌, ◌≤◌, ◌<◌, ◌+◌, ◌-◌, ◌^◌, ℕ, List, [], ◌∷◌, ◌++◌, map, length, vec_len, OnOk, IfErr, true, false, slice_index, nat_eq};
+ghost use Rattle.std.specs.Prelude.{◌≡◌, ◌≤◌, ◌<◌, ◌+◌, ◌-◌, ℕ, List, [], ◌++◌, length, OnOk, IfErr, true, false, slice_index, nat_eq};
 ghost use Rattle.std.specs.List.{list_all};
 ghost use Rattle.block_tree.specs.Shape.{is_tag_byte, longest_tag, most_levels};
 ghost use Rattle.meta_format.specs.inside.Scan.{most_of, mode_of, scan_state, IsFresh, IsPlaced, AreLevels, Steps, StepsAt};

@@ -1,5 +1,5 @@
 //! Why a program ended early.
-ghost use Rattle.std.specs.Prelude.{◌≡◌, OnOk};
+ghost use Rattle.std.specs.Prelude.{OnOk};
 ghost use Rattle.std.specs.Io.KnownBytes.{Appends};
 ghost use Rattle.offline_programs.specs.Faults as printed;
 

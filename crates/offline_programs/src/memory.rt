@@ -6,7 +6,7 @@ ghost use Rattle.worksheet.specs.Ops.{sheet_of};
 ghost use Rattle.sheet_text.specs.Script.{line_of};
 ghost use Rattle.sheet_text.specs.Texts as printed;
 ghost use Rattle.sheet_text.specs.declared.script.ScriptLine.TheVariants as said;
-ghost use Rattle.offline_programs.specs.Memory.{LineRan, LinesRan, OpRan, ScriptRan, bad_line, script_lines};
+ghost use Rattle.offline_programs.specs.Memory.{LineRan, OpRan, ScriptRan, script_lines};
 ghost use Rattle.host_events.specs.Commands.{reply_to as reply_of};
 ghost use Rattle.offline_programs.specs.Input.{IsStreamFault, longest_standard_input};
 

@@ -1,6 +1,6 @@
 -- The first payloads of a front.
-use Rattle.std.proofs.Common.{◌≡◌, ◌<◌, ◌≤◌, ◌+◌, ℕ, Bool, List, [], ◌∷◌, ◌++◌, length, Option, Some, None, Result, Ok, Err, inl, inr, refl, sym, ap, ◌∙◌, subst, length-append, arith}
-use Rattle.std.specs.Prelude.{IfOk, IfErr, take}
+use Rattle.std.proofs.Common.{◌≡◌, ◌<◌, ◌≤◌, ◌+◌, ℕ, List, [], ◌++◌, length, Option, Some, None, Result, Ok, Err, inl, inr, refl, sym, ap, ◌∙◌, subst, length-append, arith}
+use Rattle.std.specs.Prelude.{IfOk, take}
 use Rattle.std.proofs.lemmas.List.{take_all, take-append-le}
 use Rattle.disk_model.specs.Disk.{DiskView, Image, InModel, Looks, Rises, SameDisk, bytes_on}
 use Rattle.journal.specs.Front.{FrontView, HasGivenFront, ImageHasFront, TellsHeader}
@@ -12,7 +12,7 @@ use Rattle.offline_programs.specs.declared.fault.RunFault.TheVariants as fault
 use Rattle.past.specs.Earlier.{FirstAreRead, IsOfFirst, StandFirst, TellsOfLack, TellsOfPast, after_first}
 use Rattle.past.specs.declared.fault.PastFault.{PastFault}
 use Rattle.past.specs.declared.fault.PastFault.TheVariants as past
-use Rattle.past.specs.inside.First.{FindsEnough, FindsFirst, lack}
+use Rattle.past.specs.inside.First.{FindsFirst, lack}
 use Rattle.recovery.specs.Laws.{LongestRescue}
 use Rattle.recovery.specs.Rescued.{IsRescued}
 use Rattle.recovery.specs.Sheets.{Makes}

@@ -1,5 +1,5 @@
 -- Changes that are listed one after another.
-use Rattle.std.proofs.Common.{◌≡◌, ◌+◌, ℕ, List, [], ◌∷◌, ◌++◌, length, Option, Some, None, Result, Ok, Err, inl, inr, refl, sym, ap, ap₂, ◌∙◌, subst, append_assoc, append-nil, arith}
+use Rattle.std.proofs.Common.{◌≡◌, ◌+◌, ℕ, List, [], ◌∷◌, ◌++◌, length, Option, Some, None, Err, inl, inr, refl, sym, ap, ap₂, ◌∙◌, subst, append_assoc, append-nil, arith}
 use Rattle.std.specs.Io.KnownBytes.{Appends}
 use Rattle.std.proofs.KnownBytes.{Appends-trans}
 use Rattle.disk_model.specs.Disk.{Image, bytes_on}
@@ -10,12 +10,11 @@ use Rattle.journal.specs.declared.opening.OpenCause.TheVariants as causes
 use Rattle.journal.specs.declared.walk.Payload.{Payload}
 use Rattle.offline_programs.specs.declared.fault.RunFault.{RunFault}
 use Rattle.offline_programs.specs.declared.fault.RunFault.TheVariants as fault
-use Rattle.past.specs.History.{ListsFirst, TellsEnd, TellsList, TellsListFault, change_line, changes_from, history_text}
+use Rattle.past.specs.History.{ListsFirst, TellsEnd, TellsList, change_line, changes_from, history_text}
 use Rattle.past.specs.inside.Listing.{ListsNext, RefusesIn, RefusesToList, list_answer}
 use Rattle.past.proofs.Firsts.{stand_first}
-use Rattle.recovery.specs.Rescued.{IsRescued}
 use Rattle.recovery.specs.Sheets.{Makes, codes_of}
-use Rattle.recovery.specs.inside.Taken.{Refuses, TakesOps}
+use Rattle.recovery.specs.inside.Taken.{Refuses}
 use Rattle.recovery.proofs.Rescues.{LeftInFront, ReachedInFront, rescued_before, rescued_whole}
 use Rattle.recovery.proofs.Taking.{codes_push}
 use Rattle.worksheet.specs.Contents.{Contents}

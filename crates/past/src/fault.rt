@@ -1,5 +1,5 @@
 //! Why an earlier worksheet can't be had.
-ghost use Rattle.std.specs.Prelude.{◌≡◌, OnOk};
+ghost use Rattle.std.specs.Prelude.{OnOk};
 ghost use Rattle.std.specs.Io.KnownBytes.{Appends};
 ghost use Rattle.past.specs.Faults as printed;
 

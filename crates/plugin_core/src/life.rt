@@ -1,8 +1,8 @@
 //! One life of an interpreter.
-ghost use Rattle.std.specs.Prelude.{◌≡◌, ◌≤◌, ◌↔◌, ◌∷◌, ◌++◌, ◌⊎◌, ℕ, List, [], Bool, true, false, length, Some, None, IsTrue, IfOk, IfErr, OnErr, IsErrOf};
+ghost use Rattle.std.specs.Prelude.{◌≡◌, ◌≤◌, ◌↔◌, ◌∷◌, ◌⊎◌, List, [], false, length, Some, None, IfOk, IfErr, OnErr, IsErrOf};
 ghost use Rattle.std.specs.List.{list_any};
 ghost use Rattle.meta_format.specs.Stream.{Outer};
-ghost use Rattle.plugin_core.specs.Past.{Event, accepted, received};
+ghost use Rattle.plugin_core.specs.Past.{Event, accepted};
 ghost use Rattle.plugin_core.specs.Items.{waiting_of, prompt_of, first_line_of, is_line_of, IsAskable};
 ghost use Rattle.plugin_core.specs.Limits.{longest_prompt, most_waiting};
 

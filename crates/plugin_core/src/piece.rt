@@ -1,10 +1,9 @@
 //! A piece of an interpreter's output.
-ghost use Rattle.std.specs.Prelude.{◌≡◌, ◌≤◌, ◌∷◌, ◌++◌, ℕ, List, [], length, true, false, IfOk, OnErr, option_map, option_and_then, slice_get, is_some, unwrap_or, nat_le};
+ghost use Rattle.std.specs.Prelude.{◌≡◌, ◌≤◌, List, length, true, false, IfOk, OnErr, option_map, slice_get, is_some, unwrap_or, nat_le};
 ghost use Rattle.std.specs.List.{find};
 ghost use Rattle.meta_format.specs.Stream.{Outer};
 ghost use Rattle.meta_format.specs.Found.{outer_of, outers};
 ghost use Rattle.plugin_core.specs.Past.{Event};
-ghost use Rattle.plugin_core.specs.Answers.{first_from};
 ghost use Rattle.plugin_core.specs.Limits.{longest_prompt};
 ghost use Rattle.plugin_core.specs.inside.Words.{prompt_in};
 ghost use Rattle.plugin_core.specs.Items.{bytes_of, answer_to};

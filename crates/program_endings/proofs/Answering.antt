@@ -1,5 +1,5 @@
 -- What a program answers, by what its call answered, where the disk was closed.
-use Rattle.std.proofs.Common.{◌≡◌, ◌≤◌, ℕ, List, Option, Some, None, refl, ap, true, false, length}
+use Rattle.std.proofs.Common.{◌≡◌, ◌≤◌, ℕ, List, Option, Some, None, refl, ap, true, false, length, sym, ◌∙◌}
 use Rattle.std.proofs.lemmas.Bool.{false≢true}
 use Rattle.std.proofs.lemmas.Option.{IfSome_then}
 use Rattle.std.specs.Prelude.{Bool, Result, Ok, Err, IfOk, IfErr, IfSome, IsErrOf, OnOk}
@@ -10,17 +10,21 @@ use Rattle.recovery.specs.Sheets.{IsSheetImage}
 use Rattle.journal.specs.declared.opening.OpenCause.TheVariants as opens
 use Rattle.host_events.specs.declared.outcome.HostFault.TheVariants as hosts
 use Rattle.child_edge.specs.Faithful.{Relation}
-use Rattle.sheet_programs.specs.Records.{Outside, manner}
 use Rattle.offline_programs.specs.Faults.{TellsShow, Untouched}
 use Rattle.offline_programs.specs.Input.{longest_standard_input}
 use Rattle.offline_programs.specs.declared.fault.RunFault.{RunFault}
 use Rattle.offline_programs.specs.declared.fault.RunFault.TheVariants as fault
-use Rattle.sheet_programs.specs.Strict.{RunDone, TellsRun}
-use Rattle.sheet_programs.proofs.Runs.{err_same}
 use Rattle.sheet_text.specs.Texts.{sheet_text}
 use Rattle.program_endings.specs.Ending.{answer_of}
 use Rattle.program_endings.specs.Programs.{ShownOf}
 use Rattle.program_endings.specs.Records.{Calling, DoesNothing, GivenDisk, Writing, outside_after, outside_before, text_after, text_before, view_given}
+
+abbrev error_or : {T E : Type 0} → E → Result T E → E
+error_or other (Ok x) = other
+error_or other (Err e) = e
+
+err_same : {T E : Type 0} (r : Result T E) (e d : E) → r ≡ Err e → r ≡ Err d → e ≡ d
+err_same r e d is also = ap (error_or e) (sym is ∙ also)
 
 no-error : {P : Type 0} (why : RunFault) → IsErrOf {T = Bool} (Ok true) why → P
 no-error why e = absurd cc

@@ -1,7 +1,7 @@
 -- What the relations of programs speak of: the disk that a program is given, and what stands on its streams and outside before it and after it.
 use Rattle.std.specs.Prelude.{◌≡◌, ℕ, List, Option}
 use Rattle.disk_model.specs.Disk.{DiskView}
-use Rattle.live.specs.Records.{Outside, outside}
+use Rattle.script_agenda.specs.Run.{Outside, outside}
 use Rattle.offline_programs.specs.Saying.{Saying}
 use Rattle.sheet_files.specs.Closing.{Closable}
 

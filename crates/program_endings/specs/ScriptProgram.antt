@@ -1,20 +1,16 @@
--- How the program `run` ends, in words and without a limit of time: which scripts are taken line by line, as `live` takes them, and which as ever.
-use Rattle.std.specs.Prelude.{◌≡◌, ◌<◌, ◌≤◌, ℕ, Bool, true, false, List, Option, Some, None, Err, IfErr, IfOk, IfSome, IsErrOf, length}
+-- How the program `run` ends, in words and without a limit of time: which scripts are taken line by line, as `live` takes them, and which as a script.
+use Rattle.std.specs.Prelude.{◌≡◌, ◌<◌, ◌≤◌, ℕ, Bool, true, false, List, Option, Some, None, Err, IfSome, length}
 use Rattle.std.specs.Bool.{MatchBool}
 use Rattle.std.specs.List.{list_any}
-use Rattle.disk_model.specs.Disk.{Rises, SameDisk}
-use Rattle.journal.specs.declared.opening.OpenCause.TheVariants as opens
-use Rattle.host_events.specs.declared.outcome.HostFault.TheVariants as hosts
+use Rattle.disk_model.specs.Disk.{SameDisk}
 use Rattle.live.specs.LiveLines.{live_line_of}
 use Rattle.live.specs.declared.live_line.LiveLine.{LiveLine}
 use Rattle.live.specs.declared.live_line.LiveLine.TheVariants as live
-use Rattle.offline_programs.specs.Faults.{Untouched}
 use Rattle.offline_programs.specs.Input.{IsInputFault, longest_standard_input}
 use Rattle.offline_programs.specs.Memory.{script_lines}
 use Rattle.offline_programs.specs.declared.fault.RunFault.{RunFault}
 use Rattle.offline_programs.specs.declared.fault.RunFault.TheVariants as fault
-use Rattle.sheet_programs.specs.Records.{Manner, manner}
-use Rattle.sheet_programs.specs.Strict.{RunDone, TellsRun}
+use Rattle.script_agenda.specs.Run.{RanScript}
 use Rattle.program_endings.specs.Ending.{EndsAs}
 use Rattle.program_endings.specs.LiveProgram.{LiveEnded, LiveSetting}
 use Rattle.program_endings.specs.Records.{Calling, DoesNothing, GivenDisk, Streams, outside_after, outside_before, view_given}
@@ -41,28 +37,21 @@ says_form bytes = is_form (live_line_of bytes)
 abbrev pub has_form : List ℕ → Bool
 has_form script = list_any says_form (script_lines script)
 
--- What a script that was read comes to on a disk where it is run as ever, strictly or not, and how it ends. One that isn't run strictly stops
--- at no line (`RunDone`): its status is 0, or 1 at a fault.
-pub record RunsWhole {D C W E : Type 0} (m : Manner C) (script : List ℕ) (g : GivenDisk D) (q : Calling C) (s : Streams W E) (ending : Ending) : Type 0 where
+-- What a script that was read comes to on a disk where it is run, strictly or not, and how it ends. One that isn't run strictly stops at no line: its
+-- status is 0, or 1 at a fault.
+pub record RunsWhole {D C W E : Type 0} (o : LiveSetting C) (script : List ℕ) (g : GivenDisk D) (q : Calling C) (s : Streams W E) (ending : Ending) : Type 0 where
   -- the disk after the run, as it was closed
   pub later : D
   pub closed : g.how.closed later
   pub same : SameDisk (view_given g) (g.how.view later)
   pub answer : StrictAnswer
-  pub ran : IfOk answer (λ stopped. RunDone m script stopped (outside_before g q s.output) (outside_after g later q s.output))
-  -- that the disk failed, at the opening or later, is reported only where it did
-  pub unopened : IsErrOf answer (fault.Open opens.Disk) → Rises (view_given g).faults (g.how.view later).faults
-  pub failed : IsErrOf answer (fault.Host hosts.Disk) → Rises (view_given g).faults (g.how.view later).faults
-  -- lack of memory at the opening is reported only where no call of the disk failed
-  pub memory : IsErrOf answer (fault.Open opens.OutOfMemory) → (g.how.view later).faults ≡ (view_given g).faults
-  pub fault : IfErr answer (TellsRun m (Some script) (outside_before g q s.output) (outside_after g later q s.output)
-      (DoesNothing q s.output × Untouched (view_given g) (g.how.view later)))
+  pub ran : RanScript o.sources o.manner.strict script (outside_before g q s.output) (outside_after g later q s.output) answer
   pub status : ending.status ≡ strict_status answer
   pub reported : TellsStop s.errors ending.reported answer
 
--- A script that was read is taken line by line, as `live` does it, where one of its lines has such a form, and else as ever.
+-- A script that was read is taken line by line, as `live` does it, where one of its lines has such a form, and else as a script.
 abbrev pub RunsRead : {D C W E : Type 0} → LiveSetting C → List ℕ → GivenDisk D → Calling C → Streams W E → Ending → Type 0
-RunsRead o script g q s ending = MatchBool (has_form script) (LiveEnded o (Some script) g q s ending) (RunsWhole (manner o.sources.after o.manner.strict) script g q s ending)
+RunsRead o script g q s ending = MatchBool (has_form script) (LiveEnded o (Some script) g q s ending) (RunsWhole o script g q s ending)
 
 -- How `run` ends on a disk, where its reader gives this stream.
 pub data ScriptEnds {D C W E : Type 0} (o : LiveSetting C) (stream : Option (List ℕ)) (g : GivenDisk D) (q : Calling C) (s : Streams W E) (ending : Ending) : Type 0 where

@@ -15,7 +15,7 @@ use crate::{Ending, end_program};
 use arrivals::Sources;
 use check_report::{Chosen, Counts, Request};
 use offline_programs::Says;
-use sheet_check::{CheckFault, Checked, Progress, check_accepting};
+use sheet_check::{CheckFault, Checked, Manner, Progress, check_accepting};
 use sheet_files::{Close, FilesFault};
 use std::alloc::Global;
 use std::io::Write;
@@ -60,7 +60,7 @@ fn accept_on<D: Close, C: Sources, P: Progress, W: Write, E: Says>(
         disk,
         sources,
         answer,
-    } = check_accepting(alloc, request, disk, sources, progress, output);
+    } = check_accepting(&Manner { alloc, request }, disk, sources, progress, output);
     disk.close();
     CheckedSources {
         ending: end_acceptance(&request.chosen, answer, errors),

@@ -20,7 +20,7 @@ use arrivals::Sources;
 use check_report::{Chosen, Counts, Format, Request};
 use evaluation::EvalFault;
 use offline_programs::Says;
-use sheet_check::{CheckFault, Checked, Progress, check};
+use sheet_check::{CheckFault, Checked, Manner, Progress, check};
 use sheet_files::{Close, FilesFault};
 use std::alloc::Global;
 use std::io::Write;
@@ -187,7 +187,7 @@ fn check_on<D: Close, C: Sources, P: Progress, W: Write, E: Says>(
         disk,
         sources,
         answer,
-    } = check(alloc, request, disk, sources, progress, output);
+    } = check(&Manner { alloc, request }, disk, sources, progress, output);
     disk.close();
     let ending = end_check(alloc, request, answer, output, errors);
     CheckedSources {

@@ -18,8 +18,8 @@ use arrivals::Sources;
 use bstr::ByteSlice;
 use live::{LiveLine, Manner, read_live_line};
 use offline_programs::{Says, read_input};
+use script_agenda::{Outside, Ran, run_read};
 use sheet_files::{Close, FilesFault};
-use sheet_programs::{Ran, run_read};
 use sheet_text::LineFault;
 use std::alloc::Global;
 use std::io::{Read, Write};
@@ -63,10 +63,10 @@ pub fn run_script<R: Read, W: Write, E: Says, D: Close, S: Sources>(
     alloc: Global,
     strict: bool,
     input: &mut R,
-    mut output: W,
+    output: W,
     errors: &mut E,
     files: Result<D, FilesFault>,
-    mut sources: S,
+    sources: S,
 ) -> LiveEnding<S, W>
     // Why there are no files is printed; the input isn't read.
     ensures unopened { IfErr files (λ why. (input.new ≡ input.old) × EndsUnopened (calling sources result.sources)
@@ -108,7 +108,17 @@ pub fn run_script<R: Read, W: Write, E: Says, D: Close, S: Sources>(
             alloc, manner, &mut lines, InWords, output, errors, disk, sources,
         );
     }
-    let Ran { disk, answer } = run_read(alloc, script, strict, &mut output, disk, &mut sources);
+    let given = Outside {
+        disk,
+        sources,
+        output,
+    };
+    let Ran { outside, answer } = run_read(alloc, script, strict, given);
+    let Outside {
+        disk,
+        sources,
+        output,
+    } = outside;
     disk.close();
     LiveEnding {
         ending: end_strict(answer, errors),

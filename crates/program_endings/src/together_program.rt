@@ -11,7 +11,7 @@ use crate::check_program::{CheckEnding, CheckedSources, end_check, end_unopened}
 use arrivals::Sources;
 use check_report::Request;
 use offline_programs::Says;
-use sheet_check::{Checked, Progress, check_together};
+use sheet_check::{Beside, Checked, Manner, Progress, check_together};
 use sheet_files::{Close, FilesFault};
 use std::alloc::Global;
 use std::io::Write;
@@ -32,11 +32,12 @@ fn check_together_on<D: Close, C: Sources, P: Progress, W: Write, E: Says>(
         (given_disk (closable D.view D.closed) disk) (calling sources result.sources)
         (streams (writing W.contents output.old output.new) (saying E.contents E.tried errors.old errors.new)) result.ending }
 {
+    let manner = Manner { alloc, request };
     let Checked {
         disk,
         sources,
         answer,
-    } = check_together(alloc, request, jobs, disk, sources, progress, output);
+    } = check_together(&Beside { manner, jobs }, disk, sources, progress, output);
     disk.close();
     let ending = end_check(alloc, request, answer, output, errors);
     CheckedSources {

@@ -1,5 +1,5 @@
 -- Records that are gathered, one after another.
-use Rattle.std.proofs.Common.{◌≡◌, ℕ, List, [], ◌∷◌, ◌++◌, Result, Ok, Err, ◌+◌, ◌-◌, ◌<◌, suc, refl, sym, ap, ◌∙◌, subst, arith, append_assoc, append-nil, map}
+use Rattle.std.proofs.Common.{◌≡◌, ℕ, List, [], ◌∷◌, ◌++◌, Result, Ok, Err, ◌+◌, ◌-◌, ◌<◌, suc, refl, sym, ap, ◌∙◌, arith, append_assoc, append-nil, map}
 use Rattle.std.specs.List.{AllByRecursion}
 use Rattle.worksheet.specs.declared.op.Op.{Op}
 use Rattle.worksheet.specs.declared.field.Field.{Field}
@@ -45,17 +45,11 @@ gathers_on a b (Err e) x y z one two = tt
 pub gathered_none : (x : List Record) → Gathered [] x x
 gathered_none x = (sym (append-nil (map op_in x)), tt)
 
-pub gathered_one : (x y : List Record) (r : Record) → y ≡ x ++ r ∷ [] → IsTyped (op_in r) → Gathered (op_in r ∷ []) x y
-gathered_one x y r is typed = (ap (λ (l : List Record). map op_in l) is ∙ ops_append x (r ∷ []), (typed, tt))
-
 -- Some of these ops were gathered, and the rest is left.
 pub record GatheredSoFar (all rest : List Op) (x y : List Record) : Type 0 where
   pub done : List Op
   pub split : done ++ rest ≡ all
   pub gathered : Gathered done x y
-
-pub so_far_none : (all : List Op) (x : List Record) → GatheredSoFar all all x x
-so_far_none all x = record { done = []; split = refl; gathered = gathered_none x }
 
 pub so_far_on : (all rest more left : List Op) (x y z : List Record) → GatheredSoFar all rest x y → rest ≡ more ++ left → Gathered more y z → GatheredSoFar all left x z
 so_far_on all rest more left x y z so_far is one = record {
@@ -63,10 +57,6 @@ so_far_on all rest more left x y z so_far is one = record {
   split = append_assoc so_far.done more left ∙ ap (λ (l : List Op). so_far.done ++ l) (sym is) ∙ so_far.split;
   gathered = gathered_on so_far.done more x y z so_far.gathered one;
 }
-
--- what becomes of the rest becomes of them all
-pub so_far_ends : {E : Type 0} (all rest : List Op) (r : Result Unit E) (x y z : List Record) → GatheredSoFar all rest x y → Gathers rest r y z → Gathers all r x z
-so_far_ends all rest r x y z so_far last = subst (λ (l : List Op). Gathers l r x z) so_far.split (gathers_on so_far.done rest r x y z so_far.gathered last)
 
 -- the next of the fields that are left, if there is one
 pub fields_step : (fields : List Field) (last id next : ℕ) → id < last

@@ -46,9 +46,6 @@ in_front_of id last old new left alike is less =
     let one = is_below last id less in
     sym (rw one at push) ∙ ap (λ (l : List ℕ). last_below 0 id l) (sym is) ∙ alike id (omega arith)
 
-pub none_in_front : (id : ℕ) (old : List ℕ) → TellsAlike id old [] → 0 ≡ last_below 0 id old
-none_in_front id old alike = alike id (omega arith)
-
 -- after those that are left it stands as it would after them all
 pub put_after : (id : ℕ) (old new : List ℕ) → TellsAlike id old new → (other : ℕ) → last_below 0 other (new ++ id ∷ []) ≡ last_below 0 other (old ++ id ∷ [])
 put_after id old new alike other = rw (below_push 0 other id new, below_push 0 other id old) (go (nat_lt id other) refl)
@@ -106,9 +103,6 @@ pub record PlacedSoFar (sheet : Contents) (rest : List Field) (smaller afters : 
   pub tells : (other : ℕ) → last_below 0 other smaller ≡ last_below 0 other front
   pub places : length afters ≡ sheet.next
   pub each : AllByRecursion (IsAfter (numbers sheet.fields) afters) front
-
-pub none_placed : (sheet : Contents) (afters : List ℕ) → length afters ≡ sheet.next → PlacedSoFar sheet sheet.fields [] afters
-none_placed sheet afters places = record { front = []; split = refl; tells = λ other. refl; places = places; each = tt }
 
 pub has_its_place : (sheet : Contents) (rest more : List Field) (f : Field) (smaller afters : List ℕ) → HasNumbersApart sheet → PlacedSoFar sheet rest smaller afters → rest ≡ f ∷ more → f.id < length afters
 has_its_place sheet rest more f smaller afters apart so_far is =

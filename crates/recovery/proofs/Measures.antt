@@ -1,5 +1,5 @@
 -- The room that the records of ops take, one after another.
-use Rattle.std.proofs.Common.{◌≡◌, ℕ, List, [], ◌∷◌, ◌++◌, Option, Some, None, ◌+◌, ◌-◌, ◌<◌, ◌≤◌, ◌↔◌, true, false, min, length, refl, sym, ap, ◌∙◌, subst, arith, append_assoc, length-append, IsTrue}
+use Rattle.std.proofs.Common.{◌≡◌, ℕ, List, [], ◌∷◌, ◌++◌, Option, Some, None, ◌+◌, ◌-◌, ◌<◌, ◌≤◌, ◌↔◌, true, false, length, refl, sym, ap, ◌∙◌, subst, arith, append_assoc, length-append, IsTrue}
 use Rattle.std.specs.Prelude.{is_some}
 use Rattle.std.specs.List.{AllByRecursion}
 use Rattle.worksheet.specs.declared.op.Op.{Op}
@@ -9,8 +9,6 @@ use Rattle.worksheet.specs.declared.field.Field.{Field}
 use Rattle.worksheet.specs.Checks.{numbers}
 use Rattle.worksheet.specs.Rewrite.{field_ops, ids_to, outcome_ops, rewrite_of, smaller_before}
 use Rattle.journal.specs.Area.{record_of, records}
-use Rattle.journal.specs.Limits.{longest_payload}
-use Rattle.recovery.specs.Code.{code_of, longest_reported}
 use Rattle.recovery.specs.Sheets.{codes_of}
 use Rattle.recovery.specs.Checkpointed.{HasRoomAgain}
 use Rattle.recovery.specs.inside.Measured.{Measures}
@@ -29,15 +27,6 @@ size_append a b = ap (λ (l : List (List ℕ)). length (records l)) (codes_appen
 
 -- One op.
 
-size_one : (o : Op) → size_of (o ∷ []) ≡ 5 + length (code_of o)
-size_one o = omega (arith, length-append (record_of (code_of o)) [])
-
-pub measures_wide : (o : Op) (left len : ℕ) → len ≡ min (length (code_of o)) longest_reported → len ≤ longest_payload → left < len + 5 → Measures (o ∷ []) left None
-measures_wide o left len is short wide = λ room. omega (arith, is, short, wide, size_one o, room)
-
-pub measures_one : (o : Op) (left len : ℕ) → len ≡ min (length (code_of o)) longest_reported → len ≤ longest_payload → len + 5 ≤ left → Measures (o ∷ []) left (Some (left - 5 - len))
-measures_one o left len is short fits = omega (arith, is, short, fits, size_one o)
-
 -- One after another.
 
 pub measures_none : (x : ℕ) → Measures [] x (Some x)
@@ -55,9 +44,6 @@ pub record MeasuredSoFar (all rest : List Op) (x y : ℕ) : Type 0 where
   pub done : List Op
   pub split : done ++ rest ≡ all
   pub measures : Measures done x (Some y)
-
-pub measured_none : (all : List Op) (x : ℕ) → MeasuredSoFar all all x x
-measured_none all x = record { done = []; split = refl; measures = measures_none x }
 
 pub measured_on : (all rest more left : List Op) (x y z : ℕ) → MeasuredSoFar all rest x y → rest ≡ more ++ left → Measures more y (Some z) → MeasuredSoFar all left x z
 measured_on all rest more left x y z so_far is one = record {

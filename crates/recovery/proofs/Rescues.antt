@@ -127,13 +127,6 @@ made_before ops before sheet kept disk p causes.Disk result makes count same ref
 made_before {D = D} ops before sheet kept disk p causes.OutOfMemory result makes count same refuses stops =
     subst (λ (r : Result (Rescued D) (OpenFault D)). IfOk r (λ found. (os : List Op) × Makes os found.sheet.contents × (found.kept ≡ length os))) (sym stops) tt
 
-pub passing_stop : {D : Type 0} (ops : List Op) (sheet : SheetView) (kept : ℕ) (disk : D) (p : Payload) (cause : OpenCause) (result : Result (Rescued D) (OpenFault D)) → Refuses ops p cause → Stops disk sheet kept cause result
-    → IfErr result (λ e. e.cause ≡ causes.OutOfMemory)
-passing_stop {D = D} ops sheet kept disk p (causes.Damaged gate) result refuses stops = subst (λ (r : Result (Rescued D) (OpenFault D)). IfErr r (λ e. e.cause ≡ causes.OutOfMemory)) (sym stops) tt
-passing_stop ops sheet kept disk p causes.NotASheet result refuses stops = absurd refuses
-passing_stop ops sheet kept disk p causes.Disk result refuses stops = absurd refuses
-passing_stop {D = D} ops sheet kept disk p causes.OutOfMemory result refuses stops = subst (λ (r : Result (Rescued D) (OpenFault D)). IfErr r (λ e. e.cause ≡ causes.OutOfMemory)) (sym stops) refl
-
 -- Allowed ops whose payloads stand there are the first of those that are rescued.
 longest_from : (before ops others : List Op) (left rest : List (List ℕ)) → Allowed before → AllowedFrom before ops → AllowedFrom before others → AllByRecursion IsTyped ops → AllByRecursion IsTyped others
     → codes_of ops ++ left ≡ codes_of others ++ rest → StopsAfter (before ++ ops) left → (more : List Op) × (ops ≡ others ++ more)

@@ -1,12 +1,12 @@
 -- Lengths of spellings, part by part.
-use Rattle.std.proofs.Common.{◌≡◌, ◌≤◌, ℕ, ◌+◌, ◌*◌, max, min, List, [], ◌∷◌, ◌++◌, length, length-append, append_assoc, append-nil, arith}
+use Rattle.std.proofs.Common.{◌≡◌, ◌≤◌, ℕ, ◌+◌, ◌*◌, max, min, List, length, length-append, append_assoc, append-nil, arith}
 use Rattle.block_tree.specs.Tree.{Tree}
 use Rattle.block_tree.specs.Output.{output}
 use Rattle.meta_format.specs.Limits.{Limits, limits}
 use Rattle.meta_format.specs.Spelling.{Spells}
 use Rattle.meta_format.specs.Canonical.{canonical}
 use Rattle.recovery.specs.Laws.{ReceivedAnswersFit}
-use Rattle.block_tree.specs.View.{piece_text, piece_block, tree_out, tree_roll}
+use Rattle.block_tree.specs.View.{piece_text, piece_block, tree_out}
 
 -- a part that is added to a capped sum
 pub capped : (most a b c : ℕ) → min (min (a + b) most + c) most ≡ min (a + (b + c)) most

@@ -1,5 +1,5 @@
 //! The room that the records of a rewritten worksheet take, counted without making them.
-ghost use Rattle.std.specs.Prelude.{◌≡◌, ◌↔◌, ◌≤◌, ◌-◌, ◌∷◌, [], ℕ, List, map, min, length, is_some, IfSome, IsTrue};
+ghost use Rattle.std.specs.Prelude.{◌≡◌, ◌↔◌, ◌≤◌, ◌-◌, ◌∷◌, [], List, map, min, length, is_some, IfSome, IsTrue};
 ghost use Rattle.std.specs.List.{AllByRecursion};
 ghost use Rattle.worksheet.specs.declared.op.Op.{Op};
 ghost use Rattle.worksheet.specs.declared.field.Field.{Field};

@@ -1,8 +1,7 @@
 //! A worksheet that is written to an empty disk.
-ghost use Rattle.std.specs.Prelude.{◌≡◌, ◌≤◌, [], List, ℕ, IfErr, IfOk, MatchResult, vec_capacity};
+ghost use Rattle.std.specs.Prelude.{◌≡◌, ◌≤◌, List, ℕ, IfErr, IfOk, MatchResult, vec_capacity};
 ghost use Rattle.disk_model.specs.Disk.{InModel, Leaves, LeavesOnly, Looks, Rises, SameDisk, bytes_on};
 ghost use Rattle.worksheet.specs.declared.op.Op.{Op};
-ghost use Rattle.worksheet.specs.Rewrite.{rewrite_of};
 ghost use Rattle.journal.specs.Kept.{FitsAgain, Keeps};
 ghost use Rattle.journal.specs.Sources.{HoldsEach};
 ghost use Rattle.journal.specs.Open.{AreEmpty};

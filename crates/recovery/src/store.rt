@@ -1,15 +1,13 @@
 //! A worksheet on a disk.
 ghost use Rattle.std.specs.Prelude.{◌≡◌, ◌+◌, ◌++◌, ◌∷◌, ◌↔◌, [], List, length, false, true, None, IfOk, IfErr, OnOk, OnErr, IsErrOf, IsTrue, MatchResult};
-ghost use Rattle.disk_model.specs.Disk.{InModel, Image, Leaves, LeavesOnly, Looks, SameDisk, Rises, bytes_on};
+ghost use Rattle.disk_model.specs.Disk.{InModel, Leaves, LeavesOnly, Looks, SameDisk, Rises, bytes_on};
 ghost use Rattle.worksheet.specs.declared.op.Op.{Op};
 ghost use Rattle.worksheet.specs.Contents.{Contents};
 ghost use Rattle.worksheet.specs.Ops.{sheet_of};
-ghost use Rattle.worksheet.specs.Checks.{first_refusal, room_for};
+ghost use Rattle.worksheet.specs.Checks.{first_refusal};
 ghost use Rattle.journal.specs.Kept.{Fits, OtherUntouched, other_of};
-ghost use Rattle.std.specs.List.{AllByRecursion};
-ghost use Rattle.worksheet.specs.Rewrite.{rewrite_of};
-ghost use Rattle.recovery.specs.Code.{code_of, HasCode, IsPayloadOf, IsTyped};
-ghost use Rattle.recovery.specs.Sheets.{codes_of, IsSheetImage, IsEither, KeepsOps, Makes, StandsWithOrWithout, TellsOfSheet, HasPlace, GathersOn, IsOwedOrWritten, IsReady, IsStore, SameStore};
+ghost use Rattle.recovery.specs.Code.{code_of, HasCode};
+ghost use Rattle.recovery.specs.Sheets.{IsSheetImage, IsEither, KeepsOps, Makes, StandsWithOrWithout, TellsOfSheet, HasPlace, GathersOn, IsOwedOrWritten, IsReady, IsStore, SameStore};
 
 use crate::base::Base;
 use crate::fault::{CheckpointFault, CommitFault, PrepareFault};
@@ -25,7 +23,8 @@ use std::marker::Model;
 use worksheet::{Op, Sheet};
 
 /// A worksheet in memory and in a journal on a disk that it owns. Each op is durable there before the
-/// worksheet has it (docs/trust/FORMAT.md, "Payloads").
+/// worksheet has it (docs/trust/FORMAT.md, "Payloads"). While records are gathered, the worksheet has
+/// their ops first, and one gate makes all of them durable.
 ///
 /// After a failure of the disk it is closed: it changes nothing any more, and is to be opened again.
 #[derive(Drop)]
@@ -54,7 +53,7 @@ impl<D: Disk> Model for Store<D> {
 impl<D: Disk> Store<D> {
     ghost use Rattle.recovery.specs.Opened.{disk_left, GivesSheet};
     ghost use Rattle.recovery.specs.Committed.{Commits, DoesNotFit, LeftBy};
-    ghost use Rattle.recovery.specs.Checkpointed.{CheckpointAnswers, HasRoomAgain};
+    ghost use Rattle.recovery.specs.Checkpointed.{CheckpointAnswers};
 
     /// Opens a disk that a crash may have left, and gives the worksheet that it stands for. It writes
     /// nothing. A disk that stands for none is refused with its first damage: that of the gates
@@ -155,8 +154,8 @@ impl<D: Disk> Store<D> {
         Ok(frame_of(self.alloc, op, len)?)
     }
 
-    /// Puts an op that was prepared on the disk, and then into the worksheet. It takes no memory. At
-    /// `Err` the worksheet is as before, and the store is closed.
+    /// Puts an op that was prepared on the disk, or among the records that are gathered, and then into the
+    /// worksheet. It takes no memory. At `Err` the worksheet is as before, and the store is closed.
     pub fn commit_ready(&mut self, op: Op, frame: Frame) -> Result<(), DiskFault>
         requires { IsReady self.old op frame }
 
@@ -210,8 +209,8 @@ impl<D: Disk> Store<D> {
         }
     }
 
-    /// Puts an op on the disk, and then into the worksheet. Before its first write it has all the
-    /// memory that it takes.
+    /// Puts an op on the disk, or among the records that are gathered, and then into the worksheet. Before
+    /// its first write it has all the memory that it takes.
     pub fn commit(&mut self, op: Op) -> Result<(), CommitFault>
         requires { first_refusal self.old.sheet.contents op ≡ None }
 

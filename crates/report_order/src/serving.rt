@@ -1,5 +1,5 @@
 //! Ops that are put on a log and then reported, to whoever is lent the log.
-ghost use Rattle.std.specs.Prelude.{◌≡◌, ◌++◌, ◌∷◌, [], List, ℕ, OnOk, MatchResult};
+ghost use Rattle.std.specs.Prelude.{◌≡◌, ◌++◌, ◌∷◌, [], List, ℕ, OnOk};
 ghost use Rattle.report_order.specs.Log.{LeavesAlways, all_durable};
 ghost use Rattle.report_order.specs.Order.{BeginsWith, ServedInOrder, added_to};
 

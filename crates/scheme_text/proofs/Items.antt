@@ -1,7 +1,7 @@
 -- The items of an output, one by one.
 use Rattle.std.proofs.Common.{◌≡◌, ℕ, List, refl, None}
 use Rattle.block_tree.specs.Tree.{Items, Piece, text_piece, block_piece, put, text}
-use Rattle.block_tree.specs.View.{piece_of, tree_of, tree_out, piece_text, piece_block}
+use Rattle.block_tree.specs.View.{tree_out, piece_text, piece_block}
 use Rattle.scheme_text.specs.Outputs.{lone_text}
 
 pub two_texts : (t : List ℕ) (p : Piece) (rest : Items) → lone_text (text t (put p rest)) ≡ None

@@ -1,5 +1,5 @@
 -- What the reader's proofs use.
-use Rattle.std.proofs.Common.{◌≡◌, ℕ, Bool, true, false, List, [], ◌∷◌, ◌++◌, refl, ap, sym, ◌∙◌, append_assoc, append-nil, Option, Some, None}
+use Rattle.std.proofs.Common.{◌≡◌, ℕ, false, List, [], ◌∷◌, ◌++◌, refl, ap, sym, ◌∙◌, append_assoc, append-nil, Option, Some, None}
 use Rattle.std.specs.Prelude.{◌==◌, if◌then◌else◌}
 use Rattle.scheme_text.specs.inside.Scan.{in_front, add_first, add_before, read_from, outside, inside, slash}
 use Rattle.scheme_text.proofs.Read.{other}
@@ -13,9 +13,6 @@ pub front_front : (u v : List ℕ) (o : Option (List (List ℕ))) → in_front u
 front_front u v None = refl
 front_front u v (Some []) = refl
 front_front u v (Some (t ∷ ts)) = ap (λ r. Some (r ∷ ts)) (sym (append_assoc u v t))
-
-pub front_none : (u : List ℕ) → in_front u None ≡ None
-front_none u = refl
 
 pub front_nothing : (u t : List ℕ) (o : Option (List (List ℕ))) → in_front u (add_first [] o) ≡ add_first u o
 front_nothing u t None = refl

@@ -1,5 +1,5 @@
 -- What is written between quotes.
-use Rattle.std.proofs.Common.{◌≡◌, ℕ, Bool, true, false, cond, List, [], ◌∷◌, ◌++◌, refl, ap, sym, ◌∙◌, subst, append_assoc, append-nil}
+use Rattle.std.proofs.Common.{◌≡◌, ℕ, Bool, true, false, cond, List, [], ◌∷◌, ◌++◌, refl, ap, sym, subst, append_assoc, append-nil}
 use Rattle.std.specs.List.{flat_map}
 use Rattle.scheme_text.specs.Quoting.{is_marked, Quotes, nothing, itself, after_slash, quoted}
 use Rattle.scheme_text.specs.Answers.{Strings, no_string, white_first, string_first, tuple, Says}

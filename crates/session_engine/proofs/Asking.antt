@@ -1,6 +1,6 @@
 -- Lemmas on an Eval.
 use Rattle.std.proofs.Common.{◌≡◌, inl, inr, ⊎_elim, ◌+◌, ℕ, List, [], ◌∷◌, ◌++◌, length, refl, ap, sym, ◌∙◌, subst, arith, Bool, true, false, Option, Some, None}
-use Rattle.std.specs.Prelude.{nat_le, nat_eq, is_some, ◌&&◌, ◌||◌, not, if◌then◌else◌}
+use Rattle.std.specs.Prelude.{nat_le, is_some, ◌&&◌, ◌||◌, not, if◌then◌else◌}
 use Rattle.std.proofs.lemmas.Bool.Decides.{nat_tests}
 use Rattle.worksheet.specs.declared.op.Op.{Op}
 use Rattle.worksheet.specs.declared.op.Op.TheVariants as op
@@ -186,15 +186,6 @@ goes_back store rs new begun w name i number sent words h asked is = ⊎_elim
     ))
     asked
 
-pub went_back : (name other : List ℕ) (old mid new : List Running) (begun now : ℕ) (b : Bool) → CanGoBack name old begun mid now → b ≡ not (nat_eq now begun) → new ≡ (if b then without_named name_of name mid else mid)
-    → number_in new other ≡ number_in old other
-went_back name other old mid new begun now b can is settled = ⊎_elim
-    (λ same. let no : b ≡ false = is ∙ ap not (let t : nat_eq now begun ≡ true = grind (arith, nat_tests, same.0) in t) in
-    ap (λ (l : List Running). number_in l other) (settled ∙ ap (λ (x : Bool). if x then without_named name_of name mid else mid) no) ∙ same.1 other)
-    (λ more. let yes : b ≡ true = is ∙ ap not (let t : nat_eq now begun ≡ false = grind (arith, nat_tests, more.0) in t) in
-    ap (λ (l : List Running). number_in l other) (settled ∙ ap (λ (x : Bool). if x then without_named name_of name mid else mid) yes ∙ more.1))
-    can
-
 -- An Eval, against the definitions.
 
 pub session_is : (w : World) (id : ℕ) (f : Field) → field_in (sheet_in w).fields id ≡ Some f → session_of_field w id ≡ f.session
@@ -236,10 +227,6 @@ asked_reported w i o name (Some l) = refl
 pub asked_leads : (w : World) (i : Item) (o : Option Op) (name : List ℕ) (l : Option Going) → following w (asks_item w i o name l) ≡ with_op_if o (with_item w name i l)
 asked_leads w i o name None = refl
 asked_leads w i o name (Some l) = refl
-
-pub asked_op : (w : World) (i : Item) (o : Option Op) (name : List ℕ) (l : Option Going) → (asks_item w i o name l).op ≡ o
-asked_op w i o name None = refl
-asked_op w i o name (Some l) = refl
 
 pub asked_on_disk : (w : World) (i : Item) (o : Option Op) (name : List ℕ) (l : Option Going) (old new : DiskView) → OnDisk w.ops false o old new
     → OnDisk w.ops (asks_item w i o name l).again (asks_item w i o name l).op old new

@@ -47,9 +47,6 @@ ops_of : (l : Going) (e : Option Ended) (w : World) → (goes_on l e w).ops ≡ 
 ops_of l None w = refl
 ops_of l (Some e) w = refl
 
-pub ops_with : (o : Op) (a : Option Op) (l : Going) (e : Option Ended) (w : World) → a ≡ Some o → (with_op_if a (goes_on l e w)).ops ≡ w.ops ++ o ∷ []
-ops_with o a l e w is = ap (λ (x : Option Op). (with_op_if x (goes_on l e w)).ops) is ∙ ap (λ (os : List Op). os ++ o ∷ []) (ops_of l e w)
-
 module _ (store : StoreView) (rs : List Running) (begun : ℕ) (w : World) (name : List ℕ) (number : ℕ) (piece : List ℕ) (r : Running) (life : InterpreterView) (step : Step)
     (h : EngineStandsFor store rs begun w) (f : Found rs w.lives name r) (numbered : r.life.number ≡ number) (same : life.number ≡ r.life.number)
     (takes : Takes f.life.past f.life.blocks piece step life) where

@@ -1,6 +1,6 @@
 -- Commands that only change the worksheet, taken as a whole or not at all.
 use Rattle.std.specs.Prelude.{◌≤◌, ◌+◌, if◌then◌else◌, is_some, length}
-use Rattle.std.proofs.Common.{arith, length-append, ◌≡◌, ◌⊎◌, inl, inr, Bool, true, false, ◌||◌, List, [], ◌∷◌, ◌++◌, ℕ, Option, Some, None, refl, sym, ap, ◌∙◌, subst}
+use Rattle.std.proofs.Common.{arith, length-append, ◌≡◌, inl, inr, Bool, true, false, ◌||◌, List, [], ◌∷◌, ◌++◌, ℕ, Option, Some, None, refl, sym, ap, ◌∙◌, subst}
 use Rattle.std.proofs.lemmas.Bool.{false≢true}
 use Rattle.std.specs.List.{list_any}
 use Rattle.disk_model.specs.Disk.{DiskView, InModel, Leaves}

@@ -3,7 +3,6 @@ use Rattle.std.specs.Prelude.{◌≡◌, ℕ, List, ◌++◌, Option, true}
 use Rattle.std.specs.List.{list_any}
 use Rattle.host_events.specs.declared.event.Event.{Event}
 use Rattle.host_events.specs.declared.outcome.Outcome.{Outcome}
-use Rattle.host_events.specs.declared.outcome.HostFault.{HostFault}
 use Rattle.session_engine.specs.declared.joining.Joint.{Joint}
 use Rattle.session_engine.specs.declared.joining.JoinFault.{JoinFault}
 use Rattle.session_engine.specs.declared.joining.JoinFault.TheVariants as halt

@@ -109,7 +109,7 @@ impl<D: Disk> BufferedHost<D> {
     }
 
     /// Takes one event. While records are owed, at `Ok` what it did is owed.
-    pub fn step(&mut self, event: Event) -> Result<Outcome, HostFault>
+    pub(crate) fn step(&mut self, event: Event) -> Result<Outcome, HostFault>
         ensures same { SameDisk self.old.store.disk self.new.store.disk }
         ensures took { (w : World) → IsHost self.old w
             → IfOk result (Took w event self.old self.new) }
@@ -193,7 +193,7 @@ impl<D: Disk> BufferedHost<D> {
 
     /// From now on records are owed, in this group, which has none yet, until a `flush` or a checkpoint.
     /// Of a host that gathers already nothing is changed.
-    pub fn gather(&mut self, group: Group)
+    pub(crate) fn gather(&mut self, group: Group)
         requires { group.payloads ≡ [] }
         ensures goes_on { (w : World) → IsHost self.old w → IsHost self.new w }
         ensures disk { self.new.store.disk ≡ self.old.store.disk }
@@ -213,7 +213,7 @@ impl<D: Disk> BufferedHost<D> {
     /// After `HostFault::Disk` the host is closed, and its worksheet may be ahead of the disk: nothing may be
     /// reported of what was owed. `HostFault::Closed`: the disk failed before. A host that another fault has
     /// closed still owes what came before that, and flushes it.
-    pub fn flush(&mut self) -> Result<(), HostFault>
+    pub(crate) fn flush(&mut self) -> Result<(), HostFault>
         ensures same { SameDisk self.old.store.real self.new.store.real }
         ensures goes_on { (w : World) → IsHost self.old w → OnOk result (IsHost self.new w) }
         ensures flushed { OnOk result (IsFlushed self.new) }
@@ -247,7 +247,7 @@ impl<D: Disk> BufferedHost<D> {
     }
 
     /// Gives the disk back as it stands: what is owed to it isn't there. Lives that go on are dropped.
-    pub fn close(self) -> D
+    pub(crate) fn close(self) -> D
         ensures real { D.view result ≡ self.store.real }
         ensures written { self.store.gathers ≡ false → D.view result ≡ self.store.disk }
     {

@@ -1,6 +1,5 @@
 //! What the store does for an event.
 ghost use Rattle.std.specs.Prelude.{◌≡◌, false, true, List, IfOk, IfErr, IsErrOf, OnOk, OnErr};
-ghost use Rattle.std.specs.Option.{option_copied};
 ghost use Rattle.disk_model.specs.Disk.{InModel, LeavesOnly, Rises, SameDisk};
 ghost use Rattle.worksheet.specs.declared.op.Op.{Op};
 ghost use Rattle.worksheet.specs.Ops.{sheet_of};

@@ -35,8 +35,8 @@ pub enum AddFault {
     OutOfMemory,
 }
 
-// Whether a command only changes the worksheet.
-fn is_edit(command: &Command) -> bool
+/// Whether a command only changes the worksheet.
+pub fn is_edit(command: &Command) -> bool
     ensures { result ≡ is_some (op_of command.now) }
 {
     match command {
@@ -98,7 +98,7 @@ impl Edits {
     }
 
     /// The events of them.
-    pub(crate) fn into_events(self) -> Vec<Event>
+    pub fn into_events(self) -> Vec<Event>
         ensures events { result.items ≡ self }
         ensures edits { OnlyEdits result.items }
     {

@@ -1,5 +1,5 @@
 //! Evaluations.
-ghost use Rattle.std.specs.Prelude.{◌≡◌, ◌∷◌, [], false, true, Some, None, IfOk, IfErr, IsErrOf, OnOk, OnErr, List, ℕ, ◌<◌, vec_len, vec_capacity};
+ghost use Rattle.std.specs.Prelude.{◌≡◌, false, true, Some, None, IfOk, IfErr, IsErrOf, OnOk, OnErr, List, ℕ, ◌<◌, vec_len, vec_capacity};
 ghost use Rattle.disk_model.specs.Disk.{InModel, LeavesOnly, Rises, SameDisk};
 ghost use Rattle.worksheet.specs.declared.op.Op.TheVariants as op;
 ghost use Rattle.recovery.specs.Sheets.{GathersOn, IsEither, IsReady, SameStore};

@@ -192,15 +192,6 @@ impl<D: Disk> Host<D> {
         &self.inner
     }
 
-    /// The same host, as one that may hold records back.
-    pub fn buffered(self) -> BufferedHost<D>
-        ensures host { result ≡ self }
-        ensures written { result.store.gathers ≡ false }
-    {
-        let Host { inner: host } = self;
-        host
-    }
-
     /// Gives the disk back as it stands. Lives that go on are dropped.
     pub fn close(self) -> D
         ensures { D.view result ≡ self.store.disk }

@@ -1,13 +1,11 @@
 //! Events of which somebody else says which more join them.
 
-ghost use Rattle.std.specs.Prelude.{◌≡◌, ◌≤◌, ◌+◌, ◌++◌, [], true, false, Err, IfOk, IfErr, OnOk, length, vec_len, vec_capacity};
-ghost use Rattle.std.specs.List.{list_any};
+ghost use Rattle.std.specs.Prelude.{◌≡◌, ◌≤◌, ◌+◌, [], true, false, Err, IfOk, IfErr, length, vec_len, vec_capacity};
 ghost use Rattle.disk_model.specs.Disk.{SameDisk};
 ghost use Rattle.recovery.specs.Sheets.{GathersOn};
 ghost use Rattle.session_engine.specs.World.{World};
 ghost use Rattle.session_engine.specs.Host.{IsHost};
-ghost use Rattle.session_engine.specs.Crash.{HasPlayed};
-ghost use Rattle.session_engine.specs.Gathers.{NoCheckpoints, is_checkpoint};
+ghost use Rattle.session_engine.specs.Gathers.{NoCheckpoints};
 ghost use Rattle.session_engine.specs.Joining.{HaltsJoined, TookJoined, asking, most_joined};
 ghost use Rattle.session_engine.specs.inside.Joins.{PlayedJoined, StopsJoining};
 

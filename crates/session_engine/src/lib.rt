@@ -20,8 +20,8 @@ mod take;
 mod whole;
 
 pub use buffered::BufferedHost;
-pub use edits::{AddFault, Edits};
+pub use edits::{AddFault, Edits, is_edit};
 pub use host::{Host, LifeView};
 pub use joining::{JoinFault, Joined, Joins, Joint, MOST_JOINED};
-pub use play::{GroupFault, PlayFault};
+pub use play::{GroupFault, PlayFault, is_refusal};
 pub use whole::{Whole, WholeFault};

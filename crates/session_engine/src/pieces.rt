@@ -1,5 +1,5 @@
 //! Pieces of an interpreter's output.
-ghost use Rattle.std.specs.Prelude.{◌≡◌, false, IfOk, IfErr, IsErrOf, List, ℕ, Option};
+ghost use Rattle.std.specs.Prelude.{◌≡◌, false, IfOk, IfErr, IsErrOf, Option};
 ghost use Rattle.disk_model.specs.Disk.{SameDisk};
 ghost use Rattle.recovery.specs.Sheets.{GathersOn};
 ghost use Rattle.session_engine.specs.Does.{reported_with};

@@ -1,5 +1,5 @@
 //! Events in order.
-ghost use Rattle.std.specs.Prelude.{◌≡◌, ◌≤◌, ◌<◌, ◌+◌, ◌++◌, ◌∷◌, ◌&&◌, [], false, true, List, IfOk, IfErr, OnErr, OnOk, length, vec_len, vec_capacity};
+ghost use Rattle.std.specs.Prelude.{◌≡◌, ◌≤◌, ◌<◌, ◌+◌, ◌++◌, ◌∷◌, ◌&&◌, [], false, true, IfOk, IfErr, OnErr, OnOk, length, vec_len, vec_capacity};
 ghost use Rattle.std.specs.List.{list_any};
 ghost use Rattle.disk_model.specs.Disk.{SameDisk};
 ghost use Rattle.session_engine.specs.World.{World};
@@ -104,7 +104,7 @@ impl<D: Disk> Host<D> {
 
 impl<D: Disk> BufferedHost<D> {
     /// Takes events in order, each as a `step` takes it, up to the first fault.
-    pub fn play(&mut self, events: Vec<Event>) -> Result<Vec<Outcome>, PlayFault>
+    pub(crate) fn play(&mut self, events: Vec<Event>) -> Result<Vec<Outcome>, PlayFault>
         ensures same { SameDisk self.old.store.disk self.new.store.disk }
         ensures played { (w : World) → IsHost self.old w
             → IfOk result (λ outcomes. HasPlayed w events.items [] outcomes.items self.new) }
@@ -140,7 +140,7 @@ impl<D: Disk> BufferedHost<D> {
 
     /// Takes events in order, none of which may be a checkpoint, and makes all that they give durable at once,
     /// with what was owed before: one gate commits it. From then on records are written at once.
-    pub fn play_group(&mut self, events: Vec<Event>) -> Result<Vec<Outcome>, GroupFault>
+    pub(crate) fn play_group(&mut self, events: Vec<Event>) -> Result<Vec<Outcome>, GroupFault>
         ensures same { SameDisk self.old.store.real self.new.store.real }
         ensures took { (w : World) → IsHost self.old w
             → IfOk result (λ outcomes. TookGroup w events.items outcomes.items self.old self.new) }
@@ -154,7 +154,10 @@ impl<D: Disk> BufferedHost<D> {
     }
 
     /// Takes events as `play_group` does, but none after the first one that is refused.
-    pub fn play_group_up_to(&mut self, events: Vec<Event>) -> Result<Vec<Outcome>, GroupFault>
+    pub(crate) fn play_group_up_to(
+        &mut self,
+        events: Vec<Event>,
+    ) -> Result<Vec<Outcome>, GroupFault>
         ensures same { SameDisk self.old.store.real self.new.store.real }
         ensures took { (w : World) → IsHost self.old w
             → IfOk result (λ outcomes. TookUpTo w events.items outcomes.items self.old self.new) }
@@ -298,7 +301,8 @@ pub(crate) fn has_checkpoint(events: &[Event]) -> bool
     events.iter().any(asks_for_checkpoint)
 }
 
-pub(crate) fn is_refusal(outcome: &Outcome) -> bool
+/// Whether an outcome is a refusal.
+pub fn is_refusal(outcome: &Outcome) -> bool
     ensures { result ≡ group.is_refusal outcome.now }
 {
     match &outcome.reply {

@@ -1,6 +1,6 @@
 -- Fields that were evaluated together, compared one after another, and where such a check ends.
-use Rattle.std.proofs.Common.{◌≡◌, ◌+◌, inl, inr, ℕ, true, false, List, [], ◌∷◌, ◌++◌, Option, None, refl, ap, sym, ◌∙◌, subst, append_assoc, append-nil}
-use Rattle.std.specs.Prelude.{Err}
+use Rattle.std.proofs.Common.{◌≡◌, ◌+◌, inl, inr, ℕ, true, false, List, [], ◌∷◌, ◌++◌, Option, Some, None, refl, ap, sym, ◌∙◌, subst, append_assoc, append-nil}
+use Rattle.std.specs.Prelude.{Result, Ok, Err, IfNone, IfSome}
 use Rattle.std.proofs.KnownBytes.{Appends-trans, Appends-nil}
 use Rattle.std.specs.Io.KnownBytes.{Appends}
 use Rattle.worksheet.specs.declared.field.Field.{Field}
@@ -8,11 +8,9 @@ use Rattle.worksheet.specs.Contents.{Contents}
 use Rattle.session_engine.specs.World.{World}
 use Rattle.session_engine.specs.Host.{HostView, IsHost}
 use Rattle.child_edge.specs.Faithful.{At, at}
-use Rattle.child_edge.specs.Seats.{running}
-use Rattle.child_edge.specs.Stops.{Stops}
 use Rattle.offline_programs.specs.declared.fault.RunFault.{RunFault}
 use Rattle.offline_programs.specs.declared.fault.RunFault.TheVariants as fault
-use Rattle.sheet_programs.proofs.Runs.{StopsIn}
+use Rattle.sheet_check.proofs.Opening.{StopsIn}
 use Rattle.check_report.specs.declared.chosen.Chosen.{Chosen}
 use Rattle.check_report.specs.declared.report.Format.{Format}
 use Rattle.check_report.specs.declared.verdict.Counts.{Counts}
@@ -29,9 +27,9 @@ use Rattle.sheet_check.specs.Check.{IsCopy, Passage, passage, world_at_break}
 use Rattle.sheet_check.specs.Driven.{DriveBroke, DrivenToEnd, DrivenUpTo, broke_off, checking_plan, unplanned}
 use Rattle.sheet_check.specs.Evaluated.{fault_on_copy, reason_shown_in}
 use Rattle.sheet_check.specs.Together as together
-use Rattle.sheet_check.specs.Together.{EvaluatedTogether, FieldCompared, FieldsCompared, SideBySide, TellsTogether, TogetherChecked, came_by, checked_ids, checking, cleared}
-use Rattle.sheet_check.specs.inside.Checking.{Withheld, counted_on, unremembered, unwritten}
-use Rattle.sheet_check.specs.inside.Comparing.{BrokeTogether, CameTogether, Comparing, EndedTogether, FailedTogether, FieldReported, FieldsReported, LeavesReport, ReportBroke, ReportedTogether}
+use Rattle.sheet_check.specs.Together.{EvaluatedTogether, FieldCompared, FieldsCompared, SideBySide, TellsTogether, TogetherChecked, TogetherTells, came_by, checked_ids, checking, cleared}
+use Rattle.sheet_check.specs.inside.Checking.{CountsWritten, Withheld, counted_on, unremembered, unwritten}
+use Rattle.sheet_check.specs.inside.Comparing.{BrokeTogether, CameTogether, Comparing, EndedTogether, FailedTogether, FieldReported, FieldsReported, LeavesReport, OnCleared, ReportBroke, ReportedTogether}
 use Rattle.sheet_check.specs.declared.marks.Mark.{Mark}
 use Rattle.sheet_check.proofs.Counting.{as_judged, cases-more, front-more}
 use Rattle.sheet_check.proofs.Ends.{StopsNumbered}
@@ -167,3 +165,15 @@ tells_on o sheet q nothing why (together.not_begun is none) = absurd none
 tells_on o sheet q nothing why (together.broke p wrote) = together.broke p wrote
 tells_on o sheet q nothing why (together.no_memory cases is p wrote) = together.no_memory cases is p wrote
 tells_on o sheet q nothing why (together.unwritten cases is p) = together.unwritten cases is p
+
+-- The counts were written, or there was no memory for the copy.
+pub together_answered : {C : Type 0} (o : SideBySide C) (sheet : Contents) (c d : C) (a b e : Option (List ℕ)) (nothing : Type 0) (answer : Option (Result Counts RunFault)) (result : Result Counts RunFault)
+    → IfSome answer (OnCleared o sheet (passage c d a b)) → IfNone answer nothing → CountsWritten o.format b e answer result → TogetherTells o sheet (passage c d a e) nothing result
+together_answered o sheet c d a b e nothing None result some none is = subst (TogetherTells o sheet (passage c d a e) nothing) (sym is) (together.not_begun refl none)
+together_answered o sheet c d a b e nothing (Some (Ok counts)) result some none (inl (is, closing)) =
+    subst (TogetherTells o sheet (passage c d a e) nothing) (sym is) (reported_together o sheet c d a b e counts some.0 closing)
+together_answered o sheet c d a b e nothing (Some (Ok counts)) result some none (inr is) =
+    subst (TogetherTells o sheet (passage c d a e) nothing) (sym is) (counts_unwritten o sheet c d a b e counts nothing fault.Output some.0 refl)
+together_answered o sheet c d a b e nothing (Some (Err why)) result some none (is, same) =
+    subst (TogetherTells o sheet (passage c d a e) nothing) (sym is)
+    (subst (λ x. TellsTogether o sheet (passage c d a x) nothing why) (sym same) (tells_on o sheet (passage c d a b) nothing why some.1))

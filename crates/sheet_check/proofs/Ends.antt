@@ -1,6 +1,6 @@
 -- Where a check ends.
 use Rattle.std.proofs.Common.{◌≡◌, ◌∙◌, inl, inr, ℕ, List, [], Option, refl, sym, subst, append-nil}
-use Rattle.std.specs.Prelude.{option_map}
+use Rattle.std.specs.Prelude.{Some, None, Result, Ok, Err, IfNone, IfSome, option_map}
 use Rattle.std.proofs.KnownBytes.{Appends-trans}
 use Rattle.std.specs.Io.KnownBytes.{Appends}
 use Rattle.disk_model.specs.Disk.{DiskView}
@@ -13,7 +13,7 @@ use Rattle.child_edge.specs.Seats.{running}
 use Rattle.child_edge.specs.Stops.{Stops}
 use Rattle.offline_programs.specs.declared.fault.RunFault.{RunFault}
 use Rattle.offline_programs.specs.declared.fault.RunFault.TheVariants as fault
-use Rattle.sheet_programs.proofs.Runs.{StopsIn}
+use Rattle.sheet_check.proofs.Opening.{StopsIn}
 use Rattle.check_report.specs.declared.verdict.Counts.{Counts}
 use Rattle.check_report.specs.Reports.{closing_text, report_front, judgements_of}
 use Rattle.check_report.specs.Verdicts.{counts_of}
@@ -22,9 +22,9 @@ use Rattle.driver.specs.Runs.{Stands}
 use Rattle.evaluation.specs.declared.plan.Plan.{Plan}
 use Rattle.sheet_check.specs.Evaluated.{OneByOne}
 use Rattle.sheet_check.specs.Driven.{DriveBroke, broke_off, one_plan, unplanned}
-use Rattle.sheet_check.specs.Check.{FirstLed, IsCopy, SheetChecked, SheetLed, TellsCheck, passage, still, world_at_break}
+use Rattle.sheet_check.specs.Check.{FirstLed, IsCopy, SheetAnswer, SheetChecked, SheetLed, TellsCheck, passage, still, world_at_break}
 use Rattle.sheet_check.specs.Check as ends
-use Rattle.sheet_check.specs.inside.Checking.{FieldsEnded, FieldsFailed, FieldsStopped, FieldsWrote, FirstFailed, FirstStopped, LeavesText}
+use Rattle.sheet_check.specs.inside.Checking.{CountsWritten, FieldsEnded, FieldsFailed, FieldsStopped, FieldsWrote, FirstFailed, FirstStopped, LeavesText, OnCopy}
 use Rattle.sheet_check.specs.inside.Checking as inside
 use Rattle.driver.specs.Stopping.{StopsAll, in_world}
 use Rattle.driver.proofs.Overs.{stops_at}
@@ -123,3 +123,15 @@ module _ {C : Type 0} (o : OneByOne C) (sheet : Contents) (w : World) (copy : Di
           (text (never_output why broke.of))
       tells (inside.unremembered t is so stops) = ends.unremembered p.cases is (led t so stops) (text (λ e. let no : fault.OutOfMemory ≡ fault.Output = sym is ∙ e in cc))
       tells (inside.unwritten t is so stops) = ends.unwritten p.cases is (led t so stops)
+
+-- The counts were written, or there was no memory for the copy.
+pub check_answered : {C : Type 0} (o : OneByOne C) (sheet : Contents) (c d : C) (a b e : Option (List ℕ)) (nothing : Type 0) (answer : Option (Result Counts RunFault)) (result : Result Counts RunFault)
+    → IfSome answer (OnCopy o sheet (passage c d a b)) → IfNone answer nothing → CountsWritten o.format b e answer result → SheetAnswer o sheet (passage c d a e) nothing result
+check_answered o sheet c d a b e nothing None result some none is = subst (SheetAnswer o sheet (passage c d a e) nothing) (sym is) (ends.not_begun refl none)
+check_answered o sheet c d a b e nothing (Some (Ok counts)) result some none (inl (is, closing)) =
+    subst (SheetAnswer o sheet (passage c d a e) nothing) (sym is) (sheet_checked o sheet some.0 some.1 some.2 c d a b e counts some.3 closing)
+check_answered o sheet c d a b e nothing (Some (Ok counts)) result some none (inr is) =
+    subst (SheetAnswer o sheet (passage c d a e) nothing) (sym is) (counts_withheld o sheet some.0 some.1 some.2 c d a b e counts nothing fault.Output some.3 refl)
+check_answered o sheet c d a b e nothing (Some (Err why)) result some none (is, same) =
+    subst (SheetAnswer o sheet (passage c d a e) nothing) (sym is)
+    (subst (λ x. TellsCheck o sheet (passage c d a x) nothing why) (sym same) (stopped_tells o sheet some.0 some.1 some.2 c d a b nothing why some.4))

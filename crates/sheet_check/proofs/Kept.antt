@@ -1,6 +1,6 @@
 -- Where a check ends that accepts what differs.
 use Rattle.std.proofs.Common.{◌≡◌, ◌∙◌, inl, inr, ℕ, List, [], ◌∷◌, ◌++◌, Option, IsTrue, false, ap, refl, sym, subst, append-nil, arith}
-use Rattle.std.specs.Prelude.{Ok, Err}
+use Rattle.std.specs.Prelude.{Some, None, Result, Ok, Err, IfNone, IfSome}
 use Rattle.std.proofs.KnownBytes.{Appends-trans}
 use Rattle.std.specs.Io.KnownBytes.{Appends}
 use Rattle.disk_model.specs.Disk.{DiskView, InModel, Leaves, Looks, SameDisk, bytes_on}
@@ -21,19 +21,19 @@ use Rattle.journal.specs.declared.opening.OpenCause.{OpenCause}
 use Rattle.host_events.specs.declared.outcome.HostFault.TheVariants as hosts
 use Rattle.offline_programs.specs.declared.fault.RunFault.{RunFault}
 use Rattle.offline_programs.specs.declared.fault.RunFault.TheVariants as fault
-use Rattle.sheet_programs.proofs.Runs.{StopsIn}
+use Rattle.sheet_check.proofs.Opening.{StopsIn}
 use Rattle.check_report.specs.declared.chosen.Chosen.{Chosen}
 use Rattle.check_report.specs.declared.report.Format.TheVariants as format
 use Rattle.check_report.specs.declared.verdict.Counts.{Counts}
 use Rattle.check_report.specs.Reports.{Case, closing_text, report_front, judgements_of}
 use Rattle.check_report.specs.Verdicts.{counts_of}
 use Rattle.live.specs.Records as records
-use Rattle.sheet_check.specs.Accept.{AcceptLeft, FoundOn, SheetAccepts, accepted, filing, to_accept}
+use Rattle.sheet_check.specs.Accept.{AcceptLeft, FiledAll, FoundOn, SheetAccepts, accepted, filing, to_accept}
 use Rattle.sheet_check.specs.Accept as ends
 use Rattle.sheet_check.specs.Check.{FirstLed, IsCopy, SheetLed, passage, still}
 use Rattle.sheet_check.specs.Evaluated.{Way}
-use Rattle.sheet_check.specs.inside.Accepting.{FieldsBroke, FieldsTook, FieldsUpTo, PutAll, broken, early, full, storing, unwritten}
-use Rattle.sheet_check.specs.inside.Checking.{FieldsEnded, FieldsFailed, FirstStopped}
+use Rattle.sheet_check.specs.inside.Accepting.{FieldsBroke, FieldsTook, FieldsUpTo, OnCopy, PutAll, broken, early, full, storing, unwritten}
+use Rattle.sheet_check.specs.inside.Checking.{CountsWritten, FieldsEnded, FieldsFailed, FirstStopped}
 use Rattle.sheet_check.specs.inside.Checking as inside
 use Rattle.sheet_check.proofs.Ends.{StopsNumbered, first-stopped, text_left}
 use Rattle.sheet_check.proofs.Own.{never_open}
@@ -157,3 +157,20 @@ module _ {C : Type 0} (o : Way C) (chosen : Chosen) (sheet : Contents) (c d : C)
   pub was_opened : (nothing : Type 0) → SheetAccepts (to_accept o chosen) sheet (passage c d a b) nothing (filing ops now back) (Err (fault.Open x)) → ⊥
   was_opened nothing (inl p) = let no : fault.Open x ≡ fault.OutOfMemory = p.0 in cc
   was_opened nothing (inr left) = left_opened (fault.Open x) refl left
+
+-- The counts were written, or there was no memory for the copies.
+pub accept_answered : {C : Type 0} (o : Way C) (chosen : Chosen) (sheet : Contents) (c d : C) (a b e : Option (List ℕ)) (ops : List Op) (disk : DiskView) (store : StoreView) (nothing : Type 0)
+    (answer : Option (Result Counts RunFault)) (result : Result Counts RunFault) → IfSome answer (OnCopy (to_accept o chosen) sheet (passage c d a b) (storing ops [] disk store))
+    → IfNone answer (nothing × FiledAll (filing ops disk store.disk) []) → CountsWritten format.Accepting b e answer result
+    → SheetAccepts (to_accept o chosen) sheet (passage c d a e) nothing (filing ops disk store.disk) result
+accept_answered o chosen sheet c d a b e ops disk store nothing None result some none is =
+    subst (SheetAccepts (to_accept o chosen) sheet (passage c d a e) nothing (filing ops disk store.disk)) (sym is) (inl (refl, none.0, none.1))
+accept_answered o chosen sheet c d a b e ops disk store nothing (Some (Ok counts)) result some none (inl (is, closing)) =
+    subst (SheetAccepts (to_accept o chosen) sheet (passage c d a e) nothing (filing ops disk store.disk)) (sym is)
+    (counts_reported o chosen sheet some.0 some.1 some.2 c d a b e ops disk store nothing counts some.3 closing)
+accept_answered o chosen sheet c d a b e ops disk store nothing (Some (Ok counts)) result some none (inr is) =
+    subst (SheetAccepts (to_accept o chosen) sheet (passage c d a e) nothing (filing ops disk store.disk)) (sym is)
+    (inr (counts_kept_back o chosen sheet some.0 some.1 some.2 c d a b e ops disk store nothing counts some.3 fault.Output refl))
+accept_answered o chosen sheet c d a b e ops disk store nothing (Some (Err why)) result some none (is, same) =
+    subst (SheetAccepts (to_accept o chosen) sheet (passage c d a e) nothing (filing ops disk store.disk)) (sym is)
+    (inr (subst (λ x. AcceptLeft (to_accept o chosen) sheet (passage c d a x) (filing ops disk store.disk) why) (sym same) some.4))

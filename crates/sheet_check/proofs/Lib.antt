@@ -1,3 +1,4 @@
+pub mod Opening
 pub mod After
 pub mod Counting
 pub mod Fields

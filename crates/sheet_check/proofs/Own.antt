@@ -15,7 +15,9 @@ use Rattle.offline_programs.specs.declared.fault.RunFault.TheVariants as fault
 use Rattle.tellings.specs.declared.note.Note.{Note}
 use Rattle.driver.specs.declared.turn.Turn.{Turn}
 use Rattle.driver.specs.declared.turn.Turn.TheVariants as turn
-use Rattle.driver.specs.Items.{Item, RunStep, after_fault, ask, halt, items_by, notes, printing_joined}
+use Rattle.driver.specs.Items.{Item, RunStep, after_fault, ask, halt, items_by, notes, printing_joined, taking_due}
+use Rattle.host_events.specs.declared.event.Event.{Event}
+use Rattle.child_edge.specs.Faithful.{due_of}
 use Rattle.driver.specs.Items as item
 use Rattle.driver.specs.Place.{RunPlace}
 use Rattle.driver.specs.Steps.{Fails, Goes, Run}
@@ -99,6 +101,10 @@ IsOwnItem (item.watch q) = Unit {0}
 IsOwnItem (item.hear seat most) = Unit {0}
 IsOwnItem (item.take from events) = Unit {0}
 IsOwnItem (item.take_whole first events) = Unit {0}
+IsOwnItem (item.take_edits up_to events) = Unit {0}
+IsOwnItem (item.take_alone e) = Unit {0}
+IsOwnItem (item.carry o) = Unit {0}
+IsOwnItem (item.receive seat) = Unit {0}
 IsOwnItem (item.join events) = Unit {0}
 IsOwnItem (item.rewrite line) = Unit {0}
 IsOwnItem item.stall = Unit {0}
@@ -119,6 +125,9 @@ turn_own (turn.Watch input patience) = (tt, (tt, tt))
 turn_own (turn.Hear seat most) = (tt, (tt, tt))
 turn_own (turn.Lines first events) = (tt, (tt, tt))
 turn_own (turn.Whole first events) = (tt, (tt, tt))
+turn_own (turn.Edits up_to events) = (tt, (tt, tt))
+turn_own (turn.Alone e) = (tt, (tt, tt))
+turn_own (turn.Receive seat) = (tt, (tt, tt))
 turn_own (turn.Checkpoint line) = (tt, (tt, tt))
 turn_own turn.Stall = (tt, (tt, tt))
 turn_own (turn.Interrupt name) = (tt, (tt, tt))
@@ -131,6 +140,10 @@ notes_own (Some n) rest all = (tt, all)
 joined_own : (first : Option ℕ) (outcomes later : List Outcome) (replies : List Reply) (rest : List Item) → AreOwn rest → AreOwn (printing_joined first outcomes later replies rest)
 joined_own None outcomes later replies rest all = (tt, (tt, (tt, all)))
 joined_own (Some first) outcomes later replies rest all = (tt, (tt, (tt, (tt, all))))
+
+due_own : (due : Option Event) (rest : List Item) → AreOwn rest → AreOwn (taking_due due ++ rest)
+due_own None rest all = all
+due_own (Some e) rest all = (tt, all)
 
 fault_own : (why : RunFault) → IsOwn why → AreOwn (after_fault why)
 fault_own fault.Input own = (tt, tt)
@@ -162,6 +175,10 @@ module _ {C : Type 0} (o : Way C) where
   fails_own p q i entries why (step.too_many_whole first events many) = tt
   fails_own p q i entries why (step.untaken_whole first events) = tt
   fails_own p q i entries why (step.lost_whole first events h l) = tt
+  fails_own p q i entries why (step.untaken_edits up_to events) = tt
+  fails_own p q i entries why (step.lost_edits up_to events h l) = tt
+  fails_own p q i entries why (step.broken_alone x f h gone) = tt
+  fails_own p q i entries why (step.unreceived seat) = tt
   fails_own p q i entries why (step.unwritten line f h stopped) = tt
   fails_own p q i entries why (step.unnumbered line many) = tt
   fails_own p q i entries why step.unstalled = tt
@@ -177,6 +194,10 @@ module _ {C : Type 0} (o : Way C) where
   step_own p mid todo next s all (step.joins events outcomes first more later followed a w c d rest j t) = joined_own first outcomes later (reported (entries_after followed)) rest all.1
   step_own p mid todo next s all (step.takes_whole first events outcomes w d rest t) = (tt, (tt, (tt, all.1)))
   step_own p mid todo next s all (step.refuses_whole first events before last rest r) = (tt, (tt, (tt, all.1)))
+  step_own p mid todo next s all (step.takes_edits up_to events done outcomes w d rest first t) = (tt, (tt, (tt, all.1)))
+  step_own p mid todo next s all (step.takes_alone x o w d rest gives kept) = (tt, all.1)
+  step_own p mid todo next s all (step.carries o answer c rest went) = (tt, (tt, (tt, due_own (due_of o.effect answer) rest all.1)))
+  step_own p mid todo next s all (step.receives seat x c rest was) = (tt, all.1)
   step_own p mid todo next s all (step.rewrites line one w d rest gives kept) = (tt, (tt, (tt, all.1)))
   step_own p mid todo next s all (step.stalls_all rest) = (tt, all.1)
   step_own p mid todo next s all (step.interrupts name came c rest i) = (tt, all.1)

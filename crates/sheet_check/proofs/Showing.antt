@@ -1,14 +1,14 @@
 -- What is shown after fields, one after another.
-use Rattle.std.proofs.Common.{◌≡◌, inl, inr, ℕ, Bool, true, false, [], sym, subst}
-use Rattle.std.specs.Prelude.{Result, Ok, Err, IfOk, IfErr}
+use Rattle.std.proofs.Common.{◌≡◌, inl, inr, ℕ, Bool, true, false, List, [], Option, Some, None, refl, sym, subst}
+use Rattle.std.specs.Prelude.{Result, Ok, Err, IfErr, IfNone, IfOk, IfSome}
 use Rattle.offline_programs.specs.declared.fault.RunFault.{RunFault}
 use Rattle.check_report.specs.declared.report.Format.{Format}
 use Rattle.check_report.specs.declared.verdict.Counts.{Counts}
 use Rattle.sheet_check.specs.declared.progress.Sight.{Sight}
 use Rattle.sheet_check.specs.declared.progress.Sight.TheVariants as sight
 use Rattle.check_report.specs.Verdicts.{counts_of}
-use Rattle.sheet_check.specs.Progress.{FieldsLeft, FieldsShow, LeavesLine, SheetShows, TakesLine, display, more, none}
-use Rattle.sheet_check.specs.inside.Checking.{FieldShown}
+use Rattle.sheet_check.specs.Progress.{Display, FieldsLeft, FieldsShow, LeavesLine, SheetShows, TakesLine, display, more, none}
+use Rattle.sheet_check.specs.inside.Checking.{CountsWritten, FieldShown}
 
 module _ {P : Type 0} (F : Format) (S : P → Sight → P → Type 0) (all : ℕ) (p : P) where
   pub none_shown : (counts : Counts) → counts ≡ counts_of [] → FieldsShow (display F S) all p counts p
@@ -28,3 +28,20 @@ module _ {P : Type 0} (F : Format) (S : P → Sight → P → Type 0) (all : ℕ
 pub room_left : {P : Type 0} (S : P → Sight → P → Type 0) (taken : Bool) (p q : P) → TakesLine taken S p q → LeavesLine S p q
 room_left S true p q gone = inr gone
 room_left S false p q same = inl same
+
+-- The line is taken away at each end, also where there was no memory for a copy.
+pub counts_shown : {P : Type 0} (m : Display P) (all : ℕ) (p mid q : P) (F : Format) (a b : Option (List ℕ)) (answer : Option (Result Counts RunFault)) (result : Result Counts RunFault)
+    → IfSome answer (λ counted. SheetShows m all p mid counted) → IfSome answer (λ _. q ≡ mid) → IfNone answer ((mid ≡ p) × m.shows mid sight.Nothing q) → CountsWritten F a b answer result → SheetShows m all p q result
+counts_shown m all p mid q F a b None result some same gone is =
+    subst (SheetShows m all p q) (sym is) (p, (counts_of [], p, none, inl refl), subst (λ x. m.shows x sight.Nothing q) gone.0 gone.1)
+counts_shown m all p mid q F a b (Some (Ok counts)) result some same gone (inl (is, closing)) =
+    subst (SheetShows m all p q) (sym is) (subst (λ x. SheetShows m all p x (Ok counts)) (sym same) some)
+counts_shown m all p mid q F a b (Some (Ok counts)) result some same gone (inr is) =
+    subst (SheetShows m all p q) (sym is) (some.0, (counts, some.0, some.1, inl refl), subst (m.shows some.0 sight.Nothing) (sym same) some.2)
+counts_shown m all p mid q F a b (Some (Err why)) result some same gone (is, written) =
+    subst (SheetShows m all p q) (sym is) (subst (λ x. SheetShows m all p x (Err why)) (sym same) some)
+
+-- what holds where nothing is there, of two
+pub none_of_both : {A X Y Z : Type 0} (o : Option A) → IfNone o X → IfNone o Y → (X → Y → Z) → IfNone o Z
+none_of_both None x y both = both x y
+none_of_both (Some a) x y both = tt

@@ -1,3 +1,4 @@
+pub mod Opened
 pub mod Named
 pub mod Evaluated
 pub mod Marks

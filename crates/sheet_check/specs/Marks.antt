@@ -9,7 +9,7 @@ use Rattle.host_events.specs.declared.reply.Reply.TheVariants as reply
 use Rattle.tellings.specs.Voice.{Voice}
 use Rattle.tellings.specs.declared.note.Note.{Note}
 use Rattle.tellings.specs.declared.note.Note.TheVariants as note
-use Rattle.driver.specs.Items.{RunStep, broke, chose, heard, heeded, interrupted, printed, printed_fault, refused_whole, rewrote, stalled, took, watched}
+use Rattle.driver.specs.Items.{RunStep, broke, carried, chose, heard, heeded, interrupted, printed, printed_fault, received, refused_whole, rewrote, stalled, took, took_alone, watched}
 use Rattle.driver.specs.Place.{SinkRules, sink_rules}
 use Rattle.driver.specs.Reports.{Report}
 use Rattle.driver.specs.Reports as report
@@ -68,6 +68,9 @@ step_marks (watched q w) = []
 step_marks (heard events) = []
 step_marks (took events outcomes followed) = []
 step_marks (refused_whole events one) = []
+step_marks (took_alone e o) = []
+step_marks (carried o a) = []
+step_marks (received e) = []
 step_marks (rewrote b) = []
 step_marks (stalled seats) = []
 step_marks (interrupted name reported) = []

@@ -1,7 +1,6 @@
 //! The check of a worksheet whose answers that differ, or are new, are accepted.
 ghost use Rattle.std.specs.Prelude.{◌≡◌, ◌+◌, ◌≤◌, ◌<◌, ◌^◌, [], List, Err, IfErr, IfNone, IfOk, IfSome, Some, false, length, true};
 ghost use Rattle.disk_model.specs.Disk.{DiskView, Rises};
-ghost use Rattle.worksheet.specs.declared.field.Field.{Field};
 ghost use Rattle.worksheet.specs.declared.op.Op.{Op};
 ghost use Rattle.worksheet.specs.Checks.{has_field};
 ghost use Rattle.recovery.specs.Sheets.{Makes};
@@ -23,104 +22,104 @@ ghost use Rattle.sheet_check.specs.inside.Checking.{FieldShown, FieldWrote, Fiel
 ghost use Rattle.live.specs.Records.{left};
 
 use crate::accept_shown::accept_shown;
-use crate::checking::{Checked, show_counts, tell_closing};
+use crate::checking::Checked;
+use crate::closing::tell_counts;
 use crate::copying::open_copy;
-use crate::driving::{CopyDriver, Gave, drive_copy};
+use crate::driving::{CopyDriver, Gave, drive_copy, into_sources};
+use crate::manner::{Manner, Suite};
 use crate::named::{CheckFault, accept_named};
 use crate::progress::{Progress, Sight};
 use crate::sessions::count_checked;
+use crate::turns::Turn;
 use arrivals::Sources;
-use check_report::{Counts, Format, Request};
+use check_report::{Counts, Format};
 use child_edge::stop_all;
 use disk_model::Disk;
-use driver::Driver;
 use journal::OpenFault;
 use offline_programs::RunFault;
 use recovery::{Store, one_sheet};
-use std::alloc::Global;
 use std::io::Write;
-use worksheet::{Field, Sheet};
 
 /// Checks a field, where it is one of those that are, and accepts what came where it differs or is new. The counts with what that came to, which are shown.
 fn accept_field<D: Disk, S: Disk, C: Sources, W: Write, P: Progress>(
-    alloc: Global,
-    request: &Request,
+    turn: &Turn<'_>,
     driver: &mut CopyDriver<D, C>,
     store: &mut Store<S>,
-    field: &Field,
-    counts: Counts,
-    all: u32,
     progress: &mut P,
     writer: &mut W,
 ) -> Result<Counts, RunFault>
-    requires few { total counts < 2 ^ 31 }
-    requires errors { counts.errors ≤ total counts }
+    requires few { total turn.now.counts < 2 ^ 31 }
+    requires errors { turn.now.counts.errors ≤ total turn.now.counts }
     requires stands { (w : World) × IsHost driver.old.host w }
     requires open { store.old.closed ≡ false }
-    requires there { has_field store.old.sheet.contents field.now.id ≡ true }
+    requires there { has_field store.old.sheet.contents turn.now.field.now.id ≡ true }
     ensures written { store.old.gathers ≡ false → store.new.gathers ≡ false }
     ensures ok { (w : World) → IsHost driver.old.host w → (ops more : List Op) → (disk : DiskView)
         → Stores ops more disk store.old → IfOk result (λ after. (wrote : FieldWrote
-        (to_accept (way C.after C.clock C.wakes request.now.limit) request.now.chosen)
-        field.now (at w driver.old.sources driver.old.host.store.disk)
-        (left driver.new.host driver.new.sources (W.contents writer.old) (W.contents writer.new)) counts after)
+        (to_accept (way C.after C.clock C.wakes turn.now.manner.request.now.limit) turn.now.manner.request.now.chosen)
+        turn.now.field.now (at w driver.old.sources driver.old.host.store.disk)
+        (left driver.new.host driver.new.sources (W.contents writer.old) (W.contents writer.new)) turn.now.counts after)
         × PutAll (storing ops more disk store.new) (accepted wrote.0)) }
-    ensures bound { IfOk result (λ after. total after ≤ total counts + 1) }
+    ensures bound { IfOk result (λ after. total after ≤ total turn.now.counts + 1) }
     ensures errors { IfOk result (λ after. after.errors ≤ total after) }
     ensures err { (w : World) → IsHost driver.old.host w → (ops more : List Op) → (disk : DiskView)
         → Stores ops more disk store.old → IfErr result (FieldBroke
-        (to_accept (way C.after C.clock C.wakes request.now.limit) request.now.chosen)
-        field.now (at w driver.old.sources driver.old.host.store.disk)
+        (to_accept (way C.after C.clock C.wakes turn.now.manner.request.now.limit) turn.now.manner.request.now.chosen)
+        turn.now.field.now (at w driver.old.sources driver.old.host.store.disk)
         (left driver.new.host driver.new.sources (W.contents writer.old) (W.contents writer.new)) (storing ops more disk store.new)) }
     ensures shown { IfOk result (λ after.
-        FieldShown (display formats.Accepting P.shows) all counts after progress.old progress.new) }
+        FieldShown (display formats.Accepting P.shows) turn.now.all turn.now.counts after progress.old progress.new) }
     ensures left { IfErr result (λ _. LeavesLine P.shows progress.old progress.new) }
 {
-    if !request.chosen.has(field) {
-        return Ok(counts);
+    if !turn.manner.request.chosen.has(turn.field) {
+        return Ok(turn.counts);
     }
-    match accept_shown(alloc, request, driver, store, field, progress, writer) {
-        Ok(judgement) => Ok(show_counts(counts.with(judgement), all, progress)),
+    match accept_shown(turn, driver, store, progress, writer) {
+        Ok(judgement) => Ok(turn.counted(judgement, progress)),
         Err(fault) => Err(fault),
     }
 }
 
 /// Checks the fields of a worksheet in their order, and accepts the answers that differ or are new.
 fn accept_fields<D: Disk, S: Disk, C: Sources, W: Write, P: Progress>(
-    alloc: Global,
-    request: &Request,
-    sheet: &Sheet,
+    suite: &Suite<'_>,
     driver: &mut CopyDriver<D, C>,
     store: &mut Store<S>,
-    all: u32,
     progress: &mut P,
     writer: &mut W,
 ) -> Result<Counts, RunFault>
-    requires few { length sheet.now.contents.fields < 2 ^ 31 }
+    requires few { length suite.now.sheet.now.contents.fields < 2 ^ 31 }
     requires stands { (w : World) × IsHost driver.old.host w }
-    requires goes_on { GoesOn sheet.now.contents store.old }
+    requires goes_on { GoesOn suite.now.sheet.now.contents store.old }
     ensures written { store.old.gathers ≡ false → store.new.gathers ≡ false }
     ensures ok { (w : World) → IsHost driver.old.host w → (ops : List Op) → (disk : DiskView)
         → Stores ops [] disk store.old → IfOk result (FieldsTook
-        (to_accept (way C.after C.clock C.wakes request.now.limit) request.now.chosen)
-        sheet.now.contents.fields (at w driver.old.sources driver.old.host.store.disk)
+        (to_accept (way C.after C.clock C.wakes suite.now.manner.request.now.limit) suite.now.manner.request.now.chosen)
+        suite.now.sheet.now.contents.fields (at w driver.old.sources driver.old.host.store.disk)
         (left driver.new.host driver.new.sources (W.contents writer.old) (W.contents writer.new)) (storing ops [] disk store.new)) }
     ensures err { (w : World) → IsHost driver.old.host w → (ops : List Op) → (disk : DiskView)
         → Stores ops [] disk store.old → IfErr result (FieldsBroke
-        (to_accept (way C.after C.clock C.wakes request.now.limit) request.now.chosen)
-        sheet.now.contents.fields (at w driver.old.sources driver.old.host.store.disk)
+        (to_accept (way C.after C.clock C.wakes suite.now.manner.request.now.limit) suite.now.manner.request.now.chosen)
+        suite.now.sheet.now.contents.fields (at w driver.old.sources driver.old.host.store.disk)
         (left driver.new.host driver.new.sources (W.contents writer.old) (W.contents writer.new)) (storing ops [] disk store.new)) }
     ensures shown { IfOk result (λ counts.
-        FieldsShow (display formats.Accepting P.shows) all progress.old counts progress.new) }
+        FieldsShow (display formats.Accepting P.shows)
+        (checked_count suite.now.manner.request.now.chosen suite.now.sheet.now.contents.fields) progress.old counts progress.new) }
     ensures left { IfErr result (λ _.
-        FieldsLeft (display formats.Accepting P.shows) all progress.old progress.new) }
+        FieldsLeft (display formats.Accepting P.shows)
+        (checked_count suite.now.manner.request.now.chosen suite.now.sheet.now.contents.fields) progress.old progress.new) }
 {
+    let all = count_checked(&suite.manner.request.chosen, suite.sheet);
     let mut counts = Counts::none();
-    let mut fields = sheet.fields();
+    let mut fields = suite.sheet.fields();
     while let Some(field) = fields.next() {
-        match accept_field(
-            alloc, request, driver, store, field, counts, all, progress, writer,
-        ) {
+        let turn = Turn {
+            manner: suite.manner,
+            field,
+            counts,
+            all,
+        };
+        match accept_field(&turn, driver, store, progress, writer) {
             Ok(after) => counts = after,
             Err(fault) => return Err(fault),
         }
@@ -130,36 +129,33 @@ fn accept_fields<D: Disk, S: Disk, C: Sources, W: Write, P: Progress>(
 
 /// The same, and then the line of progress is taken away, and each life that goes on is stopped.
 fn accept_and_stop<D: Disk, S: Disk, C: Sources, W: Write, P: Progress>(
-    alloc: Global,
-    request: &Request,
-    sheet: &Sheet,
+    suite: &Suite<'_>,
     driver: &mut CopyDriver<D, C>,
     store: &mut Store<S>,
     progress: &mut P,
     writer: &mut W,
 ) -> Result<Counts, RunFault>
-    requires few { length sheet.now.contents.fields < 2 ^ 31 }
+    requires few { length suite.now.sheet.now.contents.fields < 2 ^ 31 }
     requires stands { (w : World) × IsHost driver.old.host w }
-    requires goes_on { GoesOn sheet.now.contents store.old }
+    requires goes_on { GoesOn suite.now.sheet.now.contents store.old }
     ensures written { store.old.gathers ≡ false → store.new.gathers ≡ false }
     ensures ok { (w : World) → IsHost driver.old.host w → (ops : List Op) → (disk : DiskView)
         → Stores ops [] disk store.old → IfOk result (λ counts. (ended : FieldsEnded
-        (to_accept (way C.after C.clock C.wakes request.now.limit) request.now.chosen)
-        sheet.now.contents.fields w driver.old.host.store.disk
+        (to_accept (way C.after C.clock C.wakes suite.now.manner.request.now.limit) suite.now.manner.request.now.chosen)
+        suite.now.sheet.now.contents.fields w driver.old.host.store.disk
         (passage driver.old.sources driver.new.sources (W.contents writer.old) (W.contents writer.new)) counts)
         × PutAll (storing ops [] disk store.new) (accepted ended.0)) }
-    ensures err { (w : World) → IsHost driver.old.host w → IsCopy sheet.now.contents w driver.old.host.store.disk
+    ensures err { (w : World) → IsHost driver.old.host w → IsCopy suite.now.sheet.now.contents w driver.old.host.store.disk
         → (ops : List Op) → (disk : DiskView) → Stores ops [] disk store.old
         → IfErr result (AcceptLeft
-        (to_accept (way C.after C.clock C.wakes request.now.limit) request.now.chosen)
-        sheet.now.contents
+        (to_accept (way C.after C.clock C.wakes suite.now.manner.request.now.limit) suite.now.manner.request.now.chosen)
+        suite.now.sheet.now.contents
         (passage driver.old.sources driver.new.sources (W.contents writer.old) (W.contents writer.new)) (filing ops disk store.new.disk)) }
     ensures shown { SheetShows (display formats.Accepting P.shows)
-        (checked_count request.now.chosen sheet.now.contents.fields)
+        (checked_count suite.now.manner.request.now.chosen suite.now.sheet.now.contents.fields)
         progress.old progress.new result }
 {
-    let all = count_checked(&request.chosen, sheet);
-    let counted = accept_fields(alloc, request, sheet, driver, store, all, progress, writer);
+    let counted = accept_fields(suite, driver, store, progress, writer);
     progress.show(Sight::Nothing);
     stop_all(&driver.host, &mut driver.sources);
     counted
@@ -168,55 +164,45 @@ fn accept_and_stop<D: Disk, S: Disk, C: Sources, W: Write, P: Progress>(
 /// Checks a worksheet on a copy of it, and accepts the answers that differ or are new in the store, which had
 /// the same. None where there is no memory for the copy.
 fn accepted_on_copy<S: Disk, C: Sources, W: Write, P: Progress>(
-    alloc: Global,
-    request: &Request,
-    sheet: &Sheet,
+    suite: &Suite<'_>,
     sources: C,
     store: &mut Store<S>,
     progress: &mut P,
     writer: &mut W,
 ) -> Gave<Option<Result<Counts, RunFault>>, C>
-    requires made { (ops : List Op) × Makes ops sheet.now.contents }
-    requires few { length sheet.now.contents.fields < 2 ^ 31 }
-    requires goes_on { GoesOn sheet.now.contents store.old }
+    requires made { (ops : List Op) × Makes ops suite.now.sheet.now.contents }
+    requires few { length suite.now.sheet.now.contents.fields < 2 ^ 31 }
+    requires goes_on { GoesOn suite.now.sheet.now.contents store.old }
     ensures written { store.old.gathers ≡ false → store.new.gathers ≡ false }
     ensures none { IfNone result.answer ((result.sources ≡ sources) × (writer.new ≡ writer.old)
         × (progress.new ≡ progress.old) × (store.new ≡ store.old)) }
     ensures some { (ops : List Op) → (disk : DiskView) → Stores ops [] disk store.old
         → IfSome result.answer (OnCopy
-        (to_accept (way C.after C.clock C.wakes request.now.limit) request.now.chosen)
-        sheet.now.contents
+        (to_accept (way C.after C.clock C.wakes suite.now.manner.request.now.limit) suite.now.manner.request.now.chosen)
+        suite.now.sheet.now.contents
         (passage sources result.sources (W.contents writer.old) (W.contents writer.new)) (storing ops [] disk store.new)) }
     ensures shown { IfSome result.answer (λ counted. SheetShows (display formats.Accepting P.shows)
-        (checked_count request.now.chosen sheet.now.contents.fields)
+        (checked_count suite.now.manner.request.now.chosen suite.now.sheet.now.contents.fields)
         progress.old progress.new counted) }
 {
-    let Some(host) = open_copy(alloc, sheet) else {
+    let Some(host) = open_copy(suite.manner.alloc, suite.sheet) else {
         return Gave {
             answer: None,
             sources,
         };
     };
-    let mut driver = drive_copy(alloc, host, sources);
-    let counted = accept_and_stop(alloc, request, sheet, &mut driver, store, progress, writer);
-    let Driver {
-        alloc: _,
-        host: _,
-        sources,
-        sink: _,
-        agenda: _,
-    } = driver;
+    let mut driver = drive_copy(suite.manner.alloc, host, sources);
+    let counted = accept_and_stop(suite, &mut driver, store, progress, writer);
     Gave {
         answer: Some(counted),
-        sources,
+        sources: into_sources(driver),
     }
 }
 
 /// The same of the worksheet of a store, by a copy that stays as it was. None where there is no memory
 /// for the copies.
 fn accepted_on_copies<S: Disk, C: Sources, W: Write, P: Progress>(
-    alloc: Global,
-    request: &Request,
+    manner: &Manner<'_>,
     sources: C,
     store: &mut Store<S>,
     progress: &mut P,
@@ -230,24 +216,22 @@ fn accepted_on_copies<S: Disk, C: Sources, W: Write, P: Progress>(
         × (progress.new ≡ progress.old) × (store.new ≡ store.old)) }
     ensures some { (ops : List Op) → (disk : DiskView) → Stores ops [] disk store.old
         → IfSome result.answer (OnCopy
-        (to_accept (way C.after C.clock C.wakes request.now.limit) request.now.chosen)
+        (to_accept (way C.after C.clock C.wakes manner.now.request.now.limit) manner.now.request.now.chosen)
         store.old.sheet.contents
         (passage sources result.sources (W.contents writer.old) (W.contents writer.new)) (storing ops [] disk store.new)) }
     ensures shown { IfSome result.answer (λ counted. SheetShows (display formats.Accepting P.shows)
-        (checked_count request.now.chosen store.old.sheet.contents.fields)
+        (checked_count manner.now.request.now.chosen store.old.sheet.contents.fields)
         progress.old progress.new counted) }
 {
     one_sheet();
-    match open_copy(alloc, store.sheet()) {
-        Some(was) => accepted_on_copy(
-            alloc,
-            request,
-            was.sheet(),
-            sources,
-            store,
-            progress,
-            writer,
-        ),
+    match open_copy(manner.alloc, store.sheet()) {
+        Some(was) => {
+            let suite = Suite {
+                manner: *manner,
+                sheet: was.sheet(),
+            };
+            accepted_on_copy(&suite, sources, store, progress, writer)
+        }
         None => Gave {
             answer: None,
             sources,
@@ -257,8 +241,7 @@ fn accepted_on_copies<S: Disk, C: Sources, W: Write, P: Progress>(
 
 /// Checks the worksheet of a store, accepts the answers that differ or are new, and tells the counts.
 pub(crate) fn accept_sheet<S: Disk, C: Sources, W: Write, P: Progress>(
-    alloc: Global,
-    request: &Request,
+    manner: &Manner<'_>,
     sources: C,
     store: &mut Store<S>,
     progress: &mut P,
@@ -269,42 +252,19 @@ pub(crate) fn accept_sheet<S: Disk, C: Sources, W: Write, P: Progress>(
     ensures written { store.old.gathers ≡ false → store.new.gathers ≡ false }
     ensures accepted { (ops : List Op) → (disk : DiskView) → Stores ops [] disk store.old
         → SheetAccepts
-        (to_accept (way C.after C.clock C.wakes request.now.limit) request.now.chosen)
+        (to_accept (way C.after C.clock C.wakes manner.now.request.now.limit) manner.now.request.now.chosen)
         store.old.sheet.contents
         (passage sources result.sources (W.contents writer.old) (W.contents writer.new))
         ((writer.new ≡ writer.old) × (result.sources ≡ sources)) (filing ops disk store.new.disk) result.answer }
     ensures shown { SheetShows (display formats.Accepting P.shows)
-        (checked_count request.now.chosen store.old.sheet.contents.fields)
+        (checked_count manner.now.request.now.chosen store.old.sheet.contents.fields)
         progress.old progress.new result.answer }
 {
     worksheet::laws::ops_make_worksheets();
-    let Gave { answer, sources } = accepted_on_copies(
-        alloc, request, sources, store, progress, writer,
-    );
-    match answer {
-        Some(counted) => match counted {
-            Ok(counts) => match tell_closing(Format::Accepting, counts, writer) {
-                Ok(()) => Gave {
-                    answer: Ok(counts),
-                    sources,
-                },
-                Err(fault) => Gave {
-                    answer: Err(fault),
-                    sources,
-                },
-            },
-            Err(fault) => Gave {
-                answer: Err(fault),
-                sources,
-            },
-        },
-        None => {
-            progress.show(Sight::Nothing);
-            Gave {
-                answer: Err(RunFault::OutOfMemory),
-                sources,
-            }
-        }
+    let Gave { answer, sources } = accepted_on_copies(manner, sources, store, progress, writer);
+    Gave {
+        answer: tell_counts(Format::Accepting, answer, progress, writer),
+        sources,
     }
 }
 
@@ -320,20 +280,19 @@ pub(crate) fn accept_sheet<S: Disk, C: Sources, W: Write, P: Progress>(
 /// may be on it. `Output` where the writer fails: the same. `OutOfMemory`, and `Host` of another fault
 /// of the copy's host: what was reported is on the disk, and no more.
 pub fn check_accepting<D: Disk, C: Sources, W: Write, P: Progress>(
-    alloc: Global,
-    request: &Request,
+    manner: &Manner<'_>,
     disk: D,
     sources: C,
     progress: &mut P,
     writer: &mut W,
 ) -> Checked<D, C>
     ensures accepted { AcceptAnswer
-        (to_accept (way C.after C.clock C.wakes request.now.limit) request.now.chosen)
+        (to_accept (way C.after C.clock C.wakes manner.now.request.now.limit) manner.now.request.now.chosen)
         (D.view disk) (D.view result.disk)
         (passage sources result.sources (W.contents writer.old) (W.contents writer.new))
         ((writer.new ≡ writer.old) × (result.sources ≡ sources)) result.answer }
 
-    ensures shown { CheckShows (display formats.Accepting P.shows) request.now.chosen (D.view disk)
+    ensures shown { CheckShows (display formats.Accepting P.shows) manner.now.request.now.chosen (D.view disk)
         progress.old progress.new result.answer }
 
     // That the disk can't be read is reported only where it failed.
@@ -344,10 +303,10 @@ pub fn check_accepting<D: Disk, C: Sources, W: Write, P: Progress>(
     ensures memory { result.answer ≡ Err (named.Run (reported.Open opens.OutOfMemory))
         → (D.view result.disk).faults ≡ (D.view disk).faults }
 {
-    match Store::open(alloc, disk) {
+    match Store::open(manner.alloc, disk) {
         Ok(mut store) => {
             let Gave { answer, sources } = accept_named(
-                alloc, request, sources, &mut store, progress, writer,
+                manner, sources, &mut store, progress, writer,
             );
             Checked {
                 disk: store.into_disk(),

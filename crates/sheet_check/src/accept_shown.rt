@@ -23,11 +23,11 @@ use crate::driving::CopyDriver;
 use crate::evaluating::evaluate;
 use crate::progress::Progress;
 use crate::telling::make_room;
+use crate::turns::Turn;
 use arrivals::Sources;
 use block_tree::OutOfMemory;
 use check_report::{
-    Chosen, Format, Judgement, Request, Verdict, acceptance_in_memory, brings_error,
-    write_and_flush,
+    Chosen, Format, Judgement, Verdict, acceptance_in_memory, brings_error, write_and_flush,
 };
 use disk_model::Disk;
 use host_events::HostFault;
@@ -204,40 +204,44 @@ fn take<D: Disk, W: Write, P: Progress>(
 
 /// Evaluates a field that is checked, and accepts and tells what that came to.
 pub(crate) fn accept_shown<D: Disk, S: Disk, C: Sources, W: Write, P: Progress>(
-    alloc: Global,
-    request: &Request,
+    turn: &Turn<'_>,
     driver: &mut CopyDriver<D, C>,
     store: &mut Store<S>,
-    field: &Field,
     progress: &mut P,
     writer: &mut W,
 ) -> Result<Judgement, RunFault>
-    requires chosen { is_chosen request.now.chosen field.now ≡ true }
+    requires chosen { is_chosen turn.now.manner.request.now.chosen turn.now.field.now ≡ true }
     requires stands { (w : World) × IsHost driver.old.host w }
     requires open { store.old.closed ≡ false }
-    requires there { has_field store.old.sheet.contents field.now.id ≡ true }
+    requires there { has_field store.old.sheet.contents turn.now.field.now.id ≡ true }
     ensures written { store.old.gathers ≡ false → store.new.gathers ≡ false }
     ensures ok { (w : World) → IsHost driver.old.host w → (ops more : List Op) → (disk : DiskView)
         → Stores ops more disk store.old → IfOk result (ShownTook
-        (to_accept (way C.after C.clock C.wakes request.now.limit) request.now.chosen)
-        (question 0 field.now) (at w driver.old.sources driver.old.host.store.disk)
+        (to_accept (way C.after C.clock C.wakes turn.now.manner.request.now.limit) turn.now.manner.request.now.chosen)
+        (question 0 turn.now.field.now) (at w driver.old.sources driver.old.host.store.disk)
         (left driver.new.host driver.new.sources (W.contents writer.old) (W.contents writer.new)) (storing ops more disk store.new)) }
     ensures err { (w : World) → IsHost driver.old.host w → (ops more : List Op) → (disk : DiskView)
         → Stores ops more disk store.old → IfErr result (FieldBroke
-        (to_accept (way C.after C.clock C.wakes request.now.limit) request.now.chosen)
-        field.now (at w driver.old.sources driver.old.host.store.disk)
+        (to_accept (way C.after C.clock C.wakes turn.now.manner.request.now.limit) turn.now.manner.request.now.chosen)
+        turn.now.field.now (at w driver.old.sources driver.old.host.store.disk)
         (left driver.new.host driver.new.sources (W.contents writer.old) (W.contents writer.new)) (storing ops more disk store.new)) }
     ensures room { IfOk result (λ j.
         MakesRoom formats.Accepting P.shows j.verdict progress.old progress.new) }
     ensures left { IfErr result (λ _. LeavesLine P.shows progress.old progress.new) }
 {
     worksheet::laws::ops_make_worksheets();
-    let came = match evaluate(driver, request.limit, field) {
+    let came = match evaluate(driver, turn.manner.request.limit, turn.field) {
         Ok(came) => came,
         Err(fault) => return Err(fault),
     };
-    match find_on_copy(alloc, &request.chosen, &driver.host, field, came.is_there) {
+    match find_on_copy(
+        turn.manner.alloc,
+        &turn.manner.request.chosen,
+        &driver.host,
+        turn.field,
+        came.is_there,
+    ) {
         None => Err(RunFault::OutOfMemory),
-        Some(found) => take(store, field.id, found, progress, writer),
+        Some(found) => take(store, turn.field.id, found, progress, writer),
     }
 }

@@ -10,117 +10,97 @@ ghost use Rattle.disk_model.specs.Disk.{Rises};
 ghost use Rattle.offline_programs.specs.declared.fault.RunFault.TheVariants as reported;
 ghost use Rattle.journal.specs.declared.opening.OpenCause.TheVariants as opens;
 ghost use Rattle.check_report.specs.Chosen.{is_chosen};
-ghost use Rattle.check_report.specs.Reports.{closing_text, opening_text};
+ghost use Rattle.check_report.specs.Reports.{opening_text};
 ghost use Rattle.check_report.specs.Verdicts.{total};
 ghost use Rattle.sheet_check.specs.Evaluated.{one_by_one, way};
 ghost use Rattle.sheet_check.specs.Check.{CheckAnswer, OnlyRead, SheetAnswer, passage};
 ghost use Rattle.sheet_check.specs.declared.named.CheckFault.TheVariants as named;
 ghost use Rattle.sheet_check.specs.Progress.{CheckShows, FieldsLeft, FieldsShow, LeavesLine, MakesRoom, SheetShows, checked_count, display};
-ghost use Rattle.sheet_check.specs.declared.progress.Sight.TheVariants as sight;
 ghost use Rattle.sheet_check.specs.inside.Checking.{FieldFailed, FieldShown, FieldWrote, FieldsEnded, FieldsFailed, FieldsStopped, FieldsWrote, OnCopy, ShownWrote, question};
 ghost use Rattle.live.specs.Records.{left};
 
+use crate::closing::tell_counts;
 use crate::copying::open_copy;
-use crate::driving::{CopyDriver, Gave, drive_copy};
+use crate::driving::{CopyDriver, Gave, drive_copy, into_sources};
 use crate::evaluating::evaluate;
+use crate::manner::Manner;
 use crate::named::{CheckFault, check_named};
 use crate::progress::{Progress, Sight};
 use crate::sessions::count_checked;
-use crate::telling::tell_what_came;
+use crate::telling::{Tried, tell_what_came};
+use crate::turns::Turn;
 use arrivals::Sources;
-use check_report::{Counts, Format, Judgement, Request, close_report, open_report};
+use check_report::{Counts, Format, Judgement, open_report};
 use child_edge::stop_all;
 use disk_model::Disk;
-use driver::Driver;
 use journal::OpenFault;
 use offline_programs::RunFault;
 use recovery::Store;
-use std::alloc::Global;
 use std::io::Write;
-use worksheet::{Field, Sheet};
+use worksheet::Sheet;
 
-/// Evaluates a field that is checked, and tells what that came to, as the case of this number.
+/// Evaluates a field that is checked, and tells what that came to.
 fn check_shown<D: Disk, C: Sources, W: Write, P: Progress>(
-    alloc: Global,
-    request: &Request,
+    turn: &Turn<'_>,
     driver: &mut CopyDriver<D, C>,
-    number: u64,
-    field: &Field,
     progress: &mut P,
     writer: &mut W,
 ) -> Result<Judgement, RunFault>
-    requires { is_chosen request.now.chosen field.now ≡ true }
+    requires chosen { is_chosen turn.now.manner.request.now.chosen turn.now.field.now ≡ true }
+    requires few { total turn.now.counts < 2 ^ 31 }
     ensures ok { (w : World) → IsHost driver.old.host w → IfOk result (ShownWrote
-        (one_by_one (way C.after C.clock C.wakes request.now.limit) request.now.chosen request.now.format)
-        (question number field.now) (at w driver.old.sources driver.old.host.store.disk)
+        (one_by_one (way C.after C.clock C.wakes turn.now.manner.request.now.limit) turn.now.manner.request.now.chosen turn.now.manner.request.now.format)
+        (question (total turn.now.counts + 1) turn.now.field.now) (at w driver.old.sources driver.old.host.store.disk)
         (left driver.new.host driver.new.sources (W.contents writer.old) (W.contents writer.new))) }
     ensures err { (w : World) → IsHost driver.old.host w → IfErr result (FieldFailed
-        (one_by_one (way C.after C.clock C.wakes request.now.limit) request.now.chosen request.now.format)
-        field.now (at w driver.old.sources driver.old.host.store.disk)
+        (one_by_one (way C.after C.clock C.wakes turn.now.manner.request.now.limit) turn.now.manner.request.now.chosen turn.now.manner.request.now.format)
+        turn.now.field.now (at w driver.old.sources driver.old.host.store.disk)
         (left driver.new.host driver.new.sources (W.contents writer.old) (W.contents writer.new))) }
     ensures room { IfOk result (λ j.
-        MakesRoom request.now.format P.shows j.verdict progress.old progress.new) }
+        MakesRoom turn.now.manner.request.now.format P.shows j.verdict progress.old progress.new) }
     ensures left { IfErr result (λ _. LeavesLine P.shows progress.old progress.new) }
 {
-    let came = match evaluate(driver, request.limit, field) {
+    let came = match evaluate(driver, turn.manner.request.limit, turn.field) {
         Ok(came) => came,
         Err(fault) => return Err(fault),
     };
-    tell_what_came(
-        alloc,
-        request,
-        &driver.host,
-        number,
-        field,
-        came.is_there,
-        Some(came.took),
-        progress,
-        writer,
-    )
-}
-
-/// Shows the counts after a field that was checked, and hands them out.
-pub(crate) fn show_counts<P: Progress>(counts: Counts, all: u32, progress: &mut P) -> Counts
-    ensures same { result ≡ counts }
-    ensures shown { P.shows progress.old (sight.Line counts all) progress.new }
-{
-    progress.show(Sight::Line { counts, all });
-    counts
+    let tried = Tried {
+        number: turn.number(),
+        field: turn.field,
+        is_there: came.is_there,
+        took: Some(came.took),
+    };
+    tell_what_came(&turn.manner, &driver.host, &tried, progress, writer)
 }
 
 /// Checks a field, where it is one of those that are. The counts with what that came to, which are shown.
 fn check_field<D: Disk, C: Sources, W: Write, P: Progress>(
-    alloc: Global,
-    request: &Request,
+    turn: &Turn<'_>,
     driver: &mut CopyDriver<D, C>,
-    field: &Field,
-    counts: Counts,
-    all: u32,
     progress: &mut P,
     writer: &mut W,
 ) -> Result<Counts, RunFault>
-    requires few { total counts < 2 ^ 31 }
-    requires errors { counts.errors ≤ total counts }
+    requires few { total turn.now.counts < 2 ^ 31 }
+    requires errors { turn.now.counts.errors ≤ total turn.now.counts }
     ensures ok { (w : World) → IsHost driver.old.host w → IfOk result (FieldWrote
-        (one_by_one (way C.after C.clock C.wakes request.now.limit) request.now.chosen request.now.format)
-        field.now (at w driver.old.sources driver.old.host.store.disk)
-        (left driver.new.host driver.new.sources (W.contents writer.old) (W.contents writer.new)) counts) }
-    ensures bound { IfOk result (λ after. total after ≤ total counts + 1) }
+        (one_by_one (way C.after C.clock C.wakes turn.now.manner.request.now.limit) turn.now.manner.request.now.chosen turn.now.manner.request.now.format)
+        turn.now.field.now (at w driver.old.sources driver.old.host.store.disk)
+        (left driver.new.host driver.new.sources (W.contents writer.old) (W.contents writer.new)) turn.now.counts) }
+    ensures bound { IfOk result (λ after. total after ≤ total turn.now.counts + 1) }
     ensures errors { IfOk result (λ after. after.errors ≤ total after) }
     ensures err { (w : World) → IsHost driver.old.host w → IfErr result (FieldFailed
-        (one_by_one (way C.after C.clock C.wakes request.now.limit) request.now.chosen request.now.format)
-        field.now (at w driver.old.sources driver.old.host.store.disk)
+        (one_by_one (way C.after C.clock C.wakes turn.now.manner.request.now.limit) turn.now.manner.request.now.chosen turn.now.manner.request.now.format)
+        turn.now.field.now (at w driver.old.sources driver.old.host.store.disk)
         (left driver.new.host driver.new.sources (W.contents writer.old) (W.contents writer.new))) }
     ensures shown { IfOk result (λ after.
-        FieldShown (display request.now.format P.shows) all counts after progress.old progress.new) }
+        FieldShown (display turn.now.manner.request.now.format P.shows) turn.now.all turn.now.counts after progress.old progress.new) }
     ensures left { IfErr result (λ _. LeavesLine P.shows progress.old progress.new) }
 {
-    let number = counts.total() + 1;
-    if !request.chosen.has(field) {
-        return Ok(counts);
+    if !turn.manner.request.chosen.has(turn.field) {
+        return Ok(turn.counts);
     }
-    match check_shown(alloc, request, driver, number, field, progress, writer) {
-        Ok(judgement) => Ok(show_counts(counts.with(judgement), all, progress)),
+    match check_shown(turn, driver, progress, writer) {
+        Ok(judgement) => Ok(turn.counted(judgement, progress)),
         Err(fault) => Err(fault),
     }
 }
@@ -134,50 +114,44 @@ pub(crate) fn tell_opening<W: Write>(format: Format, writer: &mut W) -> Result<(
     open_report(format, writer).map_err(|_| RunFault::Output)
 }
 
-/// Writes what stands last in it, and flushes it.
-pub(crate) fn tell_closing<W: Write>(
-    format: Format,
-    counts: Counts,
-    writer: &mut W,
-) -> Result<(), RunFault>
-    ensures ok { OnOk result (Appends (W.contents writer.old) (W.contents writer.new)
-        (closing_text format counts)) }
-    ensures err { IfErr result (λ why. why ≡ RunFault.Output) }
-{
-    close_report(format, counts, writer).map_err(|_| RunFault::Output)
-}
-
 /// Checks the fields of a worksheet in their order, after what stands first in their report.
 fn check_fields<D: Disk, C: Sources, W: Write, P: Progress>(
-    alloc: Global,
-    request: &Request,
+    manner: &Manner<'_>,
     sheet: &Sheet,
     driver: &mut CopyDriver<D, C>,
-    all: u32,
     progress: &mut P,
     writer: &mut W,
 ) -> Result<Counts, RunFault>
     requires { length sheet.now.contents.fields < 2 ^ 31 }
     ensures ok { (w : World) → IsHost driver.old.host w → IfOk result (FieldsWrote
-        (one_by_one (way C.after C.clock C.wakes request.now.limit) request.now.chosen request.now.format)
+        (one_by_one (way C.after C.clock C.wakes manner.now.request.now.limit) manner.now.request.now.chosen manner.now.request.now.format)
         sheet.now.contents.fields (at w driver.old.sources driver.old.host.store.disk)
         (left driver.new.host driver.new.sources (W.contents writer.old) (W.contents writer.new))) }
     ensures err { (w : World) → IsHost driver.old.host w → IfErr result (FieldsFailed
-        (one_by_one (way C.after C.clock C.wakes request.now.limit) request.now.chosen request.now.format)
+        (one_by_one (way C.after C.clock C.wakes manner.now.request.now.limit) manner.now.request.now.chosen manner.now.request.now.format)
         sheet.now.contents.fields (at w driver.old.sources driver.old.host.store.disk)
         (left driver.new.host driver.new.sources (W.contents writer.old) (W.contents writer.new))) }
     ensures shown { IfOk result (λ counts.
-        FieldsShow (display request.now.format P.shows) all progress.old counts progress.new) }
+        FieldsShow (display manner.now.request.now.format P.shows)
+        (checked_count manner.now.request.now.chosen sheet.now.contents.fields) progress.old counts progress.new) }
     ensures left { IfErr result (λ _.
-        FieldsLeft (display request.now.format P.shows) all progress.old progress.new) }
+        FieldsLeft (display manner.now.request.now.format P.shows)
+        (checked_count manner.now.request.now.chosen sheet.now.contents.fields) progress.old progress.new) }
 {
-    if let Err(fault) = tell_opening(request.format, writer) {
+    let all = count_checked(&manner.request.chosen, sheet);
+    if let Err(fault) = tell_opening(manner.request.format, writer) {
         return Err(fault);
     }
     let mut counts = Counts::none();
     let mut fields = sheet.fields();
     while let Some(field) = fields.next() {
-        match check_field(alloc, request, driver, field, counts, all, progress, writer) {
+        let turn = Turn {
+            manner: *manner,
+            field,
+            counts,
+            all,
+        };
+        match check_field(&turn, driver, progress, writer) {
             Ok(after) => counts = after,
             Err(fault) => return Err(fault),
         }
@@ -187,8 +161,7 @@ fn check_fields<D: Disk, C: Sources, W: Write, P: Progress>(
 
 /// The same, and then the line of progress is taken away, and each life that goes on is stopped.
 fn check_and_stop<D: Disk, C: Sources, W: Write, P: Progress>(
-    alloc: Global,
-    request: &Request,
+    manner: &Manner<'_>,
     sheet: &Sheet,
     driver: &mut CopyDriver<D, C>,
     progress: &mut P,
@@ -196,19 +169,18 @@ fn check_and_stop<D: Disk, C: Sources, W: Write, P: Progress>(
 ) -> Result<Counts, RunFault>
     requires { length sheet.now.contents.fields < 2 ^ 31 }
     ensures ok { (w : World) → IsHost driver.old.host w → IfOk result (FieldsEnded
-        (one_by_one (way C.after C.clock C.wakes request.now.limit) request.now.chosen request.now.format)
+        (one_by_one (way C.after C.clock C.wakes manner.now.request.now.limit) manner.now.request.now.chosen manner.now.request.now.format)
         sheet.now.contents.fields w driver.old.host.store.disk
         (passage driver.old.sources driver.new.sources (W.contents writer.old) (W.contents writer.new))) }
     ensures err { (w : World) → IsHost driver.old.host w → IfErr result (FieldsStopped
-        (one_by_one (way C.after C.clock C.wakes request.now.limit) request.now.chosen request.now.format)
+        (one_by_one (way C.after C.clock C.wakes manner.now.request.now.limit) manner.now.request.now.chosen manner.now.request.now.format)
         sheet.now.contents.fields w driver.old.host.store.disk
         (passage driver.old.sources driver.new.sources (W.contents writer.old) (W.contents writer.new))) }
-    ensures shown { SheetShows (display request.now.format P.shows)
-        (checked_count request.now.chosen sheet.now.contents.fields)
+    ensures shown { SheetShows (display manner.now.request.now.format P.shows)
+        (checked_count manner.now.request.now.chosen sheet.now.contents.fields)
         progress.old progress.new result }
 {
-    let all = count_checked(&request.chosen, sheet);
-    let counted = check_fields(alloc, request, sheet, driver, all, progress, writer);
+    let counted = check_fields(manner, sheet, driver, progress, writer);
     progress.show(Sight::Nothing);
     stop_all(&driver.host, &mut driver.sources);
     counted
@@ -216,8 +188,7 @@ fn check_and_stop<D: Disk, C: Sources, W: Write, P: Progress>(
 
 /// Checks a worksheet on a copy of it, whose host ends here. None where there is no memory for the copy.
 fn checked_on_copy<C: Sources, W: Write, P: Progress>(
-    alloc: Global,
-    request: &Request,
+    manner: &Manner<'_>,
     sheet: &Sheet,
     sources: C,
     progress: &mut P,
@@ -228,38 +199,30 @@ fn checked_on_copy<C: Sources, W: Write, P: Progress>(
     ensures none { IfNone result.answer ((result.sources ≡ sources) × (writer.new ≡ writer.old)
         × (progress.new ≡ progress.old)) }
     ensures some { IfSome result.answer (λ counted. OnCopy
-        (one_by_one (way C.after C.clock C.wakes request.now.limit) request.now.chosen request.now.format)
+        (one_by_one (way C.after C.clock C.wakes manner.now.request.now.limit) manner.now.request.now.chosen manner.now.request.now.format)
         sheet.now.contents
         (passage sources result.sources (W.contents writer.old) (W.contents writer.new)) counted) }
-    ensures shown { IfSome result.answer (λ counted. SheetShows (display request.now.format P.shows)
-        (checked_count request.now.chosen sheet.now.contents.fields)
+    ensures shown { IfSome result.answer (λ counted. SheetShows (display manner.now.request.now.format P.shows)
+        (checked_count manner.now.request.now.chosen sheet.now.contents.fields)
         progress.old progress.new counted) }
 {
-    let Some(host) = open_copy(alloc, sheet) else {
+    let Some(host) = open_copy(manner.alloc, sheet) else {
         return Gave {
             answer: None,
             sources,
         };
     };
-    let mut driver = drive_copy(alloc, host, sources);
-    let counted = check_and_stop(alloc, request, sheet, &mut driver, progress, writer);
-    let Driver {
-        alloc: _,
-        host: _,
-        sources,
-        sink: _,
-        agenda: _,
-    } = driver;
+    let mut driver = drive_copy(manner.alloc, host, sources);
+    let counted = check_and_stop(manner, sheet, &mut driver, progress, writer);
     Gave {
         answer: Some(counted),
-        sources,
+        sources: into_sources(driver),
     }
 }
 
 /// Checks a worksheet on a copy of it, and tells the counts.
 pub(crate) fn check_sheet<C: Sources, W: Write, P: Progress>(
-    alloc: Global,
-    request: &Request,
+    manner: &Manner<'_>,
     sheet: &Sheet,
     sources: C,
     progress: &mut P,
@@ -267,41 +230,18 @@ pub(crate) fn check_sheet<C: Sources, W: Write, P: Progress>(
 ) -> Gave<Result<Counts, RunFault>, C>
     requires { (ops : List Op) × Makes ops sheet.now.contents }
     ensures checked { SheetAnswer
-        (one_by_one (way C.after C.clock C.wakes request.now.limit) request.now.chosen request.now.format)
+        (one_by_one (way C.after C.clock C.wakes manner.now.request.now.limit) manner.now.request.now.chosen manner.now.request.now.format)
         sheet.now.contents (passage sources result.sources (W.contents writer.old) (W.contents writer.new))
         ((writer.new ≡ writer.old) × (result.sources ≡ sources)) result.answer }
-    ensures shown { SheetShows (display request.now.format P.shows)
-        (checked_count request.now.chosen sheet.now.contents.fields)
+    ensures shown { SheetShows (display manner.now.request.now.format P.shows)
+        (checked_count manner.now.request.now.chosen sheet.now.contents.fields)
         progress.old progress.new result.answer }
 {
     worksheet::laws::ops_make_worksheets();
-    let Gave { answer, sources } = checked_on_copy(
-        alloc, request, sheet, sources, progress, writer,
-    );
-    match answer {
-        Some(counted) => match counted {
-            Ok(counts) => match tell_closing(request.format, counts, writer) {
-                Ok(()) => Gave {
-                    answer: Ok(counts),
-                    sources,
-                },
-                Err(fault) => Gave {
-                    answer: Err(fault),
-                    sources,
-                },
-            },
-            Err(fault) => Gave {
-                answer: Err(fault),
-                sources,
-            },
-        },
-        None => {
-            progress.show(Sight::Nothing);
-            Gave {
-                answer: Err(RunFault::OutOfMemory),
-                sources,
-            }
-        }
+    let Gave { answer, sources } = checked_on_copy(manner, sheet, sources, progress, writer);
+    Gave {
+        answer: tell_counts(manner.request.format, answer, progress, writer),
+        sources,
     }
 }
 
@@ -337,20 +277,19 @@ pub struct Checked<D: Disk, C> {
 /// of one field: what was reported before is written. `Output` where the writer fails: a part of the text may have
 /// gone out.
 pub fn check<D: Disk, C: Sources, W: Write, P: Progress>(
-    alloc: Global,
-    request: &Request,
+    manner: &Manner<'_>,
     disk: D,
     sources: C,
     progress: &mut P,
     writer: &mut W,
 ) -> Checked<D, C>
     ensures checked { CheckAnswer
-        (one_by_one (way C.after C.clock C.wakes request.now.limit) request.now.chosen request.now.format)
+        (one_by_one (way C.after C.clock C.wakes manner.now.request.now.limit) manner.now.request.now.chosen manner.now.request.now.format)
         (D.view disk) (passage sources result.sources (W.contents writer.old) (W.contents writer.new))
         ((writer.new ≡ writer.old) × (result.sources ≡ sources)) result.answer }
     ensures read { OnlyRead (D.view disk) (D.view result.disk) }
 
-    ensures shown { CheckShows (display request.now.format P.shows) request.now.chosen (D.view disk)
+    ensures shown { CheckShows (display manner.now.request.now.format P.shows) manner.now.request.now.chosen (D.view disk)
         progress.old progress.new result.answer }
 
     // That the disk failed is reported only where it did.
@@ -361,11 +300,10 @@ pub fn check<D: Disk, C: Sources, W: Write, P: Progress>(
     ensures steady { (result.answer ≡ Err (named.Run (reported.Open opens.Disk)) → ⊥)
         → (D.view result.disk).faults ≡ (D.view disk).faults }
 {
-    match Store::open(alloc, disk) {
+    match Store::open(manner.alloc, disk) {
         Ok(store) => {
             let Gave { answer, sources } = check_named(
-                alloc,
-                request,
+                manner,
                 store.sheet(),
                 sources,
                 progress,

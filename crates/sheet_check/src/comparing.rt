@@ -3,93 +3,96 @@ ghost use Rattle.std.specs.Prelude.{◌+◌, ◌≤◌, ◌<◌, ◌^◌, IfErr,
 ghost use Rattle.session_engine.specs.World.{World};
 ghost use Rattle.session_engine.specs.Host.{IsHost};
 ghost use Rattle.check_report.specs.Verdicts.{total};
-ghost use Rattle.sheet_check.specs.Progress.{FieldsLeft, FieldsShow, LeavesLine, display};
+ghost use Rattle.sheet_check.specs.Progress.{FieldsLeft, FieldsShow, LeavesLine, checked_count, display};
 ghost use Rattle.sheet_check.specs.inside.Checking.{FieldShown, Withheld};
 ghost use Rattle.sheet_check.specs.inside.Comparing.{FieldReported, FieldsReported, ReportBroke, comparing};
 
-use crate::checking::{show_counts, tell_opening};
+use crate::checking::tell_opening;
+use crate::driving::CopyDriver;
+use crate::manner::Manner;
 use crate::marked::is_in_time;
-use crate::marks::Mark;
 use crate::progress::Progress;
-use crate::telling::tell_what_came;
-use check_report::{Counts, Request};
+use crate::sessions::count_checked;
+use crate::telling::{Tried, tell_what_came};
+use crate::turns::Turn;
+use arrivals::Sources;
+use check_report::Counts;
 use disk_model::Disk;
 use offline_programs::RunFault;
-use session_engine::Host;
-use std::alloc::Global;
 use std::io::Write;
-use worksheet::{Field, Sheet};
+use worksheet::Sheet;
 
 /// Compares a field, where it is one of those that are checked, with what it shows on the copy, and tells what
 /// that came to. The counts with that, which are shown.
-fn compare_field<D: Disk, W: Write, P: Progress>(
-    alloc: Global,
-    request: &Request,
-    host: &Host<D>,
-    marks: &[Mark],
-    field: &Field,
-    counts: Counts,
-    all: u32,
+fn compare_field<D: Disk, C: Sources, W: Write, P: Progress>(
+    turn: &Turn<'_>,
+    driver: &CopyDriver<D, C>,
     progress: &mut P,
     writer: &mut W,
 ) -> Result<Counts, RunFault>
-    requires few { total counts < 2 ^ 31 }
-    requires errors { counts.errors ≤ total counts }
-    ensures ok { (w : World) → IsHost host.now w → IfOk result (FieldReported
-        (comparing request.now.chosen request.now.format w marks.now) field.now
-        (W.contents writer.old) (W.contents writer.new) counts) }
-    ensures bound { IfOk result (λ after. total after ≤ total counts + 1) }
+    requires few { total turn.now.counts < 2 ^ 31 }
+    requires errors { turn.now.counts.errors ≤ total turn.now.counts }
+    ensures ok { (w : World) → IsHost driver.now.host w → IfOk result (FieldReported
+        (comparing turn.now.manner.request.now.chosen turn.now.manner.request.now.format w driver.now.sink.kept) turn.now.field.now
+        (W.contents writer.old) (W.contents writer.new) turn.now.counts) }
+    ensures bound { IfOk result (λ after. total after ≤ total turn.now.counts + 1) }
     ensures errors { IfOk result (λ after. after.errors ≤ total after) }
     ensures err { IfErr result (Withheld (W.contents writer.old) (W.contents writer.new)) }
     ensures shown { IfOk result (λ after.
-        FieldShown (display request.now.format P.shows) all counts after progress.old progress.new) }
+        FieldShown (display turn.now.manner.request.now.format P.shows) turn.now.all turn.now.counts after progress.old progress.new) }
     ensures left { IfErr result (λ _. LeavesLine P.shows progress.old progress.new) }
 {
-    let number = counts.total() + 1;
-    let in_time = is_in_time(marks, field.id);
-    if !request.chosen.has(field) {
-        return Ok(counts);
+    if !turn.manner.request.chosen.has(turn.field) {
+        return Ok(turn.counts);
     }
-    match tell_what_came(
-        alloc, request, host, number, field, in_time, None, progress, writer,
-    ) {
-        Ok(judgement) => Ok(show_counts(counts.with(judgement), all, progress)),
+    let tried = Tried {
+        number: turn.number(),
+        field: turn.field,
+        is_there: is_in_time(driver.sink.kept.as_slice(), turn.field.id),
+        took: None,
+    };
+    match tell_what_came(&turn.manner, &driver.host, &tried, progress, writer) {
+        Ok(judgement) => Ok(turn.counted(judgement, progress)),
         Err(fault) => Err(fault),
     }
 }
 
 /// Compares the fields of a worksheet in their order, after what stands first in their report.
-pub(crate) fn compare_fields<D: Disk, W: Write, P: Progress>(
-    alloc: Global,
-    request: &Request,
+pub(crate) fn compare_fields<D: Disk, C: Sources, W: Write, P: Progress>(
+    manner: &Manner<'_>,
     sheet: &Sheet,
-    host: &Host<D>,
-    marks: &[Mark],
-    all: u32,
+    driver: &CopyDriver<D, C>,
     progress: &mut P,
     writer: &mut W,
 ) -> Result<Counts, RunFault>
     requires { length sheet.now.contents.fields < 2 ^ 31 }
-    ensures ok { (w : World) → IsHost host.now w → IfOk result (FieldsReported
-        (comparing request.now.chosen request.now.format w marks.now) sheet.now.contents.fields
+    ensures ok { (w : World) → IsHost driver.now.host w → IfOk result (FieldsReported
+        (comparing manner.now.request.now.chosen manner.now.request.now.format w driver.now.sink.kept) sheet.now.contents.fields
         (W.contents writer.old) (W.contents writer.new)) }
-    ensures err { (w : World) → IsHost host.now w → IfErr result (ReportBroke
-        (comparing request.now.chosen request.now.format w marks.now) sheet.now.contents.fields
+    ensures err { (w : World) → IsHost driver.now.host w → IfErr result (ReportBroke
+        (comparing manner.now.request.now.chosen manner.now.request.now.format w driver.now.sink.kept) sheet.now.contents.fields
         (W.contents writer.old) (W.contents writer.new)) }
     ensures shown { IfOk result (λ counts.
-        FieldsShow (display request.now.format P.shows) all progress.old counts progress.new) }
+        FieldsShow (display manner.now.request.now.format P.shows)
+        (checked_count manner.now.request.now.chosen sheet.now.contents.fields) progress.old counts progress.new) }
     ensures left { IfErr result (λ _.
-        FieldsLeft (display request.now.format P.shows) all progress.old progress.new) }
+        FieldsLeft (display manner.now.request.now.format P.shows)
+        (checked_count manner.now.request.now.chosen sheet.now.contents.fields) progress.old progress.new) }
 {
-    if let Err(fault) = tell_opening(request.format, writer) {
+    let all = count_checked(&manner.request.chosen, sheet);
+    if let Err(fault) = tell_opening(manner.request.format, writer) {
         return Err(fault);
     }
     let mut counts = Counts::none();
     let mut fields = sheet.fields();
     while let Some(field) = fields.next() {
-        match compare_field(
-            alloc, request, host, marks, field, counts, all, progress, writer,
-        ) {
+        let turn = Turn {
+            manner: *manner,
+            field,
+            counts,
+            all,
+        };
+        match compare_field(&turn, driver, progress, writer) {
             Ok(after) => counts = after,
             Err(fault) => return Err(fault),
         }

@@ -62,6 +62,20 @@ pub(crate) fn drive_copy<D: Disk, C: Sources>(
     }
 }
 
+/// The sources of a driver whose host ends here.
+pub(crate) fn into_sources<D: Disk, C: Sources>(driver: CopyDriver<D, C>) -> C
+    ensures { result ≡ driver.sources }
+{
+    let Driver {
+        alloc: _,
+        host: _,
+        sources,
+        sink: _,
+        agenda: _,
+    } = driver;
+    sources
+}
+
 /// What was answered, and the sources that are given back.
 pub(crate) struct Gave<T, C> {
     pub(crate) answer: T,

@@ -18,14 +18,14 @@ ghost use Rattle.sheet_check.specs.inside.Accepting.{GoesOn};
 use crate::accept_fields::accept_sheet;
 use crate::checking::check_sheet;
 use crate::driving::Gave;
+use crate::manner::{Beside, Manner};
 use crate::progress::Progress;
 use crate::together::check_by_sessions;
 use arrivals::Sources;
-use check_report::{Chosen, Counts, Ids, Request};
+use check_report::{Chosen, Counts, Ids};
 use disk_model::Disk;
 use offline_programs::RunFault;
 use recovery::Store;
-use std::alloc::Global;
 use std::io::Write;
 use worksheet::Sheet;
 
@@ -113,34 +113,31 @@ fn missing_named(chosen: &Chosen, sheet: &Sheet) -> Option<u32>
 
 /// Checks a worksheet, where it has the fields that are named.
 pub(crate) fn check_named<C: Sources, W: Write, P: Progress>(
-    alloc: Global,
-    request: &Request,
+    manner: &Manner<'_>,
     sheet: &Sheet,
     sources: C,
     progress: &mut P,
     writer: &mut W,
 ) -> Gave<Result<Counts, CheckFault>, C>
     requires { (ops : List Op) × Makes ops sheet.now.contents }
-    ensures checked { ByNames (missing_named request.now.chosen sheet.now.contents.fields)
+    ensures checked { ByNames (missing_named manner.now.request.now.chosen sheet.now.contents.fields)
         ((writer.new ≡ writer.old) × (result.sources ≡ sources))
         (SheetAnswer
-        (one_by_one (way C.after C.clock C.wakes request.now.limit) request.now.chosen request.now.format)
+        (one_by_one (way C.after C.clock C.wakes manner.now.request.now.limit) manner.now.request.now.chosen manner.now.request.now.format)
         sheet.now.contents (passage sources result.sources (W.contents writer.old) (W.contents writer.new))
         ((writer.new ≡ writer.old) × (result.sources ≡ sources))) result.answer }
-    ensures shown { ByNames (missing_named request.now.chosen sheet.now.contents.fields)
+    ensures shown { ByNames (missing_named manner.now.request.now.chosen sheet.now.contents.fields)
         (progress.new ≡ progress.old)
-        (SheetShows (display request.now.format P.shows)
-        (checked_count request.now.chosen sheet.now.contents.fields) progress.old progress.new) result.answer }
+        (SheetShows (display manner.now.request.now.format P.shows)
+        (checked_count manner.now.request.now.chosen sheet.now.contents.fields) progress.old progress.new) result.answer }
 {
-    match missing_named(&request.chosen, sheet) {
+    match missing_named(&manner.request.chosen, sheet) {
         Some(id) => Gave {
             answer: Err(CheckFault::NoField(id)),
             sources,
         },
         None => {
-            let Gave { answer, sources } = check_sheet(
-                alloc, request, sheet, sources, progress, writer,
-            );
+            let Gave { answer, sources } = check_sheet(manner, sheet, sources, progress, writer);
             Gave {
                 answer: answer_as(answer),
                 sources,
@@ -151,34 +148,32 @@ pub(crate) fn check_named<C: Sources, W: Write, P: Progress>(
 
 /// The same, side by side where the fields that are checked are of several sessions.
 pub(crate) fn check_named_together<C: Sources, W: Write, P: Progress>(
-    alloc: Global,
-    request: &Request,
-    jobs: u32,
+    beside: &Beside<'_>,
     sheet: &Sheet,
     sources: C,
     progress: &mut P,
     writer: &mut W,
 ) -> Gave<Result<Counts, CheckFault>, C>
     requires { (ops : List Op) × Makes ops sheet.now.contents }
-    ensures checked { ByNames (missing_named request.now.chosen sheet.now.contents.fields)
+    ensures checked { ByNames (missing_named beside.now.manner.request.now.chosen sheet.now.contents.fields)
         ((writer.new ≡ writer.old) × (result.sources ≡ sources))
         (TellsBySessions
-        (side_by_side (way C.after C.clock C.wakes request.now.limit) jobs request.now.chosen request.now.format)
+        (side_by_side (way C.after C.clock C.wakes beside.now.manner.request.now.limit) beside.now.jobs beside.now.manner.request.now.chosen beside.now.manner.request.now.format)
         sheet.now.contents (passage sources result.sources (W.contents writer.old) (W.contents writer.new))
         ((writer.new ≡ writer.old) × (result.sources ≡ sources))) result.answer }
-    ensures shown { ByNames (missing_named request.now.chosen sheet.now.contents.fields)
+    ensures shown { ByNames (missing_named beside.now.manner.request.now.chosen sheet.now.contents.fields)
         (progress.new ≡ progress.old)
-        (SheetShows (display request.now.format P.shows)
-        (checked_count request.now.chosen sheet.now.contents.fields) progress.old progress.new) result.answer }
+        (SheetShows (display beside.now.manner.request.now.format P.shows)
+        (checked_count beside.now.manner.request.now.chosen sheet.now.contents.fields) progress.old progress.new) result.answer }
 {
-    match missing_named(&request.chosen, sheet) {
+    match missing_named(&beside.manner.request.chosen, sheet) {
         Some(id) => Gave {
             answer: Err(CheckFault::NoField(id)),
             sources,
         },
         None => {
             let Gave { answer, sources } = check_by_sessions(
-                alloc, request, jobs, sheet, sources, progress, writer,
+                beside, sheet, sources, progress, writer,
             );
             Gave {
                 answer: answer_as(answer),
@@ -190,8 +185,7 @@ pub(crate) fn check_named_together<C: Sources, W: Write, P: Progress>(
 
 /// The same of the worksheet of a store, and accepts the answers that differ or are new.
 pub(crate) fn accept_named<S: Disk, C: Sources, W: Write, P: Progress>(
-    alloc: Global,
-    request: &Request,
+    manner: &Manner<'_>,
     sources: C,
     store: &mut Store<S>,
     progress: &mut P,
@@ -201,28 +195,26 @@ pub(crate) fn accept_named<S: Disk, C: Sources, W: Write, P: Progress>(
     requires goes_on { GoesOn store.old.sheet.contents store.old }
     ensures written { store.old.gathers ≡ false → store.new.gathers ≡ false }
     ensures accepted { (ops : List Op) → (disk : DiskView) → Stores ops [] disk store.old
-        → ByNames (missing_named request.now.chosen store.old.sheet.contents.fields)
+        → ByNames (missing_named manner.now.request.now.chosen store.old.sheet.contents.fields)
         (((writer.new ≡ writer.old) × (result.sources ≡ sources)) × (store.new ≡ store.old))
         (SheetAccepts
-        (to_accept (way C.after C.clock C.wakes request.now.limit) request.now.chosen)
+        (to_accept (way C.after C.clock C.wakes manner.now.request.now.limit) manner.now.request.now.chosen)
         store.old.sheet.contents
         (passage sources result.sources (W.contents writer.old) (W.contents writer.new))
         ((writer.new ≡ writer.old) × (result.sources ≡ sources)) (filing ops disk store.new.disk)) result.answer }
-    ensures shown { ByNames (missing_named request.now.chosen store.old.sheet.contents.fields)
+    ensures shown { ByNames (missing_named manner.now.request.now.chosen store.old.sheet.contents.fields)
         (progress.new ≡ progress.old)
         (SheetShows (display formats.Accepting P.shows)
-        (checked_count request.now.chosen store.old.sheet.contents.fields) progress.old progress.new) result.answer }
+        (checked_count manner.now.request.now.chosen store.old.sheet.contents.fields) progress.old progress.new) result.answer }
 {
-    let missing = missing_named(&request.chosen, store.sheet());
+    let missing = missing_named(&manner.request.chosen, store.sheet());
     match missing {
         Some(id) => Gave {
             answer: Err(CheckFault::NoField(id)),
             sources,
         },
         None => {
-            let Gave { answer, sources } = accept_sheet(
-                alloc, request, sources, store, progress, writer,
-            );
+            let Gave { answer, sources } = accept_sheet(manner, sources, store, progress, writer);
             Gave {
                 answer: answer_as(answer),
                 sources,

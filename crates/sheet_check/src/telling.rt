@@ -5,15 +5,16 @@ ghost use Rattle.session_engine.specs.World.{World};
 ghost use Rattle.session_engine.specs.Host.{IsHost};
 ghost use Rattle.check_report.specs.Chosen.{Judged};
 ghost use Rattle.check_report.specs.Errors as errors;
-ghost use Rattle.check_report.specs.Reports.{case as case_of, case_text};
+ghost use Rattle.check_report.specs.Reports.{case as case_of, case_in, case_text};
 ghost use Rattle.sheet_check.specs.Evaluated.{came_if, reason_shown_in, shown_in};
 ghost use Rattle.sheet_check.specs.Progress.{LeavesLine, MakesRoom};
 ghost use Rattle.sheet_check.specs.inside.Checking.{Withheld};
 
+use crate::manner::Manner;
 use crate::progress::{Progress, Sight};
 use block_tree::Reason;
 use check_report::{
-    Format, Judgement, ReportFault, Request, Verdict, brings_error, is_written, report_case,
+    Case, Format, Judgement, ReportFault, Verdict, brings_error, is_written, report_case,
 };
 use disk_model::Disk;
 use offline_programs::RunFault;
@@ -22,6 +23,25 @@ use sheet_json::Took;
 use std::alloc::Global;
 use std::io::Write;
 use worksheet::{Answer, Field};
+
+/// A field that was evaluated again.
+#[derive(Clone, Copy)]
+pub(crate) struct Tried<'a> {
+    /// Which case of the report it is.
+    pub(crate) number: u64,
+    pub(crate) field: &'a Field,
+    /// Whether the answer that it shows on the copy then is one that came.
+    pub(crate) is_there: bool,
+    /// What the evaluation took, where that is known.
+    pub(crate) took: Option<Took>,
+}
+
+/// The answer that came to a field, where one did, and the reason that it shows for none.
+#[derive(Clone, Copy)]
+struct Answered<'a> {
+    came: &'a Option<Answer>,
+    lost: Option<Reason>,
+}
 
 /// Takes the line of progress away, where what a field came to is written.
 pub(crate) fn make_room<P: Progress>(format: Format, verdict: Verdict, progress: &mut P)
@@ -32,173 +52,137 @@ pub(crate) fn make_room<P: Progress>(format: Format, verdict: Verdict, progress:
     }
 }
 
-/// Tells what a field came to, which is the case of this number.
+/// Tells a case.
 ///
 /// `OutOfMemory`: nothing was written. `Output`: a part may have gone out.
 fn tell_case<W: Write>(
     alloc: Global,
     format: Format,
-    number: u64,
-    field: &Field,
-    came: &Option<Answer>,
-    lost: Option<Reason>,
-    verdict: Verdict,
-    took: Option<Took>,
+    case: &Case<'_>,
     writer: &mut W,
 ) -> Result<(), RunFault>
     ensures ok { OnOk result (Appends (W.contents writer.old) (W.contents writer.new)
-        (case_text format number (case_of field.now came.now lost verdict took))) }
+        (case_text format case.now.number (case_in case.now))) }
     ensures err { IfErr result (Withheld (W.contents writer.old) (W.contents writer.new)) }
 {
-    match report_case(
-        alloc, format, number, field, came, lost, verdict, took, writer,
-    ) {
+    match report_case(alloc, format, case, writer) {
         Ok(()) => Ok(()),
         Err(ReportFault::OutOfMemory) => Err(RunFault::OutOfMemory),
         Err(ReportFault::Output) => Err(RunFault::Output),
     }
 }
 
-/// Tells a field whose verdict is known, in the place of the line of progress.
+/// The same, in the place of the line of progress.
 fn tell_in_its_place<W: Write, P: Progress>(
-    alloc: Global,
-    format: Format,
-    number: u64,
-    field: &Field,
-    came: &Option<Answer>,
-    lost: Option<Reason>,
-    verdict: Verdict,
-    took: Option<Took>,
+    manner: &Manner<'_>,
+    case: &Case<'_>,
     progress: &mut P,
     writer: &mut W,
 ) -> Result<(), RunFault>
     ensures ok { OnOk result (Appends (W.contents writer.old) (W.contents writer.new)
-        (case_text format number (case_of field.now came.now lost verdict took))) }
+        (case_text manner.now.request.now.format case.now.number (case_in case.now))) }
     ensures err { IfErr result (Withheld (W.contents writer.old) (W.contents writer.new)) }
-    ensures room { MakesRoom format P.shows verdict progress.old progress.new }
+    ensures room { MakesRoom manner.now.request.now.format P.shows case.now.verdict progress.old progress.new }
 {
-    make_room(format, verdict, progress);
-    tell_case(
-        alloc, format, number, field, came, lost, verdict, took, writer,
-    )
+    make_room(manner.request.format, case.verdict, progress);
+    tell_case(manner.alloc, manner.request.format, case, writer)
 }
 
-/// Judges the answer that came by the one that a field shows, and tells what that came to.
+/// Judges the answer that came to a field by the one that it shows, and tells what that came to.
 fn tell_verdict<W: Write, P: Progress>(
-    alloc: Global,
-    request: &Request,
-    number: u64,
-    field: &Field,
-    came: &Option<Answer>,
-    lost: Option<Reason>,
-    took: Option<Took>,
+    manner: &Manner<'_>,
+    tried: &Tried<'_>,
+    answered: &Answered<'_>,
     progress: &mut P,
     writer: &mut W,
 ) -> Result<Judgement, RunFault>
-    ensures ok { IfOk result (λ j. Judged request.now.chosen field.now came.now j.verdict
-        × (j.error ≡ errors.brings_error came.now)
+    ensures ok { IfOk result (λ j. Judged manner.now.request.now.chosen tried.now.field.now answered.now.came.now j.verdict
+        × (j.error ≡ errors.brings_error answered.now.came.now)
         × Appends (W.contents writer.old) (W.contents writer.new)
-        (case_text request.now.format number (case_of field.now came.now lost j.verdict took))) }
+        (case_text manner.now.request.now.format tried.now.number
+        (case_of tried.now.field.now answered.now.came.now answered.now.lost j.verdict tried.now.took))) }
     ensures err { IfErr result (Withheld (W.contents writer.old) (W.contents writer.new)) }
     ensures room { IfOk result (λ j.
-        MakesRoom request.now.format P.shows j.verdict progress.old progress.new) }
+        MakesRoom manner.now.request.now.format P.shows j.verdict progress.old progress.new) }
     ensures left { IfErr result (λ _. LeavesLine P.shows progress.old progress.new) }
 {
-    let verdict = request.chosen.judge(field, came);
-    match tell_in_its_place(
-        alloc,
-        request.format,
-        number,
-        field,
-        came,
-        lost,
+    let verdict = manner.request.chosen.judge(tried.field, answered.came);
+    let case = Case {
+        number: tried.number,
+        field: tried.field,
+        came: answered.came,
+        lost: answered.lost,
         verdict,
-        took,
-        progress,
-        writer,
-    ) {
+        took: tried.took,
+    };
+    match tell_in_its_place(manner, &case, progress, writer) {
         Ok(()) => Ok(Judgement {
             verdict,
-            error: brings_error(came),
+            error: brings_error(answered.came),
         }),
         Err(fault) => Err(fault),
     }
 }
 
-/// The same of a field that shows this answer, or this reason, on the copy now; it came where the line was
-/// asked.
+/// Tells what a field came to that shows this now on the copy.
 fn tell_shown<W: Write, P: Progress>(
-    alloc: Global,
-    request: &Request,
-    number: u64,
-    field: &Field,
-    now: &Option<Answer>,
-    lost: Option<Reason>,
-    asked: bool,
-    took: Option<Took>,
+    manner: &Manner<'_>,
+    tried: &Tried<'_>,
+    now: &Field,
     progress: &mut P,
     writer: &mut W,
 ) -> Result<Judgement, RunFault>
     ensures ok { IfOk result (λ j.
-        Judged request.now.chosen field.now (came_if asked now.now) j.verdict
-        × (j.error ≡ errors.brings_error (came_if asked now.now))
+        Judged manner.now.request.now.chosen tried.now.field.now (came_if tried.now.is_there now.now.answer) j.verdict
+        × (j.error ≡ errors.brings_error (came_if tried.now.is_there now.now.answer))
         × Appends (W.contents writer.old) (W.contents writer.new)
-        (case_text request.now.format number
-        (case_of field.now (came_if asked now.now) lost j.verdict took))) }
+        (case_text manner.now.request.now.format tried.now.number
+        (case_of tried.now.field.now (came_if tried.now.is_there now.now.answer) now.now.lost j.verdict tried.now.took))) }
     ensures err { IfErr result (Withheld (W.contents writer.old) (W.contents writer.new)) }
     ensures room { IfOk result (λ j.
-        MakesRoom request.now.format P.shows j.verdict progress.old progress.new) }
+        MakesRoom manner.now.request.now.format P.shows j.verdict progress.old progress.new) }
     ensures left { IfErr result (λ _. LeavesLine P.shows progress.old progress.new) }
 {
-    if asked {
-        tell_verdict(
-            alloc, request, number, field, now, lost, took, progress, writer,
-        )
+    let lost = now.lost;
+    if tried.is_there {
+        let answered = Answered {
+            came: &now.answer,
+            lost,
+        };
+        tell_verdict(manner, tried, &answered, progress, writer)
     } else {
-        tell_verdict(
-            alloc, request, number, field, &None, lost, took, progress, writer,
-        )
+        let answered = Answered { came: &None, lost };
+        tell_verdict(manner, tried, &answered, progress, writer)
     }
 }
 
-/// The same with the answer that the field shows on the copy now.
+/// The same, with what the field shows on the copy now.
 pub(crate) fn tell_what_came<D: Disk, W: Write, P: Progress>(
-    alloc: Global,
-    request: &Request,
+    manner: &Manner<'_>,
     host: &Host<D>,
-    number: u64,
-    field: &Field,
-    asked: bool,
-    took: Option<Took>,
+    tried: &Tried<'_>,
     progress: &mut P,
     writer: &mut W,
 ) -> Result<Judgement, RunFault>
     ensures ok { (w : World) → IsHost host.now w → IfOk result (λ j.
-        Judged request.now.chosen field.now (came_if asked (shown_in w field.now.id)) j.verdict
-        × (j.error ≡ errors.brings_error (came_if asked (shown_in w field.now.id)))
+        Judged manner.now.request.now.chosen tried.now.field.now (came_if tried.now.is_there (shown_in w tried.now.field.now.id)) j.verdict
+        × (j.error ≡ errors.brings_error (came_if tried.now.is_there (shown_in w tried.now.field.now.id)))
         × Appends (W.contents writer.old) (W.contents writer.new)
-        (case_text request.now.format number
-        (case_of field.now (came_if asked (shown_in w field.now.id)) (reason_shown_in w field.now.id) j.verdict took))) }
+        (case_text manner.now.request.now.format tried.now.number
+        (case_of tried.now.field.now (came_if tried.now.is_there (shown_in w tried.now.field.now.id)) (reason_shown_in w tried.now.field.now.id) j.verdict tried.now.took))) }
     ensures err { IfErr result (Withheld (W.contents writer.old) (W.contents writer.new)) }
     ensures room { IfOk result (λ j.
-        MakesRoom request.now.format P.shows j.verdict progress.old progress.new) }
+        MakesRoom manner.now.request.now.format P.shows j.verdict progress.old progress.new) }
     ensures left { IfErr result (λ _. LeavesLine P.shows progress.old progress.new) }
 {
-    match host.sheet().field(field.id) {
-        None => tell_shown(
-            alloc, request, number, field, &None, None, asked, took, progress, writer,
-        ),
-        Some(now) => tell_shown(
-            alloc,
-            request,
-            number,
-            field,
-            &now.answer,
-            now.lost,
-            asked,
-            took,
-            progress,
-            writer,
-        ),
+    match host.sheet().field(tried.field.id) {
+        None => {
+            let answered = Answered {
+                came: &None,
+                lost: None,
+            };
+            tell_verdict(manner, tried, &answered, progress, writer)
+        }
+        Some(now) => tell_shown(manner, tried, now, progress, writer),
     }
 }

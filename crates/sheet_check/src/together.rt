@@ -16,47 +16,46 @@ ghost use Rattle.sheet_check.specs.Progress.{CheckShows, FieldsLeft, FieldsShow,
 ghost use Rattle.sheet_check.specs.Together.{TellsBySessions, TellsTogether, TogetherAnswer, TogetherTells, cleared, side_by_side};
 ghost use Rattle.sheet_check.specs.inside.Comparing.{BrokeTogether, CameTogether, EndedTogether, FailedTogether, OnCleared, ReportedTogether};
 
-use crate::checking::{Checked, check_sheet, tell_closing};
+use crate::checking::{Checked, check_sheet};
 use crate::clearing::{checked_ids, open_cleared};
+use crate::closing::tell_counts;
 use crate::comparing::compare_fields;
-use crate::driving::{CopyDriver, Gave, checking_plan, drive_copy, drive_plan};
+use crate::driving::{CopyDriver, Gave, checking_plan, drive_copy, drive_plan, into_sources};
 use crate::evaluating::wait_fault;
+use crate::manner::Beside;
 use crate::named::{CheckFault, check_named_together};
 use crate::progress::{Progress, Sight};
-use crate::sessions::{count_checked, has_several};
+use crate::sessions::has_several;
 use arrivals::Sources;
-use check_report::{Counts, Request};
+use check_report::Counts;
 use child_edge::stop_all;
 use disk_model::Disk;
-use driver::Driver;
 use journal::OpenFault;
 use offline_programs::RunFault;
 use recovery::Store;
-use std::alloc::Global;
 use std::io::Write;
 use worksheet::Sheet;
 
 /// Evaluates the fields of a worksheet that are checked, on a copy of it. The marks of that are in the driver's
 /// sink.
 fn evaluate_checked<D: Disk, C: Sources>(
-    alloc: Global,
-    request: &Request,
-    jobs: u32,
+    beside: &Beside<'_>,
     sheet: &Sheet,
     driver: &mut CopyDriver<D, C>,
 ) -> Result<(), RunFault>
     requires { (w : World) × IsHost driver.old.host w }
     ensures ok { (w : World) → IsHost driver.old.host w → IfOk result (λ done. CameTogether
-        (side_by_side (way C.after C.clock C.wakes request.now.limit) jobs request.now.chosen request.now.format)
+        (side_by_side (way C.after C.clock C.wakes beside.now.manner.request.now.limit) beside.now.jobs beside.now.manner.request.now.chosen beside.now.manner.request.now.format)
         sheet.now.contents.fields (at w driver.old.sources driver.old.host.store.disk) driver.new.host driver.new.sources driver.new.sink.kept) }
     ensures err { (w : World) → IsHost driver.old.host w → IfErr result (BrokeTogether
-        (side_by_side (way C.after C.clock C.wakes request.now.limit) jobs request.now.chosen request.now.format)
+        (side_by_side (way C.after C.clock C.wakes beside.now.manner.request.now.limit) beside.now.jobs beside.now.manner.request.now.chosen beside.now.manner.request.now.format)
         sheet.now.contents.fields (at w driver.old.sources driver.old.host.store.disk) driver.new.host driver.new.sources) }
 {
-    let Ok(ids) = checked_ids(alloc, &request.chosen, sheet) else {
+    let manner = beside.manner;
+    let Ok(ids) = checked_ids(manner.alloc, &manner.request.chosen, sheet) else {
         return Err(RunFault::OutOfMemory);
     };
-    let plan = checking_plan(ids, request.limit, jobs);
+    let plan = checking_plan(ids, manner.request.limit, beside.jobs);
     match drive_plan(driver, plan) {
         Ok(()) => Ok(()),
         Err(fault) => Err(wait_fault(fault)),
@@ -65,50 +64,38 @@ fn evaluate_checked<D: Disk, C: Sources>(
 
 /// The same, and then compares them with the worksheet, and reports them.
 fn check_together_on<D: Disk, C: Sources, W: Write, P: Progress>(
-    alloc: Global,
-    request: &Request,
-    jobs: u32,
+    beside: &Beside<'_>,
     sheet: &Sheet,
     driver: &mut CopyDriver<D, C>,
-    all: u32,
     progress: &mut P,
     writer: &mut W,
 ) -> Result<Counts, RunFault>
     requires few { length sheet.now.contents.fields < 2 ^ 31 }
     requires stands { (w : World) × IsHost driver.old.host w }
     ensures ok { (w : World) → IsHost driver.old.host w → IfOk result (ReportedTogether
-        (side_by_side (way C.after C.clock C.wakes request.now.limit) jobs request.now.chosen request.now.format)
+        (side_by_side (way C.after C.clock C.wakes beside.now.manner.request.now.limit) beside.now.jobs beside.now.manner.request.now.chosen beside.now.manner.request.now.format)
         sheet.now.contents.fields (at w driver.old.sources driver.old.host.store.disk)
         (left driver.new.host driver.new.sources (W.contents writer.old) (W.contents writer.new))) }
     ensures err { (w : World) → IsHost driver.old.host w → IfErr result (FailedTogether
-        (side_by_side (way C.after C.clock C.wakes request.now.limit) jobs request.now.chosen request.now.format)
+        (side_by_side (way C.after C.clock C.wakes beside.now.manner.request.now.limit) beside.now.jobs beside.now.manner.request.now.chosen beside.now.manner.request.now.format)
         sheet.now.contents.fields (at w driver.old.sources driver.old.host.store.disk)
         (left driver.new.host driver.new.sources (W.contents writer.old) (W.contents writer.new))) }
     ensures shown { IfOk result (λ counts.
-        FieldsShow (display request.now.format P.shows) all progress.old counts progress.new) }
+        FieldsShow (display beside.now.manner.request.now.format P.shows)
+        (checked_count beside.now.manner.request.now.chosen sheet.now.contents.fields) progress.old counts progress.new) }
     ensures left { IfErr result (λ _.
-        FieldsLeft (display request.now.format P.shows) all progress.old progress.new) }
+        FieldsLeft (display beside.now.manner.request.now.format P.shows)
+        (checked_count beside.now.manner.request.now.chosen sheet.now.contents.fields) progress.old progress.new) }
 {
-    match evaluate_checked(alloc, request, jobs, sheet, driver) {
-        Ok(()) => compare_fields(
-            alloc,
-            request,
-            sheet,
-            &driver.host,
-            driver.sink.kept.as_slice(),
-            all,
-            progress,
-            writer,
-        ),
+    match evaluate_checked(beside, sheet, driver) {
+        Ok(()) => compare_fields(&beside.manner, sheet, driver, progress, writer),
         Err(fault) => Err(fault),
     }
 }
 
 /// The same, and then the line of progress is taken away, and each life that goes on is stopped.
 fn check_together_and_stop<D: Disk, C: Sources, W: Write, P: Progress>(
-    alloc: Global,
-    request: &Request,
-    jobs: u32,
+    beside: &Beside<'_>,
     sheet: &Sheet,
     driver: &mut CopyDriver<D, C>,
     progress: &mut P,
@@ -117,21 +104,20 @@ fn check_together_and_stop<D: Disk, C: Sources, W: Write, P: Progress>(
     requires few { length sheet.now.contents.fields < 2 ^ 31 }
     requires stands { (w : World) × IsHost driver.old.host w }
     ensures ok { (w : World) → IsHost driver.old.host w
-        → IsCopy (cleared request.now.chosen sheet.now.contents.fields sheet.now.contents) w driver.old.host.store.disk
+        → IsCopy (cleared beside.now.manner.request.now.chosen sheet.now.contents.fields sheet.now.contents) w driver.old.host.store.disk
         → IfOk result (EndedTogether
-        (side_by_side (way C.after C.clock C.wakes request.now.limit) jobs request.now.chosen request.now.format)
+        (side_by_side (way C.after C.clock C.wakes beside.now.manner.request.now.limit) beside.now.jobs beside.now.manner.request.now.chosen beside.now.manner.request.now.format)
         sheet.now.contents (passage driver.old.sources driver.new.sources (W.contents writer.old) (W.contents writer.new))) }
     ensures err { (w : World) → IsHost driver.old.host w
-        → IsCopy (cleared request.now.chosen sheet.now.contents.fields sheet.now.contents) w driver.old.host.store.disk
+        → IsCopy (cleared beside.now.manner.request.now.chosen sheet.now.contents.fields sheet.now.contents) w driver.old.host.store.disk
         → IfErr result (TellsTogether
-        (side_by_side (way C.after C.clock C.wakes request.now.limit) jobs request.now.chosen request.now.format)
+        (side_by_side (way C.after C.clock C.wakes beside.now.manner.request.now.limit) beside.now.jobs beside.now.manner.request.now.chosen beside.now.manner.request.now.format)
         sheet.now.contents (passage driver.old.sources driver.new.sources (W.contents writer.old) (W.contents writer.new)) ⊥) }
-    ensures shown { SheetShows (display request.now.format P.shows)
-        (checked_count request.now.chosen sheet.now.contents.fields)
+    ensures shown { SheetShows (display beside.now.manner.request.now.format P.shows)
+        (checked_count beside.now.manner.request.now.chosen sheet.now.contents.fields)
         progress.old progress.new result }
 {
-    let all = count_checked(&request.chosen, sheet);
-    let counted = check_together_on(alloc, request, jobs, sheet, driver, all, progress, writer);
+    let counted = check_together_on(beside, sheet, driver, progress, writer);
     progress.show(Sight::Nothing);
     stop_all(&driver.host, &mut driver.sources);
     counted
@@ -139,9 +125,7 @@ fn check_together_and_stop<D: Disk, C: Sources, W: Write, P: Progress>(
 
 /// Checks a worksheet on a copy of it, whose host ends here. None where there is no memory for the copy.
 fn together_on_copy<C: Sources, W: Write, P: Progress>(
-    alloc: Global,
-    request: &Request,
-    jobs: u32,
+    beside: &Beside<'_>,
     sheet: &Sheet,
     sources: C,
     progress: &mut P,
@@ -152,46 +136,30 @@ fn together_on_copy<C: Sources, W: Write, P: Progress>(
     ensures none { IfNone result.answer ((result.sources ≡ sources) × (writer.new ≡ writer.old)
         × (progress.new ≡ progress.old)) }
     ensures some { IfSome result.answer (OnCleared
-        (side_by_side (way C.after C.clock C.wakes request.now.limit) jobs request.now.chosen request.now.format)
+        (side_by_side (way C.after C.clock C.wakes beside.now.manner.request.now.limit) beside.now.jobs beside.now.manner.request.now.chosen beside.now.manner.request.now.format)
         sheet.now.contents (passage sources result.sources (W.contents writer.old) (W.contents writer.new))) }
-    ensures shown { IfSome result.answer (λ counted. SheetShows (display request.now.format P.shows)
-        (checked_count request.now.chosen sheet.now.contents.fields)
+    ensures shown { IfSome result.answer (λ counted. SheetShows (display beside.now.manner.request.now.format P.shows)
+        (checked_count beside.now.manner.request.now.chosen sheet.now.contents.fields)
         progress.old progress.new counted) }
 {
-    let Some(host) = open_cleared(alloc, &request.chosen, sheet) else {
+    let manner = beside.manner;
+    let Some(host) = open_cleared(manner.alloc, &manner.request.chosen, sheet) else {
         return Gave {
             answer: None,
             sources,
         };
     };
-    let mut driver = drive_copy(alloc, host, sources);
-    let counted = check_together_and_stop(
-        alloc,
-        request,
-        jobs,
-        sheet,
-        &mut driver,
-        progress,
-        writer,
-    );
-    let Driver {
-        alloc: _,
-        host: _,
-        sources,
-        sink: _,
-        agenda: _,
-    } = driver;
+    let mut driver = drive_copy(manner.alloc, host, sources);
+    let counted = check_together_and_stop(beside, sheet, &mut driver, progress, writer);
     Gave {
         answer: Some(counted),
-        sources,
+        sources: into_sources(driver),
     }
 }
 
 /// Checks a worksheet on a copy of it, and tells the counts.
 fn check_sheet_together<C: Sources, W: Write, P: Progress>(
-    alloc: Global,
-    request: &Request,
-    jobs: u32,
+    beside: &Beside<'_>,
     sheet: &Sheet,
     sources: C,
     progress: &mut P,
@@ -199,50 +167,25 @@ fn check_sheet_together<C: Sources, W: Write, P: Progress>(
 ) -> Gave<Result<Counts, RunFault>, C>
     requires { (ops : List Op) × Makes ops sheet.now.contents }
     ensures checked { TogetherTells
-        (side_by_side (way C.after C.clock C.wakes request.now.limit) jobs request.now.chosen request.now.format)
+        (side_by_side (way C.after C.clock C.wakes beside.now.manner.request.now.limit) beside.now.jobs beside.now.manner.request.now.chosen beside.now.manner.request.now.format)
         sheet.now.contents (passage sources result.sources (W.contents writer.old) (W.contents writer.new))
         ((writer.new ≡ writer.old) × (result.sources ≡ sources)) result.answer }
-    ensures shown { SheetShows (display request.now.format P.shows)
-        (checked_count request.now.chosen sheet.now.contents.fields)
+    ensures shown { SheetShows (display beside.now.manner.request.now.format P.shows)
+        (checked_count beside.now.manner.request.now.chosen sheet.now.contents.fields)
         progress.old progress.new result.answer }
 {
     worksheet::laws::ops_make_worksheets();
-    let Gave { answer, sources } = together_on_copy(
-        alloc, request, jobs, sheet, sources, progress, writer,
-    );
-    match answer {
-        Some(counted) => match counted {
-            Ok(counts) => match tell_closing(request.format, counts, writer) {
-                Ok(()) => Gave {
-                    answer: Ok(counts),
-                    sources,
-                },
-                Err(fault) => Gave {
-                    answer: Err(fault),
-                    sources,
-                },
-            },
-            Err(fault) => Gave {
-                answer: Err(fault),
-                sources,
-            },
-        },
-        None => {
-            progress.show(Sight::Nothing);
-            Gave {
-                answer: Err(RunFault::OutOfMemory),
-                sources,
-            }
-        }
+    let Gave { answer, sources } = together_on_copy(beside, sheet, sources, progress, writer);
+    Gave {
+        answer: tell_counts(beside.manner.request.format, answer, progress, writer),
+        sources,
     }
 }
 
 /// Checks a worksheet on a copy of it, and tells the counts: side by side where the fields that are checked are of
 /// several sessions, and else one after another.
 pub(crate) fn check_by_sessions<C: Sources, W: Write, P: Progress>(
-    alloc: Global,
-    request: &Request,
-    jobs: u32,
+    beside: &Beside<'_>,
     sheet: &Sheet,
     sources: C,
     progress: &mut P,
@@ -250,17 +193,17 @@ pub(crate) fn check_by_sessions<C: Sources, W: Write, P: Progress>(
 ) -> Gave<Result<Counts, RunFault>, C>
     requires { (ops : List Op) × Makes ops sheet.now.contents }
     ensures checked { TellsBySessions
-        (side_by_side (way C.after C.clock C.wakes request.now.limit) jobs request.now.chosen request.now.format)
+        (side_by_side (way C.after C.clock C.wakes beside.now.manner.request.now.limit) beside.now.jobs beside.now.manner.request.now.chosen beside.now.manner.request.now.format)
         sheet.now.contents (passage sources result.sources (W.contents writer.old) (W.contents writer.new))
         ((writer.new ≡ writer.old) × (result.sources ≡ sources)) result.answer }
-    ensures shown { SheetShows (display request.now.format P.shows)
-        (checked_count request.now.chosen sheet.now.contents.fields)
+    ensures shown { SheetShows (display beside.now.manner.request.now.format P.shows)
+        (checked_count beside.now.manner.request.now.chosen sheet.now.contents.fields)
         progress.old progress.new result.answer }
 {
-    if has_several(&request.chosen, sheet) {
-        check_sheet_together(alloc, request, jobs, sheet, sources, progress, writer)
+    if has_several(&beside.manner.request.chosen, sheet) {
+        check_sheet_together(beside, sheet, sources, progress, writer)
     } else {
-        check_sheet(alloc, request, sheet, sources, progress, writer)
+        check_sheet(&beside.manner, sheet, sources, progress, writer)
     }
 }
 
@@ -283,21 +226,19 @@ pub(crate) fn check_by_sessions<C: Sources, W: Write, P: Progress>(
 /// written. `OutOfMemory` where there is no memory for a line: what was reported before is written. `Output`
 /// where the writer fails: a part of the text may have gone out.
 pub fn check_together<D: Disk, C: Sources, W: Write, P: Progress>(
-    alloc: Global,
-    request: &Request,
-    jobs: u32,
+    beside: &Beside<'_>,
     disk: D,
     sources: C,
     progress: &mut P,
     writer: &mut W,
 ) -> Checked<D, C>
     ensures checked { TogetherAnswer
-        (side_by_side (way C.after C.clock C.wakes request.now.limit) jobs request.now.chosen request.now.format)
+        (side_by_side (way C.after C.clock C.wakes beside.now.manner.request.now.limit) beside.now.jobs beside.now.manner.request.now.chosen beside.now.manner.request.now.format)
         (D.view disk) (passage sources result.sources (W.contents writer.old) (W.contents writer.new))
         ((writer.new ≡ writer.old) × (result.sources ≡ sources)) result.answer }
     ensures read { OnlyRead (D.view disk) (D.view result.disk) }
 
-    ensures shown { CheckShows (display request.now.format P.shows) request.now.chosen (D.view disk)
+    ensures shown { CheckShows (display beside.now.manner.request.now.format P.shows) beside.now.manner.request.now.chosen (D.view disk)
         progress.old progress.new result.answer }
 
     // That the disk failed is reported only where it did.
@@ -308,12 +249,10 @@ pub fn check_together<D: Disk, C: Sources, W: Write, P: Progress>(
     ensures steady { (result.answer ≡ Err (named.Run (reported.Open opens.Disk)) → ⊥)
         → (D.view result.disk).faults ≡ (D.view disk).faults }
 {
-    match Store::open(alloc, disk) {
+    match Store::open(beside.manner.alloc, disk) {
         Ok(store) => {
             let Gave { answer, sources } = check_named_together(
-                alloc,
-                request,
-                jobs,
+                beside,
                 store.sheet(),
                 sources,
                 progress,

@@ -1,6 +1,6 @@
 -- Bytes written after bytes.
 use Rattle.std.proofs.KnownBytes.{Appends-trans, Appends-nil}
-use Rattle.std.proofs.Common.{◌≡◌, ℕ, Bool, true, false, cond, List, [], ◌∷◌, ◌++◌, map, flat_map, refl, ap, sym, ◌∙◌, subst, append-nil, Option, Some, None, length, take, get_or, ◌<◌, ◌≤◌, ◌+◌}
+use Rattle.std.proofs.Common.{◌≡◌, ℕ, Bool, true, false, cond, List, [], ◌∷◌, ◌++◌, map, flat_map, refl, ap, sym, ◌∙◌, subst, append-nil, Option, None, length, take, get_or, ◌<◌, ◌≤◌, ◌+◌}
 use Rattle.std.proofs.lemmas.List.{take_more, take_all}
 use Rattle.std.proofs.lemmas.Grind.{flat_map-append}
 use Rattle.std.specs.Io.KnownBytes.{Appends}
@@ -9,7 +9,6 @@ use Rattle.block_tree.specs.View.{piece_of, tree_of, piece_text, piece_block, tr
 use Rattle.block_tree.specs.declared.tree.Item.{Item}
 use Rattle.block_tree.specs.declared.tree.Node.{Node, out-Node}
 use Rattle.sheet_notebook.specs.Pictures.{is_output_tag, picture_of}
-use Rattle.sheet_export.specs.Pictures.{picture_html}
 use Rattle.sheet_export.specs.Html.{block_start, block_end, framed_html, is_unmarked, items_html, block_html, marked_html, piece_html, shown_html}
 
 pub ruleset steps = (Appends-trans, Appends-nil)
@@ -44,12 +43,6 @@ block_html_out in_output n none =
     ap (λ p. shown_html p in_output (tree_of n).channel (tree_of n).name (items_html (is_output_tag (tree_of n).channel (tree_of n).name) (tree_of n).items)) none
     ∙ ap (λ t. marked_html in_output t.channel t.name (items_html (is_output_tag t.channel t.name) t.items)) (tree_out n)
     ∙ ap (marked_html in_output channel name) (items_block_flat (is_output_tag channel name) (out-Node n).items.items)
-
--- one that is
-pub picture_html_out : (in_output : Bool) (n : Node) (given : List ℕ) → picture_of (tree_of n) ≡ Some given → block_html in_output (tree_of n) ≡ picture_html (out-Node n).tag.name given
-picture_html_out in_output n given some =
-    ap (λ p. shown_html p in_output (tree_of n).channel (tree_of n).name (items_html (is_output_tag (tree_of n).channel (tree_of n).name) (tree_of n).items)) some
-    ∙ ap (λ t. picture_html t.name given) (tree_out n)
 
 pub ruleset block_steps = (Appends-trans, Appends-nil, in_frame, piece_text, piece_block)
 

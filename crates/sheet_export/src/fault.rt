@@ -1,5 +1,5 @@
 //! Why a worksheet wasn't written in a format.
-ghost use Rattle.std.specs.Prelude.{◌≡◌, OnOk};
+ghost use Rattle.std.specs.Prelude.{OnOk};
 ghost use Rattle.std.specs.Io.KnownBytes.{Appends};
 ghost use Rattle.sheet_export.specs.Formats as printed;
 

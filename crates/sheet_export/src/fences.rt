@@ -10,9 +10,8 @@ ghost use Rattle.sheet_text.specs.Escape.{on_line, on_lines};
 ghost use Rattle.sheet_text.specs.Texts.{in_lines};
 
 use crate::fixed::write_bytes;
-use crate::html::is_bare_tag;
 use block_tree::{Block, Item, Node, Tag};
-use sheet_text::WriteFault;
+use sheet_text::{WriteFault, is_bare_tag};
 use std::io::Write;
 
 /// What the fence of a text must be, as far as the text goes.

@@ -1,5 +1,5 @@
 //! The fixed parts of a page, and bytes as they are.
-ghost use Rattle.std.specs.Prelude.{◌≡◌, OnOk};
+ghost use Rattle.std.specs.Prelude.{OnOk};
 ghost use Rattle.std.specs.Io.KnownBytes.{Appends};
 
 use sheet_text::WriteFault;

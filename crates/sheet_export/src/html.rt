@@ -2,7 +2,7 @@
 ghost use Rattle.std.specs.Prelude.{◌≡◌, ◌++◌, ◌∷◌, [], OnOk, false};
 ghost use Rattle.std.specs.Io.KnownBytes.{Appends};
 ghost use Rattle.block_tree.specs.View.{tree_of};
-ghost use Rattle.sheet_text.specs.Blocks.{is_bare, sign};
+ghost use Rattle.sheet_text.specs.Blocks.{sign};
 ghost use Rattle.sheet_text.specs.Replies.{reason_name as reason_text};
 ghost use Rattle.sheet_text.specs.Texts as printed;
 ghost use Rattle.sheet_export.specs.References.{html_text};
@@ -16,7 +16,7 @@ use crate::references::write_text;
 use crate::style::STYLE;
 use block_tree::{Block, Item, Node, Reason, Tag};
 use sheet_notebook::{is_error_tag, is_output_tag, picture_text};
-use sheet_text::{WriteFault, next_line, reason_name};
+use sheet_text::{WriteFault, is_bare_tag, next_line, reason_name};
 use std::io::Write;
 use worksheet::{Answer, Field, Sheet};
 
@@ -70,17 +70,6 @@ fn close_block<W: Write>(tag: &Tag, in_output: bool, out: &mut W) -> Result<(), 
         write_bytes(fixed::TEX_END, out)
     } else {
         write_bytes(b"}", out)
-    }
-}
-
-/// Whether the tag isn't shown.
-pub(crate) fn is_bare_tag(tag: &Tag) -> bool
-    ensures { result ≡ is_bare tag.now.channel tag.now.name }
-{
-    if tag.channel {
-        tag.name.as_slice() == b"output".as_slice()
-    } else {
-        tag.name.as_slice() == b"verbatim".as_slice()
     }
 }
 

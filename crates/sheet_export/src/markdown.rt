@@ -1,5 +1,5 @@
 //! A worksheet as Markdown.
-ghost use Rattle.std.specs.Prelude.{◌≡◌, ◌++◌, ◌∷◌, [], OnOk};
+ghost use Rattle.std.specs.Prelude.{◌++◌, ◌∷◌, [], OnOk};
 ghost use Rattle.std.specs.Io.KnownBytes.{Appends};
 ghost use Rattle.sheet_export.specs.Fences.{fenced_by};
 ghost use Rattle.sheet_export.specs.Markdown as markdown;

@@ -6,7 +6,7 @@ use Rattle.disk_model.specs.Disk.{AreaState, Torn, overwritten}
 use Rattle.disk_model.specs.Calls.{after_sync, after_write, settled}
 use Rattle.disk_model.specs.inside.Replay.{torn_by_write}
 use Rattle.sheet_files.specs.inside.Replayed.{stays_an_image}
-use Rattle.sheet_files.specs.DiskFile.{FileImage, FileSyncs, FileView, FileWrites, IsStill}
+use Rattle.sheet_files.specs.DiskFile.{FileImage, FileSyncs, FileWrites}
 use Rattle.sheet_files.specs.MemoryFile.{NotesCall, done, done_before, replayed}
 use Rattle.sheet_files.specs.declared.memory_file.FileCall.{FileCall}
 
@@ -20,10 +20,6 @@ not_yet t call a le = let later : nat_lt call.moment t ≡ false = grind (arith,
 
 is_made : (t : ℕ) (call : FileCall) (a : AreaState) → call.moment < t → done_before t call a ≡ done call.deed a
 is_made t call a lt = let earlier : nat_lt call.moment t ≡ true = grind (arith, nat_tests) in rw earlier refl
-
--- a state that stands is the same at any two moments from which on it stands
-pub same_now : (v : FileView) (m n : ℕ) → IsStill m v → IsStill n v → v.before m ≡ v.before n
-same_now v m n one other = sym (one (m + n) (omega arith)) ∙ other (m + n) (omega arith)
 
 pub noted : (calls : List FileCall) (call : FileCall) (moment : ℕ) → call.moment ≡ moment
     → NotesCall moment (done call.deed) calls (calls ++ call ∷ [])

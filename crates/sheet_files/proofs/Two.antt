@@ -1,7 +1,7 @@
 -- What a call on one of two files does to the disk.
 use Rattle.std.proofs.Common.{◌≡◌, ℕ, zero, suc, ◌+◌, ◌≤◌, List, [], ◌∷◌, length, refl, sym, ◌∙◌, ap, subst, arith, Result, Ok, Err}
 use Rattle.std.specs.Prelude.{MatchResult}
-use Rattle.disk_model.specs.Disk.{AreaState, DiskState, History, Looks, Syncs, Torn, Writes}
+use Rattle.disk_model.specs.Disk.{AreaState, DiskState, History, Syncs, Torn, Writes}
 use Rattle.disk_model.specs.Calls.{advanced}
 use Rattle.disk_model.specs.declared.disk.Area.{Area}
 use Rattle.disk_model.specs.declared.disk.Area.TheVariants.{First, Second}
@@ -36,12 +36,6 @@ one_more first first' second second' moment one other =
   where
     next : moment + 1 ≡ suc moment
     next = omega arith
-
-pub no_look : (h : History) → Looks h h
-no_look h = record {
-  content = refl;
-  moments = record { start = λ c image. image; more = []; states = refl; each = tt };
-}
 
 module _ {T E : Type 0} where
   pub no_write : (area : Area) (at : ℕ) (bytes : List ℕ) (error : E) (h : History)

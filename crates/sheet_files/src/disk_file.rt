@@ -1,5 +1,5 @@
 //! A file as a disk speaks to it.
-ghost use Rattle.std.specs.Prelude.{◌≡◌, ◌+◌, ◌≤◌, ℕ, List, Result, length, take, drop, IsTrue, IfOk, OnOk, false};
+ghost use Rattle.std.specs.Prelude.{◌≡◌, ◌+◌, ◌≤◌, ℕ, List, Result, length, take, drop, IfOk, OnOk, false};
 ghost use Rattle.std.specs.declared.io.Error.{Error};
 ghost use Rattle.disk_model.specs.Disk.{greatest_room};
 ghost use Rattle.sheet_files.specs.DiskFile.{FileView, FileImage, FileSyncs, FileWrites, InFile, IsFresh, IsStill, Loses, Now, Passes, unclaimed_file};
@@ -81,7 +81,6 @@ pub trait DiskFile {
 /// A file of the system, of whose bytes nothing is claimed. A write is one write of it, a sync is one sync of its data, and none of
 /// its calls gets the moment.
 impl<F: SystemFile> DiskFile for F {
-    ghost use Rattle.std.specs.Prelude.{refl};
     ghost use Rattle.disk_model.specs.Disk.{unclaimed};
 
     ghost view = { λ _. unclaimed_file };

@@ -1,7 +1,7 @@
 //! A disk of two files.
 ghost use Rattle.std.specs.Prelude.{◌≡◌, ◌+◌, ◌≤◌, IfOk, IsErr, Ok, MatchResult, OnOk, length, take, drop, false, string_bytes};
-ghost use Rattle.disk_model.specs.Disk.{Called, InModel, Looks, Syncs, Writes, area_of, bytes_on, greatest_room};
-ghost use Rattle.sheet_files.specs.DiskFile.{FileSynced, FileView, InFile, IsStill, LetGo, Passes, SecondLetGo, WithoutFailure, history_of, second_of, tells_nothing_to_sync, two_files};
+ghost use Rattle.disk_model.specs.Disk.{Called, InModel, Syncs, Writes, area_of, bytes_on, greatest_room};
+ghost use Rattle.sheet_files.specs.DiskFile.{FileSynced, InFile, IsStill, LetGo, Passes, SecondLetGo, WithoutFailure, second_of, tells_nothing_to_sync, two_files};
 ghost use Rattle.sheet_files.specs.Names.{DiskMade, DiskOpened, DiskRead, second_name};
 ghost use Rattle.sheet_files.specs.declared.sheet_file.Lock.TheVariants.{Shared, Exclusive};
 

@@ -1,5 +1,5 @@
 //! A file in memory, which keeps the model and a record of its calls.
-ghost use Rattle.std.specs.Prelude.{◌≡◌, ◌≤◌, ◌<◌, ◌+◌, ◌^◌, length, take, drop, IfOk, OnOk, OnErr};
+ghost use Rattle.std.specs.Prelude.{◌≡◌, ◌≤◌, ◌<◌, ◌+◌, ◌^◌, length, OnOk, OnErr};
 ghost use Rattle.disk_model.specs.Disk.{overwritten};
 ghost use Rattle.disk_model.specs.Calls.{after_sync, after_write};
 ghost use Rattle.sheet_files.specs.DiskFile.{IsStill, Now};

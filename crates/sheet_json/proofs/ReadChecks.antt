@@ -9,7 +9,7 @@ use Rattle.sheet_json.specs.Bytes.{bytes_data}
 use Rattle.sheet_json.specs.Laws.{ChecksReadBack}
 use Rattle.sheet_json.specs.Objects.{answer_data, checked_data, took_data, why_data}
 use Rattle.sheet_json.specs.Reading.{bytes_in, tree_in}
-use Rattle.sheet_json.specs.Tellings.{CheckReported, Telling}
+use Rattle.sheet_json.specs.Tellings.{CheckReported}
 use Rattle.sheet_json.specs.Tellings as reported
 use Rattle.sheet_json.specs.declared.checks.Took.{Took}
 use Rattle.sheet_json.specs.Reported.{answer_in, checked_in, of, option_in, reason_in, took_in, AnswerHasBytes, CheckHasBytes}

@@ -1,8 +1,7 @@
 //! What comes of interpreters as JSON.
 ghost use Rattle.std.specs.Prelude.{◌≡◌, IfOk};
 ghost use Rattle.std.specs.Option.{option_copied};
-ghost use Rattle.serde_json.specs.View.{items_of, view};
-ghost use Rattle.sheet_json.specs.Bytes.{bytes_data};
+ghost use Rattle.serde_json.specs.View.{view};
 ghost use Rattle.sheet_json.specs.Objects.{telling_data};
 ghost use Rattle.sheet_json.specs.Objects as json;
 ghost use Rattle.sheet_json.specs.Tellings as reported;
@@ -28,8 +27,8 @@ fn shown_bytes(alloc: Global, output: &Block) -> Result<Vec<u8>, AllocError>
     }
 }
 
-/// The same, as JSON.
-pub(crate) fn shown_value(alloc: Global, output: &Block) -> Result<Value, AllocError>
+/// An output as a worksheet shows it, as JSON.
+pub fn shown_value(alloc: Global, output: &Block) -> Result<Value, AllocError>
     ensures { IfOk result (λ value. view value ≡ json.shown_data output.now) }
 {
     let bytes = shown_bytes(alloc, output)?;

@@ -24,7 +24,7 @@ pub use ends::{
 };
 pub use events::{
     answered_value, banner_value, completed_value, default_value, ended_value, partial_value,
-    stopped_value, warned_value,
+    shown_value, stopped_value, warned_value,
 };
 pub use fields::{asked_field_value, part_value, shown_field_value};
 pub use lines::{line_bytes, reported_bytes};

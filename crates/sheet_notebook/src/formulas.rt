@@ -4,11 +4,10 @@ ghost use Rattle.std.specs.List.{list_all};
 ghost use Rattle.std.specs.Option.{option_copied};
 ghost use Rattle.block_tree.specs.Tree.{items_from};
 ghost use Rattle.block_tree.specs.View.{piece_of, tree_of};
-ghost use Rattle.sheet_text.specs.Blocks.{is_bare};
 ghost use Rattle.sheet_notebook.specs.Formulas as formula;
 
 use block_tree::{Block, Item, Node, Tag};
-use sheet_text::is_plain;
+use sheet_text::{is_bare_tag, is_plain};
 
 /// Whether a byte stands for itself in a formula.
 fn is_formula_byte(byte: u8) -> bool
@@ -278,17 +277,6 @@ fn text_and_formula(items: &[Item]) -> Option<(&[u8], &[u8])>
             None => None,
             Some(formula) => Some((text.as_slice(), formula)),
         },
-    }
-}
-
-/// Whether the tag isn't shown.
-pub(crate) fn is_bare_tag(tag: &Tag) -> bool
-    ensures { result ≡ is_bare tag.now.channel tag.now.name }
-{
-    if tag.channel {
-        tag.name.as_slice() == b"output".as_slice()
-    } else {
-        tag.name.as_slice() == b"verbatim".as_slice()
     }
 }
 

@@ -8,11 +8,12 @@ ghost use Rattle.sheet_notebook.specs.Notebook as notebook;
 ghost use Rattle.sheet_notebook.specs.Pictures.{drawn_as};
 ghost use Rattle.sheet_notebook.specs.Strings as shown;
 
-use crate::formulas::{formula_of_node, is_bare_tag};
+use crate::formulas::formula_of_node;
 use crate::pictures::{PictureKind, is_error_tag, is_output_tag, picture_kind, picture_text};
 use crate::strings::{inside_string, node_string, string_of};
 use block_tree::{Item, Node};
 use serde_json::{Value, json};
+use sheet_text::is_bare_tag;
 use std::alloc::{AllocError, Global};
 
 /// An output as text.

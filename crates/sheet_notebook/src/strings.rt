@@ -6,10 +6,9 @@ ghost use Rattle.sheet_text.specs.Escape as escape;
 ghost use Rattle.sheet_notebook.specs.Strings as shown;
 ghost use Rattle.sheet_notebook.specs.inside.Adds.{Adds};
 
-use crate::formulas::is_bare_tag;
 use block_tree::{Item, Node, Tag};
 use bstr::decode_utf8;
-use sheet_text::hex_digit;
+use sheet_text::{hex_digit, is_bare_tag};
 use std::alloc::{AllocError, Global};
 
 /// Whether a character is printed as itself.

@@ -52,7 +52,7 @@ pub fn tree_text<W: Write>(block: &Block, out: &mut W) -> Result<(), WriteFault>
 }
 
 /// Whether the tag isn't shown.
-pub(crate) fn is_bare_tag(tag: &Tag) -> bool
+pub fn is_bare_tag(tag: &Tag) -> bool
     ensures { result ≡ is_bare tag.now.channel tag.now.name }
 {
     if tag.channel {

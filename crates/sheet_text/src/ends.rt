@@ -3,7 +3,7 @@ ghost use Rattle.std.specs.Prelude.{◌≡◌};
 ghost use Rattle.std.specs.List.{last_or};
 ghost use Rattle.block_tree.specs.View.{tree_of};
 ghost use Rattle.sheet_text.specs.Blocks.{block_text};
-ghost use Rattle.sheet_text.specs.Escape.{on_lines, printed_byte};
+ghost use Rattle.sheet_text.specs.Escape.{on_lines};
 ghost use Rattle.sheet_text.specs.Texts as printed;
 
 use crate::blocks::is_bare_tag;

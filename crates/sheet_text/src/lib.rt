@@ -15,7 +15,7 @@ mod script;
 mod sheet;
 mod spelled;
 
-pub use blocks::{block_text, tree_text};
+pub use blocks::{block_text, is_bare_tag, tree_text};
 pub use escape::{hex_digit, is_plain, write_line, write_lines};
 pub use fault::WriteFault;
 pub use inputs::{next_line, unfolded, write_input_lines};

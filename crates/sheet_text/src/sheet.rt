@@ -1,6 +1,5 @@
 //! Worksheets as they are printed.
-ghost use Rattle.std.specs.Prelude.{◌≡◌, OnOk};
-ghost use Rattle.std.specs.Option.{option_copied};
+ghost use Rattle.std.specs.Prelude.{OnOk};
 ghost use Rattle.std.specs.Io.KnownBytes.{Appends};
 ghost use Rattle.sheet_text.specs.Escape.{on_line, on_lines};
 ghost use Rattle.sheet_text.specs.Texts as printed;

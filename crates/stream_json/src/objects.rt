@@ -10,8 +10,7 @@ ghost use Rattle.stream_json.specs.StreamObjects.{channel_data, outer_data, oute
 
 use block_tree::{Block, channel_text, output_of};
 use serde_json::{Map, Value, json, put};
-use sheet_json::{block_value, bytes_value};
-use sheet_text::block_text;
+use sheet_json::{block_value, bytes_value, shown_value};
 use std::alloc::{AllocError, Global};
 
 /// The text of a channel, or that a block has no such channel.
@@ -22,25 +21,6 @@ fn channel_value(alloc: Global, block: &Block, name: &[u8]) -> Result<Value, All
         None => Ok(Value::Null),
         Some(text) => bytes_value(alloc, text.as_slice()),
     }
-}
-
-/// An output as a worksheet shows it.
-fn shown_bytes(alloc: Global, output: &Block) -> Result<Vec<u8>, AllocError>
-    ensures { IfOk result (λ bytes. bytes.items ≡ printed.block_text output.now) }
-{
-    let mut bytes = Vec::new(alloc);
-    match block_text(output, &mut bytes) {
-        Ok(()) => Ok(bytes),
-        Err(_) => Err(AllocError),
-    }
-}
-
-/// The same, as JSON.
-fn shown_value(alloc: Global, output: &Block) -> Result<Value, AllocError>
-    ensures { IfOk result (λ value. view value ≡ shown_data output.now) }
-{
-    let bytes = shown_bytes(alloc, output)?;
-    bytes_value(alloc, bytes.as_slice())
 }
 
 /// What a host takes of an outer block as an answer.

@@ -22,11 +22,6 @@ part_written a b c ahead part others all e w p = record {
 pub all_written : (a b : Option (List ℕ)) (ahead all : List ℕ) → ahead ≡ [] → Written a b ahead all → Appends a b all
 all_written a b ahead all e w = subst (Appends a b) (sym (append-nil w.text) ∙ ap (λ t. w.text ++ t) (sym e) ∙ w.whole) w.wrote
 
--- the rows of a front are there, and these are to come
-pub one_row : {A B : Type 0} (f : A → B) (rows more : List B) (row : B) (x : A) (xs others all : List A) → xs ≡ x ∷ others → rows ++ map f xs ≡ map f all → row ≡ f x → more ≡ rows ++ row ∷ [] → more ++ map f others ≡ map f all
-one_row f rows more row x xs others all e h is grown =
-    ap (λ t. t ++ map f others) grown ∙ append_assoc rows (row ∷ []) (map f others) ∙ ap (λ r. rows ++ r ∷ map f others) is ∙ ap (λ t. rows ++ map f t) (sym e) ∙ h
-
 pub all_rows : {A B : Type 0} (f : A → B) (rows : List B) (xs all : List A) → xs ≡ [] → rows ++ map f xs ≡ map f all → rows ≡ map f all
 all_rows f rows xs all e h = sym (append-nil rows) ∙ ap (λ t. rows ++ map f t) (sym e) ∙ h
 

@@ -1,15 +1,14 @@
 -- What the voices write.
-use Rattle.std.proofs.Common.{◌≡◌, ◌<◌, ◌≤◌, ◌+◌, ◌-◌, arith, drop, ℕ, List, [], ◌∷◌, ◌++◌, Option, Some, None, append-nil, get_or, length, refl, ap, sym, ◌∙◌, subst, take}
+use Rattle.std.proofs.Common.{◌≡◌, ◌<◌, ◌+◌, ◌-◌, arith, drop, ℕ, List, [], ◌∷◌, ◌++◌, Option, Some, None, append-nil, get_or, length, ap, sym, ◌∙◌, subst, take}
 use Rattle.std.specs.List.{flat_map}
 use Rattle.std.proofs.KnownBytes.{Appends-trans}
-use Rattle.std.proofs.lemmas.List.{drop_all, drop_more, take_all, take_more}
+use Rattle.std.proofs.lemmas.List.{drop_more, take_more}
 use Rattle.std.proofs.lemmas.Grind.{flat_map-append}
 use Rattle.std.specs.Prelude.{OnOk, Result, option_map}
 use Rattle.std.specs.Io.KnownBytes.{Appends}
 use Rattle.worksheet.specs.Contents.{Contents}
 use Rattle.host_events.specs.declared.outcome.Outcome.{Outcome}
 use Rattle.host_events.specs.declared.reply.Reply.{Reply}
-use Rattle.offline_programs.specs.Memory.{replies_text}
 use Rattle.offline_programs.specs.declared.fault.RunFault.{RunFault}
 use Rattle.serde_json.specs.Data.{Data}
 use Rattle.sheet_json.specs.Objects.{event_data, telling_data}
@@ -18,7 +17,6 @@ use Rattle.sheet_json.specs.Tellings.{EventReported, Telling}
 use Rattle.sheet_json.specs.Tellings as reported
 use Rattle.tellings.specs.Json.{event_line}
 use Rattle.tellings.specs.Voice.{Voice, numbered_text}
-use Rattle.tellings.specs.Words.{in_words}
 use Rattle.tellings.proofs.Rows.{Written, part_written}
 
 -- a value of a life, where there is one, is on its line
@@ -53,6 +51,3 @@ one_outcome V sheet first outcomes i o a b c h is before more =
     (ap (numbered_text V (first + i) sheet) (drop_more outcomes i o h ∙ ap (λ x. x ∷ drop (i + 1) outcomes) (sym is))
     ∙ ap (λ n. V.reply (first + i) sheet o.reply ++ numbered_text V n sheet (drop (i + 1) outcomes)) later)
     before more
-
-pub all_outcomes : (V : Voice) (sheet : Contents) (first : ℕ) (outcomes : List Outcome) (i : ℕ) → length outcomes ≤ i → numbered_text V (first + i) sheet (drop i outcomes) ≡ []
-all_outcomes V sheet first outcomes i all = ap (numbered_text V (first + i) sheet) (drop_all i outcomes all)

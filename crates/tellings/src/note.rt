@@ -28,9 +28,9 @@ pub struct Overs {
 /// What an evaluation came to.
 #[derive(Clone, Copy, Debug, PartialEq, Eq)]
 pub struct Counts {
-    /// How many fields of the worksheet show an answer.
+    /// How many fields of the worksheet show an answer; prose isn't counted.
     pub answered: usize,
-    /// How many don't.
+    /// How many others don't.
     pub unanswered: usize,
     /// What its limit of time came to, where it had one.
     pub overs: Option<Overs>,

@@ -13,7 +13,7 @@ use worksheet::Sheet;
 /// `Output` where the writer fails: a part may have gone out. `OutOfMemory` where a voice that takes memory
 /// has none for a line: what was written before it is whole.
 pub trait Tells {
-    ghost use Rattle.std.specs.Prelude.{IfErr, OnOk, Option, ◌≡◌, ◌+◌, ◌<◌, ◌^◌, false, length, true};
+    ghost use Rattle.std.specs.Prelude.{IfErr, OnOk, ◌≡◌, ◌+◌, ◌<◌, ◌^◌, false, length, true};
     ghost use Rattle.std.specs.Io.KnownBytes.{Appends};
     ghost use Rattle.session_engine.specs.World.{World};
     ghost use Rattle.session_engine.specs.Host.{IsHost};

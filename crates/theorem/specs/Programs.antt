@@ -80,7 +80,7 @@ pub data Invocations (room : ℕ) : Image → List HostTurn → Image → Type 0
       → CrashedSince v.now.history back.history mid → Invocations room mid turns after
       → Invocations room before (record { events = turn.events; reported = [] } ∷ turns) after
   -- A crash came at or after a moment of the disk from which on each image has what these outcomes say, and they were reported no earlier (A6).
-  -- Of what is driven a law says which moment that is (crate `driver_visits`); of other scripts no contract does.
+  -- Of what is driven a law says which moment that is (crate `driver_visits`).
   cut_since : {before mid after : Image} {turn : HostTurn} {turns : List HostTurn} (disk back : DiskView) → disk.room ≡ room → (v : Visit before disk turn back)
       → (reported : List Outcome) (at : History) → LeavesOnly (HasReported (world_at_opening v.ops disk.room v.end) turn.events reported) at back.history
       → CrashedSince at back.history mid → Invocations room mid turns after

@@ -1,14 +1,11 @@
 -- Edits at a place are edits at a number, where no number stands twice.
-use Rattle.std.proofs.Common.{◌≡◌, ℕ, ◌<◌, List, [], ◌∷◌, length, map, set, get_or, refl, ap, sym, subst, arith, Bool, true, false, Some, zero, suc, insert, remove}
+use Rattle.std.proofs.Common.{◌≡◌, ℕ, ◌<◌, List, [], ◌∷◌, length, map, set, get_or, refl, ap, sym, subst, arith, true, false, Some, zero, suc, insert, remove}
 use Rattle.std.specs.Prelude.{◌==◌}
 use Rattle.std.proofs.lemmas.Bool.Decides.{nat_tests}
 use Rattle.worksheet.specs.declared.field.Field.{Field}
 use Rattle.worksheet.specs.Ops.{put_after}
 use Rattle.worksheet.specs.Checks.{numbers, field_in}
 use Rattle.worksheet.specs.Edits.{Lacks, AreApart, at_field, fields_without}
-
-abbrev is_at : ℕ → Field → Bool
-is_at id field = field.id == id
 
 -- the fields without a number aren't changed
 pub at_others : (id : ℕ) (change : Field → Field) (fs : List Field) → Lacks id (numbers fs) → map (at_field id change) fs ≡ fs

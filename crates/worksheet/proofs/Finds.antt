@@ -1,6 +1,6 @@
 -- What looking a number or a name up finds, and what follows from no refusal.
-use Rattle.std.proofs.Common.{◌≡◌, ℕ, List, [], ◌∷◌, refl, arith, Bool, true, false, Option, Some, None}
-use Rattle.std.specs.Prelude.{◌==◌, not, is_some, IsSome, if◌then◌else◌}
+use Rattle.std.proofs.Common.{◌≡◌, ℕ, List, [], ◌∷◌, refl, arith, Bool, true, false, Some, None}
+use Rattle.std.specs.Prelude.{◌==◌, not, if◌then◌else◌}
 use Rattle.std.specs.Str.{bytes_eq}
 use Rattle.std.proofs.lemmas.Slice.Eq.{bytes_eq-Decides}
 use Rattle.std.proofs.lemmas.Bool.Decides.{nat_tests}
@@ -25,10 +25,6 @@ none_applies (r ∷ rs) h = go r.1 refl h (none_applies rs)
 pub true_from_not : (b : Bool) → not b ≡ false → b ≡ true
 true_from_not true h = refl
 true_from_not false h = cc
-
-pub IsSome-from_test : {A : Type 0} (o : Option A) → is_some o ≡ true → IsSome o
-IsSome-from_test None h = cc
-IsSome-from_test (Some x) h = refl
 
 -- the session that is found has the name
 pub session_named-name : (ss : List Session) (name : List ℕ) (s : Session) → session_named ss name ≡ Some s → s.name ≡ name

@@ -17,10 +17,6 @@ node_marks n = marks (tree_of n)
 unfoldable pub item_marks : Item → List Mark
 item_marks x = piece_marks (piece_of x)
 
-abbrev pub piece_depth : Piece → ℕ
-piece_depth (text_piece t) = 0
-piece_depth (block_piece b) = depth b
-
 unfoldable pub node_depth : Node → ℕ
 node_depth n = depth (tree_of n)
 

@@ -1,5 +1,5 @@
 //! Payloads one after another, and what is proved of them by the contract of an append alone.
-ghost use Rattle.std.specs.Prelude.{◌≡◌, ◌≤◌, ◌++◌, List, ℕ, IfOk};
+ghost use Rattle.std.specs.Prelude.{◌++◌, List, ℕ, IfOk};
 ghost use Rattle.disk_model.specs.Disk.{InModel, LeavesOnly, SameDisk};
 ghost use Rattle.journal.specs.Kept.{Keeps};
 ghost use Rattle.journal_tests.specs.Batch.{SomeFirst};

@@ -1,5 +1,4 @@
 //! Openings that give one payload after another, over areas that are longer than a window.
-ghost use Rattle.std.specs.Prelude.{◌≤◌};
 
 use super::desk::{AREA, SESSION, holding, opened};
 use disk_model::{Area, Disk, DiskFault, FuseDisk, FuseMode, MemoryDisk};

@@ -1,9 +1,10 @@
 //! A script whose commands are taken together: what a crash leaves at each moment, and a disk that fails.
+use arrivals::ScriptedSources;
 use child_calls::Scripted;
 use disk_model::{Area, Choice, Disk, Fill, FuseDisk, FuseMode, MemoryDisk};
 use host_events::HostFault;
 use offline_programs::{RunFault, show};
-use sheet_programs::{Ran, run};
+use script_agenda::{Outside, Ran, run};
 use std::alloc::Global;
 
 /// How many fields the scripts make.
@@ -43,18 +44,22 @@ fn script_with_a_long_remark(alloc: Global) -> Vec<u8> {
     text
 }
 
-fn ran<D: Disk>(alloc: Global, disk: D, script: &[u8], reported: &mut Vec<u8>) -> Ran<D> {
-    let mut children = Scripted::new(alloc, Vec::new(alloc));
+fn ran<D: Disk>(alloc: Global, disk: D, script: &[u8]) -> Ran<D, ScriptedSources, Vec<u8>> {
+    let children = Scripted::new(alloc, Vec::new(alloc));
     let mut reader = script;
-    run(alloc, &mut reader, reported, disk, &mut children)
+    let given = Outside {
+        disk,
+        sources: ScriptedSources::new(children, Vec::new(alloc)),
+        output: Vec::new(alloc),
+    };
+    run(alloc, &mut reader, given)
 }
 
 // The disk after a run that ends well, with so many lines of text.
 fn disk_of(alloc: Global, disk: MemoryDisk, script: &[u8], lines: usize) -> Option<MemoryDisk> {
-    let mut reported: Vec<u8> = Vec::new(alloc);
-    let Ran { disk, answer } = ran(alloc, disk, script, &mut reported);
-    if answer.is_ok() && lines_of(reported.as_slice(), b'\n') == lines {
-        Some(disk)
+    let Ran { outside, answer } = ran(alloc, disk, script);
+    if answer.is_ok() && lines_of(outside.output.as_slice(), b'\n') == lines {
+        Some(outside.disk)
     } else {
         None
     }
@@ -166,12 +171,12 @@ fn fails_at(alloc: Global, call: u64) -> Option<bool> {
     let made = created(alloc)?;
     let opening = empty.calls().saturating_sub(made.calls());
     let disk = FuseDisk::new(made, opening.saturating_add(call), FuseMode::From);
-    let mut reported: Vec<u8> = Vec::new(alloc);
-    let Ran { disk, answer } = ran(alloc, disk, script(alloc, 3).as_slice(), &mut reported);
-    let found = fields_of(alloc, disk.into_inner());
+    let Ran { outside, answer } = ran(alloc, disk, script(alloc, 3).as_slice());
+    let is_silent = outside.output.is_empty();
+    let found = fields_of(alloc, outside.disk.into_inner());
     Some(
         answer == Err(RunFault::Host(HostFault::Disk))
-            && reported.is_empty()
+            && is_silent
             && (found == Some(0) || found == Some(3)),
     )
 }

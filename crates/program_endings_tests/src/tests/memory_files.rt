@@ -1,8 +1,9 @@
 //! The program's own file code over files in memory, which keep the model of a file.
+use arrivals::ScriptedSources;
 use child_calls::Scripted;
 use offline_programs::show;
+use script_agenda::{Outside, Ran, run};
 use sheet_files::{DiskFile, FileDisk, Lock, MemoryFile};
-use sheet_programs::run;
 use std::alloc::Global;
 
 // A kind of files. The borrow checker doesn't know which impl a file in memory has, but which this has.
@@ -28,13 +29,18 @@ fn shown_after<K: Kind>(alloc: Global, script: &[u8]) -> Option<Vec<u8>> {
     let second = K::empty(alloc);
     let disk = FileDisk::of(first, Some(second), Lock::Exclusive).ok()?;
     let disk = journal::create(disk).ok()?;
-    let mut children = Scripted::new(alloc, Vec::new(alloc));
+    let children = Scripted::new(alloc, Vec::new(alloc));
     let mut reader = script;
-    let mut text: Vec<u8> = Vec::new(alloc);
-    let ran = run(alloc, &mut reader, &mut text, disk, &mut children);
-    ran.answer.ok()?;
+    let output: Vec<u8> = Vec::new(alloc);
+    let given = Outside {
+        disk,
+        sources: ScriptedSources::new(children, Vec::new(alloc)),
+        output,
+    };
+    let Ran { outside, answer } = run(alloc, &mut reader, given);
+    answer.ok()?;
     let mut shown: Vec<u8> = Vec::new(alloc);
-    show(alloc, ran.disk, &mut shown).answer.ok()?;
+    show(alloc, outside.disk, &mut shown).answer.ok()?;
     Some(shown)
 }
 

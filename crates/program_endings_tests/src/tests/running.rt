@@ -1,34 +1,44 @@
 //! Runs of scripts over a disk, where the reader or the writer fails, and strict ones.
+use arrivals::ScriptedSources;
 use child_calls::Scripted;
 use disk_model::MemoryDisk;
 use offline_programs::RunFault;
-use sheet_programs::{run, run_read};
+use script_agenda::{Outside, Ran, run, run_read};
 use std::alloc::Global;
-use std::io::{Read, Write};
+use std::io::Write;
 use tests_desk::{Full, Parts, Unflushed};
 
-// The fault of a script over an empty worksheet.
-fn fault<R: Read, W: Write>(alloc: Global, reader: &mut R, writer: &mut W) -> Option<RunFault> {
+// An empty worksheet, and where the text of a run over it goes.
+fn over<W: Drop>(alloc: Global, output: W) -> Option<Outside<MemoryDisk, ScriptedSources, W>> {
     let disk = journal::create(MemoryDisk::new(alloc, 1_000)).ok()?;
-    let mut children = Scripted::new(alloc, Vec::new(alloc));
-    run(alloc, reader, writer, disk, &mut children).answer.err()
+    let children = Scripted::new(alloc, Vec::new(alloc));
+    let sources = ScriptedSources::new(children, Vec::new(alloc));
+    Some(Outside {
+        disk,
+        sources,
+        output,
+    })
 }
 
-// That of a reader that fails after a line, where nothing was written.
+// The fault of a reader that fails after a line, where nothing was written.
 fn reader_fault(alloc: Global) -> Option<RunFault> {
-    let mut text: Vec<u8> = Vec::new(alloc);
     let mut reader = Parts {
         rest: b"session a plain p\n",
         fails: true,
     };
-    let found = fault(alloc, &mut reader, &mut text);
-    if text.is_empty() { found } else { None }
+    let text: Vec<u8> = Vec::new(alloc);
+    let Ran { outside, answer } = run(alloc, &mut reader, over(alloc, text)?);
+    if outside.output.is_empty() {
+        answer.err()
+    } else {
+        None
+    }
 }
 
 // That of a script of a session whose text goes to this writer.
-fn writer_fault<W: Write>(alloc: Global, writer: &mut W) -> Option<RunFault> {
+fn writer_fault<W: Write + Drop>(alloc: Global, writer: W) -> Option<RunFault> {
     let mut reader = b"session b plain p\nnew 0 b y\neval 1\n".as_slice();
-    fault(alloc, &mut reader, writer)
+    run(alloc, &mut reader, over(alloc, writer)?).answer.err()
 }
 
 #[test]
@@ -38,23 +48,18 @@ fn a_reader_that_fails(rt: HostRuntime) {
 
 #[test]
 fn a_writer_that_fails(rt: HostRuntime) {
-    assert!(rt; writer_fault(rt.alloc(), &mut Full) == Some(RunFault::Output));
+    assert!(rt; writer_fault(rt.alloc(), Full) == Some(RunFault::Output));
 }
 
 #[test]
 fn a_flush_that_fails(rt: HostRuntime) {
-    assert!(rt; writer_fault(rt.alloc(), &mut Unflushed) == Some(RunFault::Output));
+    assert!(rt; writer_fault(rt.alloc(), Unflushed) == Some(RunFault::Output));
 }
 
 // The line after which a strict run of a script over an empty worksheet stops, if it does.
 fn stopped(alloc: Global, script: &[u8]) -> Option<Option<u64>> {
-    let disk = journal::create(MemoryDisk::new(alloc, 1_000)).ok()?;
-    let mut children = Scripted::new(alloc, Vec::new(alloc));
-    let mut text: Vec<u8> = Vec::new(alloc);
-    if script.len() > 100 {
-        return None;
-    }
-    run_read(alloc, script, true, &mut text, disk, &mut children)
+    let text: Vec<u8> = Vec::new(alloc);
+    run_read(alloc, script, true, over(alloc, text)?)
         .answer
         .ok()
 }

@@ -1,5 +1,5 @@
 -- What the functions of a check promise each other. No public contract names this.
-use Rattle.std.specs.Prelude.{◌≡◌, ◌+◌, ◌⊎◌, ℕ, false, true, List, [], ◌∷◌, ◌++◌, Option, Some, Result, IfOk, IfErr}
+use Rattle.std.specs.Prelude.{◌≡◌, ◌+◌, ◌⊎◌, ℕ, false, true, List, [], ◌∷◌, ◌++◌, Option, Some, None, Result, Ok, Err, IfOk, IfErr}
 use Rattle.std.specs.Io.KnownBytes.{Appends}
 use Rattle.disk_model.specs.Disk.{DiskView}
 use Rattle.worksheet.specs.declared.field.Answer.{Answer}
@@ -12,11 +12,12 @@ use Rattle.child_edge.specs.Seats.{running}
 use Rattle.child_edge.specs.Stops.{Stops}
 use Rattle.offline_programs.specs.declared.fault.RunFault.{RunFault}
 use Rattle.offline_programs.specs.declared.fault.RunFault.TheVariants as fault
+use Rattle.check_report.specs.declared.report.Format.{Format}
 use Rattle.check_report.specs.declared.verdict.Counts.{Counts}
 use Rattle.check_report.specs.declared.verdict.Judgement.{Judgement}
 use Rattle.sheet_json.specs.declared.checks.Took.{Took}
 use Rattle.check_report.specs.Chosen.{Judged}
-use Rattle.check_report.specs.Reports.{Case, case, case_text, cases_text, report_front, judgements_of}
+use Rattle.check_report.specs.Reports.{Case, case, case_text, cases_text, closing_text, report_front, judgements_of}
 use Rattle.check_report.specs.Verdicts.{counted_with, counts_of, total}
 use Rattle.check_report.specs.Errors.{brings_error}
 use Rattle.live.specs.Records.{Left}
@@ -135,3 +136,10 @@ FieldShown {P = P} m all counts after p q = ((after ≡ counts) × (q ≡ p))
 abbrev pub OnCopy : {C : Type 0} → OneByOne C → Contents → Passage C → Result Counts RunFault → Type 0
 OnCopy o sheet q counted = (w : World) × (copy : DiskView) × IsCopy sheet w copy
     × IfOk counted (FieldsEnded o sheet.fields w copy q) × IfErr counted (FieldsStopped o sheet.fields w copy q)
+
+-- What is written of a check that came to this on its copy, from one text to the other, and what it then answers: its counts, but where the writer fails
+-- at them; the fault that it met; and a lack of memory where there was none for a copy.
+abbrev pub CountsWritten : Format → Option (List ℕ) → Option (List ℕ) → Option (Result Counts RunFault) → Result Counts RunFault → Type 0
+CountsWritten F a b None result = result ≡ Err fault.OutOfMemory
+CountsWritten F a b (Some (Ok counts)) result = ((result ≡ Ok counts) × Appends a b (closing_text F counts)) ⊎ (result ≡ Err fault.Output)
+CountsWritten F a b (Some (Err why)) result = (result ≡ Err why) × (b ≡ a)

@@ -2,7 +2,7 @@ use Rattle.std.proofs.Common.{◌≡◌, ◌++◌, List, Some, ap, sym, ◌∙�
 use Rattle.host_events.specs.declared.event.Event.{Event}
 use Rattle.sheet_text.specs.Script.{line_of}
 use Rattle.sheet_text.specs.declared.script.ScriptLine.TheVariants as says
-use Rattle.sheet_programs.specs.Together.{line_events}
+use Rattle.live.specs.LineEvents.{line_events}
 use Rattle.agendas.proofs.gathering.add_line.Goals as goal
 
 pub returns-in-Ok-Command-clause-added : goal.returns-in-Ok-Command-clause-added

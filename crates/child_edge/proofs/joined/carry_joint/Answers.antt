@@ -1,4 +1,4 @@
-use Rattle.std.proofs.Common.{◌≡◌, List, length, subst}
+use Rattle.std.proofs.Common.{List, length, subst}
 use Rattle.host_events.specs.declared.outcome.Outcome.{Outcome}
 use Rattle.child_edge.specs.Edge.{BrokeOff, Ran}
 use Rattle.child_edge.specs.Faithful.{at}

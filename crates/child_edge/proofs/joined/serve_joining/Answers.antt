@@ -1,10 +1,10 @@
-use Rattle.std.proofs.Common.{◌≡◌, [], List, ◌∙◌, subst, refl}
+use Rattle.std.proofs.Common.{◌≡◌, [], List, ◌∙◌, subst}
 use Rattle.host_events.specs.declared.reply.Reply.{Reply}
 use Rattle.session_engine.specs.Joining.{asking, with_more}
-use Rattle.child_edge.specs.Edge.{BrokeOff, Ran}
+use Rattle.child_edge.specs.Edge.{BrokeOff}
 use Rattle.child_edge.specs.Faithful.{at}
-use Rattle.child_edge.specs.inside.Joining.{JointCarried, JointUpTo}
-use Rattle.child_edge.proofs.Joinings.{broke_joined, fails_with_joined, ran_joined}
+use Rattle.child_edge.specs.inside.Joining.{JointUpTo}
+use Rattle.child_edge.proofs.Joinings.{broke_joined, fails_with_joined}
 use Rattle.child_edge.proofs.joined.serve_joining.Goals as goal
 
 pub returns-in-Err-carry_joint-clause-err : goal.returns-in-Err-carry_joint-clause-err

@@ -1,7 +1,8 @@
 use Rattle.std.proofs.Common.{◌++◌, ◌≤◌, [], ◌∷◌, Some, refl, sym, ap, ◌∙◌, append-nil, arith}
 use Rattle.child_edge.specs.Faithful.{at, due_after}
 use Rattle.child_edge.proofs.Chains.{Follows-push, reported-on}
-use Rattle.child_edge.proofs.Ranks.{rank, rank-none, rank-most, rank-on, rank-reported}
+use Rattle.child_edge.specs.inside.Ranks.{rank}
+use Rattle.child_edge.proofs.Ranks.{rank-none, rank-most, rank-on, rank-reported}
 use Rattle.child_edge.proofs.Faulting.{same-at, same-on}
 use Rattle.child_edge.proofs.serving.follow.Goals as goal
 

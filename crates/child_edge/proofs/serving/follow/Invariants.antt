@@ -4,7 +4,7 @@ use Rattle.session_engine.specs.World.{World}
 use Rattle.session_engine.specs.Host.{IsHost}
 use Rattle.child_edge.specs.Faithful.{at, Entry, Follows}
 use Rattle.child_edge.specs.Reported.{reported}
-use Rattle.child_edge.proofs.Ranks.{rank}
+use Rattle.child_edge.specs.inside.Ranks.{rank}
 use Rattle.child_edge.proofs.serving.follow.Given as goal
 
 abbrev pub invariant-loop : goal.invariant-loop

@@ -1,4 +1,4 @@
-use Rattle.std.proofs.Common.{◌≡◌, ◌++◌, [], List, ap, ◌∙◌, sym, subst, refl, length, arith}
+use Rattle.std.proofs.Common.{◌≡◌, [], List, ◌∙◌, subst, refl, length, arith}
 use Rattle.host_events.specs.declared.outcome.Outcome.{Outcome}
 use Rattle.host_events.specs.declared.reply.Reply.{Reply}
 use Rattle.child_edge.specs.Edge.{BrokeOff, Ran}

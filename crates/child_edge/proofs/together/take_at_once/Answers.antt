@@ -1,7 +1,7 @@
 use Rattle.std.proofs.Common.{sym, subst}
 use Rattle.session_engine.specs.declared.play.GroupFault.{GroupFault}
 use Rattle.session_engine.specs.Groups.{HaltsGroup}
-use Rattle.child_edge.proofs.Gates.{TakesNone, lost_at_once, none_at_once, same_disk, stopped_at_once, took_at_once}
+use Rattle.child_edge.proofs.Gates.{TakesNone, lost_at_once, none_at_once, stopped_at_once, took_at_once}
 use Rattle.child_edge.proofs.together.take_at_once.Goals as goal
 
 pub returns-in-Ok-clause-ok : goal.returns-in-Ok-clause-ok

@@ -1,4 +1,4 @@
-use Rattle.std.proofs.Common.{◌≡◌, ◌≤◌, ◌<◌, ◌+◌, ◌^◌, length}
+use Rattle.std.proofs.Common.{◌≡◌, ◌<◌, ◌+◌, ◌^◌, length}
 use Rattle.field_agenda.proofs.by_fields.has_few_fields.Given as goal
 
 abbrev pub invariant-loop-field : goal.invariant-loop-field

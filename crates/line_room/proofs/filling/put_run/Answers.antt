@@ -1,4 +1,4 @@
-use Rattle.std.proofs.Common.{◌≡◌, ◌+◌, ◌∙◌, false, length, subst, arith}
+use Rattle.std.proofs.Common.{◌≡◌, ◌+◌, ◌∙◌, false, subst, arith}
 use Rattle.sheet_text.specs.Escape.{is_plain}
 use Rattle.sheet_text.specs.inside.PlainRuns.{AllPassBetween}
 use Rattle.line_room.proofs.Putting.{puts_more, puts_run}

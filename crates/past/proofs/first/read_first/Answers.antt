@@ -1,5 +1,5 @@
-use Rattle.std.proofs.Common.{◌≡◌, ◌≤◌, Err, sym, ◌∙◌, subst, arith, IsTrue}
-use Rattle.disk_model.specs.Disk.{DiskView, Image, SameDisk, bytes_on}
+use Rattle.std.proofs.Common.{◌≡◌, Err, sym, ◌∙◌, subst, arith, IsTrue}
+use Rattle.disk_model.specs.Disk.{DiskView, Image, SameDisk}
 use Rattle.disk_model.specs.inside.Moments.{looks_on}
 use Rattle.past.specs.Earlier.{FirstAreRead}
 use Rattle.past.specs.declared.first.Unread.{Unread}

@@ -1,6 +1,6 @@
 use Rattle.std.proofs.Common.{◌≡◌, refl, sym, subst, IsTrue}
 use Rattle.std.specs.Io.KnownBytes.{Appends}
-use Rattle.disk_model.specs.Disk.{Image, bytes_on}
+use Rattle.disk_model.specs.Disk.{bytes_on}
 use Rattle.disk_model.specs.inside.Moments.{looks_on}
 use Rattle.past.specs.History.{TellsList}
 use Rattle.past.specs.declared.history.Listed.{Listed}

@@ -2,7 +2,6 @@ use Rattle.std.proofs.Common.{◌≡◌, ◌≤◌, ◌∙◌, ℕ, Bool, true, 
 use Rattle.std.specs.Prelude.{IfSome}
 use Rattle.offline_programs.specs.Input.{longest_standard_input}
 use Rattle.std.specs.Bool.{MatchBool}
-use Rattle.sheet_programs.specs.Records.{manner}
 use Rattle.program_endings.specs.LiveProgram.{LiveEnded, LiveSetting}
 use Rattle.program_endings.specs.Records.{Calling, GivenDisk, Streams}
 use Rattle.program_endings.specs.ScriptProgram.{RunsRead, RunsWhole, ScriptEnds, has_form}
@@ -21,13 +20,13 @@ module _ {D C W E : Type 0} (o : LiveSetting C) (script : List ℕ) (g : GivenDi
   read stream bytes is all short ran = ends.whole script (subst (λ it. IfSome stream (λ all. it ≡ all)) is all) (subst (λ (it : List ℕ). length it ≤ longest_standard_input) is short) ran
 
   abbrev Either : Bool → Type 0
-  Either has = MatchBool has (LiveEnded o (Some script) g q s ending) (RunsWhole (manner o.sources.after o.manner.strict) script g q s ending)
+  Either has = MatchBool has (LiveEnded o (Some script) g q s ending) (RunsWhole o script g q s ending)
 
   by_lines : has_form script ≡ true → LiveEnded o (Some script) g q s ending → RunsRead o script g q s ending
   by_lines is p = subst Either (sym is) p
 
-  as_ever : has_form script ≡ false → RunsWhole (manner o.sources.after o.manner.strict) script g q s ending → RunsRead o script g q s ending
-  as_ever is p = subst Either (sym is) p
+  as_script : has_form script ≡ false → RunsWhole o script g q s ending → RunsRead o script g q s ending
+  as_script is p = subst Either (sym is) p
 
 pub returns-then-has_form-clause-files : goal.returns-then-has_form-clause-files
 returns-then-has_form-clause-files g c =
@@ -36,18 +35,13 @@ returns-then-has_form-clause-files g c =
 
 pub returns-clause-files : goal.returns-clause-files
 returns-clause-files g c =
-    let ran = c.run_read-disk.ensures in
     of-files _ c.args.files c.in-Ok.disk c.in-Ok.is (read _ _ _ _ _ _ _ _ (sym c.as_slice-script.ensures.value) c.in-Ok-read_input.ensures.whole c.in-Ok-read_input.ensures.short
-    (as_ever _ _ _ _ _ _ (sym c.has_form.ensures ∙ c.if-has_form.false) (record {
-      later = c.run_read-disk.result.disk;
+    (as_script _ _ _ _ _ _ (sym c.has_form.ensures ∙ c.if-has_form.false) (record {
+      later = c.run_read-outside.result.outside.disk;
       closed = c.close-2.ensures;
-      same = ran.same;
-      answer = c.run_read-disk.result.answer;
-      ran = ran.ran;
-      unopened = ran.unopened;
-      failed = ran.failed;
-      memory = ran.memory;
-      fault = ran.fault;
+      same = c.run_read-outside.ensures.same;
+      answer = c.run_read-outside.result.answer;
+      ran = c.run_read-outside.ensures.ran;
       status = c.end_strict.ensures.status;
       reported = c.end_strict.ensures.reported;
     })))

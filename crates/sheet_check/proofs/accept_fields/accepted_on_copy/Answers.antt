@@ -11,10 +11,11 @@ returns-clause-some g c = λ ops disk stores.
     let o = c.in-Some.ensures in
     let e = sym c.drive_copy-driver.ensures.host in
     let h = subst (λ (x : HostView). IsHost x o.0) e o.1 in
-    let copied = subst (λ (x : HostView). IsCopy c.args.sheet.now.contents o.0 x.store.disk) e o.2 in
-    subst (λ x. OnCopy (to_accept (way g.C.Children.after g.C.Sources.clock g.C.Sources.wakes c.args.request.now.limit) c.args.request.now.chosen) c.args.sheet.now.contents (passage x c.accept_and_stop-counted.new.driver.sources (g.W.Write.contents c.args.writer.now) (g.W.Write.contents c.accept_and_stop-counted.new.writer)) (storing ops [] disk c.accept_and_stop-counted.new.store) c.accept_and_stop-counted.result)
+    let copied = subst (λ (x : HostView). IsCopy c.args.suite.now.sheet.now.contents o.0 x.store.disk) e o.2 in
+    subst (λ x. OnCopy (to_accept (way g.C.Children.after g.C.Sources.clock g.C.Sources.wakes c.args.suite.now.manner.request.now.limit) c.args.suite.now.manner.request.now.chosen) c.args.suite.now.sheet.now.contents (passage x c.into_sources.result (g.W.Write.contents c.args.writer.now) (g.W.Write.contents c.accept_and_stop-counted.new.writer)) (storing ops [] disk c.accept_and_stop-counted.new.store) c.accept_and_stop-counted.result)
     c.drive_copy-driver.ensures.sources
-    (o.0, c.drive_copy-driver.result.host.store.disk, copied, c.accept_and_stop-counted.ensures.ok o.0 h ops disk stores, c.accept_and_stop-counted.ensures.err o.0 h copied ops disk stores)
+    (subst (λ y. OnCopy (to_accept (way g.C.Children.after g.C.Sources.clock g.C.Sources.wakes c.args.suite.now.manner.request.now.limit) c.args.suite.now.manner.request.now.chosen) c.args.suite.now.sheet.now.contents (passage c.drive_copy-driver.result.sources y (g.W.Write.contents c.args.writer.now) (g.W.Write.contents c.accept_and_stop-counted.new.writer)) (storing ops [] disk c.accept_and_stop-counted.new.store) c.accept_and_stop-counted.result)
+    (sym c.into_sources.ensures) (o.0, c.drive_copy-driver.result.host.store.disk, copied, c.accept_and_stop-counted.ensures.ok o.0 h ops disk stores, c.accept_and_stop-counted.ensures.err o.0 h copied ops disk stores))
 
 pub accept_and_stop-counted-requires-clause-stands : goal.accept_and_stop-counted-requires-clause-stands
 accept_and_stop-counted-requires-clause-stands g c =

@@ -18,9 +18,9 @@ returns-in-Ok-clause-checked g c =
 
 pub returns-in-Ok-clause-failed : goal.returns-in-Ok-clause-failed
 returns-in-Ok-clause-failed g c = λ is.
-    absurd (check_unopened (one_by_one (way g.C.Children.after g.C.Sources.clock g.C.Sources.wakes c.args.request.now.limit) c.args.request.now.chosen c.args.request.now.format) c.sheet.result.now.contents
+    absurd (check_unopened (one_by_one (way g.C.Children.after g.C.Sources.clock g.C.Sources.wakes c.args.manner.now.request.now.limit) c.args.manner.now.request.now.chosen c.args.manner.now.request.now.format) c.sheet.result.now.contents
     (passage c.args.sources c.check_named-answer.result.sources (g.W.Write.contents c.args.writer.now) (g.W.Write.contents c.check_named-answer.new.writer))
-    (missing_named c.args.request.now.chosen c.sheet.result.now.contents.fields)
+    (missing_named c.args.manner.now.request.now.chosen c.sheet.result.now.contents.fields)
     ((c.check_named-answer.new.writer ≡ c.args.writer.now) × (c.check_named-answer.result.sources ≡ c.args.sources))
     c.check_named-answer.result.answer opens.Disk c.check_named-answer.ensures.checked is)
 

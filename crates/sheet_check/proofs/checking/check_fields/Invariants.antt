@@ -3,7 +3,7 @@ use Rattle.session_engine.specs.World.{World}
 use Rattle.session_engine.specs.Host.{IsHost}
 use Rattle.child_edge.specs.Faithful.{at}
 use Rattle.sheet_check.specs.Evaluated.{one_by_one, way}
-use Rattle.sheet_check.specs.Progress.{FieldsShow, display}
+use Rattle.sheet_check.specs.Progress.{FieldsShow, checked_count, display}
 use Rattle.check_report.specs.Verdicts.{total}
 use Rattle.sheet_check.proofs.Fields.{FieldsSoFar}
 use Rattle.sheet_check.proofs.checking.check_fields.Given as goal
@@ -12,7 +12,7 @@ abbrev pub invariant-loop-field : goal.invariant-loop-field
 invariant-loop-field g l = record {
   few : total l.counts + length l.fields ≤ length l.fn.sheet.contents.fields;
   errors : l.counts.errors ≤ total l.counts;
-  shown : FieldsShow (display l.fn.request.format g.P.Progress.shows) l.fn.all l.fn.progress l.counts l.progress;
+  shown : FieldsShow (display l.fn.manner.request.now.format g.P.Progress.shows) (checked_count l.fn.manner.request.now.chosen l.fn.sheet.contents.fields) l.fn.progress l.counts l.progress;
   runs : (w : World) → IsHost l.fn.driver.host w
-      → FieldsSoFar (one_by_one (way g.C.Children.after g.C.Sources.clock g.C.Sources.wakes l.fn.request.limit) l.fn.request.chosen l.fn.request.format) l.fn.sheet.contents.fields l.fields (at w l.fn.driver.sources l.fn.driver.host.store.disk) l.driver.host l.driver.sources (g.W.Write.contents l.fn.writer) (g.W.Write.contents l.writer) l.counts;
+      → FieldsSoFar (one_by_one (way g.C.Children.after g.C.Sources.clock g.C.Sources.wakes l.fn.manner.request.now.limit) l.fn.manner.request.now.chosen l.fn.manner.request.now.format) l.fn.sheet.contents.fields l.fields (at w l.fn.driver.sources l.fn.driver.host.store.disk) l.driver.host l.driver.sources (g.W.Write.contents l.fn.writer) (g.W.Write.contents l.writer) l.counts;
 }

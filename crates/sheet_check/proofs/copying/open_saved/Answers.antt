@@ -2,8 +2,8 @@ use Rattle.std.proofs.Common.{◌∙◌, subst}
 use Rattle.disk_model.specs.Disk.{bytes_on, greatest_room}
 use Rattle.session_engine.specs.World.{world_at_opening}
 use Rattle.session_engine.specs.Host.{IsHost}
-use Rattle.sheet_programs.specs.Run.{OpenedOn}
-use Rattle.sheet_programs.proofs.Runs.{opened_on}
+use Rattle.sheet_check.specs.Opened.{OpenedOn}
+use Rattle.sheet_check.proofs.Opening.{opened_on}
 use Rattle.sheet_check.proofs.copying.open_saved.Goals as goal
 
 pub returns-in-Ok : goal.returns-in-Ok

@@ -19,9 +19,9 @@ returns-in-Ok-clause-checked g c =
 
 pub returns-in-Ok-clause-failed : goal.returns-in-Ok-clause-failed
 returns-in-Ok-clause-failed g c = λ is.
-    absurd (together_check_unopened (side_by_side (way g.C.Children.after g.C.Sources.clock g.C.Sources.wakes c.args.request.now.limit) c.args.jobs c.args.request.now.chosen c.args.request.now.format) c.sheet.result.now.contents
+    absurd (together_check_unopened (side_by_side (way g.C.Children.after g.C.Sources.clock g.C.Sources.wakes c.args.beside.now.manner.request.now.limit) c.args.beside.now.jobs c.args.beside.now.manner.request.now.chosen c.args.beside.now.manner.request.now.format) c.sheet.result.now.contents
     (passage c.args.sources c.check_named_together-answer.result.sources (g.W.Write.contents c.args.writer.now) (g.W.Write.contents c.check_named_together-answer.new.writer))
-    (missing_named c.args.request.now.chosen c.sheet.result.now.contents.fields)
+    (missing_named c.args.beside.now.manner.request.now.chosen c.sheet.result.now.contents.fields)
     ((c.check_named_together-answer.new.writer ≡ c.args.writer.now) × (c.check_named_together-answer.result.sources ≡ c.args.sources))
     c.check_named_together-answer.result.answer opens.Disk c.check_named_together-answer.ensures.checked is)
 

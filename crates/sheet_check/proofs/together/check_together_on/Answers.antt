@@ -1,23 +1,22 @@
-use Rattle.std.proofs.Common.{[], inl, inr, refl, subst}
+use Rattle.std.proofs.Common.{[], inl, inr, refl}
 use Rattle.std.proofs.KnownBytes.{Appends-nil}
 use Rattle.std.proofs.lemmas.Result.{IfErr-weaker, IfOk-weaker}
 use Rattle.check_report.specs.Verdicts.{counts_of}
 use Rattle.sheet_check.specs.Progress.{none}
-use Rattle.sheet_check.specs.inside.Comparing.{FieldsReported, ReportBroke, comparing}
 use Rattle.sheet_check.proofs.together.check_together_on.Goals as goal
 
 pub returns-in-Ok-clause-ok : goal.returns-in-Ok-clause-ok
 returns-in-Ok-clause-ok g c = λ w h.
     let q = c.in-Ok.ensures.ok w h in
     IfOk-weaker c.compare_fields.result _ _
-    (λ counts p. (c.evaluate_checked.new.driver.sink.kept, (q, subst (λ marks. FieldsReported (comparing c.args.request.now.chosen c.args.request.now.format q.0 marks) c.args.sheet.now.contents.fields (g.W.Write.contents c.args.writer.now) (g.W.Write.contents c.compare_fields.new.writer) counts) c.as_slice.ensures p)))
+    (λ counts p. (c.evaluate_checked.new.driver.sink.kept, (q, p)))
     (c.compare_fields.ensures.ok q.0 q.2)
 
 pub returns-in-Ok-clause-err : goal.returns-in-Ok-clause-err
 returns-in-Ok-clause-err g c = λ w h.
     let q = c.in-Ok.ensures.ok w h in
     IfErr-weaker c.compare_fields.result _ _
-    (λ why p. inr (c.evaluate_checked.new.driver.sink.kept, (q, subst (λ marks. ReportBroke (comparing c.args.request.now.chosen c.args.request.now.format q.0 marks) c.args.sheet.now.contents.fields (g.W.Write.contents c.args.writer.now) (g.W.Write.contents c.compare_fields.new.writer) why) c.as_slice.ensures p)))
+    (λ why p. inr (c.evaluate_checked.new.driver.sink.kept, (q, p)))
     (c.compare_fields.ensures.err q.0 q.2)
 
 pub returns-in-Err-clause-err : goal.returns-in-Err-clause-err

@@ -16,7 +16,8 @@ returns-clause-some g c =
     let o = c.in-Some.ensures in
     let e = sym c.drive_copy-driver.ensures.host in
     let h = subst (λ (x : HostView). IsHost x o.0) e o.1 in
-    let copied = subst (λ (x : HostView). IsCopy (cleared c.args.request.now.chosen c.args.sheet.now.contents.fields c.args.sheet.now.contents) o.0 x.store.disk) e o.2 in
-    subst (λ x. OnCleared (side_by_side (way g.C.Children.after g.C.Sources.clock g.C.Sources.wakes c.args.request.now.limit) c.args.jobs c.args.request.now.chosen c.args.request.now.format) c.args.sheet.now.contents (passage x c.check_together_and_stop-counted.new.driver.sources (g.W.Write.contents c.args.writer.now) (g.W.Write.contents c.check_together_and_stop-counted.new.writer)) c.check_together_and_stop-counted.result)
+    let copied = subst (λ (x : HostView). IsCopy (cleared c.args.beside.now.manner.request.now.chosen c.args.sheet.now.contents.fields c.args.sheet.now.contents) o.0 x.store.disk) e o.2 in
+    subst (λ x. OnCleared (side_by_side (way g.C.Children.after g.C.Sources.clock g.C.Sources.wakes c.args.beside.now.manner.request.now.limit) c.args.beside.now.jobs c.args.beside.now.manner.request.now.chosen c.args.beside.now.manner.request.now.format) c.args.sheet.now.contents (passage x c.into_sources.result (g.W.Write.contents c.args.writer.now) (g.W.Write.contents c.check_together_and_stop-counted.new.writer)) c.check_together_and_stop-counted.result)
     c.drive_copy-driver.ensures.sources
-    (c.check_together_and_stop-counted.ensures.ok o.0 h copied, c.check_together_and_stop-counted.ensures.err o.0 h copied)
+    (subst (λ y. OnCleared (side_by_side (way g.C.Children.after g.C.Sources.clock g.C.Sources.wakes c.args.beside.now.manner.request.now.limit) c.args.beside.now.jobs c.args.beside.now.manner.request.now.chosen c.args.beside.now.manner.request.now.format) c.args.sheet.now.contents (passage c.drive_copy-driver.result.sources y (g.W.Write.contents c.args.writer.now) (g.W.Write.contents c.check_together_and_stop-counted.new.writer)) c.check_together_and_stop-counted.result)
+    (sym c.into_sources.ensures) (c.check_together_and_stop-counted.ensures.ok o.0 h copied, c.check_together_and_stop-counted.ensures.err o.0 h copied))

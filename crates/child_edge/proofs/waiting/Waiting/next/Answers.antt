@@ -1,4 +1,4 @@
-use Rattle.std.proofs.Common.{◌≡◌, ◌<◌, ◌≤◌, [], sym, ◌∙◌, subst, refl, length, rules, arith}
+use Rattle.std.proofs.Common.{◌≡◌, ◌<◌, sym, ◌∙◌, subst, refl, length, rules, arith}
 use Rattle.std.proofs.lemmas.List.{nil_from_length}
 use Rattle.child_edge.specs.Faithful.{at}
 use Rattle.child_edge.specs.Limits.{most_turns}

@@ -28,6 +28,15 @@ returns-in-Lines-clause-did g c = λ n w h. subst (λ (t : Turn). DidSteps (rule
 pub returns-in-Whole-clause-did : goal.returns-in-Whole-clause-did
 returns-in-Whole-clause-did g c = λ n w h. subst (λ (t : Turn). DidSteps (rules (agenda_rules g.A.Agenda.rules g.A.Joins.joins) (source_rules g.S.Children.after g.S.Sources.wakes g.S.Sources.clock) g.K.Sink.rules) (seen n w (parts c.args.self.now.host c.args.self.now.sources c.args.self.now.sink c.args.self.now.agenda)) (items_by t) (left_by_answer again) c.and_again-in-Whole.result (n, (parts c.take_whole.new.self.host c.take_whole.new.self.sources c.take_whole.new.self.sink c.take_whole.new.self.agenda))) (sym c.in-Whole.is) (subst (λ (r : Result Bool RunFault). DidSteps (rules (agenda_rules g.A.Agenda.rules g.A.Joins.joins) (source_rules g.S.Children.after g.S.Sources.wakes g.S.Sources.clock) g.K.Sink.rules) (seen n w (parts c.args.self.now.host c.args.self.now.sources c.args.self.now.sink c.args.self.now.agenda)) (items_by (turn.Whole c.in-Whole.first c.in-Whole.edits)) (left_by_answer again) r (n, (parts c.take_whole.new.self.host c.take_whole.new.self.sources c.take_whole.new.self.sink c.take_whole.new.self.agenda))) (sym c.and_again-in-Whole.ensures) (did_again (rules (agenda_rules g.A.Agenda.rules g.A.Joins.joins) (source_rules g.S.Children.after g.S.Sources.wakes g.S.Sources.clock) g.K.Sink.rules) (seen n w (parts c.args.self.now.host c.args.self.now.sources c.args.self.now.sink c.args.self.now.agenda)) (items_by (turn.Whole c.in-Whole.first c.in-Whole.edits)) c.take_whole.result (n, (parts c.take_whole.new.self.host c.take_whole.new.self.sources c.take_whole.new.self.sink c.take_whole.new.self.agenda)) (c.take_whole.ensures.did n (ask ∷ []) w h)))
 
+pub returns-in-Edits-clause-did : goal.returns-in-Edits-clause-did
+returns-in-Edits-clause-did g c = λ n w h. subst (λ (t : Turn). DidSteps (rules (agenda_rules g.A.Agenda.rules g.A.Joins.joins) (source_rules g.S.Children.after g.S.Sources.wakes g.S.Sources.clock) g.K.Sink.rules) (seen n w (parts c.args.self.now.host c.args.self.now.sources c.args.self.now.sink c.args.self.now.agenda)) (items_by t) (left_by_answer again) c.and_again-in-Edits.result (n, (parts c.take_edits.new.self.host c.take_edits.new.self.sources c.take_edits.new.self.sink c.take_edits.new.self.agenda))) (sym c.in-Edits.is) (subst (λ (r : Result Bool RunFault). DidSteps (rules (agenda_rules g.A.Agenda.rules g.A.Joins.joins) (source_rules g.S.Children.after g.S.Sources.wakes g.S.Sources.clock) g.K.Sink.rules) (seen n w (parts c.args.self.now.host c.args.self.now.sources c.args.self.now.sink c.args.self.now.agenda)) (items_by (turn.Edits c.in-Edits.up_to c.in-Edits.edits)) (left_by_answer again) r (n, (parts c.take_edits.new.self.host c.take_edits.new.self.sources c.take_edits.new.self.sink c.take_edits.new.self.agenda))) (sym c.and_again-in-Edits.ensures) (did_again (rules (agenda_rules g.A.Agenda.rules g.A.Joins.joins) (source_rules g.S.Children.after g.S.Sources.wakes g.S.Sources.clock) g.K.Sink.rules) (seen n w (parts c.args.self.now.host c.args.self.now.sources c.args.self.now.sink c.args.self.now.agenda)) (items_by (turn.Edits c.in-Edits.up_to c.in-Edits.edits)) c.take_edits.result (n, (parts c.take_edits.new.self.host c.take_edits.new.self.sources c.take_edits.new.self.sink c.take_edits.new.self.agenda)) (c.take_edits.ensures.did n (ask ∷ []) w h)))
+
+pub returns-in-Alone-clause-did : goal.returns-in-Alone-clause-did
+returns-in-Alone-clause-did g c = λ n w h. subst (λ (t : Turn). DidSteps (rules (agenda_rules g.A.Agenda.rules g.A.Joins.joins) (source_rules g.S.Children.after g.S.Sources.wakes g.S.Sources.clock) g.K.Sink.rules) (seen n w (parts c.args.self.now.host c.args.self.now.sources c.args.self.now.sink c.args.self.now.agenda)) (items_by t) (left_by_answer again) c.and_again-in-Alone.result (n, (parts c.take_alone.new.self.host c.take_alone.new.self.sources c.take_alone.new.self.sink c.take_alone.new.self.agenda))) (sym c.in-Alone.is) (subst (λ (r : Result Bool RunFault). DidSteps (rules (agenda_rules g.A.Agenda.rules g.A.Joins.joins) (source_rules g.S.Children.after g.S.Sources.wakes g.S.Sources.clock) g.K.Sink.rules) (seen n w (parts c.args.self.now.host c.args.self.now.sources c.args.self.now.sink c.args.self.now.agenda)) (items_by (turn.Alone c.in-Alone.event)) (left_by_answer again) r (n, (parts c.take_alone.new.self.host c.take_alone.new.self.sources c.take_alone.new.self.sink c.take_alone.new.self.agenda))) (sym c.and_again-in-Alone.ensures) (did_again (rules (agenda_rules g.A.Agenda.rules g.A.Joins.joins) (source_rules g.S.Children.after g.S.Sources.wakes g.S.Sources.clock) g.K.Sink.rules) (seen n w (parts c.args.self.now.host c.args.self.now.sources c.args.self.now.sink c.args.self.now.agenda)) (items_by (turn.Alone c.in-Alone.event)) c.take_alone.result (n, (parts c.take_alone.new.self.host c.take_alone.new.self.sources c.take_alone.new.self.sink c.take_alone.new.self.agenda)) (c.take_alone.ensures.did n (ask ∷ []) w h)))
+
+pub returns-in-Receive-clause-did : goal.returns-in-Receive-clause-did
+returns-in-Receive-clause-did g c = λ n w h. subst (λ (t : Turn). DidSteps (rules (agenda_rules g.A.Agenda.rules g.A.Joins.joins) (source_rules g.S.Children.after g.S.Sources.wakes g.S.Sources.clock) g.K.Sink.rules) (seen n w (parts c.args.self.now.host c.args.self.now.sources c.args.self.now.sink c.args.self.now.agenda)) (items_by t) (left_by_answer again) c.and_again-in-Receive.result (n, (parts c.receive.new.self.host c.receive.new.self.sources c.receive.new.self.sink c.receive.new.self.agenda))) (sym c.in-Receive.is) (subst (λ (r : Result Bool RunFault). DidSteps (rules (agenda_rules g.A.Agenda.rules g.A.Joins.joins) (source_rules g.S.Children.after g.S.Sources.wakes g.S.Sources.clock) g.K.Sink.rules) (seen n w (parts c.args.self.now.host c.args.self.now.sources c.args.self.now.sink c.args.self.now.agenda)) (items_by (turn.Receive c.in-Receive.seat)) (left_by_answer again) r (n, (parts c.receive.new.self.host c.receive.new.self.sources c.receive.new.self.sink c.receive.new.self.agenda))) (sym c.and_again-in-Receive.ensures) (did_again (rules (agenda_rules g.A.Agenda.rules g.A.Joins.joins) (source_rules g.S.Children.after g.S.Sources.wakes g.S.Sources.clock) g.K.Sink.rules) (seen n w (parts c.args.self.now.host c.args.self.now.sources c.args.self.now.sink c.args.self.now.agenda)) (items_by (turn.Receive c.in-Receive.seat)) c.receive.result (n, (parts c.receive.new.self.host c.receive.new.self.sources c.receive.new.self.sink c.receive.new.self.agenda)) (c.receive.ensures.did n (ask ∷ []) w h)))
+
 pub returns-in-Checkpoint-clause-did : goal.returns-in-Checkpoint-clause-did
 returns-in-Checkpoint-clause-did g c = λ n w h. subst (λ (t : Turn). DidSteps (rules (agenda_rules g.A.Agenda.rules g.A.Joins.joins) (source_rules g.S.Children.after g.S.Sources.wakes g.S.Sources.clock) g.K.Sink.rules) (seen n w (parts c.args.self.now.host c.args.self.now.sources c.args.self.now.sink c.args.self.now.agenda)) (items_by t) (left_by_answer again) c.and_again-in-Checkpoint.result (n, (parts c.rewrite.new.self.host c.rewrite.new.self.sources c.rewrite.new.self.sink c.rewrite.new.self.agenda))) (sym c.in-Checkpoint.is) (subst (λ (r : Result Bool RunFault). DidSteps (rules (agenda_rules g.A.Agenda.rules g.A.Joins.joins) (source_rules g.S.Children.after g.S.Sources.wakes g.S.Sources.clock) g.K.Sink.rules) (seen n w (parts c.args.self.now.host c.args.self.now.sources c.args.self.now.sink c.args.self.now.agenda)) (items_by (turn.Checkpoint c.in-Checkpoint.line)) (left_by_answer again) r (n, (parts c.rewrite.new.self.host c.rewrite.new.self.sources c.rewrite.new.self.sink c.rewrite.new.self.agenda))) (sym c.and_again-in-Checkpoint.ensures) (did_again (rules (agenda_rules g.A.Agenda.rules g.A.Joins.joins) (source_rules g.S.Children.after g.S.Sources.wakes g.S.Sources.clock) g.K.Sink.rules) (seen n w (parts c.args.self.now.host c.args.self.now.sources c.args.self.now.sink c.args.self.now.agenda)) (items_by (turn.Checkpoint c.in-Checkpoint.line)) c.rewrite.result (n, (parts c.rewrite.new.self.host c.rewrite.new.self.sources c.rewrite.new.self.sink c.rewrite.new.self.agenda)) (c.rewrite.ensures.did n (ask ∷ []) w h)))
 

@@ -1,4 +1,4 @@
-use Rattle.std.proofs.Common.{◌≡◌, refl}
+use Rattle.std.proofs.Common.{refl}
 use Rattle.session_engine.specs.Joining.{alone, asking}
 use Rattle.session_engine.proofs.JoinLaws.{all_run, played_joined, stops_at, stops_later}
 use Rattle.session_engine.proofs.buffered.BufferedHost.play_and_join.Goals as goal

@@ -1,4 +1,4 @@
-use Rattle.std.proofs.Common.{◌≡◌, ◌∷◌, [], List, refl, sym, ◌∙◌, subst, arith, ap, length, length-append, rules}
+use Rattle.std.proofs.Common.{◌≡◌, ◌∷◌, [], List, refl, sym, subst, arith, ap, length, length-append, rules}
 use Rattle.std.specs.List.{list_any}
 use Rattle.std.specs.Prelude.{false}
 use Rattle.std.specs.Vec.Iter.{into_iter_items}

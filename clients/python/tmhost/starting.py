@@ -1,0 +1,54 @@
+"""What is known of a session before its interpreter is started, by its words and by what is on this machine."""
+
+import os
+from typing import Dict, Optional, Sequence, Tuple
+
+from .program import search_path
+
+COMMAND = "tmhost-"  # and a name of the table is an adapter
+# The program that each adapter starts, and Debian's package of that.
+PROGRAMS: Dict[str, Tuple[str, str]] = {
+    "M2": ("M2", "macaulay2"), "R": ("R", "r-base-core"), "bc": ("bc", "bc"), "coqtop": ("coqtop", "coq"), "fricas": ("fricas", "fricas"), "gap": ("gap", "gap-core"),
+    "ghci": ("ghci", "ghc"), "giac": ("giac", "giac"), "gnuplot": ("gnuplot", "gnuplot-nox"), "gp": ("gp", "pari-gp"), "guile": ("guile", "guile-3.0"),
+    "maxima": ("maxima", "maxima"), "node": ("node", "nodejs"), "ocaml": ("ocaml", "ocaml"), "octave": ("octave-cli", "octave"), "perl": ("perl", "perl"),
+    "python": ("python3", "python3"), "ruby": ("ruby", "ruby"), "sbcl": ("sbcl", "sbcl"), "sh": ("bash", "bash"), "singular": ("Singular", "singular"),
+    "sqlite3": ("sqlite3", "sqlite3"), "swipl": ("swipl", "swi-prolog-nox"), "yacas": ("yacas", "yacas"),
+}
+# Other names under which these programs are started.
+OTHER_NAMES = {"python": "python", "octave": "octave", "sh": "sh", "nodejs": "node", "irb": "ruby"}
+
+
+def can_be_run(path: str) -> bool:
+    return os.path.isfile(path) and os.access(path, os.X_OK)
+
+
+def is_found(word: str) -> bool:
+    """As `execvp` looks for a program: a word with a slash is a path, seen from the folder in which the host runs, which is this program's own."""
+    if "/" in word:
+        return can_be_run(word)
+    return any(can_be_run(os.path.join(folder or ".", word)) for folder in search_path().split(":"))
+
+
+def missing_program(words: Sequence[str]) -> Optional[Tuple[str, str]]:
+    """The program that isn't here of those that the words of a session start, and what is to be said of it; None where none is known to be missing."""
+    word = words[0] if words else ""
+    if not is_found(word):
+        return word, f"there is no program {word}"
+    name = os.path.basename(word)
+    program, package = PROGRAMS.get(name[len(COMMAND) :], ("", "")) if name.startswith(COMMAND) else ("", "")
+    if not program or is_found(program):
+        return None
+    return program, f"there is no program {program}, which {name} starts (Debian's package {package})"
+
+
+def without_adapter(words: Sequence[str]) -> Optional[str]:
+    """What is to be said of words that start an interpreter by its bare name. It doesn't speak the protocol then, so no answer of it is ever seen."""
+    name = os.path.basename(words[0]) if len(words) == 1 else ""
+    adapter = next((one for one, (program, _) in PROGRAMS.items() if program == name), OTHER_NAMES.get(name))
+    return f"{name} by itself has no blocks for its answers: the words {COMMAND}{adapter} start it with an adapter" if adapter else None
+
+
+def doubt(words: Sequence[str]) -> Optional[str]:
+    """Why a session will have no answers, as far as that is known; None where nothing is against it."""
+    missing = missing_program(words)
+    return missing[1] if missing else without_adapter(words)

@@ -1,0 +1,6 @@
+pub mod Both
+pub mod OwnFaults
+pub mod Runs
+pub mod InOrder
+pub mod Wanting
+pub mod Gatherings

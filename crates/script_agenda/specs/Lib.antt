@@ -1,0 +1,6 @@
+pub mod ScriptAt
+pub mod Gathering
+pub mod Says
+pub mod ScriptRules
+pub mod Run
+pub mod InOrder
