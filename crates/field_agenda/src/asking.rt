@@ -16,7 +16,7 @@ use block_tree::Sequence;
 use child_edge::MOST_TOGETHER;
 use disk_model::Disk;
 use evaluation::Plan;
-use evaluation::asking::{id_at, is_after_lost, next_of, stop_line};
+use evaluation::asking::{id_at, is_passed_over, next_of, stop_line};
 use evaluation::beside::{is_session_busy, wait_in_fewer};
 use evaluation::lasts::{Last, after_asking};
 use evaluation::plan::Stand;
@@ -53,16 +53,6 @@ fn has_room<D: Disk>(host: &BufferedHost<D>, plan: &Plan, count: usize) -> bool
         return false;
     }
     wait_in_fewer(host, plan.jobs.saturating_sub(count as u32))
-}
-
-/// Whether this field is passed over, by the one that was asked last of its session.
-fn is_passed_over(plan: &Plan, sheet: &Sheet, lasts: &[Last], id: u32) -> bool
-    ensures { result ≡ together.is_passed_over plan.now sheet.now.contents.fields lasts.now id }
-{
-    if plan.limit.is_none() || plan.keep_going {
-        return false;
-    }
-    is_after_lost(sheet, lasts, sheet.field(id))
 }
 
 /// By what it is known which fields go together.
