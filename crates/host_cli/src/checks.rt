@@ -8,7 +8,7 @@ ghost use Rattle.host_cli.specs.Tasks.{AcceptsHeld, ChecksAs, ChecksBy, ChecksPa
 use crate::outside::{Outside, Performed, System};
 use crate::plans::{are_several, read_check_jobs, read_limit, several_fault};
 use crate::refusing::{refuse_check_limit, refuse_jobs, refuse_request, refuse_several};
-use check_report::{FieldWords, Format as Report, Request, read_request};
+use check_report::{FieldWords, Format as Report, ReportWords, Request, read_request};
 use command_words::CheckWords;
 use program_endings::{
     CheckEnding, CheckedSources, Total, end_total, end_unheld, end_unwritten, is_unwritten,
@@ -315,20 +315,19 @@ pub(crate) fn check_at<Y: System>(
             };
         }
     };
-    match read_request(
-        alloc,
-        words.json,
-        words.format,
-        FieldWords {
-            only: words.only,
-            left_out: words.leave_out,
-            compared: words.compare,
-            all: words.all,
-        },
-        words.accept,
-        words.whole,
-        limit,
-    ) {
+    let report = ReportWords {
+        accept: words.accept,
+        whole: words.whole,
+        json: words.json,
+        format: words.format,
+    };
+    let fields = FieldWords {
+        only: words.only,
+        left_out: words.leave_out,
+        compared: words.compare,
+        all: words.all,
+    };
+    match read_request(alloc, report, fields, limit) {
         Ok(request) => check_paths(alloc, outside, path, &words, &request, jobs),
         Err(why) => Performed {
             ending: refuse_request(why, &mut outside.errors),
