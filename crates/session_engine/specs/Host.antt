@@ -88,9 +88,8 @@ pub record IsHost (h : HostView) (w : World) : Type 0 where
   pub stands : EngineStandsFor h.store h.lives h.begun w
 
 -- What an event does to a disk with the worksheet of these ops, by whether it rewrites the journal and by the op that it gives,
--- or none. Without both it writes and syncs nothing: then the view of the disk, which a read doesn't change, is as it was. While one
--- that gives an op goes on, each image at every moment is one of the
--- worksheet before it, or of that with the op. While the journal is rewritten, each is one of the same worksheet.
+-- or none. Without both no call of the disk is made, and its view is as it was. While one that gives an op goes on, each image at every
+-- moment is one of the worksheet before it, or of that with the op. While the journal is rewritten, each is one of the same worksheet.
 abbrev pub OnDisk : List Op → Bool → Option Op → DiskView → DiskView → Type 0
 OnDisk ops false None old new = new ≡ old
 OnDisk ops false (Some o) old new = InModel old (LeavesOnly (λ i. IsSheetImage (sheet_of ops) i ⊎ IsSheetImage (sheet_of (ops ++ o ∷ [])) i) old.history new.history)
