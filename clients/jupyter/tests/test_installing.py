@@ -2,9 +2,17 @@
 import json
 import os
 import subprocess
+import unittest
 from typing import Any, Dict, List, Tuple
 
 from tests.support import COMMAND, INTERPRETER, PROGRAM, Case, Front, fields_of, needs_program
+from tmhost.starting import PROGRAMS
+from tmhost_jupyter.languages import LANGUAGES, PREFIX
+
+
+class Languages(unittest.TestCase):
+    def test_that_each_adapter_has_one(self) -> None:
+        self.assertEqual({name: language.words[0] for name, language in LANGUAGES.items()}, {name: PREFIX + name for name in PROGRAMS})
 
 
 @needs_program

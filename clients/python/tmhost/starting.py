@@ -10,12 +10,12 @@ COMMAND = "tmhost-"  # and a name of the table is an adapter
 PROGRAMS: Dict[str, Tuple[str, str]] = {
     "M2": ("M2", "macaulay2"), "R": ("R", "r-base-core"), "bc": ("bc", "bc"), "coqtop": ("coqtop", "coq"), "fricas": ("fricas", "fricas"), "gap": ("gap", "gap-core"),
     "ghci": ("ghci", "ghc"), "giac": ("giac", "giac"), "gnuplot": ("gnuplot", "gnuplot-nox"), "gp": ("gp", "pari-gp"), "guile": ("guile", "guile-3.0"),
-    "maxima": ("maxima", "maxima"), "node": ("node", "nodejs"), "ocaml": ("ocaml", "ocaml"), "octave": ("octave-cli", "octave"), "perl": ("perl", "perl"),
+    "lua": ("lua", "lua5.4"), "maxima": ("maxima", "maxima"), "node": ("node", "nodejs"), "ocaml": ("ocaml", "ocaml"), "octave": ("octave-cli", "octave"), "perl": ("perl", "perl"),
     "python": ("python3", "python3"), "ruby": ("ruby", "ruby"), "sbcl": ("sbcl", "sbcl"), "sh": ("bash", "bash"), "singular": ("Singular", "singular"),
-    "sqlite3": ("sqlite3", "sqlite3"), "swipl": ("swipl", "swi-prolog-nox"), "yacas": ("yacas", "yacas"),
+    "sqlite3": ("sqlite3", "sqlite3"), "swipl": ("swipl", "swi-prolog-nox"), "tcl": ("tclsh", "tcl"), "yacas": ("yacas", "yacas"),
 }
 # Other names under which these programs are started.
-OTHER_NAMES = {"python": "python", "octave": "octave", "sh": "sh", "nodejs": "node", "irb": "ruby"}
+OTHER_NAMES = {"python": "python", "octave": "octave", "sh": "sh", "nodejs": "node", "irb": "ruby", "lua5.4": "lua", "tclsh8.6": "tcl"}
 
 
 def can_be_run(path: str) -> bool:
