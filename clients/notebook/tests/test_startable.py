@@ -39,7 +39,7 @@ class Suggested(unittest.TestCase):
 
     def test_those_whose_interpreter_is_here(self) -> None:
         there = {"R": "/R", "tmhost-R": "/tmhost-R", "lua": "/lua", "tmhost-lua": "/tmhost-lua", "maxima": "/maxima", "tmhost-perl": "/tmhost-perl"}
-        with mock.patch.object(suggested.shutil, "which", lambda word, path=None: there.get(word)), mock.patch.object(suggested, "kernels", lambda: []):
+        with mock.patch("shutil.which", lambda word, path=None: there.get(word)), mock.patch.object(suggested, "kernels", lambda: []):
             self.assertEqual(suggested.suggestions(), [{"name": "r", "words": "tmhost-R", "tab": True}, {"name": "lua", "words": "tmhost-lua", "tab": True}])
 
 
