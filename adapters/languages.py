@@ -14,7 +14,7 @@ SQL_CLOSES = {b"'": b"'", b'"': b'"', b"`": b"`", b"[": b"]", b"/*": b"*/"}
 
 SBCL = "exec sbcl --noinform --no-sysinit --no-userinit --disable-debugger --load \"$0\" --eval '(tmhost::answer-lines)' 3<&0 </dev/null"
 
-LUA_RUNS = 500  # of the loop: an interrupt ends one
+LUA_RUNS = 200  # of the loop: an interrupt ends one
 
 
 def in_sql(text: bytes) -> bytes:
