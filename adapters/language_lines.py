@@ -62,6 +62,8 @@ LUA: List[Line] = [
     ("nil + 1", "line:1: attempt to perform arithmetic on a nil value"), ("foo(", "line:1: unexpected symbol near <eof>"), ("nothing()", "..attempt to call a nil value (global 'nothing')"), ("error('no', 0)", "no"), ("error({})", "(error object is a table value)"),
     ("error(setmetatable({}, {__tostring = function() return 'own' end}))", "own"), ("while true do end", "interrupted!", True), ("x", "5"), ("while true do end", "interrupted!", True), ("f = function() while true do end end f()", "line:1: interrupted!", True), ("os.execute('sleep 100')", "nil\tsignal\t2", True), ("x", "5"),
     ("io.read()", "nil"), ("io.stderr:write('w')", "..w"), ("arg", "nil"), ("'é'", "é"), ("#'é'", "2"),
+    ("x = 5\u2028x * 2", "10"), ("x = 5\u2028x,\u20283 -- a remark\u2028", "5\t3"), ("x = 5\u2028x\u2028-- a remark", "5"), ("x = 7\u2028- 2", ""), ("x", "5"), ("f = function(a) return a end\u2028f(21)", "21"), ("x = f\u2028(3)", ""), ("x", "3"),
+    ("function q()\u2028  f(1)\u2028end", ""), ("q()", ""), ("for i = 1, 2 do\u2028  print(i)\u2028end\u2028f 'b'", "1\n2\nb"), ("x = 5\u2028y +", "line:2: syntax error near '+'"), ("x = 5\u2028nil + 1", "line:2: attempt to perform arithmetic on a nil value"),
     *called("function k(n)\n  local s = 0\n  for i = 1, n do\n    if i % 2 == 1 then\n      s = s + i\n    else\n      s = s - i\n    end\n  end\n  return s\nend", "k(10)"),
 ]
 LUA_ODD = [

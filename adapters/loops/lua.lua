@@ -20,10 +20,26 @@ local function show(...)
     if select("#", ...) > 0 then print(...) end
 end
 
+-- A text as an expression; else its first lines as statements and the last ones as an expression, where these can't go on from the others; else
+-- as statements.
+local function compiled(text)
+    local line = compile("return " .. text, "=line")
+    for at = line and 0 or #text, 1, -1 do
+        if sub(text, at, at) == "\n" then
+            local front, last = sub(text, 1, at), sub(text, at + 1)
+            if find(last, "^%s*[%w_#]") and compile(front) and compile("return " .. last) then
+                line = compile(front .. "return " .. last, "=line")
+                break
+            end
+        end
+    end
+    if line then return line end
+    return compile(text, "=line")
+end
+
 -- Whether the line came to its end without an interrupt.
 local function answer(text)
-    local line, wrong = compile("return " .. text, "=line")
-    if not line then line, wrong = compile(text, "=line") end
+    local line, wrong = compiled(text)
     local is_done = false
     if line then is_done, wrong = pcall(function() show(line()) end) end
     if is_done then return true end
