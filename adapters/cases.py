@@ -360,7 +360,8 @@ def by_kernel(words: str, leaving: str, busy: str, cases: List[Case], number: Tu
 
 
 def by_language(name: str, lines: Lines) -> Trial:
-    return Trial(f"prompted.py {name}", lines.program, lines.leaving, lines.busy, lines.cases, lines.odd, lines.number, lines.numbered, failing=LANGUAGE_ERRORS.get(name, ()))
+    words = f"prompted.py {name}"
+    return Trial(words, lines.program, lines.leaving, lines.busy, lines.cases, lines.odd, lines.number, lines.numbered, completing=COMPLETING.get(words), failing=LANGUAGE_ERRORS.get(name, ()))
 
 
 TRIALS = {

@@ -15,6 +15,7 @@ class Completing:
 
     line: str
     cases: List[Case]
+    slow: str = ""  # a line of two seconds, where an interrupt would end the interpreter
 
 
 # The line makes names that are no words, and objects whose own functions would print, or never come back.
@@ -117,6 +118,19 @@ MAXIMA: List[Case] = [
     ("?zz|", NONE), ("zz_top.zz_al|", '"zz_al" "one"'), ("zz_top^zz_al|", '"zz_al" "one"'), ("zz_top!+zz_al|", '"zz_al" "one"'), ("%zz_|", NONE),
     ("über|", NONE), ("ü|", NONE), ("zz|", '"zz" "Up" "_alone" "_made" "_top"'), ("makegamm|", '"makegamm" "a"'), ("trigsim|", '"trigsim" "p"'), ("ratcoe|", '"ratcoe" "f" "ff"'),
 ]
+# What a metatable would answer isn't asked for.
+LUA_LINE = "zz_top = 5; zz_alone = 1; zz_t = {field = 1, fn = print, [1] = 2, ['a b'] = 3, inner = {deep = 1}}; zz_made = setmetatable({own = 1}, {__index = function() os.exit() end})"
+LUA: List[Case] = [
+    ("zz_|", '"zz_" "alone" "made" "t" "top"'), ("zz_t|", '"zz_t" "" "op"'), ("zz_t|op", '"zz_t" "" "op"'), ("zz_t.|", '"zz_t." "field" "fn" "inner"'), ("zz_t.inner.d|", '"zz_t.inner.d" "eep"'), ("zz_t.inner.|", '"zz_t.inner." "deep"'),
+    ("zz_made.o|", '"zz_made.o" "wn"'), ("zz_made.x|", NONE), ("zz_made.x.y|", NONE), ("zz_top.x|", NONE), ("string.for|", '"string.for" "mat"'), ("string.format|", '"string.format" ""'), ("f(string.for|)", '"string.for" "mat"'), ("whil|", '"whil" "e"'),
+    ("1 + zz_to|", '"zz_to" "p"'), ("f(zz_to|)", '"zz_to" "p"'), ("'a'..zz_to|", '"zz_to" "p"'), ("zz_top..zz_al|", '"zz_al" "one"'), ("{zz_to|}", '"zz_to" "p"'), ("#zz_to|", '"zz_to" "p"'), ("1\u2028zz_al|one\u20282", '"zz_al" "one"'), ("'é'; zz_to|", '"zz_to" "p"'),
+    ("('a'):up|", NONE), ("zz_t:fi|", NONE), ("f().zz|", NONE), ("f()[1].zz|", NONE), ("nothing_like_it|", NONE), ("|", NONE), (" |", NONE), ("(|", NONE), ("1|", NONE), ("1.|", NONE), ("1e|", NONE), ("é|", NONE), ("über|", NONE), ("2zz_to|", NONE), ('"\\"; zz_to|', '"zz_to" "p"'),
+]
+TCL_LINE = "set zz_top 5; set zz_alone 1; proc zz_made {} {exit}; array set zz_array {a 1}; namespace eval zz_space {proc inner {} {}}; set {zz h} 1"
+TCL: List[Case] = [
+    ("zz_|", '"zz_" "alone" "array" "made" "top"'), ("$zz_t|", '"zz_t" "op"'), ("puts $zz_t|op", '"zz_t" "op"'), ("${zz_t|}", '"zz_t" "op"'), ("[zz_m|]", '"zz_m" "ade"'), ("set x [zz_m|", '"zz_m" "ade"'), ("fconf|", '"fconf" "igure"'), ("fconfigure|", '"fconfigure" ""'),
+    ("puts a; fconf|", '"fconf" "igure"'), ("1\u2028fconf|\u20282", '"fconf" "igure"'), ("zz_space::in|", NONE), ("::zz_t|", NONE), ("nothing_like_it|", NONE), ("|", NONE), (" |", NONE), ("{|", NONE), ("1|", NONE), ("é|", NONE), ("über|", NONE), ("2zz_t|", NONE), ('"\\"; fconf|', '"fconf" "igure"'),
+]
 
 COMPLETING: Dict[str, Completing] = {
     "python": Completing(PYTHON_LINE, PYTHON),
@@ -126,4 +140,6 @@ COMPLETING: Dict[str, Completing] = {
     "prompted.py R": Completing(R_LINE, R),
     "prompted.py maxima": Completing(MAXIMA_LINE, MAXIMA),
     "prompted.py maxima --latex": Completing(MAXIMA_LINE, MAXIMA),
+    "prompted.py lua": Completing(LUA_LINE, LUA),
+    "prompted.py tcl": Completing(TCL_LINE, TCL, "after 2000"),
 }

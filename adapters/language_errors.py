@@ -14,6 +14,14 @@ LANGUAGE_ERRORS: Dict[str, List[Tuple[str, str]]] = {
         ("1 / 0", "Illegal division by zero at input line 1."), ("foo(", "syntax error at input line 1, at EOF"), ('print "so\\n"; die "no\\n"', "no"), ("nothing_here()", "..Undefined subroutine"),
         ('print "died at line 1.\\n"', ""), ('eval { die "caught\\n" }; 5', ""), ('warn "careful\\n"', ""), ("2", ""),
     ],
+    "lua": [
+        ("nil + 1", "line:1: attempt to perform arithmetic on a nil value"), ("foo(", "line:1: unexpected symbol near <eof>"), ("print('so') error('no', 0)", "no"), ("nothing()", "..attempt to call a nil value"), ("print('line:1: none')", ""),
+        ("pcall(error, 'caught')", ""), ("io.stderr:write('careful\\n')", ""), ("2", ""),
+    ],
+    "tcl": [
+        ("expr {1 / 0}", "divide by zero"), ("foo {", "missing close-brace"), ("puts so; error no", "no"), ("nothing", 'invalid command name "nothing"'), ("break", 'invoked "break" outside of a loop'), ("puts {invalid command name}", ""),
+        ("catch {error caught} m; set m", ""), ("puts stderr careful", ""), ("set x 2", ""),
+    ],
     "guile": [
         ("(/ 1 0)", "..numerical-overflow"), ("(car", "..unexpected end of input"), ('(begin (display "so\\n") (error "no"))', "no"), ("nothing", "Unbound variable: nothing"), ('(display "Error: none")', ""),
         ('(catch #t (lambda () (error "caught")) (lambda _ 5))', ""), ("2", ""),

@@ -57,6 +57,33 @@ PERL_ODD = [
     "print \"$_\\n\" for 1 .. 2000;", "'x' x 50000", "use strict; $z = 1", "no strict; $z = 1", "local $| = 1", "$0", "$@", "$!", "eval { die 3 }; 1", "goto X", "last", "next", "return 3", "fork or exit; wait; 1", "chr(2) . chr(5) . chr(27)",
     "{ a => 1 }", "sub { 1 }->()", "kill INT => $$; sleep 1", "select STDERR; select STDOUT; 1", "$SIG{ALRM} = sub { die 'alarm' }; alarm 1; 1 while 1", "require Nothing", "$_ = 3", "__PACKAGE__",
 ]
+LUA: List[Line] = [
+    ("1 + 1", "2"), ("x = 5", ""), ("x", "5"), ("", ""), ("-- a remark", ""), ("nil", "nil"), ("1, nil, 'b'", "1\tnil\tb"), ("'a\"b\\\\n'", 'a"b\\n'), ("print('hi') return 3", "hi\n3"), ("local y = 1", ""), ("y", "nil"),
+    ("nil + 1", "line:1: attempt to perform arithmetic on a nil value"), ("foo(", "line:1: unexpected symbol near <eof>"), ("nothing()", "..attempt to call a nil value (global 'nothing')"), ("error('no', 0)", "no"), ("error({})", "(error object is a table value)"),
+    ("error(setmetatable({}, {__tostring = function() return 'own' end}))", "own"), ("while true do end", "interrupted!", True), ("x", "5"), ("while true do end", "interrupted!", True), ("f = function() while true do end end f()", "line:1: interrupted!", True), ("os.execute('sleep 100')", "nil\tsignal\t2", True), ("x", "5"),
+    ("io.read()", "nil"), ("io.stderr:write('w')", "..w"), ("arg", "nil"), ("'é'", "é"), ("#'é'", "2"),
+    ("x = 5\u2028x * 2", "10"), ("x = 5\u2028x,\u20283 -- a remark\u2028", "5\t3"), ("x = 5\u2028x\u2028-- a remark", "5"), ("x = 7\u2028- 2", ""), ("x", "5"), ("f = function(a) return a end\u2028f(21)", "21"), ("x = f\u2028(3)", ""), ("x", "3"),
+    ("function q()\u2028  f(1)\u2028end", ""), ("q()", ""), ("for i = 1, 2 do\u2028  print(i)\u2028end\u2028f 'b'", "1\n2\nb"), ("x = 5\u2028y +", "line:2: syntax error near '+'"), ("x = 5\u2028nil + 1", "line:2: attempt to perform arithmetic on a nil value"),
+    *called("function k(n)\n  local s = 0\n  for i = 1, n do\n    if i % 2 == 1 then\n      s = s + i\n    else\n      s = s - i\n    end\n  end\n  return s\nend", "k(10)"),
+]
+LUA_ODD = [
+    "'open", '"open', "[[open", "--[[ open", "(1 +", "{1", "1)", "}", "end", "if true then", "function f(", "1 +", "io.read('a')", "io.lines()()", "io.stdin:read('n')", "os.execute('cat')", "io.popen('cat'):read('a')", "os.execute('echo sub')", "io.write('a')", "io.stderr:write('b\\n')",
+    "for i = 1, 2000 do print(i) end", "string.rep('x', 50000)", "print(1, 2)", "error()", "error(nil)", "coroutine.wrap(function() error('c') end)()", "coroutine.yield(1)", "return 3", "goto a", "break", "print = nil", "print(1)", "string.find = nil", "('x'):find('x')", "load = nil",
+    "io.output('/dev/null')", "io.write('gone')", "io.output(io.stdout)", "io.stdout:close()", "io.stdout:setvbuf('full')", "io.write('late')", "io.stdout:setvbuf('no')", "setmetatable(_G, {__index = function(_, name) error('strict ' .. name) end})", "undefined", "setmetatable(_G, nil)",
+    "string.char(2, 5, 27)", "pcall(error)", "(function(...) return select('#', ...) end)(nil, nil)", "local function g() return g() + 1 end return g()", "os.exit == nil", "require 'nothing'", "_ENV", "\\", "=1", "collectgarbage()",
+]
+TCL: List[Line] = [
+    ("expr {1 + 1}", "2"), ("set x 5", "5"), ("set x", "5"), ("", ""), ("# a remark", ""), ("puts hi; expr 3", "hi\n3"), ("list a {b c}", "a {b c}"), ("set y \"a\\\"b\\\\\"", 'a"b\\'), ("puts -nonewline a", "a"), ("foo", 'invalid command name "foo"'),
+    ("expr {1 / 0}", "divide by zero"), ("error no", "no"), ("foo {", "missing close-brace"), ('set z "open', 'missing "'), ("set nothing", 'can\'t read "nothing": no such variable'), ("break", 'invoked "break" outside of a loop'), ("continue", 'invoked "continue" outside of a loop'),
+    ("return 7", "7"), ("gets stdin", ""), ("exec cat", ""), ("exec echo sub", "sub"), ("set errorInfo", "..no such variable"), ("set x 6; set x", "6"), ("set é é", "é"), ("info globals nothing*", ""), ("puts stderr w", "w"), ("while 1 {}", "? Ended", True), ("set x 5", "5"),
+    *called("proc k {n} {\n  set s 0\n  for {set i 1} {$i <= $n} {incr i} {\n    if {$i % 2} {\n      incr s $i\n    } else {\n      incr s -$i\n    }\n  }\n  return $s\n}", "k 10"),
+]
+TCL_ODD = [
+    "{", "}", '"', "[", "]", "(1 +", "puts {", "proc f {", "if 1 {", "# open {", "\\", "puts a\\", "read stdin", "gets stdin line", "exec cat <@stdin", "exec sh -c {echo e >&2}", "exec sh -c {exit 3}", "puts stdout b", "puts stderr c", "for {set i 0} {$i < 2000} {incr i} {puts $i}",
+    "string repeat x 50000", "fconfigure stdout -buffering full", "puts -nonewline late", "fconfigure stdout -buffering none", "close stdout", "puts gone", "set stdout 1", "close stderr", "close stdin", "gets stdin", "fconfigure stdout -translation crlf", "rename puts theirs", "puts 1", "proc puts {args} {theirs own}", "puts 2", "rename puts {}; rename theirs puts",
+    "uplevel #0 {set u 1}", "return -code error e", "return -code 7 r", "throw {A B} thrown", "try {error e} on error m {set m}", "after 10; set a 1", "after 10 {set ::done 1}; vwait done", "namespace eval n {proc p {} {return q}}", "n::p", "namespace current", "info level", "info script", "coroutine c eval {yield 1}", "yield",
+    "proc r {} {r}; r", "interp create i; i eval {expr 2}", "package require nothing", "source nothing", "load nothing", "string map {a b} abc", "format %c%c%c 2 5 27", "encoding system", "exit_not", "unset x", "set x 5", "array set a {b c}", "parray a", "lsort {c a b}", "eval {set x 1", "list {", "list \\{",
+]
 GUILE: List[Line] = [
     ("(+ 1 1)", "2"), ("(define x 5)", ""), ("x", "5"), ("(car '())", "..Wrong type"), ('(display "a") 3', "a3"), ('"a\\"b"', '"a\\"b"'), ("", ""), ("; a remark", ""), ("(foo", "..end of input"), ("nothing", "..Unbound variable: nothing"),
     ("(let loop () (loop))", "interrupted", True), ("(sleep 100) 1", "..", True), ("x", "5"), ("(read-line)", "#<eof>"), ("(values 1 2)", "1\n2"), ("'a", "a"), ("#t", "#t"), ('(error "no" 1)', "no 1"), ("(throw 'a 1)", "..a"),
@@ -144,6 +171,8 @@ LANGUAGES: Dict[str, Lines] = {
     "node": Lines("node", "process.exit()", "while (true) {}", "'n%d'", "'n%d'", NODE, NODE_ODD),
     "ruby": Lines("ruby", "exit", "1 while true", "'n%d'", '=> "n%d"', RUBY, RUBY_ODD),
     "perl": Lines("perl", "exit", "1 while 1", "'n%d'", "n%d", PERL, PERL_ODD),
+    "lua": Lines("lua", "os.exit()", "while true do end", "'n%d'", "n%d", LUA, LUA_ODD),
+    "tcl": Lines("tclsh", "exit", "while 1 {}", "set n n%d", "n%d", TCL, TCL_ODD),
     "guile": Lines("guile", "(exit)", "(let loop () (loop))", "'n%d", "n%d", GUILE, GUILE_ODD),
     "ocaml": Lines("ocaml", "exit 0", "while true do () done", '"n%d"', '- : string = "n%d"', OCAML, OCAML_ODD),
     "sbcl": Lines("sbcl", "(exit)", "(loop)", "'n%d", "N%d", SBCL, SBCL_ODD),

@@ -14,6 +14,8 @@ SQL_CLOSES = {b"'": b"'", b'"': b'"', b"`": b"`", b"[": b"]", b"/*": b"*/"}
 
 SBCL = "exec sbcl --noinform --no-sysinit --no-userinit --disable-debugger --load \"$0\" --eval '(tmhost::answer-lines)' 3<&0 </dev/null"
 
+LUA_RUNS = 200  # of the loop: an interrupt ends one
+
 
 def in_sql(text: bytes) -> bytes:
     """Statements with what is open in them closed, or a command of the shell, whose lines are commands, too."""
@@ -36,14 +38,19 @@ def in_coq(text: bytes) -> bytes:
     return text if not bare.strip() or bare.rstrip().endswith((b".", b"{", b"}")) else text + b"."
 
 
-def by_loop(prompt: bytes, *words: str, statement: Callable[[bytes], bytes] = quoted) -> Profile:
-    return Profile([word.replace("LOOPS", LOOPS) for word in words], "{0} {1}", prompt, statement=statement)
+def by_loop(prompt: bytes, *words: str, statement: Callable[[bytes], bytes] = quoted, names: str = "", word: str = Profile.word) -> Profile:
+    return Profile([one.replace("LOOPS", LOOPS) for one in words], "{0} {1}", prompt, statement=statement, names=names, word=word)
 
 
 LANGUAGES = {
     "node": by_loop(b"> ", "sh", "-c", 'exec node "$0" 3<&0 </dev/null', "LOOPS/node.js"),
     "ruby": by_loop(b"irb> ", "ruby", "LOOPS/ruby.rb"),
     "perl": by_loop(b"", "perl", "LOOPS/perl.pl"),
+    "lua": by_loop(
+        b"> ", "sh", "-c", 'exec lua "$@" 3<&0 </dev/null', "lua", "-e", "dofile [[LOOPS/lua.lua]]", *["-e", "debug.getregistry().tmhost()"] * LUA_RUNS,
+        names="?{0}", word=r"(?<![\w:])(?<![^.]\.)[A-Za-z_]\w*(?:\.(?!\.)\w*)*\Z",
+    ),
+    "tcl": by_loop(b"% ", "sh", "-c", 'exec tclsh "$0" 3<&0 </dev/null', "LOOPS/tcl.tcl", names="?{0}", word=r"(?<![\w:])[A-Za-z_]\w*\Z"),
     "guile": by_loop(b"scheme@(guile-user)> ", "guile", "--no-auto-compile", "-s", "LOOPS/guile.scm"),
     "ocaml": by_loop(b"# ", "sh", "-c", 'exec ocaml -noinit -noprompt -I +compiler-libs 3<&0 <"$0"', "LOOPS/ocaml.ml"),
     "sbcl": by_loop(b"* ", "sh", "-c", SBCL, "LOOPS/sbcl.lisp"),

@@ -1,4 +1,5 @@
-"""An interpreter of Python: a line is an expression or a statement, and names stay from line to line."""
+"""An interpreter of Python: a line is an expression or statements, and names stay from line to line. A field of several lines is one line,
+with U+2028 between them. Errors are marked."""
 import contextlib
 import io
 import os
@@ -24,9 +25,9 @@ def compiled(line):
 
 
 def run(line):
-    """What the line prints, and its value, or the error that it raised. An exit() is told as one too."""
+    """What the line prints, with its value, and the error that it raised. An exit() is one too."""
     global is_at_a_line
-    written = io.StringIO()
+    written, failed = io.StringIO(), ""
     sys.stdin = io.StringIO()
     with contextlib.redirect_stdout(written):
         try:
@@ -36,9 +37,9 @@ def run(line):
                 print(repr(value))
         except (Exception, SystemExit, KeyboardInterrupt) as error:
             is_at_a_line = False
-            print(f"{type(error).__name__}: {error}")
+            failed = f"{type(error).__name__}: {error}"
         is_at_a_line = False
-    return written.getvalue()
+    return written.getvalue(), failed
 
 
 def interrupted(number, frame):
@@ -57,11 +58,12 @@ def escaped(text):
     return text.encode("utf-8", "backslashreplace")
 
 
-def write_block(text, number):
-    blocks.write(b"\x02verbatim:%b\x02prompt#In [%d]: \x05\x05" % (escaped(text), number))
+def write_block(text, failed, number):
+    error = b"\x02output#\x02output#%b\x05\x05" % escaped(failed) if failed else b""
+    blocks.write(b"\x02verbatim:%b%b\x02prompt#In [%d]: \x05\x05" % (escaped(text), error, number))
     blocks.flush()
 
 
-write_block("Python " + sys.version.split()[0], 1)
+write_block("Python " + sys.version.split()[0], "", 1)
 for number, line in enumerate(lines, 2):
-    write_block(run(line.rstrip("\n")), number)
+    write_block(*run(line.rstrip("\n").replace("\u2028", "\n")), number)

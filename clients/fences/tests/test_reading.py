@@ -45,6 +45,23 @@ class Fields(unittest.TestCase):
         self.assertEqual(self.inputs('x = """a\nb"""', "sh"), ['x = """a', 'b"""'])
         self.assertEqual([language_in(words.split()) for words in ("python3 /a/python", "python3 a.py", "a/gp --text", "")], ["python", "", "gp", ""])
 
+    def test_blocks_and_texts_of_lua(self) -> None:
+        for code, wanted in (
+            ("repeat\n  f()\nuntil x\ny", ["repeat|  f()|until x", "y"]), ("-- it's (\nx", ["-- it's (", "x"]), ("x = [[\n(\n]]\ny", ["x = [[|(|]]", "y"]), ("--[==[ a\n]]\n]==]\ny", ["--[==[ a|]]|]==]", "y"]),
+            ("function f(n)\n  return n\nend\nf(1)", ["function f(n)|  return n|end", "f(1)"]), ("f {\n1,\n}\n#t", ["f {|1,|}", "#t"]), ("x = ')'\ny", ["x = ')'", "y"]),
+        ):
+            self.assertEqual(self.inputs(code, "tmhost-lua"), wanted, code)
+        self.assertEqual(self.inputs("x\nuntil true; do\n  y\ndone", "tmhost-sh"), ["x", "until true; do|  y|done"])
+
+    def test_statements_of_sql(self) -> None:
+        """One goes on to its semicolon, but not beyond a command of the shell. Where there is none a line is one."""
+        for code, wanted in (
+            ("select a,\nb\n\nfrom t;\nselect 1;", ["select a,|b||from t;", "select 1;"]), ("select 1\nselect 2", ["select 1", "select 2"]), (".tables\nselect\n1;", [".tables", "select|1;"]),
+            ("select 1\n.tables\nselect 2;", ["select 1", ".tables", "select 2;"]), ("select ';\n', 1;\nx;", ["select ';|', 1;", "x;"]), ("-- it's one;\nselect 1; -- (\nx;", ["-- it's one;|select 1; -- (", "x;"]),
+            ("create table t(\na\n);\nx;", ["create table t(|a|);", "x;"]), ("create trigger r after insert on t begin\n  select 1;\nend;\nx;", ["create trigger r after insert on t begin|  select 1;|end;", "x;"]),
+        ):
+            self.assertEqual(self.inputs(code, "tmhost-sqlite3"), wanted, code)
+
 
 class Front(unittest.TestCase):
     def test_where_it_ends(self) -> None:

@@ -12,15 +12,20 @@ SURROGATE = re.compile(r"[\ud800-\udfff]")
 # Words of several languages that close what an earlier line began, or begin a further branch of it.
 CLOSING = "elif|else|elseif|except|finally|end|endif|endfor|endwhile|endfunction|endswitch|end_try_catch|end_unwind_protect|do|done|then|fi|esac|od"
 GOES_ON = re.compile(rf"[ \t)\]}}]|(?:{CLOSING})\b")
+GOES_ON_IN = {"lua": re.compile(rf"{GOES_ON.pattern}|until\b")}  # elsewhere, as in a shell, it begins a loop
 DECORATOR = re.compile(r"@\w")
 # What has no brackets that count: texts, and remarks.
 TEXT = re.compile(r"""\"(?:\\.|[^\"\\])*\"|'[^']*'|(?:\A|(?<=\s))#\s.*""")
 # The same where one may have several lines. In gp ' begins no text.
 TEXTS = {
     "gp": re.compile(r'"(?:\\.|[^"\\\n])*"|/\*.*?(?:\*/|\Z)|\\\\[^\n]*', re.DOTALL),
+    "lua": re.compile(
+        r"""--\[(=*)\[.*?(?:\]\1\]|\Z)|--[^\n]*|\[(=*)\[.*?(?:\]\2\]|\Z)|"(?:\\.|[^"\\\n])*"|'(?:\\.|[^'\\\n])*'""", re.DOTALL
+    ),
     "python": re.compile(
         r'"""(?:\\.|[^\\])*?(?:"""|\Z)|\'\'\'(?:\\.|[^\\])*?(?:\'\'\'|\Z)|"(?:\\.|[^"\\\n])*"|\'(?:\\.|[^\'\\\n])*\'|#[^\n]*', re.DOTALL
     ),
+    "sqlite3": re.compile(r"""--[^\n]*|/\*.*?(?:\*/|\Z)|'[^']*(?:'|\Z)|"[^"]*(?:"|\Z)""", re.DOTALL),
 }
 HOLDS = re.compile(r"[\\=]\s*\Z")  # at the end of a line
 
@@ -83,14 +88,27 @@ def closings(lines: List[str]) -> Dict[int, int]:
     return closed
 
 
+def statements(lines: List[str], language: str) -> Dict[int, int]:
+    """The line that ends the statement of a line, where a language has an end for each, as SQL. A command of the shell of SQLite is a line."""
+    found: Dict[int, int] = {}
+    end = -1
+    for at in reversed(range(len(lines)) if language == "sqlite3" else ()):
+        line = lines[at].strip()
+        end = at if line.endswith(";") else -1 if line.startswith(".") else end
+        if end >= 0:
+            found[at] = end
+    return found
+
+
 def holds(lines: List[str], language: str, most: int) -> Iterator[int]:
-    """Of each line the last one that it holds: that which closes its brackets, where these are at most so many characters; the next one after
-    a backslash or an equals sign at its end; else itself."""
+    """Of each line the last one that it holds: that which closes its brackets or ends its statement, where these are at most so many characters;
+    the next one after a backslash or an equals sign at its end; else itself."""
     ends = list(itertools.accumulate((1 + len(line) for line in lines), initial=0))
     bare = without_texts(lines, language) if language in TEXTS else lines
     closed = closings(bare if language in TEXTS else [TEXT.sub("", line) for line in lines])
+    ended = statements(bare, language)
     for at, line in enumerate(bare):
-        last = closed.get(at, at)
+        last = max(closed.get(at, at), ended.get(at, at))
         if last > at and ends[last + 1] - ends[at] <= most:
             yield last
         else:
@@ -99,6 +117,7 @@ def holds(lines: List[str], language: str, most: int) -> Iterator[int]:
 
 def groups(lines: List[str], language: str, most: int = LONGEST_INPUT) -> Iterator[Group]:
     """Each line with those that go on from it. Empty lines stand in a group only where it goes on after them."""
+    goes_on = GOES_ON_IN.get(language, GOES_ON)
     taken: List[str] = []
     blanks: List[str] = []
     begin, held = 0, -1
@@ -106,7 +125,7 @@ def groups(lines: List[str], language: str, most: int = LONGEST_INPUT) -> Iterat
         if not line.strip(" \t"):
             blanks.append(line)
             continue
-        if taken and (at <= held or GOES_ON.match(line) or DECORATOR.match(taken[-1])):
+        if taken and (at <= held or goes_on.match(line) or DECORATOR.match(taken[-1])):
             taken += [*blanks, line]
         else:
             yield from group(begin, taken)

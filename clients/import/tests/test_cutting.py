@@ -20,13 +20,15 @@ TOGETHER: dict[str, list[str]] = {
     "julia": ["function f(x)\n\nx[end]\nend", "for i in 1:2\n\n1\nend", '"""\na\n\nb"""', "map(x) do y\n\ny\nend", "x = [i for i in 1:2\n\n]", "#= a\n\nb =#"],
     "sh": ["if x\nthen\n\ny\nfi", "for i in a\ndo\n\necho if\ndone", "cat <<E\na\n\nb\nE", "case x in\na) y;;\n\nesac", "echo 'a\n\nb'", "f() {\n\nx\n}"],
     "gap": ["f := function(x)\n\nreturn x;\nend;", "x :=\n1;", "if x then\n\ny;\nfi;"],
+    "lua": ["function f()\nlocal x = 'end'\n\nend", "repeat\n\nx()\nuntil y", "--[[ a\n\nb ]]\nf()", "x = [[\n\na]]", "for i = 1, 2\ndo\n\nif x then\ny()\nend\nend"],
+    "sqlite3": ["select a,\nb\n\nfrom t;", "-- it's\nselect 1;", "select ';\n\n';", "/* a;\n\nb */ x;"],
     "M2": ["f = x -> (\n\nx)", "x =\n1"],
 }
 
 
 def fill(language: str) -> str:
     """A statement that is long."""
-    return f"{FILL};" if language in ("maxima", "gap") else f"{FILL} = 1"
+    return f"{FILL};" if language in ("maxima", "gap", "sqlite3") else f"{FILL} = 1"
 
 
 class Cutting(unittest.TestCase):

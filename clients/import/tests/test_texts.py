@@ -1,5 +1,7 @@
 """Org files and texts with fences."""
+from tmhost.starting import PROGRAMS
 from tmhost_import import fences, org
+from tmhost_import.sessions import ALIASES, LANGUAGES, language_of
 
 from .support import LINE_END, Case, needs_markdown_it
 
@@ -45,6 +47,14 @@ FENCES: dict[str, list[tuple[int, str, list[str]]]] = {
     "```x\r\n1\r2\r\n```": [(1, "x", ["1", "2"])],
 }
 MARKDOWN = "```{python, echo=FALSE}\na\n\n  b\n```\n\n- ~~~ {.R .numberLines}\n  1\n  ~~~\n\n```json\n{}\n```\n\n```\nout\n```\n\n``` Py x=1\nc\n```\n"
+
+
+class Languages(Case):
+    def test_that_each_adapter_has_one(self) -> None:
+        """In capitals or not, and by its other names."""
+        self.assertEqual({*LANGUAGES}, {*PROGRAMS})
+        for hint, wanted in [("LUA", "lua"), ("Tcl", "tcl"), ("js", "node"), ("JavaScript", "node"), ("tclsh", "tcl"), ("Haskell", "ghci"), ("c", None), *ALIASES.items()]:
+            self.assertEqual(language_of(hint), wanted, hint)
 
 
 class Org(Case):

@@ -32,6 +32,7 @@ BLOCKS = {
         re.compile(r"\b(?:if|for|while|function|macro|module|baremodule|struct|abstract\s+type|primitive\s+type|begin|let|try|quote|do)\b"),
         re.compile(r"\bend\b"),
     ),
+    "lua": (re.compile(r"\b(?:function|if|do|repeat)\b"), re.compile(r"\b(?:end|until)\b")),
     "octave": (
         re.compile(r"\b(?:if|for|parfor|while|switch|function|try|do|unwind_protect|classdef)\b"),
         re.compile(r"\b(?:end\w*|until)\b"),
@@ -42,7 +43,7 @@ BLOCKS = {
     ),
 }
 # How a line ends that ends a statement, in languages where each one has such an end.
-ENDS = {"gap": ";", "maxima": ";$", "singular": ";}", "yacas": ";"}
+ENDS = {"gap": ";", "maxima": ";$", "singular": ";}", "sqlite3": ";", "yacas": ";"}
 GOES_ON_BELOW = re.compile(r"(?:[\\=,+*/&|<>~^:-]|%\S*%|\.\.\.)\s*\Z")
 BEGINS_WITH_OPERATOR = re.compile(r"[|&.,+*/=<>-]")
 OPENS, CLOSES = "([{", ")]}"

@@ -17,14 +17,20 @@ HERE = os.path.dirname(os.path.realpath(__file__))
 # The commands of the adapters, where they lie beside this package, in the repository and where it is installed; else they are looked for on PATH.
 COMMANDS = os.path.join(HERE, "..", "..", "..", "adapters", "bin")
 COMMAND = "tmhost-"
-LANGUAGES = ("bc", "gap", "giac", "gnuplot", "gp", "M2", "maxima", "octave", "python", "R", "sh", "singular", "yacas")
+LANGUAGES = (
+    "bc", "coqtop", "fricas", "gap", "ghci", "giac", "gnuplot", "gp", "guile", "lua", "M2", "maxima", "node", "ocaml", "octave", "perl", "python", "R", "ruby", "sbcl",
+    "sh", "singular", "sqlite3", "swipl", "tcl", "yacas",
+)
 # Other names that kernels, Org and fences have for them, in lower case.
 ALIASES = {
     "bash": "sh",
     "gap-4": "gap",
     "gap 4": "gap",
+    "haskell": "ghci",
     "ipython": "python",
     "ir": "R",
+    "javascript": "node",
+    "js": "node",
     "macaulay2": "M2",
     "pari": "gp",
     "pari-gp": "gp",
@@ -32,6 +38,7 @@ ALIASES = {
     "py": "python",
     "python3": "python",
     "shell": "sh",
+    "tclsh": "tcl",
 }
 
 

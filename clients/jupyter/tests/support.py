@@ -13,7 +13,7 @@ from typing import Any, Dict, List, Optional, Tuple
 HERE = os.path.dirname(os.path.realpath(__file__))
 CLIENT = os.path.dirname(HERE)
 ROOT = os.path.dirname(os.path.dirname(CLIENT))
-sys.path[:0] = [CLIENT, os.path.join(os.path.dirname(CLIENT), "python")]
+sys.path[:0] = [CLIENT, *(os.path.join(os.path.dirname(CLIENT), name) for name in ("python", "fences"))]
 
 from tmhost import Field, InUse, Worksheet  # noqa: E402
 

@@ -2,9 +2,19 @@
 import json
 import os
 import subprocess
+import sys
+import unittest
 from typing import Any, Dict, List, Tuple
 
 from tests.support import COMMAND, INTERPRETER, PROGRAM, Case, Front, fields_of, needs_program
+from tmhost.starting import PROGRAMS
+from tmhost_fences.python import DEBIANS, count_there
+from tmhost_jupyter.languages import LANGUAGES, PREFIX
+
+
+class Languages(unittest.TestCase):
+    def test_that_each_adapter_has_one(self) -> None:
+        self.assertEqual({name: language.words[0] for name, language in LANGUAGES.items()}, {name: PREFIX + name for name in PROGRAMS})
 
 
 @needs_program
@@ -21,6 +31,14 @@ class Installing(Case):
         at = found["argv"].index("--name")
         self.assertEqual(found["argv"][at:], ["--name", "tmhost-gp", "--session", "gp", "--tab", "--", "tmhost-gp", "--no-numbers"])
         self.assertIn(COMMAND, found["argv"])
+
+    @unittest.skipUnless(count_there(["ipykernel", "jupyter_client"], (3, 9)) == 2, "Debian's Python has no Jupyter (python3-ipykernel)")
+    def test_the_python_that_has_jupyter(self) -> None:
+        """One that has no packages goes on in Debian's."""
+        os.symlink(sys.executable, self.path("python3"))
+        done = subprocess.run([self.path("python3"), "-S", "-B", COMMAND, "install", "--prefix", self.folder, "lua"], capture_output=True, text=True)
+        self.assertEqual((done.returncode, done.stderr), (0, ""))
+        self.assertEqual((self.kernel("tmhost-lua")["argv"][0], self.kernel("tmhost-lua")["argv"][-2:]), (DEBIANS, ["--", "tmhost-lua"]))
 
     def test_words(self) -> None:
         os.mkdir(self.path("bin"))

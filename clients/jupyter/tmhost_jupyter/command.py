@@ -11,7 +11,7 @@ from .languages import LANGUAGES
 from .sheet import Given
 
 BAD_WORDS, FAILED = 2, 1
-WANTS = "it wants Debian's package python3-ipykernel, or the python3 that has Jupyter: {error}"
+WANTS = "{python} has no Jupyter ({error}): install Debian's package python3-ipykernel, or start this by the python3 that has it, as `/path/python3 {command}`"
 
 
 def options() -> argparse.ArgumentParser:
@@ -58,7 +58,7 @@ def main(words: List[str]) -> int:
         else:
             print(install(given, find_program()))
     except ImportError as error:
-        return failed(WANTS.format(error=error), FAILED)
+        return failed(WANTS.format(error=error, python=sys.executable, command=sys.argv[0]), FAILED)
     except BadWords as error:
         return failed(str(error), BAD_WORDS)
     except (TmhostError, OSError) as error:

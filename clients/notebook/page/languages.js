@@ -34,6 +34,16 @@ const LANGUAGES = {
     "if else elseif end endif for endfor while endwhile do until switch case otherwise endswitch function endfunction return break continue try catch "
     + "end_try_catch unwind_protect unwind_protect_cleanup end_unwind_protect global persistent", "% ",
     /^\s*(?:if|else|elseif|for|while|do|switch|case|otherwise|function|try|catch|unwind_protect)\b(?!.*\bend)[^;]*$|[([{]\s*$/),
+  lua: language(String.raw`--\[\[[^]*?(?:\]\]|$)|--[^\n]*`, String.raw`${DOUBLE}|'(?:[^'\\\n]|\\[^])*'?|\[\[[^]*?(?:\]\]|$)`,
+    "and break do else elseif end false for function goto if in local nil not or repeat return then true until while", "-- ",
+    /(?:[([{]|\b(?:do|then|else|repeat)|\bfunction\b[^()]*\([^()]*\))\s*$/),
+  javascript: language(String.raw`\/\/[^\n]*|\/\*[^]*?(?:\*\/|$)`, String.raw`${DOUBLE}|'(?:[^'\\\n]|\\[^])*'?|${"`(?:[^`\\\\]|\\\\[^])*`?"}`,
+    "async await break case catch class const continue default delete do else extends false finally for function if in instanceof let new null of return super switch this "
+    + "throw true try typeof undefined var void while with yield", "// "),
+  sql: language(String.raw`--[^\n]*|\/\*[^]*?(?:\*\/|$)`, String.raw`'[^']*'?|"[^"]*"?`,
+    ["select from where group by having order limit insert into values update set delete create table index view trigger drop alter join left inner outer on as and or not "
+    + "null is in like between case when then else end union all distinct primary key with begin commit rollback"].flatMap((words) => [words, words.toUpperCase()]).join(" "), "-- "),
+  lisp: language(String.raw`;[^\n]*|#\|[^]*?(?:\|#|$)`, DOUBLE, "define lambda let if cond else begin do quote and or not defun defmacro setq", "; "),
   plain: language("(?!)", String.raw`"(?:[^"\\\n]|\\[^])*"`, "", "# "),
 };
 const PROSE = new RegExp([
@@ -44,6 +54,7 @@ const PROSE = new RegExp([
 
 const NAMES = [
   [/^(?:gp|raw_gp|pari_jupyter)$/, "gp"], [/^(?:python3?|ipython3?|sagemath|sage)$/, "python"], [/^maxima$/, "maxima"], [/^(?:R|r|ir)$/, "r"], [/^octave$/, "octave"],
+  [/^lua[\d.]*$/, "lua"], [/^node$/, "javascript"], [/^sqlite3$/, "sql"], [/^(?:guile|sbcl)$/, "lisp"],
 ];
 
 /**

@@ -169,8 +169,9 @@ class KeysOfThePage(PageCase):
         self.page, self.browser = Page(self.server), self.browse()
         tab = opened(self.browser, self.server)
         self.complete_by(tab, "python", "import os; naming = 1", "nami", "naming", "os.getcw", ["getcwd", "getcwdb"])
-        for name, line in (("gp", "zz_one = 1; zz_two = 2"), ("octave", "zz_one = 1; zz_two = 2;"), ("r", "zz_one <- 1; zz_two <- 2"), ("maxima", "zz_one: 1$ zz_two: 2$")):
-            if shutil.which({"r": "R"}.get(name, name)):
+        for name, line in (("gp", "zz_one = 1; zz_two = 2"), ("octave", "zz_one = 1; zz_two = 2;"), ("r", "zz_one <- 1; zz_two <- 2"), ("maxima", "zz_one: 1$ zz_two: 2$"),
+                           ("lua", "zz_one = 1; zz_two = 2"), ("tcl", "set zz_one 1; set zz_two 2")):
+            if shutil.which({"r": "R", "tcl": "tclsh"}.get(name, name)):
                 self.complete_by(tab, name, line, "zz_o", "zz_one", "zz_", ["zz_one", "zz_two"])
             else:
                 print(f" {name} isn't here", end="")

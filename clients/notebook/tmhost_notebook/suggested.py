@@ -6,24 +6,38 @@ import shutil
 from typing import Dict, Iterator, List, Tuple, Union
 
 from tmhost.program import search_path
+from tmhost.starting import COMMAND, PROGRAMS
 
 Suggestion = Dict[str, Union[str, bool]]
 
-# The name of the session, the adapter with its words, the program that has to be here, and whether it answers completions.
-ADAPTERS: List[Tuple[str, str, str, bool]] = [
-    ("python", "tmhost-python", "python3", True),
-    ("gp", "tmhost-gp", "gp", True),
-    ("sh", "tmhost-sh", "bash", False),
-    ("bc", "tmhost-bc", "bc", False),
-    ("octave", "tmhost-octave", "octave", True),
-    ("r", "tmhost-R", "R", True),
-    ("gap", "tmhost-gap", "gap", False),
-    ("maxima", "tmhost-maxima --latex", "maxima", True),
-    ("m2", "tmhost-M2 --latex", "M2", False),
-    ("giac", "tmhost-giac --latex", "giac", False),
-    ("singular", "tmhost-singular", "Singular", False),
-    ("gnuplot", "tmhost-gnuplot", "gnuplot", False),
-    ("yacas", "tmhost-yacas", "yacas", False),
+# The adapter with its words, and whether it answers completions. A session is named after the adapter, in small letters.
+ADAPTERS: List[Tuple[str, bool]] = [
+    ("python", True),
+    ("gp", True),
+    ("sh", False),
+    ("bc", False),
+    ("octave", True),
+    ("R", True),
+    ("gap", False),
+    ("maxima --latex", True),
+    ("M2 --latex", False),
+    ("giac --latex", False),
+    ("singular", False),
+    ("gnuplot", False),
+    ("yacas", False),
+    ("fricas", False),
+    ("coqtop", False),
+    ("node", False),
+    ("ruby", False),
+    ("perl", False),
+    ("lua", True),
+    ("tcl", True),
+    ("guile", False),
+    ("ocaml", False),
+    ("ghci", False),
+    ("sbcl", False),
+    ("swipl", False),
+    ("sqlite3", False),
 ]
 
 # Where kernels of Jupyter lie, in the order in which it looks for them, and the package of Debian's Python that the adapter wants.
@@ -43,7 +57,10 @@ def kernels() -> List[str]:
 
 def known() -> Iterator[Tuple[str, str, bool]]:
     """The name of each session, its adapter with its words, and whether that answers completions."""
-    yield from ((name, words, tab) for name, words, program, tab in ADAPTERS if shutil.which(program))
+    for words, tab in ADAPTERS:
+        name = words.split()[0]
+        if shutil.which(PROGRAMS[name][0]):
+            yield name.lower(), COMMAND + words, tab
     yield from ((f"jupyter-{name}", f"tmhost-jupyter {name}", True) for name in kernels())
 
 

@@ -68,10 +68,10 @@ class Sessions(unittest.TestCase):
         self.assertEqual(self.doubt(""), "there is no program ")
 
     def test_an_interpreter_without_its_adapter(self) -> None:
-        for words, adapter in (("python3", "python"), ("/bin/sh", "sh"), ("gp", "gp"), ("octave", "octave"), ("R", "R")):
+        for words, adapter in (("python3", "python"), ("/bin/sh", "sh"), ("gp", "gp"), ("octave", "octave"), ("R", "R"), ("lua5.4", "lua"), ("tclsh8.6", "tcl"), ("guile-3.0", "guile"), ("python3.11", "python")):
             said = self.doubt(words, words)
             self.assertEqual(said, f"{os.path.basename(words)} by itself has no blocks for its answers: the words tmhost-{adapter} start it with an adapter")
-        for words in ("sh mine.sh", "python3 -u mine.py", "gp --texmacs", "true", "./mine"):
+        for words in ("sh mine.sh", "python3 -u mine.py", "gp --texmacs", "true", "./mine", "mine-2.0"):
             self.assertIsNone(self.doubt(words, words.split()[0]), words)
 
     def test_that_the_adapters_start_these(self) -> None:

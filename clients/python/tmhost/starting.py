@@ -1,6 +1,7 @@
 """What is known of a session before its interpreter is started, by its words and by what is on this machine."""
 
 import os
+import re
 from typing import Dict, Optional, Sequence, Tuple
 
 from .program import search_path
@@ -10,12 +11,13 @@ COMMAND = "tmhost-"  # and a name of the table is an adapter
 PROGRAMS: Dict[str, Tuple[str, str]] = {
     "M2": ("M2", "macaulay2"), "R": ("R", "r-base-core"), "bc": ("bc", "bc"), "coqtop": ("coqtop", "coq"), "fricas": ("fricas", "fricas"), "gap": ("gap", "gap-core"),
     "ghci": ("ghci", "ghc"), "giac": ("giac", "giac"), "gnuplot": ("gnuplot", "gnuplot-nox"), "gp": ("gp", "pari-gp"), "guile": ("guile", "guile-3.0"),
-    "maxima": ("maxima", "maxima"), "node": ("node", "nodejs"), "ocaml": ("ocaml", "ocaml"), "octave": ("octave-cli", "octave"), "perl": ("perl", "perl"),
+    "lua": ("lua", "lua5.4"), "maxima": ("maxima", "maxima"), "node": ("node", "nodejs"), "ocaml": ("ocaml", "ocaml"), "octave": ("octave-cli", "octave"), "perl": ("perl", "perl"),
     "python": ("python3", "python3"), "ruby": ("ruby", "ruby"), "sbcl": ("sbcl", "sbcl"), "sh": ("bash", "bash"), "singular": ("Singular", "singular"),
-    "sqlite3": ("sqlite3", "sqlite3"), "swipl": ("swipl", "swi-prolog-nox"), "yacas": ("yacas", "yacas"),
+    "sqlite3": ("sqlite3", "sqlite3"), "swipl": ("swipl", "swi-prolog-nox"), "tcl": ("tclsh", "tcl"), "yacas": ("yacas", "yacas"),
 }
 # Other names under which these programs are started.
 OTHER_NAMES = {"python": "python", "octave": "octave", "sh": "sh", "nodejs": "node", "irb": "ruby"}
+VERSION = re.compile(r"-?\d[\d.]*\Z")  # behind a name, as in lua5.4
 
 
 def can_be_run(path: str) -> bool:
@@ -41,10 +43,15 @@ def missing_program(words: Sequence[str]) -> Optional[Tuple[str, str]]:
     return program, f"there is no program {program}, which {name} starts (Debian's package {package})"
 
 
+def adapter_of(name: str) -> Optional[str]:
+    """The adapter that starts a program of this name."""
+    return next((one for one, (program, _) in PROGRAMS.items() if program == name), OTHER_NAMES.get(name))
+
+
 def without_adapter(words: Sequence[str]) -> Optional[str]:
     """What is to be said of words that start an interpreter by its bare name. It doesn't speak the protocol then, so no answer of it is ever seen."""
     name = os.path.basename(words[0]) if len(words) == 1 else ""
-    adapter = next((one for one, (program, _) in PROGRAMS.items() if program == name), OTHER_NAMES.get(name))
+    adapter = adapter_of(name) or adapter_of(VERSION.sub("", name))
     return f"{name} by itself has no blocks for its answers: the words {COMMAND}{adapter} start it with an adapter" if adapter else None
 
 

@@ -3,6 +3,7 @@ import json
 import os
 import shutil
 import subprocess
+import sys
 import unittest
 from xml.etree import ElementTree
 
@@ -21,7 +22,8 @@ PAGES = os.path.join(ROOT, ".ci", "commands")
 class First(Case):
     @unittest.skipUnless(os.path.exists(PAGES) and shutil.which("git"), "this is no checkout, or there is no git")
     def test_the_first_suite_is_as_its_page_shows(self) -> None:
-        ran = subprocess.run([PAGES, "clients/suite/README.md"], cwd=ROOT, env={**os.environ, "TMHOST": PROGRAM}, capture_output=True, text=True, timeout=LIMIT)
+        path = os.pathsep.join([os.path.dirname(sys.executable), os.environ["PATH"]])  # the first python3 there has what a suite wants
+        ran = subprocess.run([PAGES, "clients/suite/README.md"], cwd=ROOT, env={**os.environ, "PATH": path, "TMHOST": PROGRAM}, capture_output=True, text=True, timeout=LIMIT)
         self.assertEqual((ran.returncode, " 0 not, 0 skipped\n" in ran.stdout), (0, True), ran.stdout + ran.stderr)
 
 

@@ -87,6 +87,7 @@ class Verdicts(Case):
             file.write(text.replace("[./nothing, here]", "[sh]").replace("---\n", "---\ntimeout: 0.5\n", 1))
         self.assertEqual(self.verdicts(self.path), ["differs", "ok"])
         self.assertIn("no case of the session c has an answer: sh by itself has no blocks for its answers: the words tmhost-sh start it with an adapter\n", self.outcome.output)
+        self.assertTrue(self.outcome.output.startswith(f"{self.path}: the session c: sh by itself has no blocks for its answers: the words tmhost-sh start it with an adapter\n"))
         self.write(case("say x", "x"), more="folder: none\n")
         self.assertIn("`folder` is " + self.place("none") + ", which is no folder", self.run_suite(self.path).errors)
 

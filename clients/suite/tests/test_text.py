@@ -37,6 +37,8 @@ class Reading(unittest.TestCase):
     def test_marks(self) -> None:
         marks = read("```a {setup} {xfail it is slow} {timeout 2.5} {tags p, q} {flaky 3}\nx\n```\n").cases[0].marks
         self.assertEqual((marks.is_setup, marks.xfail, marks.timeout, marks.tags, marks.flaky), (True, "it is slow", 2.5, {"p", "q"}, 3))
+        marks = read("```a {xfail \"it is slow\"} {skip_if '^skipped: '} {skip '}\nx\n```\n").cases[0].marks
+        self.assertEqual((marks.xfail, marks.skip_if, marks.skip), ("it is slow", "^skipped: ", "'"))
 
     def test_rules_of_a_case(self) -> None:
         text = read("```a {tolerance 1e-3} {normal 'in [0-9]+ ms' 'in TIME'} {normal x y}\nx\n```\n\n```a {tolerance 0 2}\nx\n```\n\n```a\nx\n```\n", FRONT[:-4] + "normal: {z: Z}\ntolerance: 1e-6\n---\n")

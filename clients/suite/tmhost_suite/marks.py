@@ -55,12 +55,18 @@ def any_spaces(word: str) -> bool:
     return True
 
 
+def unquoted(word: str) -> str:
+    """A text that may stand in quotes, as those of `normal` do."""
+    return word[1:-1] if len(word) > 1 and word[0] == word[-1] and word[0] in "\"'" else word
+
+
 def pattern(word: str) -> str:
+    found = unquoted(word)
     try:
-        re.compile(word)
+        re.compile(found)
     except re.error:
         raise ValueError from None
-    return word
+    return found
 
 
 def tolerance(word: str) -> Tuple[Decimal, Decimal]:
@@ -87,9 +93,9 @@ READERS: Dict[str, Tuple[str, Callable[[str], object]]] = {
     "setup": ("is_setup", lambda rest: True),
     "teardown": ("is_teardown", lambda rest: True),
     "whole": ("is_whole", lambda rest: True),
-    "xfail": ("xfail", str),
-    "may_fail": ("may_fail", str),
-    "skip": ("skip", str),
+    "xfail": ("xfail", unquoted),
+    "may_fail": ("may_fail", unquoted),
+    "skip": ("skip", unquoted),
     "skip_if": ("skip_if", pattern),
     "timeout": ("timeout", seconds),
     "tags": ("tags", lambda rest: frozenset(re.split(r"[\s,]+", rest)) - {""}),

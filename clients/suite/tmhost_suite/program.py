@@ -149,6 +149,8 @@ class Runner:
         suites = [found for found in map(self._read, paths) if found is not None]
         for doubt in (doubt for suite, _ in suites for doubt in suite.doubts):
             self.teller.say(doubt)
+        for suite, _ in suites:
+            self.teller.tell_bare_sessions(suite)
         self.teller.begin(sum(suite.count for suite, _ in suites))
         if self.given.random:
             self.teller.say(f"in the order of --random {self.seed}")

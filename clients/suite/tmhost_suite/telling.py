@@ -3,8 +3,9 @@ import sys
 import threading
 from typing import Dict, List, Set, TextIO, Tuple
 
-from tmhost.starting import doubt
+from tmhost.starting import doubt, without_adapter
 
+from .cases import Suite
 from .reports import Told, readable
 
 COLOURS = {"-": "31", "+": "32", "@": "36"}
@@ -51,6 +52,13 @@ class Teller:
             self.say("  it is wanted to fail, and passes")
         for line in told.diff[2:] if told.differs_in_text else told.diff:
             self.say("  " + self.painted(readable(line), COLOURS.get(line[:1], "")))
+
+    def tell_bare_sessions(self, suite: Suite) -> None:
+        """The sessions that will never have an answer, before each of their cases waits until its time is over."""
+        for name, words in suite.sessions.items():
+            why = without_adapter(words) if suite.of(name) and "/" not in words[0] else None
+            if why:
+                self.say(readable(f"{suite.path}: the session {name}: {why}"))
 
     def tell_silent_sessions(self, all_told: List[Told]) -> None:
         """The sessions of which no case had an answer though one is wanted, since what their interpreters said of it stands nowhere."""

@@ -3,6 +3,7 @@ import os
 import re
 import shutil
 import subprocess
+import sys
 import unittest
 
 from .support import PROGRAM, ROOT, Case, answers
@@ -19,5 +20,6 @@ class Lesson(Case):
 
     @unittest.skipUnless(os.path.exists(PAGES) and shutil.which("git"), "this is no checkout, or there is no git")
     def test_the_first_lesson_is_as_its_page_shows(self) -> None:
-        ran = subprocess.run([PAGES, "clients/weave/README.md"], cwd=ROOT, env={**os.environ, "TMHOST": PROGRAM}, capture_output=True, text=True, timeout=300)
+        path = os.pathsep.join([os.path.dirname(sys.executable), os.environ["PATH"]])  # the first python3 there has what a weave wants
+        ran = subprocess.run([PAGES, "clients/weave/README.md"], cwd=ROOT, env={**os.environ, "PATH": path, "TMHOST": PROGRAM}, capture_output=True, text=True, timeout=300)
         self.assertEqual((ran.returncode, " 0 not, 0 skipped\n" in ran.stdout), (0, True), ran.stdout + ran.stderr)
