@@ -48,6 +48,7 @@ fn status_by(counts: Counts) -> u8
 }
 
 /// Which fields are evaluated, with which programs, and how what comes of them is told.
+#[derive(Drop)]
 pub struct FieldSetting<P, T> {
     /// Where memory is taken from.
     pub alloc: Global,

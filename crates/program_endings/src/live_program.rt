@@ -26,6 +26,7 @@ use std::io::{Read, Write};
 use tellings::{Frame, Tells};
 
 /// How the lines of an input are taken, and how what comes of them is told.
+#[derive(Clone, Copy)]
 pub struct LineSetting<T> {
     /// Where memory is taken from.
     pub alloc: Global,
