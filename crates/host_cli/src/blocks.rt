@@ -1,6 +1,7 @@
 //! `blocks`, in words or in lines of JSON.
 ghost use Rattle.command_words.specs.Asked as asked;
-ghost use Rattle.host_cli.specs.Tasks.{DoesBlocks, DoesBlocksInJson, LeavesAlone};
+ghost use Rattle.host_cli.specs.Tasks.{DoesBlocks, DoesBlocksInJson};
+ghost use Rattle.host_cli.specs.WholeProgram.{LeavesAlone};
 
 use crate::outside::{Outside, Seen, System};
 use program_endings::{Ending, run_block_objects, run_blocks};

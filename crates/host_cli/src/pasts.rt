@@ -2,7 +2,8 @@
 ghost use Rattle.std.specs.Prelude.{◌≡◌, []};
 ghost use Rattle.command_words.specs.Asked as asked;
 ghost use Rattle.sheet_export.specs.Formats as exports;
-ghost use Rattle.host_cli.specs.Tasks.{DoesExportAt, DoesHistory, DoesRestore, DoesShowAt, ExportsAfter, ExportsPast, LeavesAlone, RestoresAfter, ShowsAfter};
+ghost use Rattle.host_cli.specs.Tasks.{DoesExportAt, DoesHistory, DoesRestore, DoesShowAt, ExportsAfter, ExportsPast, RestoresAfter, ShowsAfter};
+ghost use Rattle.host_cli.specs.WholeProgram.{LeavesAlone};
 
 use crate::outside::{Outside, Seen, System};
 use crate::refusing::{refuse_changes, refuse_format};

@@ -2,7 +2,8 @@
 ghost use Rattle.std.specs.Prelude.{◌≡◌, ◌≢◌, [], Err, map, string_bytes};
 ghost use Rattle.command_words.specs.Asked.{eval_view, task_view};
 ghost use Rattle.command_words.specs.Asked as asked;
-ghost use Rattle.host_cli.specs.Tasks.{FlushesOutput, DoesCreate, DoesEval, DoesExport, DoesRescue, DoesShow, DoesTask, EndsWithin, EvaluatesAs, ExportsAs, LeavesAlone, Performs, voice_by};
+ghost use Rattle.host_cli.specs.Tasks.{DoesCreate, DoesEval, DoesExport, DoesRescue, DoesShow, EvaluatesAs, ExportsAs, voice_by};
+ghost use Rattle.host_cli.specs.WholeProgram.{FlushesOutput, DoesTask, EndsWithin, LeavesAlone, Performs};
 ghost use Rattle.program_endings.specs.Ending.{TellsFault};
 ghost use Rattle.offline_programs.specs.Saying.{saying};
 ghost use Rattle.offline_programs.specs.declared.fault.RunFault.TheVariants as fault;
