@@ -47,7 +47,7 @@ fn status_by(counts: Counts) -> u8
     }
 }
 
-/// Which fields are evaluated, with which programs, and how what comes of them is told.
+/// Which fields are evaluated, with which programs, and how what comes of them is printed.
 #[derive(Drop)]
 pub struct FieldSetting<P, T> {
     /// Where memory is taken from.

@@ -25,7 +25,7 @@ use std::alloc::Global;
 use std::io::{Read, Write};
 use tellings::{Frame, Tells};
 
-/// How the lines of an input are taken, and how what comes of them is told.
+/// How the lines of an input are taken, and how what comes of them is printed.
 #[derive(Clone, Copy)]
 pub struct LineSetting<T> {
     /// Where memory is taken from.
