@@ -1,9 +1,8 @@
-//! What is made of what came.
+//! What an agenda of lines makes of what came: which wait goes on after a turn, and what is noted.
 ghost use Rattle.std.specs.Prelude.{◌≡◌, ◌++◌, ◌&&◌, ◌||◌, Some, true, false};
 ghost use Rattle.std.specs.List.{list_any};
 ghost use Rattle.session_engine.specs.World.{World};
 ghost use Rattle.session_engine.specs.Host.{IsHost};
-ghost use Rattle.live.specs.Wrong as strictly;
 ghost use Rattle.live.specs.Saying as saying;
 ghost use Rattle.driver.specs.Reports.{came, came_of};
 ghost use Rattle.agendas.specs.Heeds as heeds;
@@ -19,7 +18,7 @@ use child_edge::{GaveJoined, GaveTogether, Interrupted, is_idle};
 use disk_model::Disk;
 use driver::Came;
 use host_events::{Outcome, Reply};
-use live::{Hold, any_wrong, is_wrong};
+use live::{Hold, any_of_both_wrong, any_outcome_wrong, any_wrong, is_wrong};
 use session_engine::Host;
 use std::io::Read;
 use tellings::Note;
@@ -50,13 +49,6 @@ fn any_outcome_closed(outcomes: &[Outcome]) -> bool
     outcomes.iter().any(|outcome| has_closed(&outcome.reply))
 }
 
-/// Whether something was refused in one of these outcomes, or items were lost.
-fn any_outcome_wrong(outcomes: &[Outcome]) -> bool
-    ensures { result ≡ list_any (λ o. strictly.is_wrong o.reply) outcomes.now }
-{
-    outcomes.iter().any(|outcome| is_wrong(&outcome.reply))
-}
-
 /// Whether something closed by a group of events, or by what followed.
 fn group_closed(gave: &GaveTogether) -> bool
     ensures { result ≡ heeds.closed_one (came gave.now.outcomes.items gave.now.replies.items) }
@@ -77,14 +69,6 @@ fn any_of_both_closed(outcomes: &[Outcome], later: &[Outcome]) -> bool
     ensures { result ≡ list_any (λ o. saying.has_closed o.reply) (outcomes.now ++ later.now) }
 {
     any_outcome_closed(outcomes) || any_outcome_closed(later)
-}
-
-/// Whether something was refused in one of these outcomes or of those, or items were lost.
-#[tactic(auto, using(crate::proofs::Both::any_of_both))]
-fn any_of_both_wrong(outcomes: &[Outcome], later: &[Outcome]) -> bool
-    ensures { result ≡ list_any (λ o. strictly.is_wrong o.reply) (outcomes.now ++ later.now) }
-{
-    any_outcome_wrong(outcomes) || any_outcome_wrong(later)
 }
 
 /// Whether something closed by events, by those that joined them, or by what followed.

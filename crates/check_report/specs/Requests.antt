@@ -7,6 +7,7 @@ use Rattle.check_report.specs.declared.chosen.Ids.{Ids}
 use Rattle.check_report.specs.declared.report.Format.{Format}
 use Rattle.check_report.specs.declared.report.Format.TheVariants as format
 use Rattle.check_report.specs.declared.request.FieldWords.{FieldWords}
+use Rattle.check_report.specs.declared.request.ReportWords.{ReportWords}
 use Rattle.check_report.specs.declared.request.Request.{Request}
 use Rattle.check_report.specs.declared.request.RequestFault.{RequestFault}
 use Rattle.check_report.specs.declared.request.RequestFault.TheVariants as fault
@@ -51,14 +52,18 @@ in_whole format.Json = None
 in_whole format.Accepting = None
 
 -- the words of a report: whether answers that differ are accepted, whether outputs are whole, whether it is lines of JSON, and its format
-pub record ReportWords : Type 0 where
+pub record ReportView : Type 0 where
   pub accept : Bool
   pub whole : Bool
   pub json : Bool
   pub format : Option (List ℕ)
 
-abbrev pub report_words : Bool → Bool → Bool → Option (List ℕ) → ReportWords
+abbrev pub report_words : Bool → Bool → Bool → Option (List ℕ) → ReportView
 report_words accept whole json format = record { accept = accept; whole = whole; json = json; format = format }
+
+-- they ask for this report
+abbrev pub report_view : ReportWords → ReportView
+report_view words = report_words words.accept words.whole words.json (option_map (λ text. text.now) words.format)
 
 -- The report that is asked for: in a format, and whether answers that differ are accepted, or outputs are whole. Both at once are refused.
 abbrev pub report_asked : Bool → Bool → Format → Option Format
@@ -68,11 +73,11 @@ report_asked false true format = in_whole format
 report_asked true true format = None
 
 -- a format is asked for, and this is the report
-abbrev pub AsksReport : ReportWords → Format → Type 0
+abbrev pub AsksReport : ReportView → Format → Type 0
 AsksReport words report = (named : Format) × (format_asked words.json words.format ≡ Ok named) × (report_asked words.accept words.whole named ≡ Some report)
 
 -- a format is asked for that has no such report, by whether outputs are to be whole
-abbrev pub AsksNoReport : Bool → ReportWords → Type 0
+abbrev pub AsksNoReport : Bool → ReportView → Type 0
 AsksNoReport whole words = (words.whole ≡ whole) × ((named : Format) × (format_asked words.json words.format ≡ Ok named) × (report_asked words.accept words.whole named ≡ None))
 
 -- the session that is asked for, where one is, and it can be the name of one
@@ -113,11 +118,11 @@ abbrev pub AsksFields : FieldView → Chosen → Type 0
 AsksFields words chosen = (session_asked words.only ≡ Some chosen.only) × (ids_asked words.left_out ≡ Some chosen.left_out) × (compared_asked words.compared ≡ Some chosen.compared) × (chosen.all ≡ words.all)
 
 -- all that is asked for has a form
-abbrev pub Asks : ReportWords → FieldView → Request → Type 0
+abbrev pub Asks : ReportView → FieldView → Request → Type 0
 Asks words fields request = AsksReport words request.format × AsksFields fields request.chosen
 
 -- this has none, or there was no memory
-abbrev pub AsksFor : ReportWords → FieldView → RequestFault → Type 0
+abbrev pub AsksFor : ReportView → FieldView → RequestFault → Type 0
 AsksFor words fields fault.Format = format_asked words.json words.format ≡ Err fault.Format
 AsksFor words fields fault.Session = session_asked fields.only ≡ None
 AsksFor words fields fault.Ids = (ids_asked fields.left_out ≡ None) ⊎ (compared_asked fields.compared ≡ None)

@@ -25,7 +25,7 @@ pub use chosen::{Chosen, Ids};
 pub use errors::{brings_error, tells_error};
 pub use ids::read_ids;
 pub use report::{Format, ReportFault, close_report, is_written, open_report, report_case};
-pub use request::{FieldWords, Request, RequestFault, read_request};
+pub use request::{FieldWords, ReportWords, Request, RequestFault, read_request};
 pub use verdict::{Counts, Judgement, Verdict};
 pub use words::acceptance_in_memory;
 pub use writing::write_and_flush;

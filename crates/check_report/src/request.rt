@@ -99,31 +99,23 @@ fn in_whole_alone(format: Format, accept: bool) -> Option<Format>
     if accept { None } else { in_whole(format) }
 }
 
-/// The report that is asked for, by its format, and by whether answers that differ are accepted, or outputs are
-/// whole.
-fn read_report(
-    json: bool,
-    name: Option<&str>,
-    accept: bool,
-    whole: bool,
-) -> Result<Format, RequestFault>
-    ensures ok { IfOk result (asked.AsksReport
-        (asked.report_words accept whole json (option_map (λ text. text.now) name.entry))) }
-    ensures err { IfErr result (asked.AsksFor
-        (asked.report_words accept whole json (option_map (λ text. text.now) name.entry))
+/// The report that is asked for.
+fn read_report(words: ReportWords<'_>) -> Result<Format, RequestFault>
+    ensures ok { IfOk result (asked.AsksReport (asked.report_view words.entry)) }
+    ensures err { IfErr result (asked.AsksFor (asked.report_view words.entry)
         (asked.field_words None None None false)) }
 {
-    let format = match read_format(json, name) {
+    let format = match read_format(words.json, words.format) {
         Ok(format) => format,
         Err(why) => return Err(why),
     };
-    if whole {
-        return match in_whole_alone(format, accept) {
+    if words.whole {
+        return match in_whole_alone(format, words.accept) {
             Some(format) => Ok(format),
             None => Err(RequestFault::Whole),
         };
     }
-    if !accept {
+    if !words.accept {
         return Ok(format);
     }
     match accepting(format) {
@@ -182,6 +174,19 @@ fn read_compared(alloc: Global, text: Option<&str>) -> Result<Option<Sequence<Id
     }
 }
 
+/// The words that say how a check reports.
+#[derive(Clone, Copy, Debug)]
+pub struct ReportWords<'a> {
+    /// Whether answers that differ are accepted.
+    pub accept: bool,
+    /// Whether outputs are whole.
+    pub whole: bool,
+    /// Whether lines of JSON are asked for.
+    pub json: bool,
+    /// The name of a format.
+    pub format: Option<&'a str>,
+}
+
 /// The words that say which fields are checked.
 #[derive(Clone, Copy, Debug)]
 pub struct FieldWords<'a> {
@@ -220,26 +225,19 @@ fn read_chosen(alloc: Global, words: FieldWords<'_>) -> Result<Chosen, RequestFa
     }
 }
 
-/// What the words of a command line ask for: lines of JSON, or a format; which fields are checked; whether answers
-/// that differ are accepted, and whether outputs are whole; within this limit of time, where there is one.
+/// What the words of a command line ask for: a report, and which fields are checked; within this limit of time, in
+/// seconds, where there is one.
 pub fn read_request(
     alloc: Global,
-    json: bool,
-    format: Option<&str>,
+    report: ReportWords<'_>,
     fields: FieldWords<'_>,
-    accept: bool,
-    whole: bool,
     limit: Option<u32>,
 ) -> Result<Request, RequestFault>
-    ensures ok { IfOk result (asked.Asks
-        (asked.report_words accept whole json (option_map (λ text. text.now) format.entry))
-        (asked.fields_view fields.entry)) }
+    ensures ok { IfOk result (asked.Asks (asked.report_view report.entry) (asked.fields_view fields.entry)) }
     ensures within { IfOk result (λ request. request.limit ≡ limit) }
-    ensures err { IfErr result (asked.AsksFor
-        (asked.report_words accept whole json (option_map (λ text. text.now) format.entry))
-        (asked.fields_view fields.entry)) }
+    ensures err { IfErr result (asked.AsksFor (asked.report_view report.entry) (asked.fields_view fields.entry)) }
 {
-    let format = match read_report(json, format, accept, whole) {
+    let format = match read_report(report) {
         Ok(format) => format,
         Err(why) => return Err(why),
     };

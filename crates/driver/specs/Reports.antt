@@ -16,14 +16,14 @@ use Rattle.driver.specs.declared.report.Came.TheVariants as given
 pub data Report : Type 0 where
   -- what commands gave that were taken as one group, one of each line from the one with this number on
   lines : ℕ → List Outcome → Report
-  -- what lives gave that were taken as one group
+  -- what events gave whose lines have no number: those of lives, and of a script
   lives : List Outcome → Report
   -- the replies to what followed effects
   followed : List Reply → Report
   -- what a line asks to be shown, or what is noted of it
   shown : Show → Report
 
--- what lives gave: the replies but Nothing, in order
+-- what those gave: the replies but Nothing, in order
 abbrev pub lives_report : Voice → World → List Outcome → List ℕ
 lives_report V w outcomes = flat_map (λ o. lives_text V w (spoken o.reply)) outcomes
 

@@ -25,7 +25,7 @@ pub enum Came {
     Gave(GaveTogether),
     /// What events of lives gave and those that joined them, and what followed.
     Joined(GaveJoined),
-    /// What one line gave: a checkpoint, or the command for which none of a whole group was taken.
+    /// What one event gave: one that was taken by itself, a checkpoint, or the command for which none of a whole group was taken.
     Alone(Outcome),
     /// What came of an interrupt.
     Interrupted(Interrupted),

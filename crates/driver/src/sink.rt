@@ -38,7 +38,8 @@ pub trait Sink {
             → Tries rules self.old host.now.store.disk (printed_text rules.voice w (report.lines first outcomes.now)) (is_ok result) self.new }
         ensures err { IfErr result (IsWithheld rules.voice) };
 
-    /// Prints what lives gave that were taken as one group, and flushes nothing: `followed` comes next.
+    /// Prints what events gave whose lines have no number, those of lives and of a script, and flushes nothing: `followed` comes
+    /// after it.
     fn lives<D: Disk>(&mut self, host: &Host<D>, outcomes: &[Outcome]) -> Result<(), RunFault>
         ensures tries { (w : World) → IsHost host.now w
             → Tries rules self.old host.now.store.disk (printed_text rules.voice w (report.lives outcomes.now)) (is_ok result) self.new }

@@ -1,1 +1,2 @@
+pub mod Acceptances
 pub mod Visits

@@ -1,5 +1,6 @@
 //! That whatever is driven over a disk is an invocation of the theorem (crate `theorem`), and that what it had printed when it was cut
-//! off was durable: premise A6, as a law. The functions do nothing: their contracts are the laws.
+//! off was durable: premise A6, as a law. And that what `check --accept` leaves is an acceptance of the theorem. So premise A7 holds of
+//! each program. The functions do nothing: their contracts are the laws.
 #![tactic(auto)]
 
 ghost use Rattle.driver.specs.Noted.{noting_rules};
@@ -8,11 +9,14 @@ ghost use Rattle.agendas.specs.LinesRules.{lines_rules};
 ghost use Rattle.script_agenda.specs.Run.{running_rules};
 ghost use Rattle.field_agenda.specs.FieldLines.{by_field_lines};
 ghost use Rattle.field_agenda.specs.FieldsRules.{fields_rules};
+ghost use Rattle.driver_visits.specs.Acceptances.{AcceptancesAreFiled};
 ghost use Rattle.driver_visits.specs.Visits.{DrivenIsVisit, PrintedIsDurable};
+ghost use Rattle.sheet_check.specs.Evaluated.{way};
 
 use arrivals::Sources;
 use driver::{Agenda, Sink};
 use evaluation::Programs;
+use std::io::Write;
 use tellings::Tells;
 
 /// Whatever is driven over a disk that keeps the model is a visit, to its end or to a fault.
@@ -41,4 +45,9 @@ pub fn scripts_are_visits<S: Sources>()
 pub fn fields_are_visits<P: Programs, S: Sources, T: Tells>()
     ensures visit { DrivenIsVisit (rules (fields_rules P.finds) (source_rules S.after S.wakes S.clock) (noting_rules (by_field_lines T.voice))) }
     ensures durable { PrintedIsDurable (rules (fields_rules P.finds) (source_rules S.after S.wakes S.clock) (noting_rules (by_field_lines T.voice))) }
+{}
+
+/// What `check --accept` leaves is an acceptance, in the words of its contract, to its end or to a fault.
+pub fn acceptances_are_filed<S: Sources, W: Write>()
+    ensures { AcceptancesAreFiled (way S.after S.clock S.wakes) W.contents }
 {}

@@ -101,7 +101,11 @@ abbrev pub field_at : List Field → Option ℕ → Option Field
 field_at fields None = None
 field_at fields (Some id) = field_in fields id
 
--- The field at this place of those that are to be evaluated is passed over where the one that was asked last of its session shows no answer.
+-- this field is passed over, where the one that was asked last of its session shows no answer
+abbrev pub is_passed_over : Plan → List Field → List Last → ℕ → Bool
+is_passed_over plan fields lasts id = is_passing plan && is_after_lost fields lasts (field_in fields id)
+
+-- the same of the field at this place of those that are to be evaluated
 abbrev pub is_passed : Plan → List Field → List Last → List ℕ → ℕ → Bool
 is_passed plan fields lasts meant k = is_passing plan && is_after_lost fields lasts (field_at fields (slice_get meant k))
 

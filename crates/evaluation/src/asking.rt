@@ -44,7 +44,7 @@ fn is_lost(sheet: &Sheet, id: Option<u32>) -> bool
 }
 
 /// Whether the field that was asked last of this one's session shows no answer.
-pub fn is_after_lost(sheet: &Sheet, lasts: &[Last], field: Option<&Field>) -> bool
+fn is_after_lost(sheet: &Sheet, lasts: &[Last], field: Option<&Field>) -> bool
     ensures { result ≡ meant.is_after_lost sheet.now.contents.fields lasts.now (option_copied field.entry) }
 {
     match field {
@@ -53,15 +53,22 @@ pub fn is_after_lost(sheet: &Sheet, lasts: &[Last], field: Option<&Field>) -> bo
     }
 }
 
+/// Whether the field with this number is passed over, by the one that was asked last of its session.
+pub fn is_passed_over(plan: &Plan, sheet: &Sheet, lasts: &[Last], id: u32) -> bool
+    ensures { result ≡ meant.is_passed_over plan.now sheet.now.contents.fields lasts.now id }
+{
+    if plan.limit.is_none() || plan.keep_going {
+        return false;
+    }
+    is_after_lost(sheet, lasts, sheet.field(id))
+}
+
 /// Whether the field at this place of those that are to be evaluated is passed over.
 fn is_passed(plan: &Plan, sheet: &Sheet, lasts: &[Last], ids: &[u32], at: usize) -> bool
     requires { at < length ids.now }
     ensures { result ≡ meant.is_passed plan.now sheet.now.contents.fields lasts.now ids.now at }
 {
-    if plan.limit.is_none() || plan.keep_going {
-        return false;
-    }
-    is_after_lost(sheet, lasts, sheet.field(ids[at]))
+    is_passed_over(plan, sheet, lasts, ids[at])
 }
 
 /// The next place, from this one on, whose field isn't passed over, or their number where there is none.

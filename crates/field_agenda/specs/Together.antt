@@ -6,7 +6,7 @@ use Rattle.session_engine.specs.World.{World, sheet_in}
 use Rattle.child_edge.specs.Seats.{waits}
 use Rattle.driver.specs.Steps.{most_together}
 use Rattle.evaluation.specs.Beside.{is_session_busy}
-use Rattle.evaluation.specs.Meant.{is_after_lost, is_passing}
+use Rattle.evaluation.specs.Meant.{is_passed_over}
 use Rattle.evaluation.specs.Programs.{is_needed}
 use Rattle.evaluation.specs.declared.lasts.Last.{Last}
 use Rattle.evaluation.specs.declared.plan.Plan.{Plan}
@@ -23,10 +23,6 @@ is_apart w group field = not (is_session_busy w field) && not (shares_session (s
 -- There is room for one field more beside so many: in one group, and in the sessions that may go side by side.
 abbrev pub has_room : Plan → World → ℕ → Bool
 has_room plan w count = nat_lt count most_together && nat_lt (length (waits w)) (plan.jobs - count)
-
--- this field is passed over, by the one that was asked last of its session
-abbrev pub is_passed_over : Plan → List Field → List Last → ℕ → Bool
-is_passed_over plan fields lasts id = is_passing plan && is_after_lost fields lasts (field_in fields id)
 
 -- the field with this number may be asked with these, as far as its session goes: that is another than theirs, no item waits in it, and the field isn't
 -- passed over

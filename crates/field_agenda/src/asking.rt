@@ -16,7 +16,7 @@ use block_tree::Sequence;
 use child_edge::MOST_TOGETHER;
 use disk_model::Disk;
 use evaluation::Plan;
-use evaluation::asking::{id_at, is_after_lost, next_of, stop_line};
+use evaluation::asking::{id_at, is_passed_over, next_of, stop_line};
 use evaluation::beside::{is_session_busy, wait_in_fewer};
 use evaluation::lasts::{Last, after_asking};
 use evaluation::plan::Stand;
@@ -55,65 +55,63 @@ fn has_room<D: Disk>(host: &BufferedHost<D>, plan: &Plan, count: usize) -> bool
     wait_in_fewer(host, plan.jobs.saturating_sub(count as u32))
 }
 
-/// Whether this field is passed over, by the one that was asked last of its session.
-fn is_passed_over(plan: &Plan, sheet: &Sheet, lasts: &[Last], id: u32) -> bool
-    ensures { result ≡ together.is_passed_over plan.now sheet.now.contents.fields lasts.now id }
-{
-    if plan.limit.is_none() || plan.keep_going {
-        return false;
-    }
-    is_after_lost(sheet, lasts, sheet.field(id))
+/// By what it is known which fields go together.
+#[derive(Clone, Copy)]
+pub(crate) struct Grouping<'a> {
+    pub(crate) plan: &'a Plan,
+    /// Which field of each session was asked last.
+    pub(crate) lasts: &'a [Last],
 }
 
 /// Whether the field with this number may be asked with these, as far as its session goes.
 fn may_go_with<D: Disk>(
     host: &BufferedHost<D>,
-    plan: &Plan,
-    lasts: &[Last],
+    grouping: &Grouping<'_>,
     group: &[u32],
     id: u32,
 ) -> bool
-    ensures { (w : World) → IsHost host.now w → result ≡ together.may_go_with plan.now w lasts.now group.now id }
+    ensures { (w : World) → IsHost host.now w
+        → result ≡ together.may_go_with grouping.now.plan.now w grouping.now.lasts.now group.now id }
 {
-    is_apart(host, group, host.sheet().field(id)) && !is_passed_over(plan, host.sheet(), lasts, id)
+    is_apart(host, group, host.sheet().field(id))
+        && !is_passed_over(grouping.plan, host.sheet(), grouping.lasts, id)
 }
 
 /// Whether the field with this number is asked together with these, which come before it.
 fn goes_with<D: Disk>(
     host: &BufferedHost<D>,
-    plan: &Plan,
-    lasts: &[Last],
+    grouping: &Grouping<'_>,
     group: &[u32],
     id: u32,
 ) -> bool
-    ensures goes { (w : World) → IsHost host.now w → result ≡ together.goes_with plan.now w lasts.now group.now id }
+    ensures goes { (w : World) → IsHost host.now w
+        → result ≡ together.goes_with grouping.now.plan.now w grouping.now.lasts.now group.now id }
     ensures few { result ≡ true → length group.now < most_together }
 {
-    if plan.strict {
+    if grouping.plan.strict {
         return false;
     }
-    has_room(host, plan, group.len()) && may_go_with(host, plan, lasts, group, id)
+    has_room(host, grouping.plan, group.len()) && may_go_with(host, grouping, group, id)
 }
 
 /// The fields that are asked together, where the one at this place is asked.
 pub(crate) fn group_from<D: Disk>(
     alloc: Global,
     host: &BufferedHost<D>,
-    plan: &Plan,
-    lasts: &[Last],
+    grouping: &Grouping<'_>,
     ids: &[u32],
     from: usize,
 ) -> Result<Vec<u32>, AllocError>
     requires { from < length ids.now }
     ensures group { (w : World) (id : ℕ) → IsHost host.now w → slice_get ids.now from ≡ Some id
-        → IfOk result (λ group. group.items ≡ together.group_at plan.now w lasts.now ids.now from id) }
+        → IfOk result (λ group. group.items ≡ together.group_at grouping.now.plan.now w grouping.now.lasts.now ids.now from id) }
     ensures few { IfOk result (λ group. length group.items ≤ most_together) }
 {
     let mut group = Vec::new(alloc);
     group.push(id_at(ids, from))?;
     for at in from + 1..ids.len() {
         let id = id_at(ids, at);
-        if !goes_with(host, plan, lasts, group.as_slice(), id) {
+        if !goes_with(host, grouping, group.as_slice(), id) {
             return Ok(group);
         }
         group.push(id)?;

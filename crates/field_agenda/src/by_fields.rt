@@ -16,7 +16,8 @@ ghost use Rattle.field_agenda.specs.Says as says;
 ghost use Rattle.field_agenda.specs.Says.{asks_field};
 ghost use Rattle.field_agenda.specs.Standing as standing;
 
-use crate::asking::{asked_together, evals, group_from, lasts_after, next_asked};
+use crate::asking::{Grouping, asked_together, evals, group_from, lasts_after, next_asked};
+use crate::bounds::{has_few_fields, is_beyond, is_full};
 use crate::heeding::{at_once_after, noted_of, wait_after};
 use crate::looking::{Found, look_for};
 use crate::stage::{FieldDoing, Stage};
@@ -28,7 +29,7 @@ use block_tree::Sequence;
 use child_calls::Seat;
 use child_edge::Interrupted;
 use disk_model::Disk;
-use driver::{Agenda, Came, MOST_COUNTED, Show, Turn};
+use driver::{Agenda, Came, Show, Turn};
 use evaluation::asking::stop_line;
 use evaluation::beside::{Late, joining};
 use evaluation::plan::{Stand, counts_of};
@@ -40,10 +41,7 @@ use session_engine::{BufferedHost, Host, Joined, Joins};
 use std::alloc::{AllocError, Global};
 use std::mem;
 use tellings::Note;
-use worksheet::{Field, Sheet};
-
-/// The most fields that are counted. A worksheet has fewer.
-const MOST_FIELDS: usize = (1 << 31) - 1;
+use worksheet::Field;
 
 /// The fields of a worksheet that are evaluated by a plan (docs/use/SCRIPT.md, "Evaluating a worksheet").
 ///
@@ -60,38 +58,6 @@ pub struct ByFields<P> {
     pub(crate) doing: FieldDoing,
     /// Whose turn a watch returned.
     pub(crate) due: Option<Woken>,
-}
-
-/// Whether the fields of another group can't be counted, or another whose time is over.
-pub(crate) fn is_full(stand: &Stand) -> bool
-    ensures yes { result ≡ true → (2 ^ 64 ≤ stand.now.asked + most_together + 1) ⊎ (2 ^ 64 ≤ stand.now.overs + 1) }
-    ensures no { result ≡ false → (stand.now.asked + most_together + 1 < 2 ^ 64) × (stand.now.overs + 1 < 2 ^ 64) }
-{
-    stand.asked > MOST_COUNTED || stand.overs == u64::MAX
-}
-
-/// Whether more fields were taken than are evaluated, or those are too many.
-pub(crate) fn is_beyond(taken: usize, all: usize) -> bool
-    ensures yes { result ≡ true → (all < taken) ⊎ (2 ^ 31 ≤ all) }
-    ensures no { result ≡ false → (taken ≤ all) × (all < 2 ^ 31) }
-{
-    taken > all || all > MOST_FIELDS
-}
-
-/// Whether a worksheet has so few fields that they are counted.
-fn has_few_fields(sheet: &Sheet) -> bool
-    ensures yes { result ≡ true → length sheet.now.contents.fields < 2 ^ 31 }
-    ensures no { result ≡ false → 2 ^ 31 ≤ length sheet.now.contents.fields }
-{
-    let mut count: usize = 0;
-    for field in sheet.fields() {
-        let _ = field;
-        if count >= MOST_FIELDS {
-            return false;
-        }
-        count = count + 1;
-    }
-    true
 }
 
 /// The interrupt for the field with this number; that there is no field any more is shown.
@@ -186,7 +152,11 @@ impl<P: Programs> ByFields<P> {
     {
         let lasts = self.stand.lasts.as_slice();
         let ids = self.ids.as_slice();
-        let group = group_from(alloc, host, &self.plan, lasts, ids, at)?;
+        let grouping = Grouping {
+            plan: &self.plan,
+            lasts,
+        };
+        let group = group_from(alloc, host, &grouping, ids, at)?;
         let events = evals(alloc, group.as_slice())?;
         let asked = lasts_after(alloc, lasts, host.sheet(), group.as_slice())?;
         let stand = asked_together(&self.stand, at, group.as_slice(), asked);

@@ -1,4 +1,4 @@
-//! What is made of what came.
+//! What an agenda of fields makes of what came: which wait goes on, and whether a field's time was over.
 ghost use Rattle.std.specs.Prelude.{◌≡◌};
 ghost use Rattle.session_engine.specs.World.{World};
 ghost use Rattle.session_engine.specs.Host.{IsHost};

@@ -8,7 +8,8 @@ ghost use Rattle.driver.specs.Steps.{most_together};
 ghost use Rattle.field_agenda.specs.Standing as standing;
 
 use crate::asking::next_asked;
-use crate::by_fields::{Asking, ByFields, is_beyond, is_full};
+use crate::bounds::{is_beyond, is_full};
+use crate::by_fields::{Asking, ByFields};
 use crate::stage::FieldDoing;
 use crate::times::life_due;
 use agendas::waits::is_free;

@@ -2,6 +2,7 @@
 #![tactic(auto)]
 
 mod asking;
+mod bounds;
 pub mod by_fields;
 pub mod field_lines;
 mod heeding;

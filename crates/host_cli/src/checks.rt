@@ -7,7 +7,7 @@ ghost use Rattle.host_cli.specs.Tasks.{AcceptsHeld, ChecksAs, ChecksBy, ChecksPa
 use crate::outside::{Outside, Performed, Seen, System, ended, give};
 use crate::plans::{are_several, read_check_jobs, read_limit, several_fault};
 use crate::refusing::{refuse_check_limit, refuse_jobs, refuse_request, refuse_several};
-use check_report::{FieldWords, Format as Report, read_request};
+use check_report::{FieldWords, Format as Report, ReportWords, read_request};
 use command_words::CheckWords;
 use program_endings::{
     CheckEnding, GivenBack, Total, end_total, end_unheld, end_unwritten, is_unwritten, run_accept,
@@ -187,20 +187,19 @@ pub(crate) fn check_at<Y: System>(
         Ok(jobs) => jobs,
         Err(why) => return ended(refuse_jobs(why, &mut outside.errors), outside),
     };
-    match read_request(
-        alloc,
-        words.json,
-        words.format,
-        FieldWords {
-            only: words.only,
-            left_out: words.leave_out,
-            compared: words.compare,
-            all: words.all,
-        },
-        words.accept,
-        words.whole,
-        limit,
-    ) {
+    let report = ReportWords {
+        accept: words.accept,
+        whole: words.whole,
+        json: words.json,
+        format: words.format,
+    };
+    let fields = FieldWords {
+        only: words.only,
+        left_out: words.leave_out,
+        compared: words.compare,
+        all: words.all,
+    };
+    match read_request(alloc, report, fields, limit) {
         Ok(request) => {
             let manner = Manner {
                 alloc,

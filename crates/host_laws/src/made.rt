@@ -1,5 +1,5 @@
 //! Calls whose contracts say with one word of these laws what those of the host and of the journal say in several.
-ghost use Rattle.std.specs.Prelude.{◌≤◌, ◌++◌, List, [], IfOk};
+ghost use Rattle.std.specs.Prelude.{◌≤◌, List, [], IfOk};
 ghost use Rattle.disk_model.specs.Disk.{InModel, Leaves, bytes_on};
 ghost use Rattle.worksheet.specs.declared.op.Op.{Op};
 ghost use Rattle.worksheet.specs.Ops.{sheet_of};
@@ -8,6 +8,7 @@ ghost use Rattle.host_laws.specs.OneHost.{JustOpened};
 ghost use Rattle.host_laws.specs.Together.{GroupMeets, JoinedMeets, UpToMeets, WholeMeets};
 ghost use Rattle.session_engine.specs.World.{World};
 ghost use Rattle.session_engine.specs.Host.{IsHost};
+ghost use Rattle.session_engine.specs.Joining.{ToBeTaken, TookJoined, asking};
 
 use disk_model::Disk;
 use host_events::{Event, Outcome};
@@ -69,14 +70,17 @@ pub fn played_whole<D: Disk>(host: &mut Host<D>, edits: Edits) -> Result<Whole, 
     played
 }
 
-/// The same of events that others join, of a world that the host stands for: what joins them is answered by that.
+/// The same of events that others join, of a world that the host stands for: what joins them was answered by that, and nothing else is taken.
 pub fn played_joining<D: Disk, J: Joins>(
     host: &mut Host<D>,
     events: Vec<Event>,
     joins: &mut J,
 ) -> Result<Joint, JoinFault>
-    ensures { (w : World) → IsHost host.old w
-        → (more : List Event) × JoinedMeets w (events.items ++ more) host.old result host.new }
+    ensures meets { (w : World) → IsHost host.old w → (all : List Event)
+        × ToBeTaken (asking J.joins joins.old joins.new) w events.items all
+        × JoinedMeets w all host.old result host.new }
+    ensures joined { (w : World) → IsHost host.old w → IfOk result
+        (TookJoined (asking J.joins joins.old joins.new) w events.items host.old host.new) }
 {
     let _before = host.sheet();
     let played = host.play_joining(events, joins);

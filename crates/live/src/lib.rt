@@ -9,4 +9,4 @@ mod wrong;
 pub use holding::{Hold, RESPITE, go_on, wait_for};
 pub use live_line::{LiveLine, read_live_line};
 pub use manner::Manner;
-pub use wrong::{any_wrong, is_wrong};
+pub use wrong::{any_of_both_wrong, any_outcome_wrong, any_wrong, is_wrong};

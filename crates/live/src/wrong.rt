@@ -1,9 +1,9 @@
 //! What goes wrong by a reply.
-ghost use Rattle.std.specs.Prelude.{◌≡◌};
+ghost use Rattle.std.specs.Prelude.{◌≡◌, ◌++◌};
 ghost use Rattle.std.specs.List.{list_any};
 ghost use Rattle.live.specs.Wrong as wrong;
 
-use host_events::Reply;
+use host_events::{Outcome, Reply};
 use plugin_core::Ended;
 
 /// Whether items were lost at the end of a life.
@@ -32,4 +32,19 @@ pub fn any_wrong(replies: &[Reply]) -> bool
     ensures { result ≡ list_any wrong.is_wrong replies.now }
 {
     replies.iter().any(|reply| is_wrong(reply))
+}
+
+/// Whether the reply of one of these outcomes is.
+pub fn any_outcome_wrong(outcomes: &[Outcome]) -> bool
+    ensures { result ≡ list_any (λ o. wrong.is_wrong o.reply) outcomes.now }
+{
+    outcomes.iter().any(|outcome| is_wrong(&outcome.reply))
+}
+
+/// Whether the reply of one of these outcomes is, or of those.
+#[tactic(auto, using(crate::proofs::Both::any_of_both))]
+pub fn any_of_both_wrong(outcomes: &[Outcome], later: &[Outcome]) -> bool
+    ensures { result ≡ list_any (λ o. wrong.is_wrong o.reply) (outcomes.now ++ later.now) }
+{
+    any_outcome_wrong(outcomes) || any_outcome_wrong(later)
 }

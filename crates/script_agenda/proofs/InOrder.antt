@@ -16,7 +16,7 @@ use Rattle.driver.specs.Place.{RunPlace, SinkRules, SourceRules, rules}
 use Rattle.driver.specs.Steps.{Fails, Goes, Run}
 use Rattle.driver.specs.Steps as step
 use Rattle.script_agenda.specs.InOrder.{TookLines}
-use Rattle.script_agenda.specs.Says.{LineAsks, SaysOfLines, SaysIn, ScriptSays, TakesOneLine, WaitSays, as_group, at_end, by_itself, next_life, next_turn, skips, stopped, uncounted, unlisted, wait_over}
+use Rattle.script_agenda.specs.Says.{LineAsks, SaysOfLines, SaysIn, ScriptSays, TakesOneLine, WaitSays, as_group, at_end, by_itself, next_life, next_round, skips, stopped, uncounted, unlisted, wait_over}
 use Rattle.script_agenda.specs.ScriptAt.{ScriptAt, after_one_line}
 use Rattle.script_agenda.specs.ScriptRules.{ScriptJoins, script_rules}
 
@@ -41,11 +41,11 @@ of_line : (l : Option ScriptLine) (a : ScriptAt) (r : Result Turn RunFault) (b :
 of_line l a (Ok t) b takes = of_turn l a t b takes
 of_line l a (Err why) b takes = ap (λ (x : ScriptAt). x.lines) takes.2
 
-of_wait : (a : ScriptAt) (w : World) (turns : ℕ) (r : Result Turn RunFault) (b : ScriptAt) → WaitSays a w turns r b → TookLines a b
-of_wait a w turns r b (next_life seat rest round is same) = same_left a _ b same refl
-of_wait a w turns r b (next_turn seat rest round few waiting is same) = same_left a _ b same refl
-of_wait a w turns r b (wait_over round over is same) = same_left a _ b same refl
-of_wait a w turns r b (unlisted is same) = same_left a _ b same refl
+of_wait : (a : ScriptAt) (w : World) (rounds : ℕ) (r : Result Turn RunFault) (b : ScriptAt) → WaitSays a w rounds r b → TookLines a b
+of_wait a w rounds r b (next_life seat rest round is same) = same_left a _ b same refl
+of_wait a w rounds r b (next_round seat rest round few waiting is same) = same_left a _ b same refl
+of_wait a w rounds r b (wait_over round over is same) = same_left a _ b same refl
+of_wait a w rounds r b (unlisted is same) = same_left a _ b same refl
 
 of_lines : (a : ScriptAt) (r : Result Turn RunFault) (b : ScriptAt) → SaysOfLines a r b → TookLines a b
 of_lines a r b (at_end none is same) = same_left a _ b same refl
@@ -57,7 +57,7 @@ of_lines a r b (by_itself l rest going next takes) = record { taken = l ∷ []; 
 
 of_saying : (wait : Option ℕ) (a : ScriptAt) (w : World) (r : Result Turn RunFault) (b : ScriptAt) → SaysIn wait a w r b → TookLines a b
 of_saying None a w r b said = of_lines a r b said
-of_saying (Some turns) a w r b said = of_wait a w turns r b said
+of_saying (Some rounds) a w r b said = of_wait a w rounds r b said
 
 none_joined : (a b : ScriptAt) (w : World) (events all : List Event) → ToBeTaken (asking ScriptJoins a b) w events all → TookLines a b
 none_joined a b w events all (alone same) = same_left a a b same refl

@@ -1,4 +1,3 @@
-pub mod Both
 pub mod OwnFaults
 pub mod Runs
 pub mod InOrder

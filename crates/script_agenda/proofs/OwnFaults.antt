@@ -9,7 +9,7 @@ use Rattle.offline_programs.specs.declared.fault.RunFault.{RunFault}
 use Rattle.offline_programs.specs.declared.fault.RunFault.TheVariants as fault
 use Rattle.driver.specs.declared.turn.Turn.{Turn}
 use Rattle.driver.specs.TrueFaults.{IsTrueFault}
-use Rattle.script_agenda.specs.Says.{SaysOfLines, SaysIn, ScriptSays, TakesOneLine, WaitSays, as_group, at_end, by_itself, next_life, next_turn, skips, stopped, uncounted, unlisted, wait_over}
+use Rattle.script_agenda.specs.Says.{SaysOfLines, SaysIn, ScriptSays, TakesOneLine, WaitSays, as_group, at_end, by_itself, next_life, next_round, skips, stopped, uncounted, unlisted, wait_over}
 use Rattle.script_agenda.specs.ScriptAt.{ScriptAt, after_one_line}
 
 module _ (d : DiskView) where
@@ -25,11 +25,11 @@ module _ (d : DiskView) where
   of_line l a (Ok t) b takes = tt
   of_line l a (Err why) b takes = subst (λ (x : RunFault). IsTrueFault x d d) (sym takes.0) tt
 
-  of_wait : (a : ScriptAt) (w : World) (turns : ℕ) (r : Result Turn RunFault) (b : ScriptAt) → WaitSays a w turns r b → IsTrueAnswer r
-  of_wait a w turns r b (next_life seat rest round is same) = at_turn r _ is
-  of_wait a w turns r b (next_turn seat rest round few waiting is same) = at_turn r _ is
-  of_wait a w turns r b (wait_over round over is same) = at_turn r _ is
-  of_wait a w turns r b (unlisted is same) = subst (λ (x : Result Turn RunFault). IsTrueAnswer x) (sym is) tt
+  of_wait : (a : ScriptAt) (w : World) (rounds : ℕ) (r : Result Turn RunFault) (b : ScriptAt) → WaitSays a w rounds r b → IsTrueAnswer r
+  of_wait a w rounds r b (next_life seat rest round is same) = at_turn r _ is
+  of_wait a w rounds r b (next_round seat rest round few waiting is same) = at_turn r _ is
+  of_wait a w rounds r b (wait_over round over is same) = at_turn r _ is
+  of_wait a w rounds r b (unlisted is same) = subst (λ (x : Result Turn RunFault). IsTrueAnswer x) (sym is) tt
 
   of_lines : (a : ScriptAt) (r : Result Turn RunFault) (b : ScriptAt) → SaysOfLines a r b → IsTrueAnswer r
   of_lines a r b (at_end none is same) = at_turn r _ is
@@ -41,7 +41,7 @@ module _ (d : DiskView) where
 
   of_saying : (wait : Option ℕ) (a : ScriptAt) (w : World) (r : Result Turn RunFault) (b : ScriptAt) → SaysIn wait a w r b → IsTrueAnswer r
   of_saying None a w r b said = of_lines a r b said
-  of_saying (Some turns) a w r b said = of_wait a w turns r b said
+  of_saying (Some rounds) a w r b said = of_wait a w rounds r b said
 
 pub own_faults : (a : ScriptAt) (w : World) (now : ℕ) (why : RunFault) (b : ScriptAt) → ScriptSays a w now (Err why) b → (d : DiskView) → IsTrueFault why d d
 own_faults a w now why b said d = of_saying d a.wait a w (Err why) b said

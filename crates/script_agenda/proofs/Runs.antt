@@ -45,7 +45,7 @@ module _ {C T W : Type 0} (contents : W → Option (List ℕ)) (s : SourceRules 
 
   pub ran_script : (strict : Bool) (script : List ℕ) (disk later : DiskView) (c d : C) (start sink : Noting (Voiced T W)) (begun done : ByScript) (run : Result (Unit {0}) RunFault) (answer : Result (Option ℕ) RunFault)
       → start.whole ≡ true → script_stand begun ≡ script_begun (script_lines script) strict → Over given_rules (program_parts disk c start begun) (program_parts later d sink done) run
-      → answer ≡ script_answer run (script_stand done)
+      → answer ≡ script_answer run sink.whole (script_stand done)
       → RanScript s strict script (outside disk c (contents start.sink.writer)) (outside later d (contents sink.sink.writer)) answer
   ran_script strict script disk later c d start sink begun done run answer fresh at over is = record {
     at_end = script_stand done;

@@ -30,20 +30,22 @@ running_rules sources = rules script_rules sources (noting_rules in_words)
 abbrev pub running_parts : {C : Type 0} → Outside C → Bool → ScriptAt → ProgramParts ScriptAt C PrintedSoFar
 running_parts o whole at = program_parts o.disk o.sources (printed_so_far o.written whole) at
 
--- the number of the line after which it stopped, where it is strict and did, or its fault
-abbrev pub script_answer : Result (Unit {0}) RunFault → ScriptAt → Result (Option ℕ) RunFault
-script_answer (Ok done) at = Ok (stopped_line at)
-script_answer (Err why) at = Err why
+-- The number of the line after which it stopped, where it is strict and did, or its fault. Where not all of the last text went out the
+-- output failed, and nothing else is answered.
+abbrev pub script_answer : Result (Unit {0}) RunFault → Bool → ScriptAt → Result (Option ℕ) RunFault
+script_answer run false at = Err fault.Output
+script_answer (Ok done) true at = Ok (stopped_line at)
+script_answer (Err why) true at = Err why
 
 -- The driver ran over the disk with the lines of this script, from before the first of them on. A fault is true of the disk: that it failed is reported
--- only where it did.
+-- only where it did. Whatever is answered but that the output failed, what was written is the texts of the steps, and no more.
 pub record RanScript {C : Type 0} (sources : SourceRules C) (strict : Bool) (script : List ℕ) (first last : Outside C) (answer : Result (Option ℕ) RunFault) : Type 0 where
   pub at_end : ScriptAt
   pub run : Result (Unit {0}) RunFault
   pub whole : Bool
   pub over : Over (running_rules sources) (running_parts first true (script_begun (script_lines script) strict)) (running_parts last whole at_end) run
   pub true_of : IfErr run (λ why. IsTrueOf why first.disk last.disk)
-  pub is : answer ≡ script_answer run at_end
+  pub is : answer ≡ script_answer run whole at_end
 
 -- The same of a script that comes from a reader with this stream, where that is known.
 pub data RanRead {C : Type 0} (sources : SourceRules C) (stream : Option (List ℕ)) (first last : Outside C) : Result (Option ℕ) RunFault → Type 0 where

@@ -20,23 +20,23 @@ use Rattle.driver.specs.declared.turn.Turn.TheVariants as turn
 use Rattle.script_agenda.specs.Gathering.{Gathers, most_commands}
 use Rattle.script_agenda.specs.ScriptAt.{ScriptAt, after_one_line, gone_wrong, waiting, with_round}
 
--- What is asked for of a life in the turn with this number: the first 100,000 listen, and in the one after them it has stalled.
+-- What is asked for of a life in the round with this number: the first 100,000 listen, and in the one after them it has stalled.
 abbrev pub heard_in : Bool → Seat → Turn
 heard_in true seat = turn.Receive seat
 heard_in false seat = turn.Alone (stalls seat)
 
 abbrev pub asks_life : ℕ → Seat → Turn
-asks_life turns seat = heard_in (nat_lt turns (most_turns + 1)) seat
+asks_life rounds seat = heard_in (nat_lt rounds (most_turns + 1)) seat
 
--- What is next in a wait, of which so many turns were begun: the next life of the turn; or where there is none the first life of another turn; or it is
+-- What is next in a wait, of which so many rounds were begun: the next life of the round; or where there is none the first life of another round; or it is
 -- over, since no item waits or all have stalled.
-pub data WaitSays (a : ScriptAt) (w : World) (turns : ℕ) (r : Result Turn RunFault) (b : ScriptAt) : Type 0 where
-  next_life : (seat : Seat) (rest : List Seat) → a.round ≡ seat ∷ rest → r ≡ Ok (asks_life turns seat) → b ≡ with_round a rest → WaitSays a w turns r b
-  next_turn : (seat : Seat) (rest : List Seat) → a.round ≡ [] → turns ≤ most_turns → waits w ≡ seat ∷ rest → r ≡ Ok (asks_life (turns + 1) seat)
-      → b ≡ with_round (waiting a (Some (turns + 1))) rest → WaitSays a w turns r b
-  wait_over : a.round ≡ [] → (waits w ≡ []) ⊎ (most_turns + 1 ≤ turns) → r ≡ Ok turn.Nothing → b ≡ waiting a None → WaitSays a w turns r b
+pub data WaitSays (a : ScriptAt) (w : World) (rounds : ℕ) (r : Result Turn RunFault) (b : ScriptAt) : Type 0 where
+  next_life : (seat : Seat) (rest : List Seat) → a.round ≡ seat ∷ rest → r ≡ Ok (asks_life rounds seat) → b ≡ with_round a rest → WaitSays a w rounds r b
+  next_round : (seat : Seat) (rest : List Seat) → a.round ≡ [] → rounds ≤ most_turns → waits w ≡ seat ∷ rest → r ≡ Ok (asks_life (rounds + 1) seat)
+      → b ≡ with_round (waiting a (Some (rounds + 1))) rest → WaitSays a w rounds r b
+  wait_over : a.round ≡ [] → (waits w ≡ []) ⊎ (most_turns + 1 ≤ rounds) → r ≡ Ok turn.Nothing → b ≡ waiting a None → WaitSays a w rounds r b
   -- there was no memory for the list of lives
-  unlisted : r ≡ Err fault.OutOfMemory → b ≡ a → WaitSays a w turns r b
+  unlisted : r ≡ Err fault.OutOfMemory → b ≡ a → WaitSays a w rounds r b
 
 -- What the line that was taken last asks for. A line that isn't known goes wrong.
 abbrev pub LineAsks : Option ScriptLine → ScriptAt → Turn → ScriptAt → Type 0
@@ -79,7 +79,7 @@ pub data SaysOfLines (a : ScriptAt) (r : Result Turn RunFault) (b : ScriptAt) : 
 -- what is next
 abbrev pub SaysIn : Option ℕ → ScriptAt → World → Result Turn RunFault → ScriptAt → Type 0
 SaysIn None a w r b = SaysOfLines a r b
-SaysIn (Some turns) a w r b = WaitSays a w turns r b
+SaysIn (Some rounds) a w r b = WaitSays a w rounds r b
 
 abbrev pub ScriptSays : ScriptAt → World → ℕ → Result Turn RunFault → ScriptAt → Type 0
 ScriptSays a w now r b = SaysIn a.wait a w r b

@@ -10,9 +10,9 @@ pub record ScriptAt : Type 0 where
   pub strict : Bool
   -- how many lines were taken
   pub number : ℕ
-  -- how many turns were begun of the wait that holds back the next line
+  -- how many rounds were begun of the wait that holds back the next line
   pub wait : Option ℕ
-  -- the lives that are still to be heard in this turn
+  -- the lives that are still to be heard in this round
   pub round : List Seat
   -- how many commands were taken as one group, of which nothing came yet
   pub group : ℕ
@@ -43,10 +43,10 @@ after_one_line a rest = record a { lines = rest; number = a.number + 1; wrong = 
 abbrev pub gone_wrong : ScriptAt → ScriptAt
 gone_wrong a = record a { wrong = true }
 
--- a wait holds back the next line, of which so many turns were begun, or none does
+-- a wait holds back the next line, of which so many rounds were begun, or none does
 abbrev pub waiting : ScriptAt → Option ℕ → ScriptAt
-waiting a turns = record a { wait = turns }
+waiting a rounds = record a { wait = rounds }
 
--- these lives are still to be heard in this turn
+-- these lives are still to be heard in this round
 abbrev pub with_round : ScriptAt → List Seat → ScriptAt
 with_round a round = record a { round = round }

@@ -15,9 +15,9 @@ use std::alloc::Global;
 use tellings::Note;
 
 /// A script that was read whole, whose lines are taken one after another: commands that only change the worksheet in groups, and a
-/// wait in turns (docs/use/SCRIPT.md).
+/// wait in rounds (docs/use/SCRIPT.md).
 ///
-/// A turn is one receive for each session with a waiting item, in the order in which they were made. After 100,000 turns each
+/// A round is one receive for each session with a waiting item, in the order in which they were made. After 100,000 rounds each
 /// session that still waits has stalled. A strict script stops after the first line that goes wrong.
 #[derive(Drop)]
 pub struct ByScript<'a> {
@@ -26,9 +26,9 @@ pub struct ByScript<'a> {
     pub(crate) strict: bool,
     /// How many lines were taken.
     pub(crate) number: u64,
-    /// How many turns were begun of the wait that holds back the next line.
+    /// How many rounds were begun of the wait that holds back the next line.
     pub(crate) wait: Option<u32>,
-    /// The lives that are still to be heard in this turn.
+    /// The lives that are still to be heard in this round.
     pub(crate) round: Vec<Seat>,
     /// How many commands were taken as one group, of which nothing came yet.
     pub(crate) group: u64,

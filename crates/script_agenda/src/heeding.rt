@@ -1,40 +1,22 @@
-//! What is made of what came.
-ghost use Rattle.std.specs.Prelude.{◌≡◌, ◌++◌};
-ghost use Rattle.std.specs.List.{list_any};
+//! What an agenda of a script makes of what came: whether the line went wrong, and how many lines count as taken.
+ghost use Rattle.std.specs.Prelude.{◌≡◌};
 ghost use Rattle.driver.specs.Reports.{came_of};
-ghost use Rattle.live.specs.Wrong.{is_wrong as goes_wrong};
 ghost use Rattle.script_agenda.specs.ScriptRules as rules;
 
 use crate::by_script::ByScript;
 use driver::Came;
-use host_events::Outcome;
-use live::is_wrong;
-
-/// Whether a line went wrong by one of these outcomes.
-fn any_wrong(outcomes: &[Outcome]) -> bool
-    ensures { result ≡ list_any (λ o. goes_wrong o.reply) outcomes.now }
-{
-    outcomes.iter().any(|outcome| is_wrong(&outcome.reply))
-}
+use live::{any_of_both_wrong, any_outcome_wrong, is_wrong};
 
 /// Whether a line went wrong by what came.
 fn went_wrong(came: &Came) -> bool
     ensures { result ≡ rules.goes_wrong_by (came_of came.now) }
 {
     match came {
-        Came::Gave(gave) => any_wrong(gave.outcomes.as_slice()),
+        Came::Gave(gave) => any_outcome_wrong(gave.outcomes.as_slice()),
         Came::Joined(gave) => { any_of_both_wrong(gave.outcomes.as_slice(), gave.later.as_slice()) }
         Came::Alone(outcome) => is_wrong(&outcome.reply),
         Came::Interrupted(_) | Came::Shown => false,
     }
-}
-
-/// Whether a line went wrong by one of these outcomes or of those.
-#[tactic(auto, using(crate::proofs::Both::any_of_both))]
-fn any_of_both_wrong(outcomes: &[Outcome], later: &[Outcome]) -> bool
-    ensures { result ≡ list_any (λ o. goes_wrong o.reply) (outcomes.now ++ later.now) }
-{
-    any_wrong(outcomes) || any_wrong(later)
 }
 
 /// How many events were taken.

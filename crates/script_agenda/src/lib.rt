@@ -1,4 +1,4 @@
-//! The agenda of a script that was read whole: its lines in order, a wait in turns, and commands that only change the worksheet in
+//! The agenda of a script that was read whole: its lines in order, a wait in rounds, and commands that only change the worksheet in
 //! groups (docs/use/SCRIPT.md).
 #![tactic(auto)]
 

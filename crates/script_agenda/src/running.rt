@@ -33,10 +33,17 @@ pub struct Ran<D: Disk, S, W> {
     pub answer: Result<Option<u64>, RunFault>,
 }
 
-/// What a run answers, of a script that stopped there, if it did.
-fn answer_after(run: Result<(), RunFault>, stopped: Option<u64>) -> Result<Option<u64>, RunFault>
-    ensures { (at : ScriptAt) → stopped ≡ stopped_line at → result ≡ meant.script_answer run at }
+/// What a run answers, of a script that stopped there, if it did. Where not all of the last text went out, the output failed.
+fn answer_after(
+    run: Result<(), RunFault>,
+    whole: bool,
+    stopped: Option<u64>,
+) -> Result<Option<u64>, RunFault>
+    ensures { (at : ScriptAt) → stopped ≡ stopped_line at → result ≡ meant.script_answer run whole at }
 {
+    if !whole {
+        return Err(RunFault::Output);
+    }
     match run {
         Ok(()) => Ok(stopped),
         Err(why) => Err(why),
@@ -80,7 +87,7 @@ pub fn run_read<W: Write, D: Disk, S: Sources>(
     let stopped = agenda.stopped_at();
     let Noting {
         sink: Voiced { tells: _, writer },
-        whole: _,
+        whole,
     } = sink;
     Ran {
         outside: Outside {
@@ -88,7 +95,7 @@ pub fn run_read<W: Write, D: Disk, S: Sources>(
             sources,
             output: writer,
         },
-        answer: answer_after(answer, stopped),
+        answer: answer_after(answer, whole, stopped),
     }
 }
 
@@ -104,8 +111,8 @@ pub fn run_read<W: Write, D: Disk, S: Sources>(
 ///
 /// `Input` where the reader fails, an interruption included, `InputTooLong` where it gives more than `LONGEST_STANDARD_INPUT` bytes,
 /// `Open` where the disk isn't opened: nothing was written, and no child was called. `Host` where the host has a fault, and
-/// `OutOfMemory`: what was returned before is written, but nothing of commands that were taken together when the disk failed. `Output`
-/// where the writer fails, a flush included: a part of the last text may have gone out.
+/// `OutOfMemory`: what was returned before is written and no more, and nothing of commands that were taken together when the disk failed.
+/// `Output` where the writer fails, a flush included: a part of the last text may have gone out, and no clause says what is written then.
 pub fn run<R: Read, W: Write, D: Disk, S: Sources>(
     alloc: Global,
     reader: &mut R,

@@ -19,10 +19,10 @@ use std::alloc::Global;
 use tellings::Note;
 
 /// What is asked for of a life in the turn with this number.
-fn ask_life(turns: u32, seat: Seat) -> Turn
-    ensures { result ≡ says.asks_life turns seat }
+fn ask_life(rounds: u32, seat: Seat) -> Turn
+    ensures { result ≡ says.asks_life rounds seat }
 {
-    if turns <= MOST_TURNS {
+    if rounds <= MOST_TURNS {
         Turn::Receive(seat)
     } else {
         Turn::Alone(stalled(seat))
@@ -33,7 +33,7 @@ impl<'a> ByScript<'a> {
     ghost use Rattle.script_agenda.specs.Says.{LineAsks, SaysOfLines, ScriptSays, TakesOneLine, WaitSays};
     ghost use Rattle.script_agenda.specs.ScriptAt.{after_one_line, script_stand, waiting, with_round};
 
-    /// The next life that is still to be heard in this turn.
+    /// The next life that is still to be heard in this round.
     fn next_in_round(&mut self) -> Option<Seat>
         ensures some { IfSome result (λ seat. self.old.round.items ≡ seat ∷ self.new.round.items) }
         ensures none { IfNone result ((self.old.round.items ≡ []) × (self.new.round.items ≡ [])) }
@@ -46,16 +46,16 @@ impl<'a> ByScript<'a> {
     }
 
     /// Begins another turn of the wait, of which so many were begun, or ends it.
-    fn begin_turn<D: Disk>(
+    fn begin_round<D: Disk>(
         &mut self,
         alloc: Global,
         host: &Host<D>,
-        turns: u32,
+        rounds: u32,
     ) -> Result<Turn, RunFault>
         ensures { (w : World) → self.old.round.items ≡ [] → IsHost host.now w
-            → WaitSays (script_stand self.old) w turns result (script_stand self.new) }
+            → WaitSays (script_stand self.old) w rounds result (script_stand self.new) }
     {
-        if turns > MOST_TURNS {
+        if rounds > MOST_TURNS {
             self.wait = None;
             return Ok(Turn::Nothing);
         }
@@ -65,8 +65,8 @@ impl<'a> ByScript<'a> {
         self.round = seats;
         match self.next_in_round() {
             Some(seat) => {
-                self.wait = Some(turns + 1);
-                Ok(ask_life(turns + 1, seat))
+                self.wait = Some(rounds + 1);
+                Ok(ask_life(rounds + 1, seat))
             }
             None => {
                 self.wait = None;
@@ -75,18 +75,18 @@ impl<'a> ByScript<'a> {
         }
     }
 
-    /// What is next in a wait, of which so many turns were begun.
+    /// What is next in a wait, of which so many rounds were begun.
     fn next_life<D: Disk>(
         &mut self,
         alloc: Global,
         host: &Host<D>,
-        turns: u32,
+        rounds: u32,
     ) -> Result<Turn, RunFault>
-        ensures { (w : World) → IsHost host.now w → WaitSays (script_stand self.old) w turns result (script_stand self.new) }
+        ensures { (w : World) → IsHost host.now w → WaitSays (script_stand self.old) w rounds result (script_stand self.new) }
     {
         match self.next_in_round() {
-            Some(seat) => Ok(ask_life(turns, seat)),
-            None => self.begin_turn(alloc, host, turns),
+            Some(seat) => Ok(ask_life(rounds, seat)),
+            None => self.begin_round(alloc, host, rounds),
         }
     }
 
@@ -161,8 +161,8 @@ impl<'a> ByScript<'a> {
     ) -> Result<Turn, RunFault>
         ensures { (w : World) → IsHost host.now w → ScriptSays (script_stand self.old) w 0 result (script_stand self.new) }
     {
-        if let Some(turns) = self.wait {
-            return self.next_life(alloc, host, turns);
+        if let Some(rounds) = self.wait {
+            return self.next_life(alloc, host, rounds);
         }
         if self.is_stopped() {
             return Ok(Turn::End);

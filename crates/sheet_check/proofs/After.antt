@@ -8,8 +8,7 @@ use Rattle.worksheet.specs.declared.op.Op.{Op}
 use Rattle.worksheet.specs.declared.op.Op.TheVariants as op
 use Rattle.worksheet.specs.Contents.{Contents}
 use Rattle.worksheet.specs.Ops.{sheet_of}
-use Rattle.worksheet.specs.Checks.{Allowed, first_refusal, has_field}
-use Rattle.worksheet.specs.Laws.{AllowedGoesOn}
+use Rattle.worksheet.specs.Checks.{AllowedFrom, first_refusal, has_field}
 use Rattle.worksheet.specs.Limits.{longest_kept_prompt}
 use Rattle.block_tree.specs.Tree.{Tree}
 use Rattle.recovery.specs.Committed.{Commits}
@@ -29,6 +28,12 @@ same-trans a b c first second = record {
   keeps_model = second.keeps_model ∙ first.keeps_model;
   later = omega (arith, first.later, second.later);
 }
+
+-- one op more is allowed after those
+from_push : (ops more : List Op) (one : Op) → AllowedFrom ops more → first_refusal (sheet_of (ops ++ more)) one ≡ None → AllowedFrom ops (more ++ one ∷ [])
+from_push ops [] one from allowed = (subst (λ (os : List Op). first_refusal (sheet_of os) one ≡ None) (append-nil ops) allowed, tt)
+from_push ops (o ∷ more) one from allowed =
+    (from.0, from_push (ops ++ o ∷ []) more one from.1 (subst (λ (os : List Op). first_refusal (sheet_of os) one ≡ None) (sym (append_assoc ops (o ∷ []) more)) allowed))
 
 module _ (ops more : List Op) (one : Op) where
   either_among : (i : Image) → IsEither (ops ++ more) one i → IsAmong ops (more ++ one ∷ []) i
@@ -67,21 +72,23 @@ module _ (ops more : List Op) (one : Op) where
     unchanged : SameStore old new → Stores ops more disk new
     unchanged same = record {
       still_open = same.closed ∙ has.still_open;
-      allowed = has.allowed;
       contents = same.contents ∙ has.contents;
       disk = subst (HoldsAll ops more disk) (sym same.disk) has.disk;
     }
 
-    pub put : AllowedGoesOn → first_refusal old.sheet.contents one ≡ None → Commits old new one (Ok tt) → Stores ops (more ++ one ∷ []) disk new
-    put law allowed commit =
+    from-on : first_refusal old.sheet.contents one ≡ None → AllowedFrom ops (more ++ one ∷ [])
+    from-on allowed = from_push ops more one has.disk.from (subst (λ (c : Contents). first_refusal c one ≡ None) has.contents allowed)
+
+    pub put : first_refusal old.sheet.contents one ≡ None → Commits old new one (Ok tt) → Stores ops (more ++ one ∷ []) disk new
+    put allowed commit =
         let adds = commit.answer.1 in
         let together = append_assoc ops more (one ∷ []) in
         let contents : new.sheet.contents ≡ sheet_of (ops ++ (more ++ one ∷ [])) = adds.contents (ops ++ more) has.contents ∙ ap sheet_of together in
         record {
           still_open = adds.still_open;
-          allowed = subst Allowed together (law (ops ++ more) one has.allowed (subst (λ (c : Contents). first_refusal c one ≡ None) has.contents allowed));
           contents = contents;
           disk = record {
+            from = from-on allowed;
             same = same-on (Ok tt) commit;
             steady = adds.faults ∙ has.disk.steady;
             holds = λ model. subst (λ (c : Contents). Leaves (IsSheetImage c) new.disk.history.now) contents (adds.images (still model));
@@ -89,16 +96,17 @@ module _ (ops more : List Op) (one : Op) where
           };
         }
 
-    pub not_put : IsStore old → (why : CommitFault) → Commits old new one (Err why) → PutsOne ops more disk one new (Err (fault_for why))
-    not_put store (commits.Full back) commit = (
+    pub not_put : first_refusal old.sheet.contents one ≡ None → IsStore old → (why : CommitFault) → Commits old new one (Err why) → PutsOne ops more disk one new (Err (fault_for why))
+    not_put allowed store (commits.Full back) commit = (
       unchanged commit.answer.3,
       record { store = old; is = store; still_open = has.still_open; place = commit.answer.1; on_it = sym commit.answer.3.disk },
     )
-    not_put store (commits.OutOfMemory back) commit = unchanged commit.answer.2
-    not_put store commits.Disk commit = record {
+    not_put allowed store (commits.OutOfMemory back) commit = unchanged commit.answer.2
+    not_put allowed store commits.Disk commit = record {
+      from = from-on allowed;
       same = same-on (Err commits.Disk) commit;
       failed = subst (λ (n : ℕ). Rises n new.disk.faults) has.disk.steady commit.answer.1.faults;
       holds = λ model. at_end (IsEither (ops ++ more) one) old.disk.history new.disk.history (either (Err commits.Disk) commit model);
       moments = moments-on (Err commits.Disk) commit;
     }
-    not_put store commits.Closed commit = absurd (let no : true ≡ false = sym commit.answer.0 ∙ has.still_open in cc)
+    not_put allowed store commits.Closed commit = absurd (let no : true ≡ false = sym commit.answer.0 ∙ has.still_open in cc)

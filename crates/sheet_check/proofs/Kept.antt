@@ -6,7 +6,6 @@ use Rattle.std.specs.Io.KnownBytes.{Appends}
 use Rattle.disk_model.specs.Disk.{DiskView, InModel, Leaves, Looks, SameDisk, bytes_on}
 use Rattle.disk_model.specs.inside.Moments.{started}
 use Rattle.worksheet.specs.Ops.{sheet_of}
-use Rattle.worksheet.specs.Checks.{Allowed}
 use Rattle.recovery.specs.Laws.{OneSheet}
 use Rattle.worksheet.specs.declared.op.Op.{Op}
 use Rattle.worksheet.specs.Contents.{Contents}
@@ -132,9 +131,9 @@ module _ (disk : DiskView) (store : StoreView) (ops : List Op) (makes : Makes op
       let here : InModel store.disk (Leaves (IsSheetImage (sheet_of (ops ++ []))) store.disk.history.now) = λ keeps. subst (λ (c : Contents). Leaves (IsSheetImage c) store.disk.history.now) contents (images (model keeps)) in
       record {
         still_open = going;
-        allowed = subst Allowed (sym (append-nil ops)) makes.allowed;
         contents = contents;
         disk = record {
+          from = tt;
           same = record { room = refl; keeps_model = refl; later = omega arith };
           steady = refl;
           holds = here;
@@ -142,8 +141,9 @@ module _ (disk : DiskView) (store : StoreView) (ops : List Op) (makes : Makes op
         };
       }
 
-  pub opened_on : store.disk.faults ≡ disk.faults → InModel disk (IsSheetImage store.sheet.contents (bytes_on disk)) → InModel disk (Looks disk.history store.disk.history) → FoundOn disk store.sheet.contents ops store.disk
-  opened_on steady found looks = record { is = makes.is; same = same; steady = steady; found = found; looks = looks }
+  pub opened_on : store.disk.faults ≡ disk.faults → InModel disk (IsSheetImage store.sheet.contents (bytes_on disk)) → InModel disk (Looks disk.history store.disk.history)
+      → InModel disk (Leaves (IsSheetImage store.sheet.contents) store.disk.history.now) → FoundOn disk store.sheet.contents ops store.disk
+  opened_on steady found looks durable = record { is = makes.is; same = same; steady = steady; found = found; looks = looks; durable = durable }
 
 -- A worksheet that was opened isn't reported as one that wasn't.
 module _ {C : Type 0} (o : Way C) (chosen : Chosen) (sheet : Contents) (c d : C) (a b : Option (List ℕ)) (ops : List Op) (now back : DiskView) (x : OpenCause) where

@@ -2,7 +2,7 @@
 use Rattle.std.specs.Prelude.{◌≡◌, ◌⊎◌, ℕ, List, [], ◌∷◌, ◌++◌, Option, Some, None, Result, Ok, Err}
 use Rattle.std.specs.List.{flat_map}
 use Rattle.std.specs.Io.KnownBytes.{Appends}
-use Rattle.disk_model.specs.Disk.{DiskView, InModel, Looks, SameDisk, bytes_on}
+use Rattle.disk_model.specs.Disk.{DiskView, InModel, Leaves, Looks, SameDisk, bytes_on}
 use Rattle.worksheet.specs.declared.op.Op.{Op}
 use Rattle.worksheet.specs.declared.field.Answer.{Answer}
 use Rattle.worksheet.specs.Contents.{Contents}
@@ -50,14 +50,15 @@ accepted_of c = answer_ops c.field.id (accepted_answer c.came c.verdict)
 abbrev pub accepted : List Case → List Op
 accepted cases = flat_map accepted_of cases
 
--- A disk was opened to write: there the worksheet of these ops was found. That changed no byte, and no moment of it left an image that
--- is new; this is the disk after it.
+-- A disk was opened to write: there the worksheet of these ops was found, and made durable. That changed no byte, and no moment of it left
+-- an image that is new; this is the disk after it.
 pub record FoundOn (disk : DiskView) (sheet : Contents) (ops : List Op) (now : DiskView) : Type 0 where
   pub is : sheet ≡ sheet_of ops
   pub same : SameDisk disk now
   pub steady : now.faults ≡ disk.faults
   pub found : InModel disk (IsSheetImage sheet (bytes_on disk))
   pub looks : InModel disk (Looks disk.history now.history)
+  pub durable : InModel disk (Leaves (IsSheetImage sheet) now.history.now)
 
 -- Answers are put after these ops on a disk: the disk before that, and after it.
 pub record Filing : Type 0 where

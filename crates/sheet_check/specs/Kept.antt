@@ -5,7 +5,7 @@ use Rattle.worksheet.specs.declared.op.Op.{Op}
 use Rattle.worksheet.specs.declared.op.Op.TheVariants as op
 use Rattle.worksheet.specs.declared.field.Answer.{Answer}
 use Rattle.worksheet.specs.Ops.{sheet_of}
-use Rattle.worksheet.specs.Checks.{Allowed}
+use Rattle.worksheet.specs.Checks.{AllowedFrom}
 use Rattle.recovery.specs.Code.{code_of}
 use Rattle.recovery.specs.Sheets.{HasPlace, IsEither, IsSheetImage, IsStore, StoreView}
 use Rattle.sheet_check.specs.declared.accept.AcceptFault.{AcceptFault}
@@ -22,16 +22,18 @@ pub record IsAmong (ops more : List Op) (i : Image) : Type 0 where
   pub split : more ≡ done ++ rest
   pub image : IsSheetImage (sheet_of (ops ++ done)) i
 
--- From a disk that holds the worksheet of these ops to the same disk with more after them, which are durable. At every moment each
--- image was of the worksheet after some of the first of those.
+-- From a disk that holds the worksheet of these ops to the same disk with more after them, each allowed after those before it, which are
+-- durable. At every moment each image was of the worksheet after some of the first of those.
 pub record HoldsAll (ops more : List Op) (old new : DiskView) : Type 0 where
+  pub from : AllowedFrom ops more
   pub same : SameDisk old new
   pub steady : new.faults ≡ old.faults
   pub holds : InModel old (Leaves (IsSheetImage (sheet_of (ops ++ more))) new.history.now)
   pub moments : InModel old (LeavesOnly (IsAmong ops more) old.history new.history)
 
--- The same where the disk failed at one op after those: an image may have it, or not.
+-- The same where the disk failed at one op after those, which was allowed, too: an image may have it, or not.
 pub record HoldsBut (ops more : List Op) (one : Op) (old new : DiskView) : Type 0 where
+  pub from : AllowedFrom ops (more ++ one ∷ [])
   pub same : SameDisk old new
   pub failed : Rises old.faults new.faults
   pub holds : InModel old (Leaves (IsEither (ops ++ more) one) new.history.now)
@@ -40,7 +42,6 @@ pub record HoldsBut (ops more : List Op) (one : Op) (old new : DiskView) : Type 
 -- A store on that disk goes on, and its worksheet is that of all these ops.
 pub record Stores (ops more : List Op) (old : DiskView) (store : StoreView) : Type 0 where
   pub still_open : store.closed ≡ false
-  pub allowed : Allowed (ops ++ more)
   pub contents : store.sheet.contents ≡ sheet_of (ops ++ more)
   pub disk : HoldsAll ops more old store.disk
 

@@ -43,7 +43,6 @@ pub fn accept<D: Disk>(store: &mut Store<D>, id: u32, answer: Answer) -> Result<
     ensures puts { (ops more : List Op) → (disk : DiskView) → Stores ops more disk store.old
         → PutsOne ops more disk (answer_op id answer) store.new result }
 {
-    worksheet::laws::allowed_goes_on();
     let Answer { prompt, output } = answer;
     match store.commit(Op::Answer { id, prompt, output }) {
         Ok(()) => Ok(()),

@@ -11,11 +11,17 @@ use std::io;
 /// the moment at which it is made: the number of that call among all on the disk's files.
 ///
 /// A file that keeps the model has a state at each moment: what a read gives, and what a crash may
-/// leave. A real file keeps none, and nothing is claimed of what it holds; but that each write and each sync
+/// leave. A real file keeps none, and nothing is claimed of what it holds; but that each look, read, write and sync
 /// is one of the file itself, as the relations say.
 pub trait DiskFile {
     /// The file as contracts see it.
     ghost view: { Self → FileView };
+
+    /// A look at its length: the file before it, the answer, and the file after it.
+    ghost measured: { Self → Result ℕ Error → Self → Type 0 };
+
+    /// A read: the file before it, where it begins, the answer, what the buffer holds then, and the file after it.
+    ghost got: { Self → ℕ → Result (Unit {0}) Error → List ℕ → Self → Type 0 };
 
     /// A write: the file before it, the bytes, where they go, the answer, and the file after it.
     ghost written: { Self → List ℕ → ℕ → Result (Unit {0}) Error → Self → Type 0 };
@@ -33,12 +39,14 @@ pub trait DiskFile {
 
     /// Its length in bytes.
     fn len(&mut self) -> io::Result<u64>
+        ensures asked { measured self.old result self.new }
         ensures same { view self.new ≡ view self.old }
         ensures length { InFile (view self.old) ((view self.old).lost ≡ false
             → IfOk result (λ n. Now (view self.old) (λ a. n ≡ length a.content))) };
 
     /// Fills the buffer with the bytes from `offset` on, where all of them are within the length.
     fn read(&mut self, buffer: &mut [u8], offset: u64) -> io::Result<()>
+        ensures asked { got self.old offset result buffer.new self.new }
         ensures same { view self.new ≡ view self.old }
         ensures bytes { InFile (view self.old) ((view self.old).lost ≡ false
             → OnOk result (Now (view self.old)
@@ -78,12 +86,15 @@ pub trait DiskFile {
         → InFile (view file) (Now (view file) (λ a. FileImage a a.content)) };
 }
 
-/// A file of the system, of whose bytes nothing is claimed. A write is one write of it, a sync is one sync of its data, and none of
-/// its calls gets the moment.
+/// A file of the system, of whose bytes nothing is claimed. Each call is one of its own, with the same answer, and none gets the moment.
 impl<F: SystemFile> DiskFile for F {
     ghost use Rattle.disk_model.specs.Disk.{unclaimed};
 
     ghost view = { λ _. unclaimed_file };
+
+    ghost measured = { λ old result new. F.measures old result new };
+
+    ghost got = { λ old offset result bytes new. F.gets old offset result bytes new };
 
     ghost written = { λ old bytes offset result new. F.puts old bytes offset result new };
 

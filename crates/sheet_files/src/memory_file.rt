@@ -112,6 +112,10 @@ impl DiskFile for MemoryFile {
 
     ghost view = { λ file. memory_view file.start.items file.calls.items };
 
+    ghost measured = { λ _ _ _. Unit {0} };
+
+    ghost got = { λ _ _ _ _ _. Unit {0} };
+
     ghost written = { λ _ _ _ _ _. Unit {0} };
 
     ghost synced = { λ _ _ _. Unit {0} };

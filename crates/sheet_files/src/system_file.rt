@@ -13,6 +13,11 @@ use std::os::unix::fs::FileExt;
 ///
 /// No call knows how many were made before it.
 pub trait SystemFile {
+    ghost measures: { Self → Result ℕ Error → Self → Type 0 };
+
+    // The offset, the answer, and what the buffer holds then.
+    ghost gets: { Self → ℕ → Result (Unit {0}) Error → List ℕ → Self → Type 0 };
+
     ghost puts: { Self → List ℕ → ℕ → Result (Unit {0}) Error → Self → Type 0 };
 
     ghost flushes: { Self → Result (Unit {0}) Error → Self → Type 0 };
@@ -20,11 +25,13 @@ pub trait SystemFile {
     ghost ends: { Self → Type 0 };
 
     /// How long it is, in bytes.
-    fn measure(&mut self) -> io::Result<u64>;
+    fn measure(&mut self) -> io::Result<u64>
+        ensures { measures self.old result self.new };
 
     /// Fills the buffer with its bytes from `offset` on.
     fn get(&mut self, buffer: &mut [u8], offset: u64) -> io::Result<()>
-        ensures { length buffer.new ≡ length buffer.old };
+        ensures filled { length buffer.new ≡ length buffer.old }
+        ensures asked { gets self.old offset result buffer.new self.new };
 
     /// Puts all of these bytes at `offset`.
     fn put(&mut self, bytes: &[u8], offset: u64) -> io::Result<()>
@@ -40,6 +47,10 @@ pub trait SystemFile {
 }
 
 impl SystemFile for File {
+    ghost measures = { λ _ _ _. Unit {0} };
+
+    ghost gets = { λ _ _ _ _ _. Unit {0} };
+
     ghost puts = { λ _ _ _ _ _. Unit {0} };
 
     ghost flushes = { λ _ _ _. Unit {0} };

@@ -1,5 +1,4 @@
-//! What is printed of a live worksheet, apart from its format: in words that people read, or as lines of
-//! JSON that programs read.
+//! How what a program reports is written: in words that people read, or as lines of JSON that programs read.
 #![tactic(auto)]
 
 mod exports;

@@ -47,8 +47,8 @@ pub trait Tells {
             (numbered_text voice first sheet.now.contents outcomes.now)) }
         ensures err { IfErr result (IsWithheld voice) };
 
-    /// Tells what came of lives, with what this host knows of each, and flushes nothing: `events` of what followed
-    /// is called next.
+    /// Tells what came of lives, or of a script's lines that have no number, with what this host knows of each life, and
+    /// flushes nothing: `events` of what followed is called after it.
     fn lives<D: Disk, W: Write>(
         &self,
         host: &Host<D>,

@@ -335,6 +335,10 @@ impl SheetFile for MadeUpFile<'_> {
 
 // Nothing is claimed of what it holds, as of a real file.
 impl SystemFile for MadeUpFile<'_> {
+    ghost measures = { λ _ _ _. Unit {0} };
+
+    ghost gets = { λ _ _ _ _ _. Unit {0} };
+
     ghost puts = { λ _ _ _ _ _. Unit {0} };
 
     ghost flushes = { λ _ _ _. Unit {0} };

@@ -9,7 +9,7 @@ loop-at-init g c =
     let first : c.push.new.self.items ≡ id ∷ [] = c.in_ok-push.ensures.items ∙ ap (λ (l : List ℕ). l ++ id ∷ []) c.new-group.ensures.items in
     let long = ap length first in
     record {
-      group = λ w x h there. begins (goes_with c.args.plan.now w c.args.lasts.now) c.args.ids.now c.push.new.self.items c.args.from id x first c.id_at.ensures there;
+      group = λ w x h there. begins (goes_with c.args.grouping.now.plan.now w c.args.grouping.now.lasts.now) c.args.ids.now c.push.new.self.items c.args.from id x first c.id_at.ensures there;
       few = omega (arith, long);
     }
 
@@ -24,7 +24,7 @@ loop-at-preserved g c =
     let few = c.goes_with.ensures.few c.if-not-goes_with.false in
     record {
       group = λ w x h there.
-          let goes = goes_with c.args.plan.now w c.args.lasts.now in
+          let goes = goes_with c.args.grouping.now.plan.now w c.args.grouping.now.lasts.now in
           ap (λ (l : List ℕ). with_those_that_go goes l (drop (c.loop-at.at + 1) ids)) more
           ∙ one_more goes group ids c.loop-at.at id c.id_at-id.ensures (ap (λ (l : List ℕ). goes l id) (sym c.as_slice.ensures.value) ∙ sym (c.goes_with.ensures.goes w h) ∙ c.if-not-goes_with.false)
           ∙ c.loop-at.invariant.group w x h there;
@@ -35,6 +35,6 @@ pub returns-then-not-goes_with-clause-group : goal.returns-then-not-goes_with-cl
 returns-then-not-goes_with-clause-group g c = λ w x h there.
     let group = c.loop-at.group.items in
     let id = c.id_at-id.result in
-    let goes = goes_with c.args.plan.now w c.args.lasts.now in
+    let goes = goes_with c.args.grouping.now.plan.now w c.args.grouping.now.lasts.now in
     no_more goes group c.args.ids.now c.loop-at.at id c.id_at-id.ensures (ap (λ (l : List ℕ). goes l id) (sym c.as_slice.ensures.value) ∙ sym (c.goes_with.ensures.goes w h) ∙ c.if-not-goes_with.true)
     ∙ c.loop-at.invariant.group w x h there

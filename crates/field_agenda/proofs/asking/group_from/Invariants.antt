@@ -7,6 +7,6 @@ use Rattle.field_agenda.proofs.asking.group_from.Given as goal
 
 abbrev pub invariant-loop-at : goal.invariant-loop-at
 invariant-loop-at g l = record {
-  group : (w : World) (id : ℕ) → IsHost l.host w → slice_get l.ids l.from ≡ Some id → with_those_that_go (goes_with l.plan w l.lasts) l.group.items (drop l.at l.ids) ≡ group_at l.plan w l.lasts l.ids l.from id;
+  group : (w : World) (id : ℕ) → IsHost l.host w → slice_get l.ids l.from ≡ Some id → with_those_that_go (goes_with l.grouping.plan.now w l.grouping.lasts.now) l.group.items (drop l.at l.ids) ≡ group_at l.grouping.plan.now w l.grouping.lasts.now l.ids l.from id;
   few : length l.group.items ≤ most_together;
 }

@@ -12,4 +12,4 @@ returns-in-None g c = λ w h.
     let none = c.in-None.ensures.none in
     -- nothing was taken off
     let still = c.next_in_round.ensures.stands ∙ ap (λ round. with_round (script_stand c.args.self.now) round) (none.1 ∙ sym none.0) in
-    subst (λ a. WaitSays a w c.args.turns c.begin_turn.result (script_stand c.begin_turn.new.self)) still (c.begin_turn.ensures w none.1 h)
+    subst (λ a. WaitSays a w c.args.rounds c.begin_round.result (script_stand c.begin_round.new.self)) still (c.begin_round.ensures w none.1 h)

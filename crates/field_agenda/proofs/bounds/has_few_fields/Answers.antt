@@ -1,5 +1,5 @@
 use Rattle.std.proofs.Common.{◌∙◌, ap, arith, length}
-use Rattle.field_agenda.proofs.by_fields.has_few_fields.Goals as goal
+use Rattle.field_agenda.proofs.bounds.has_few_fields.Goals as goal
 
 pub loop-field-init : goal.loop-field-init
 loop-field-init c =

@@ -1,0 +1,140 @@
+-- What `check --accept` leaves is an acceptance of the theorem.
+use Rattle.std.proofs.Common.{◌≡◌, ◌∙◌, inl, inr, ℕ, List, [], ◌∷◌, ◌++◌, Option, refl, sym, ap, subst, append-nil, append_assoc, IsTrue}
+use Rattle.std.specs.Prelude.{Result, Ok, Err}
+use Rattle.std.specs.Io.KnownBytes.{Appends}
+use Rattle.std.proofs.KnownBytes.{Appends-nil}
+use Rattle.disk_model.specs.Disk.{DiskView, Image, bytes_on}
+use Rattle.disk_model.specs.inside.Moments.{started, weakens}
+use Rattle.worksheet.specs.declared.op.Op.{Op}
+use Rattle.worksheet.specs.Contents.{Contents}
+use Rattle.worksheet.specs.Ops.{sheet_of}
+use Rattle.recovery.specs.Sheets.{IsEither, IsSheetImage}
+use Rattle.theorem.specs.Acts.{Files, HasFirst}
+use Rattle.offline_programs.specs.declared.fault.RunFault.{RunFault}
+use Rattle.offline_programs.specs.declared.fault.RunFault.TheVariants as fault
+use Rattle.check_report.specs.declared.chosen.Chosen.{Chosen}
+use Rattle.check_report.specs.declared.report.Format.TheVariants as format
+use Rattle.check_report.specs.declared.verdict.Counts.{Counts}
+use Rattle.check_report.specs.Reports.{Case, closing_text, judgements_of, report_front}
+use Rattle.check_report.specs.Verdicts.{counts_of}
+use Rattle.sheet_check.specs.Accept as ends
+use Rattle.sheet_check.specs.Accept.{AcceptAnswer, AcceptLeft, FoundOn, SheetAccepts, accepted, filing, opened, to_accept, unopened}
+use Rattle.sheet_check.specs.Check.{passage}
+use Rattle.sheet_check.specs.Evaluated.{Way}
+use Rattle.sheet_check.specs.Kept.{HoldsAll, HoldsBut, IsAmong}
+use Rattle.sheet_check.specs.Named.{ByNames, all_named, answer_as, missing_named, no_field}
+use Rattle.sheet_check.specs.declared.named.CheckFault.{CheckFault}
+use Rattle.sheet_check.specs.declared.named.CheckFault.TheVariants as checks
+use Rattle.driver_visits.specs.Acceptances.{LeftByAcceptance, ReportedAcceptance, only_read, put_in}
+
+-- some of the first of these ops are on an image
+among_first : (ops put : List Op) (i : Image) → IsAmong ops put i → HasFirst ops put [] i
+among_first ops put i among = record { done = among.done; rest = among.rest; split = among.split; withheld = among.done; has = refl; image = among.image }
+
+-- all of them are
+all_first : (ops put : List Op) (i : Image) → IsSheetImage (sheet_of (ops ++ put)) i → HasFirst ops put put i
+all_first ops put i image = record { done = put; rest = []; split = sym (append-nil put); withheld = []; has = sym (append-nil put); image = image }
+
+-- all of them are, and one after them may be
+but_first : (ops more : List Op) (one : Op) (i : Image) → IsEither (ops ++ more) one i → HasFirst ops (more ++ one ∷ []) more i
+but_first ops more one i (inl before) = record { done = more; rest = one ∷ []; split = refl; withheld = []; has = sym (append-nil more); image = before }
+but_first ops more one i (inr following) = record {
+  done = more ++ one ∷ [];
+  rest = [];
+  split = sym (append-nil (more ++ one ∷ []));
+  withheld = one ∷ [];
+  has = refl;
+  image = subst (λ (os : List Op). IsSheetImage (sheet_of os) i) (append_assoc ops more (one ∷ [])) following;
+}
+
+module _ (disk back : DiskView) (model : IsTrue disk.keeps_model) (sheet : Contents) (ops : List Op) (now : DiskView) (found : FoundOn disk sheet ops now) where
+  found-on : IsSheetImage (sheet_of ops) (bytes_on disk)
+  found-on = subst (λ (c : Contents). IsSheetImage c (bytes_on disk)) found.is (found.found model)
+
+  -- nothing was put in
+  none-left : back ≡ now → LeftByAcceptance disk back []
+  none-left is =
+      let here : (i : Image) → IsSheetImage sheet i → HasFirst ops [] [] i = λ i image. all_first ops [] i (subst (λ (c : Contents). IsSheetImage c i) (found.is ∙ ap sheet_of (sym (append-nil ops))) image) in
+      subst (λ (d : DiskView). LeftByAcceptance disk d []) (sym is)
+      (put_in ops []
+      (record {
+        keeps_model = model;
+        read = refl;
+        found = found-on;
+        from = tt;
+        now = now;
+        same = found.same;
+        moments = λ keeps. started (HasFirst ops [] []) now.history (λ i image. here i (found.durable model i image));
+      })
+      (λ keeps i image. here i (found.durable model i image)))
+
+  all-left : (put : List Op) → HoldsAll ops put now back → LeftByAcceptance disk back put
+  all-left put holds =
+      put_in ops put
+      (record {
+        keeps_model = model;
+        read = refl;
+        found = found-on;
+        from = holds.from;
+        now = now;
+        same = found.same;
+        moments = λ keeps. weakens (IsAmong ops put) (HasFirst ops put []) now.history back.history (among_first ops put) (holds.moments keeps);
+      })
+      (λ keeps i image. all_first ops put i (holds.holds keeps i image))
+
+  but-left : (put : List Op) (one : Op) → HoldsBut ops put one now back → LeftByAcceptance disk back put
+  but-left put one holds =
+      put_in ops (put ++ one ∷ [])
+      (record {
+        keeps_model = model;
+        read = refl;
+        found = found-on;
+        from = holds.from;
+        now = now;
+        same = found.same;
+        moments = λ keeps. weakens (IsAmong ops (put ++ one ∷ [])) (HasFirst ops (put ++ one ∷ []) []) now.history back.history (among_first ops (put ++ one ∷ [])) (holds.moments keeps);
+      })
+      (λ keeps i image. but_first ops put one i (holds.holds keeps i image))
+
+  module _ {C : Type 0} (o : Way C) (chosen : Chosen) (c d : C) (a b : Option (List ℕ)) where
+    -- the report of these cases was written, and nothing after it
+    wrote-front : (cases : List Case) (answer : Result Counts CheckFault) → Appends a b (report_front format.Accepting cases) → LeftByAcceptance disk back (accepted cases)
+        → ReportedAcceptance a b disk back answer
+    wrote-front cases answer wrote left = record {
+      cases = cases;
+      wrote = λ written. ([], subst (Appends a b) (sym (append-nil (report_front format.Accepting cases))) wrote);
+      left = left;
+    }
+
+    broke-off : (why : RunFault) → AcceptLeft (to_accept o chosen) sheet (passage c d a b) (filing ops now back) why → ReportedAcceptance a b disk back (Err (checks.Run why))
+    broke-off why (ends.halted cases led wrote holds) = wrote-front cases (Err (checks.Run why)) wrote (all-left (accepted cases) holds)
+    broke-off why (ends.unremembered cases is led wrote holds) = wrote-front cases (Err (checks.Run why)) wrote (all-left (accepted cases) holds)
+    broke-off why (ends.full cases last one is led taken wrote holds place) = wrote-front cases (Err (checks.Run why)) wrote (all-left (accepted cases) holds)
+    broke-off why (ends.broken cases last one is led taken wrote holds) = wrote-front cases (Err (checks.Run why)) wrote (but-left (accepted cases) one holds)
+    broke-off why (ends.unwritten cases is led holds) = record {
+      cases = cases;
+      wrote = λ written. absurd (written (ap (λ (x : RunFault). Err (checks.Run x)) is));
+      left = all-left (accepted cases) holds;
+    }
+
+    pub came : (nothing : Type 0) → (nothing → Appends a b []) → (counted : Result Counts RunFault)
+        → SheetAccepts (to_accept o chosen) sheet (passage c d a b) nothing (filing ops now back) counted → ReportedAcceptance a b disk back (answer_as counted)
+    came nothing unwritten (Ok counts) (checked, holds) = record {
+      cases = checked.cases;
+      wrote = λ written. (closing_text format.Accepting (counts_of (judgements_of checked.cases)), checked.wrote);
+      left = all-left (accepted checked.cases) holds;
+    }
+    came nothing unwritten (Err why) (inl (is, none, holds)) = wrote-front [] (Err (checks.Run why)) (unwritten none) (all-left [] holds)
+    came nothing unwritten (Err why) (inr left) = broke-off why left
+
+    pub named : (nothing : Type 0) → (nothing → Appends a b []) → (missing : Option ℕ) (answer : Result Counts CheckFault)
+        → ByNames missing (nothing × (back ≡ now)) (SheetAccepts (to_accept o chosen) sheet (passage c d a b) nothing (filing ops now back)) answer → ReportedAcceptance a b disk back answer
+    named nothing unwritten missing answer (no_field id there is (none, same)) = wrote-front [] answer (unwritten none) (none-left same)
+    named nothing unwritten missing answer (all_named counted there is came_so) = subst (ReportedAcceptance a b disk back) (sym is) (came nothing unwritten counted came_so)
+
+pub acceptance_filed : {C : Type 0} (o : Way C) (chosen : Chosen) (disk back : DiskView) (c d : C) (a b : Option (List ℕ)) (nothing : Type 0) → (nothing → Appends a b []) → (answer : Result Counts CheckFault)
+    → IsTrue disk.keeps_model → AcceptAnswer (to_accept o chosen) disk back (passage c d a b) nothing answer → ReportedAcceptance a b disk back answer
+acceptance_filed o chosen disk back c d a b nothing unwritten answer model (unopened why is none reason reads) =
+    record { cases = []; wrote = λ written. ([], unwritten none); left = only_read reads }
+acceptance_filed o chosen disk back c d a b nothing unwritten answer model (opened sheet ops now found by_names) =
+    named disk back model sheet ops now found o chosen c d a b nothing unwritten (missing_named chosen sheet.fields) answer by_names

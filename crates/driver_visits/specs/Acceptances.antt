@@ -1,0 +1,38 @@
+-- What `check --accept` leaves of a worksheet's disk is an acceptance of the theorem, of the answers that its report has.
+-- (docs/trust/THEOREM.md; premise A7 in the README of crate `theorem`.)
+use Rattle.std.specs.Prelude.{◌≡◌, ℕ, IsTrue, List, [], ◌++◌, Option, Result, Err}
+use Rattle.std.specs.Io.KnownBytes.{Appends}
+use Rattle.disk_model.specs.Disk.{DiskView, InModel, Leaves, bytes_on}
+use Rattle.worksheet.specs.declared.op.Op.{Op}
+use Rattle.theorem.specs.Acts.{Files, HasFirst}
+use Rattle.offline_programs.specs.declared.fault.RunFault.TheVariants as fault
+use Rattle.check_report.specs.declared.chosen.Chosen.{Chosen}
+use Rattle.check_report.specs.declared.report.Format.TheVariants as format
+use Rattle.check_report.specs.declared.verdict.Counts.{Counts}
+use Rattle.check_report.specs.Reports.{Case, report_front}
+use Rattle.sheet_check.specs.Accept.{AcceptAnswer, accepted, to_accept}
+use Rattle.sheet_check.specs.Check.{OnlyRead, passage}
+use Rattle.sheet_check.specs.Evaluated.{Way}
+use Rattle.sheet_check.specs.declared.named.CheckFault.{CheckFault}
+use Rattle.sheet_check.specs.declared.named.CheckFault.TheVariants as checks
+
+-- What an acceptance that reported these answers left of a disk that keeps the model. It couldn't open it and made reads alone. Or it put answers
+-- in, and when it had ended each image that a crash may leave has all that it reported.
+pub data LeftByAcceptance (disk back : DiskView) : List Op → Type 0 where
+  only_read : OnlyRead disk back → LeftByAcceptance disk back []
+  put_in : {reported : List Op} (ops put : List Op) → (f : Files (bytes_on disk) disk ops put back)
+      → InModel f.now (Leaves (HasFirst ops put reported) back.history.now) → LeftByAcceptance disk back reported
+
+-- An acceptance reported these cases, of which it had put in the answers that it accepts. What it wrote begins with the report of them, but where
+-- its output failed.
+pub record ReportedAcceptance (text written : Option (List ℕ)) (disk back : DiskView) (answer : Result Counts CheckFault) : Type 0 where
+  pub cases : List Case
+  pub wrote : (answer ≡ Err (checks.Run fault.Output) → ⊥) → (rest : List ℕ) × Appends text written (report_front format.Accepting cases ++ rest)
+  pub left : LeftByAcceptance disk back (accepted cases)
+
+-- Whatever `check --accept` answers, by its contract, on a disk that keeps the model, is one. Writers hold the bytes that `contents` has of them.
+abbrev pub AcceptancesAreFiled : {C W : Type 0} → (Option ℕ → Way C) → (W → Option (List ℕ)) → Type 0
+AcceptancesAreFiled {C = C} {W = W} within contents = (limit : Option ℕ) (chosen : Chosen) (disk back : DiskView) (c d : C) (a b : W) (answer : Result Counts CheckFault)
+    → IsTrue disk.keeps_model
+    → AcceptAnswer (to_accept (within limit) chosen) disk back (passage c d (contents a) (contents b)) ((b ≡ a) × (d ≡ c)) answer
+    → ReportedAcceptance (contents a) (contents b) disk back answer
