@@ -1,4 +1,4 @@
-"""What the worksheet was, as the program's commands tell it (docs/use/SCRIPT.md, "What a worksheet was"), while the notebook has it open.
+"""What the worksheet was, as the program's commands tell it (docs/use/HISTORY.md), while the notebook has it open.
 
 The program that has it locks it, so they are asked of a copy that is one of a moment. The journal only grows while it is open, so a number
 of a change means the same as long as that lasts: `opening` names it. Nothing of the worksheet is written.
