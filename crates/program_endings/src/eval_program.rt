@@ -101,15 +101,10 @@ fn evaluate_on<W: Write, D: Close, S: Sources, T: Tells + Copy, P: Programs + Dr
         programs,
         tells,
     } = setting;
-    let Outside {
-        disk,
-        sources,
-        output,
-    } = outside;
     let sink = Noting {
         sink: Voiced {
             tells: FieldLines { tells },
-            writer: output,
+            writer: outside.output,
         },
         whole: true,
     };
@@ -120,7 +115,7 @@ fn evaluate_on<W: Write, D: Close, S: Sources, T: Tells + Copy, P: Programs + Dr
         sink,
         agenda,
         answer,
-    } = run_over(alloc, disk, sources, sink, agenda);
+    } = run_over(alloc, outside.disk, outside.sources, sink, agenda);
     disk.close();
     let stage = agenda.stage();
     let Noting {

@@ -95,31 +95,21 @@ where
     ensures { LivesOn (live_setting setting.manner T.voice S.after S.clock S.wakes) (R.remaining lines.reader) (given_disk (closable D.view D.closed) outside.disk)
         (calling outside.sources result.sources) (writing W.contents outside.output result.output) result.whole result.answer }
 {
-    let LineSetting {
-        alloc,
-        manner,
-        tells,
-    } = setting;
-    let Outside {
-        disk,
-        sources,
-        output,
-    } = outside;
     let sink = Noting {
         sink: Voiced {
-            tells,
-            writer: output,
+            tells: setting.tells,
+            writer: outside.output,
         },
         whole: true,
     };
-    let agenda = ByLines::new(alloc, manner, lines);
+    let agenda = ByLines::new(setting.alloc, setting.manner, lines);
     let Over {
         disk,
         sources,
         sink,
         agenda,
         answer,
-    } = run_over(alloc, disk, sources, sink, agenda);
+    } = run_over(setting.alloc, outside.disk, outside.sources, sink, agenda);
     disk.close();
     let stopped = agenda.stopped_at();
     let Noting {
