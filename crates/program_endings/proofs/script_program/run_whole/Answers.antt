@@ -19,5 +19,5 @@ module _ {D C W E : Type 0} (o : LiveSetting C) (script : List ℕ) (g : GivenDi
 pub returns-then-has_form : goal.returns-then-has_form
 returns-then-has_form g c = by_lines _ _ _ _ _ _ (sym c.has_form.ensures ∙ c.if-has_form.true) c.run_by_lines.ensures
 
-pub returns : goal.returns
-returns g c = as_script _ _ _ _ _ _ (sym c.has_form.ensures ∙ c.if-has_form.false) c.run_as_script.ensures
+pub returns-else-has_form : goal.returns-else-has_form
+returns-else-has_form g c = as_script _ _ _ _ _ _ (sym c.has_form.ensures ∙ c.if-has_form.false) c.run_as_script.ensures
