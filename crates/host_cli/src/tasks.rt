@@ -74,17 +74,13 @@ fn eval_as<Y: System, T: Tells + Copy>(
     }
     let files = outside.places.open(path);
     let (given, mut kept) = give(outside, files);
-    let setting = FieldSetting {
-        alloc,
-        plan,
-        programs: FoundIn::<Y>::new(&kept.places),
-        tells,
-    };
+    let setting = FieldSetting { alloc, plan, tells };
+    let programs = FoundIn::<Y>::new(&kept.places);
     let GivenBack {
         ending,
         sources,
         output,
-    } = run_evaluation(setting, given, &mut kept.errors);
+    } = run_evaluation(setting, programs, given, &mut kept.errors);
     ended(ending, kept.with(sources, output))
 }
 

@@ -47,14 +47,12 @@ fn status_by(counts: Counts) -> u8
     }
 }
 
-/// Which fields are evaluated, with which programs, and how what comes of them is printed.
+/// Which fields are evaluated, and how what comes of them is printed.
 #[derive(Drop)]
-pub struct FieldSetting<P, T> {
+pub struct FieldSetting<T> {
     /// Where memory is taken from.
     pub alloc: Global,
     pub plan: Plan,
-    /// Who looks for a program.
-    pub programs: P,
     /// The voice of what is printed.
     pub tells: T,
 }
@@ -89,18 +87,14 @@ fn answer_after(run: Result<(), RunFault>, stage: Stage) -> Result<EvalEnd, Eval
 
 /// Evaluates the fields of the worksheet on a disk, and closes the disk at the end.
 fn evaluate_on<W: Write, D: Close, S: Sources, T: Tells + Copy, P: Programs + Drop>(
-    setting: FieldSetting<P, T>,
+    setting: FieldSetting<T>,
+    programs: P,
     outside: Outside<D, S, W>,
 ) -> Evaluated<S, W>
-    ensures { EvaluatesTo (eval_setting setting.plan setting.programs P.finds T.voice S.after S.clock S.wakes) (given_disk (closable D.view D.closed) outside.disk)
+    ensures { EvaluatesTo (eval_setting setting.plan programs P.finds T.voice S.after S.clock S.wakes) (given_disk (closable D.view D.closed) outside.disk)
         (calling outside.sources result.sources) (writing W.contents outside.output result.output) result.whole result.answer }
 {
-    let FieldSetting {
-        alloc,
-        plan,
-        programs,
-        tells,
-    } = setting;
+    let FieldSetting { alloc, plan, tells } = setting;
     let sink = Noting {
         sink: Voiced {
             tells: FieldLines { tells },
@@ -258,11 +252,12 @@ fn end_evaluation<W: Write, E: Says, T: Tells>(
 
 /// Evaluates the fields of the worksheet on a disk, and reports how that ended.
 fn end_on<W: Write, E: Says, D: Close, S: Sources, T: Tells + Copy, P: Programs + Drop>(
-    setting: FieldSetting<P, T>,
+    setting: FieldSetting<T>,
+    programs: P,
     outside: Outside<D, S, W>,
     errors: &mut E,
 ) -> GivenBack<Ending, S, W>
-    ensures { EvaluationBegun (eval_setting setting.plan setting.programs P.finds T.voice S.after S.clock S.wakes) (given_disk (closable D.view D.closed) outside.disk) (calling outside.sources result.sources)
+    ensures { EvaluationBegun (eval_setting setting.plan programs P.finds T.voice S.after S.clock S.wakes) (given_disk (closable D.view D.closed) outside.disk) (calling outside.sources result.sources)
         (streams (writing W.contents outside.output result.output) (saying E.contents E.tried errors.old errors.new)) result.ending }
 {
     let tells = setting.tells;
@@ -271,7 +266,7 @@ fn end_on<W: Write, E: Says, D: Close, S: Sources, T: Tells + Copy, P: Programs 
         whole,
         sources,
         mut output,
-    } = evaluate_on(setting, outside);
+    } = evaluate_on(setting, programs, outside);
     GivenBack {
         ending: end_evaluation(answer, whole, &tells, &mut output, errors),
         sources,
@@ -281,15 +276,16 @@ fn end_on<W: Write, E: Says, D: Close, S: Sources, T: Tells + Copy, P: Programs 
 
 /// Writes the voice's first message, evaluates, and reports how that ended.
 fn end_greeted<W: Write, E: Says, D: Close, S: Sources, T: Tells + Copy, P: Programs + Drop>(
-    setting: FieldSetting<P, T>,
+    setting: FieldSetting<T>,
+    programs: P,
     mut outside: Outside<D, S, W>,
     errors: &mut E,
 ) -> GivenBack<Ending, S, W>
-    ensures { EvaluationEnded (eval_setting setting.plan setting.programs P.finds T.voice S.after S.clock S.wakes) (given_disk (closable D.view D.closed) outside.disk) (calling outside.sources result.sources)
+    ensures { EvaluationEnded (eval_setting setting.plan programs P.finds T.voice S.after S.clock S.wakes) (given_disk (closable D.view D.closed) outside.disk) (calling outside.sources result.sources)
         (streams (writing W.contents outside.output result.output) (saying E.contents E.tried errors.old errors.new)) result.ending }
 {
     match setting.tells.frame(Frame::Hello, &mut outside.output) {
-        Ok(()) => end_on(setting, outside, errors),
+        Ok(()) => end_on(setting, programs, outside, errors),
         Err(why) => {
             let Outside {
                 disk,
@@ -307,18 +303,19 @@ fn end_greeted<W: Write, E: Says, D: Close, S: Sources, T: Tells + Copy, P: Prog
 }
 
 /// The whole program `eval` on its files, or on why they weren't opened. Each program that it needs is looked for
-/// first. What comes of each field goes to the output, flushed at once, and the counts at the end. The line of a
+/// first, by `programs`. What comes of each field goes to the output, flushed at once, and the counts at the end. The line of a
 /// fault goes to `errors`, and so does that of the place where a strict evaluation stopped. Sources and output
 /// are given back.
 pub fn run_evaluation<W: Write, E: Says, D: Close, S: Sources, T: Tells + Copy, P: Programs + Drop>(
-    setting: FieldSetting<P, T>,
+    setting: FieldSetting<T>,
+    programs: P,
     given: Given<D, S, W>,
     errors: &mut E,
 ) -> GivenBack<Ending, S, W>
     ensures unopened { IfErr given.files (LiveUnopened T.voice (calling given.sources result.sources)
         (streams (writing W.contents given.output result.output) (saying E.contents E.tried errors.old errors.new)) result.ending) }
 
-    ensures files { IfOk given.files (λ disk. EvaluationEnded (eval_setting setting.plan setting.programs P.finds T.voice S.after S.clock S.wakes) (given_disk (closable D.view D.closed) disk) (calling given.sources result.sources)
+    ensures files { IfOk given.files (λ disk. EvaluationEnded (eval_setting setting.plan programs P.finds T.voice S.after S.clock S.wakes) (given_disk (closable D.view D.closed) disk) (calling given.sources result.sources)
         (streams (writing W.contents given.output result.output) (saying E.contents E.tried errors.old errors.new)) result.ending) }
 {
     let Given {
@@ -333,7 +330,7 @@ pub fn run_evaluation<W: Write, E: Says, D: Close, S: Sources, T: Tells + Copy, 
                 sources,
                 output,
             };
-            end_greeted(setting, outside, errors)
+            end_greeted(setting, programs, outside, errors)
         }
         Err(why) => GivenBack {
             ending: end_reported(Err(no_files(why)), &setting.tells, &mut output, errors),
