@@ -97,7 +97,8 @@ fn check_by<Y: System>(mut outside: Outside<Y>, beside: &Beside<'_>, path: &str)
     ensures leaves { result.outside.input ≡ outside.input }
 {
     if let Err(why) = outside.places.hold() {
-        return ended(end_unheld(why, &mut outside.errors), outside);
+        let ending = end_unheld(why, &mut outside.errors);
+        return Performed { ending, outside };
     }
     match beside.manner.request.format {
         Report::Accepting => accept_as(outside, &beside.manner, path),
@@ -138,13 +139,16 @@ fn compare_each<Y: System>(
         outside = left;
         total = total.with(end);
         if is_unwritten(end) {
-            return ended(total.ending(), outside);
+            return Performed {
+                ending: total.ending(),
+                outside,
+            };
         }
     }
-    ended(
-        end_total(total, &mut outside.output, &mut outside.errors),
+    Performed {
+        ending: end_total(total, &mut outside.output, &mut outside.errors),
         outside,
-    )
+    }
 }
 
 /// `check` of the worksheet at a path, or of several that the words name.

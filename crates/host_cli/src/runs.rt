@@ -5,13 +5,13 @@ ghost use Rattle.host_cli.specs.Tasks.{DoesLive, DoesRun, LivesAs, RunsScript};
 ghost use Rattle.tellings.specs.Json.{in_json};
 ghost use Rattle.tellings.specs.Words.{in_words};
 
-use crate::outside::{Outside, Performed, Seen, System, ended, give};
+use crate::outside::{Outside, Performed, Seen, System, ended};
 use crate::plans::read_limit;
 use crate::refusing::refuse_run_limit;
 use command_words::RunWords;
 use live::Manner;
 use partial_output::TellsPartial;
-use program_endings::{GivenBack, LineSetting, end_unheld, run_live, run_script};
+use program_endings::{Given, GivenBack, LineSetting, end_unheld, run_live, run_script};
 use sheet_files::Places;
 use std::alloc::Global;
 use tellings::{InJson, InWords, Tells};
@@ -36,13 +36,35 @@ fn live_reported<Y: System, T: Tells + Copy>(
         return ended(end_unheld(why, &mut outside.errors), outside);
     }
     let files = outside.places.open(path);
-    let (given, mut kept) = give(outside, files);
+    let Outside {
+        places,
+        sources,
+        mut input,
+        output,
+        mut errors,
+        progress,
+    } = outside;
+    let given = Given {
+        files,
+        sources,
+        output,
+    };
     let GivenBack {
         ending,
         sources,
         output,
-    } = run_live(setting, &mut kept.input, given, &mut kept.errors);
-    ended(ending, kept.with(sources, output))
+    } = run_live(setting, &mut input, given, &mut errors);
+    Performed {
+        ending,
+        outside: Outside {
+            places,
+            sources,
+            input,
+            output,
+            errors,
+            progress,
+        },
+    }
 }
 
 /// `live` in words.
@@ -102,13 +124,35 @@ fn run_reported<Y: System>(
         return ended(end_unheld(why, &mut outside.errors), outside);
     }
     let files = outside.places.open(path);
-    let (given, mut kept) = give(outside, files);
+    let Outside {
+        places,
+        sources,
+        mut input,
+        output,
+        mut errors,
+        progress,
+    } = outside;
+    let given = Given {
+        files,
+        sources,
+        output,
+    };
     let GivenBack {
         ending,
         sources,
         output,
-    } = run_script(alloc, strict, &mut kept.input, given, &mut kept.errors);
-    ended(ending, kept.with(sources, output))
+    } = run_script(alloc, strict, &mut input, given, &mut errors);
+    Performed {
+        ending,
+        outside: Outside {
+            places,
+            sources,
+            input,
+            output,
+            errors,
+            progress,
+        },
+    }
 }
 
 /// `run` as its words ask for it.

@@ -12,7 +12,7 @@ use crate::blocks::{blocks, blocks_in_json};
 use crate::checks::check_at;
 use crate::finding::FoundIn;
 use crate::outlet::Outlet;
-use crate::outside::{Outside, Performed, Seen, System, ended, give};
+use crate::outside::{Outside, Performed, Seen, System, ended};
 use crate::pasts::{export_as_past, export_past_at, history_at, restore_at, show_past_at, titled};
 use crate::plans::read_plan;
 use crate::refusing::{refuse_format, refuse_plan};
@@ -22,7 +22,7 @@ use command_words::{EvalWords, Task, read_words};
 use evaluation::Plan;
 use offline_programs::{RunFault, Says};
 use program_endings::{
-    Ending, FieldSetting, GivenBack, end_program, end_unheld, read_rescued, run_create,
+    Ending, FieldSetting, Given, GivenBack, end_program, end_unheld, read_rescued, run_create,
     run_evaluation, run_export, run_rescue, run_show,
 };
 use sheet_export::{Format, format_named};
@@ -73,15 +73,37 @@ fn eval_as<Y: System, T: Tells + Copy>(
         return ended(end_unheld(why, &mut outside.errors), outside);
     }
     let files = outside.places.open(path);
-    let (given, mut kept) = give(outside, files);
+    let Outside {
+        places,
+        sources,
+        input,
+        output,
+        mut errors,
+        progress,
+    } = outside;
     let setting = FieldSetting { alloc, plan, tells };
-    let programs = FoundIn::<Y>::new(&kept.places);
+    let programs = FoundIn::<Y>::new(&places);
+    let given = Given {
+        files,
+        sources,
+        output,
+    };
     let GivenBack {
         ending,
         sources,
         output,
-    } = run_evaluation(setting, programs, given, &mut kept.errors);
-    ended(ending, kept.with(sources, output))
+    } = run_evaluation(setting, programs, given, &mut errors);
+    Performed {
+        ending,
+        outside: Outside {
+            places,
+            sources,
+            input,
+            output,
+            errors,
+            progress,
+        },
+    }
 }
 
 /// `eval` of the fields of the worksheet at a path, by a plan, in words or in lines of JSON.
@@ -249,10 +271,13 @@ fn perform_unsent<Y: System>(
             Ok(task) => do_task(alloc, task, outside),
             Err(error) => {
                 let ending = refuse_words(&error, &mut outside.output, &mut outside.errors);
-                ended(ending, outside)
+                Performed { ending, outside }
             }
         },
-        Err(kind) => ended(refuse_unread_words(kind, &mut outside.errors), outside),
+        Err(kind) => {
+            let ending = refuse_unread_words(kind, &mut outside.errors);
+            Performed { ending, outside }
+        }
     }
 }
 
@@ -269,5 +294,8 @@ pub fn perform<Y: System>(
         ending,
         mut outside,
     } = perform_unsent(alloc, words, outside);
-    ended(flush_output(&mut outside, ending), outside)
+    Performed {
+        ending: flush_output(&mut outside, ending),
+        outside,
+    }
 }

@@ -9,6 +9,6 @@ returns-in-Err-clause-does g c =
     let old = c.args.outside in
     check_unheld (outside_view g.Y.Places.Places (disks_seen g.Y.Disk.Disk g.Y.Disk.Close.closed) (sources_seen g.Y.Sources.Children.after g.Y.Sources.Sources.clock g.Y.Sources.Sources.wakes)
     (streams_seen g.Y.Input.Read g.Y.Output.Write g.Y.Output.Outlet.flushed g.Y.Output.Says.tried g.Y.Errors.Write g.Y.Errors.Says.tried))
-    c.args.beside.now.manner.request.now.format old (record { places = c.hold.new.self; sources = old.sources; input = old.input; output = old.output; errors = c.end_unheld.new.errors; progress = old.progress })
-    c.end_unheld.result c.args.path.now (check_plan c.args.beside.now.manner.request.now c.args.beside.now.jobs)
-    (c.in-Err.why, c.in-Err.ensures, (refl, refl, refl, refl), (refl, (c.end_unheld.ensures.status, c.end_unheld.ensures.reported)))
+    c.args.beside.now.manner.request.now.format old (record { places = c.hold.new.self; sources = old.sources; input = old.input; output = old.output; errors = c.end_unheld-ending.new.errors; progress = old.progress })
+    c.end_unheld-ending.result c.args.path.now (check_plan c.args.beside.now.manner.request.now c.args.beside.now.jobs)
+    (c.in-Err.why, c.in-Err.ensures, (refl, refl, refl, refl), (refl, (c.end_unheld-ending.ensures.status, c.end_unheld-ending.ensures.reported)))

@@ -1,4 +1,4 @@
 use Rattle.host_cli.proofs.tasks.perform.Goals as goal
 
 pub returns : goal.returns
-returns g c = rw c.ended.ensures (c.perform_unsent-outside.result.outside, c.perform_unsent-outside.result.ending, c.perform_unsent-outside.ensures, c.flush_output.ensures)
+returns g c = (c.perform_unsent-outside.result.outside, c.perform_unsent-outside.result.ending, c.perform_unsent-outside.ensures, c.flush_output.ensures)
