@@ -4,7 +4,8 @@ use Rattle.std.specs.declared.io.ErrorKind.{ErrorKind as IoKind}
 use Rattle.std.specs.declared.io.ErrorKind.TheVariants as io_kind
 use Rattle.clap.specs.Words.{Text}
 use Rattle.host_cli.specs.Outside.{OutsideView}
-use Rattle.host_cli.specs.Tasks.{DoesAsked, EndsWithin, EndsWith, OnlyWritten}
+use Rattle.host_cli.specs.Tasks.{EndsWith, OnlyWritten}
+use Rattle.host_cli.specs.WholeProgram.{DoesAsked, EndsWithin}
 use Rattle.host_cli.specs.declared.outside.Outside.{Outside}
 use Rattle.offline_programs.specs.declared.fault.RunFault.TheVariants as fault
 use Rattle.program_endings.specs.declared.ending.Ending.{Ending}

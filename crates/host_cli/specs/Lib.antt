@@ -2,4 +2,5 @@ pub mod Plans
 pub mod Refused
 pub mod Outside
 pub mod Tasks
+pub mod WholeProgram
 pub mod inside

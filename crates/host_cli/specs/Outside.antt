@@ -39,5 +39,5 @@ pub record OutsideView (D P S I W E : Type 0) : Type 1 where
   pub sources : SourcesSeen S
   pub streams : StreamsSeen I W E
 
-abbrev pub outer : {D P S I W E : Type 0} → places.Ghosts P D → Closable D → SourcesSeen S → StreamsSeen I W E → OutsideView D P S I W E
-outer p d s t = record { places = p; disks = d; sources = s; streams = t }
+abbrev pub outside_view : {D P S I W E : Type 0} → places.Ghosts P D → Closable D → SourcesSeen S → StreamsSeen I W E → OutsideView D P S I W E
+outside_view p d s t = record { places = p; disks = d; sources = s; streams = t }

@@ -1,23 +1,16 @@
--- Which program runs for which words, over all that is outside.
-use Rattle.std.specs.Prelude.{◌≡◌, ◌≢◌, ◌⊎◌, ◌||◌, ℕ, true, false, Bool, List, [], Option, None, is_some, nat_le, Result, Ok, Err, IfOk, IfErr, MatchOption, MatchResult, ◌∷◌, ◌++◌}
+-- What each task does, over all that is outside.
+use Rattle.std.specs.Prelude.{◌≡◌, ◌⊎◌, ◌||◌, ℕ, true, false, Bool, List, [], Option, None, is_some, nat_le, Result, Ok, Err, IfOk, IfErr, MatchOption, MatchResult, ◌∷◌, ◌++◌}
 use Rattle.std.specs.Bool.{MatchBool}
 use Rattle.std.specs.Io.KnownBytes.{Appends}
-use Rattle.std.specs.declared.io.ErrorKind.{ErrorKind as IoKind}
-use Rattle.std.specs.declared.io.ErrorKind.TheVariants as io_kind
-use Rattle.clap.specs.Words.{FailsBy, Text, fault_of, kind_of}
-use Rattle.clap.specs.declared.error.Error.{Error}
-use Rattle.clap.specs.declared.error.kind.ErrorKind.{ErrorKind}
-use Rattle.clap.specs.declared.error.kind.ErrorKind.TheVariants as kind
+use Rattle.clap.specs.Words.{Text}
 use Rattle.check_report.specs.Requests.{Asks, AsksFor, field_words, report_words}
 use Rattle.check_report.specs.declared.report.Format.{Format as Report}
 use Rattle.check_report.specs.declared.report.Format.TheVariants as report
 use Rattle.check_report.specs.declared.request.Request.{Request}
 use Rattle.check_report.specs.declared.request.RequestFault.{RequestFault}
-use Rattle.command_words.specs.Asked.{CheckView, EvalView, RunView, TaskView, asked_by, task_view, tmhost}
-use Rattle.command_words.specs.declared.words.Task.{Task}
-use Rattle.command_words.specs.Asked as asked
+use Rattle.command_words.specs.Asked.{CheckView, EvalView, RunView}
 use Rattle.host_cli.specs.Plans.{AsksNoPlan, AsksPlan, check_jobs_asked, limit_asked, CheckBounds, CheckPlan, are_several, check_bounds, check_plan, several_refused}
-use Rattle.host_cli.specs.Refused.{RefusesJobs, RefusesPlan, RefusesRequest, RefusesSeveral, RefusesWith, RefusesWords, ShowsHelp, ShowsText, no_changes_text, no_check_seconds_text, no_format_text, no_run_seconds_text}
+use Rattle.host_cli.specs.Refused.{RefusesJobs, RefusesPlan, RefusesRequest, RefusesSeveral, RefusesWith, no_changes_text, no_check_seconds_text, no_format_text, no_run_seconds_text}
 use Rattle.host_cli.specs.declared.outside.Outside.{Outside}
 use Rattle.host_cli.specs.Outside.{OutsideView}
 use Rattle.host_cli.specs.declared.plans.JobsFault.{JobsFault}
@@ -52,7 +45,6 @@ use Rattle.program_endings.specs.declared.ending.Ending.{Ending}
 use Rattle.recovery.specs.declared.rescuing.Rescued.{Rescued}
 use Rattle.sheet_export.specs.Formats.{format_named, last_part}
 use Rattle.sheet_export.specs.declared.formats.Format.{Format}
-use Rattle.sheet_export.specs.declared.formats.Format.TheVariants as formats
 use Rattle.sheet_text.specs.Script.{number_written}
 use Rattle.sheet_files.specs.declared.files_fault.FilesFault.{FilesFault}
 use Rattle.sheet_files.specs.declared.files_fault.HoldFault.{HoldFault}
@@ -76,27 +68,6 @@ module _ {Y D P S I W E Q : Type 0} where
   -- nothing but the places and the stream of errors was touched
   abbrev pub OnlyHeld : Outside Y D P S I W E Q → Outside Y D P S I W E Q → Type 0
   OnlyHeld old new = (new.sources ≡ old.sources) × (new.input ≡ old.input) × (new.output ≡ old.output) × (new.progress ≡ old.progress)
-
-  -- What a task isn't given stays as it was.
-  abbrev pub LeavesAlone : Outside Y D P S I W E Q → Outside Y D P S I W E Q → TaskView → Type 0
-  LeavesAlone old new asked.blocks = (new.places ≡ old.places) × (new.sources ≡ old.sources) × (new.progress ≡ old.progress)
-  LeavesAlone old new asked.blocks_json = (new.places ≡ old.places) × (new.sources ≡ old.sources) × (new.progress ≡ old.progress)
-  LeavesAlone old new (asked.create path) = (new.sources ≡ old.sources) × (new.input ≡ old.input) × (new.output ≡ old.output) × (new.progress ≡ old.progress)
-  LeavesAlone old new (asked.run path words) = new.progress ≡ old.progress
-  LeavesAlone old new (asked.live path) = new.progress ≡ old.progress
-  LeavesAlone old new (asked.live_json path) = new.progress ≡ old.progress
-  LeavesAlone old new (asked.live_partial path) = new.progress ≡ old.progress
-  LeavesAlone old new (asked.eval path words) = (new.input ≡ old.input) × (new.progress ≡ old.progress)
-  LeavesAlone old new (asked.show path) = (new.sources ≡ old.sources) × (new.input ≡ old.input) × (new.progress ≡ old.progress)
-  LeavesAlone old new (asked.show_json path) = (new.sources ≡ old.sources) × (new.input ≡ old.input) × (new.progress ≡ old.progress)
-  LeavesAlone old new (asked.check path words) = new.input ≡ old.input
-  LeavesAlone old new (asked.rescue path new_path) = (new.sources ≡ old.sources) × (new.input ≡ old.input) × (new.progress ≡ old.progress)
-  LeavesAlone old new (asked.export format path) = (new.sources ≡ old.sources) × (new.input ≡ old.input) × (new.progress ≡ old.progress)
-  LeavesAlone old new (asked.history path) = (new.sources ≡ old.sources) × (new.input ≡ old.input) × (new.progress ≡ old.progress)
-  LeavesAlone old new (asked.show_at path changes) = (new.sources ≡ old.sources) × (new.input ≡ old.input) × (new.progress ≡ old.progress)
-  LeavesAlone old new (asked.show_json_at path changes) = (new.sources ≡ old.sources) × (new.input ≡ old.input) × (new.progress ≡ old.progress)
-  LeavesAlone old new (asked.export_at format path changes) = (new.sources ≡ old.sources) × (new.input ≡ old.input) × (new.progress ≡ old.progress)
-  LeavesAlone old new (asked.restore path changes new_path) = (new.sources ≡ old.sources) × (new.input ≡ old.input) × (new.progress ≡ old.progress)
 
   -- nothing but the output and the stream of errors was touched
   abbrev pub OnlyWritten : Outside Y D P S I W E Q → Outside Y D P S I W E Q → Type 0
@@ -389,58 +360,3 @@ module _ {Y D P S I W E Q : Type 0} (o : OutsideView D P S I W E) where
 
   abbrev pub DoesRestore : Outside Y D P S I W E Q → Outside Y D P S I W E Q → Ending → Text → Text → Text → Type 0
   DoesRestore old new ending path changes to = MatchOption (number_written changes) (RefusesChanges old new ending) (RestoresAfter old new ending path to)
-
-  -- What is done, by the task. What `live --partial` writes beside that is kept nowhere, and no part of this.
-  abbrev pub DoesTask : Outside Y D P S I W E Q → Outside Y D P S I W E Q → Ending → TaskView → Type 0
-  DoesTask old new ending asked.blocks = DoesBlocks old new ending
-  DoesTask old new ending asked.blocks_json = DoesBlocksInJson old new ending
-  DoesTask old new ending (asked.create path) = DoesCreate old new ending path
-  DoesTask old new ending (asked.run path words) = DoesRun old new ending path words
-  DoesTask old new ending (asked.live path) = DoesLive in_words old new ending path
-  DoesTask old new ending (asked.live_json path) = DoesLive in_json old new ending path
-  DoesTask old new ending (asked.live_partial path) = DoesLive in_json old new ending path
-  DoesTask old new ending (asked.eval path words) = DoesEval old new ending path words
-  DoesTask old new ending (asked.show path) = DoesShow old new ending path
-  DoesTask old new ending (asked.show_json path) = ExportsAs old new ending path formats.Json
-  DoesTask old new ending (asked.check path words) = DoesCheck old new ending path words
-  DoesTask old new ending (asked.rescue path new_path) = DoesRescue old new ending path new_path
-  DoesTask old new ending (asked.export format path) = DoesExport old new ending format path
-  DoesTask old new ending (asked.history path) = DoesHistory old new ending path
-  DoesTask old new ending (asked.show_at path changes) = DoesShowAt old new ending path changes
-  DoesTask old new ending (asked.show_json_at path changes) = ExportsPast old new ending path changes formats.Json
-  DoesTask old new ending (asked.export_at format path changes) = DoesExportAt old new ending format path changes
-  DoesTask old new ending (asked.restore path changes new_path) = DoesRestore old new ending path changes new_path
-
-  -- How the program ends where `clap` gave no task, by the kind of its error.
-  pub record Refuses (old new : Outside Y D P S I W E Q) (ending : Ending) (k : ErrorKind) : Type 0 where
-    pub memory : k ≡ kind.OutOfMemory → (new.output ≡ old.output) × EndsWith old new ending (Err fault.OutOfMemory)
-    pub shown : ShowsText k → ShowsHelp (output_of old new) (errors_of old new) ending
-    pub refused : k ≢ kind.OutOfMemory → (ShowsText k → ⊥) → (new.output ≡ old.output) × RefusesWords (errors_of old new) ending
-
-  -- the words ask for a task, which is done, or they are refused
-  abbrev pub DoesAsked : List Text → Outside Y D P S I W E Q → Outside Y D P S I W E Q → Ending → Type 0
-  DoesAsked texts old new ending = (read : Result Task Error) × FailsBy (fault_of tmhost texts) read
-      × IfOk read (λ task. task_view task ≡ asked_by texts)
-      × MatchResult read (λ task. DoesTask old new ending (task_view task) × LeavesAlone old new (task_view task))
-      (λ error. Refuses old new ending (kind_of error) × OnlyWritten old new)
-
-  -- How the program ends by its words, before its output is flushed. Words that can't be had are no text, or there was no memory for them.
-  pub record EndsWithin {T : Type 0} (texts : T → List Text) (words : Result T IoKind) (old new : Outside Y D P S I W E Q) (ending : Ending) : Type 0 where
-    pub no_memory : IfErr words (λ k. k ≡ io_kind.OutOfMemory → EndsWith old new ending (Err fault.OutOfMemory))
-    pub no_text : IfErr words (λ k. k ≢ io_kind.OutOfMemory → (new.errors ≡ old.errors) × (ending.status ≡ 2))
-    pub no_words : IfErr words (λ k. OnlyWritten old new × (new.output ≡ old.output))
-    pub asked : IfOk words (λ all. DoesAsked (texts all) old new ending)
-
-  -- how the program ends where all that it wrote was flushed, or not: then that is the fault, but where its status is 1 already
-  abbrev pub EndsBrought : Bool → Outside Y D P S I W E Q → Outside Y D P S I W E Q → Ending → Ending → Type 0
-  EndsBrought true old new alone ending = (ending ≡ alone) × (new.errors ≡ old.errors)
-  EndsBrought false old new alone ending = (alone.status ≡ 1 → (ending ≡ alone) × (new.errors ≡ old.errors))
-      × (alone.status ≢ 1 → EndsWith old new ending (Err fault.Output))
-
-  -- Last of all the output is flushed, after what the program came to.
-  abbrev pub FlushesOutput : Outside Y D P S I W E Q → Outside Y D P S I W E Q → Ending → Ending → Type 0
-  FlushesOutput old new alone ending = OnlyWritten old new × ((all : Bool) × o.streams.flushed old.output all new.output × EndsBrought all old new alone ending)
-
-  -- the whole program: it ends by its words, and then its output is flushed
-  abbrev pub Performs : {T : Type 0} → (T → List Text) → Result T IoKind → Outside Y D P S I W E Q → Outside Y D P S I W E Q → Ending → Type 0
-  Performs texts words old new ending = (mid : Outside Y D P S I W E Q) × (alone : Ending) × EndsWithin texts words old mid alone × FlushesOutput mid new alone ending

@@ -2,18 +2,18 @@
 ghost use Rattle.std.specs.Prelude.{◌≡◌, [], map};
 ghost use Rattle.command_words.specs.Asked.{check_view};
 ghost use Rattle.host_cli.specs.Plans.{check_plan};
-ghost use Rattle.host_cli.specs.Outside.{disks_seen, outer, sources_seen, streams_seen};
 ghost use Rattle.host_cli.specs.Tasks.{AcceptsHeld, ChecksAs, ChecksBy, ChecksPaths, Compares, ComparesEach, ComparesNext, DoesCheck, TogetherAs};
 
-use crate::outside::{Outside, Performed, System};
+use crate::outside::{Outside, Performed, Seen, System, ended, give};
 use crate::plans::{are_several, read_check_jobs, read_limit, several_fault};
 use crate::refusing::{refuse_check_limit, refuse_jobs, refuse_request, refuse_several};
-use check_report::{FieldWords, Format as Report, ReportWords, Request, read_request};
+use check_report::{FieldWords, Format as Report, ReportWords, read_request};
 use command_words::CheckWords;
 use program_endings::{
-    CheckEnding, CheckedSources, Total, end_total, end_unheld, end_unwritten, is_unwritten,
-    run_accept, run_check, run_check_together, tell_worksheet,
+    CheckEnding, GivenBack, Total, end_total, end_unheld, end_unwritten, is_unwritten, run_accept,
+    run_check, run_check_together, tell_worksheet,
 };
+use sheet_check::{Beside, Manner};
 use sheet_files::Places;
 use std::alloc::Global;
 
@@ -24,202 +24,98 @@ struct Compared<Y: System> {
 }
 
 /// `check` of the worksheet at a path, of one field after another.
-fn check_as<Y: System>(
-    alloc: Global,
-    mut outside: Outside<Y>,
-    request: &Request,
-    jobs: u32,
-    path: &str,
-) -> Compared<Y>
-    ensures does { ChecksAs (outer Y.Places.Places (disks_seen Y.Disk.Disk Y.Disk.closed) (sources_seen Y.Sources.after Y.Sources.clock Y.Sources.wakes)
-        (streams_seen Y.Input.Read Y.Output.Write Y.Output.flushed Y.Output.tried Y.Errors.Write Y.Errors.tried)) outside result.outside result.end path.now (check_plan request.now jobs) }
+fn check_as<Y: System>(mut outside: Outside<Y>, beside: &Beside<'_>, path: &str) -> Compared<Y>
+    ensures does { ChecksAs ⟦<Y as Seen>⟧.outer outside result.outside result.end path.now (check_plan beside.now.manner.request.now beside.now.jobs) }
     ensures leaves { result.outside.input ≡ outside.input }
 {
     let files = outside.places.open_to_read(path);
-    let Outside {
-        places,
-        sources,
-        input,
-        mut output,
-        mut errors,
-        mut progress,
-    } = outside;
-    let CheckedSources {
+    let (given, mut kept) = give(outside, files);
+    let GivenBack {
         ending: end,
         sources,
-    } = run_check(
-        alloc,
-        request,
-        files,
-        sources,
-        &mut progress,
-        &mut output,
-        &mut errors,
-    );
+        output,
+    } = run_check(&beside.manner, given, &mut kept.progress, &mut kept.errors);
     Compared {
         end,
-        outside: Outside {
-            places,
-            sources,
-            input,
-            output,
-            errors,
-            progress,
-        },
+        outside: kept.with(sources, output),
     }
 }
 
 /// `check` of the worksheet at a path, of fields side by side.
 fn check_together_as<Y: System>(
-    alloc: Global,
     mut outside: Outside<Y>,
-    request: &Request,
-    jobs: u32,
+    beside: &Beside<'_>,
     path: &str,
 ) -> Compared<Y>
-    ensures does { TogetherAs (outer Y.Places.Places (disks_seen Y.Disk.Disk Y.Disk.closed) (sources_seen Y.Sources.after Y.Sources.clock Y.Sources.wakes)
-        (streams_seen Y.Input.Read Y.Output.Write Y.Output.flushed Y.Output.tried Y.Errors.Write Y.Errors.tried)) outside result.outside result.end path.now (check_plan request.now jobs) }
+    ensures does { TogetherAs ⟦<Y as Seen>⟧.outer outside result.outside result.end path.now (check_plan beside.now.manner.request.now beside.now.jobs) }
     ensures leaves { result.outside.input ≡ outside.input }
 {
     let files = outside.places.open_to_read(path);
-    let Outside {
-        places,
-        sources,
-        input,
-        mut output,
-        mut errors,
-        mut progress,
-    } = outside;
-    let CheckedSources {
+    let (given, mut kept) = give(outside, files);
+    let GivenBack {
         ending: end,
         sources,
-    } = run_check_together(
-        alloc,
-        request,
-        jobs,
-        files,
-        sources,
-        &mut progress,
-        &mut output,
-        &mut errors,
-    );
+        output,
+    } = run_check_together(beside, given, &mut kept.progress, &mut kept.errors);
     Compared {
         end,
-        outside: Outside {
-            places,
-            sources,
-            input,
-            output,
-            errors,
-            progress,
-        },
+        outside: kept.with(sources, output),
     }
 }
 
 /// Checks a worksheet, once the places of closed streams are held: its sessions side by side where that is asked
 /// for, and else one field after another.
-fn compare<Y: System>(
-    alloc: Global,
-    outside: Outside<Y>,
-    request: &Request,
-    jobs: u32,
-    path: &str,
-) -> Compared<Y>
-    ensures does { Compares (outer Y.Places.Places (disks_seen Y.Disk.Disk Y.Disk.closed) (sources_seen Y.Sources.after Y.Sources.clock Y.Sources.wakes)
-        (streams_seen Y.Input.Read Y.Output.Write Y.Output.flushed Y.Output.tried Y.Errors.Write Y.Errors.tried)) outside result.outside result.end path.now (check_plan request.now jobs) }
+fn compare<Y: System>(outside: Outside<Y>, beside: &Beside<'_>, path: &str) -> Compared<Y>
+    ensures does { Compares ⟦<Y as Seen>⟧.outer outside result.outside result.end path.now (check_plan beside.now.manner.request.now beside.now.jobs) }
     ensures leaves { result.outside.input ≡ outside.input }
 {
-    if jobs <= 1 {
-        check_as(alloc, outside, request, jobs, path)
+    if beside.jobs <= 1 {
+        check_as(outside, beside, path)
     } else {
-        check_together_as(alloc, outside, request, jobs, path)
+        check_together_as(outside, beside, path)
     }
 }
 
 /// `check` of the worksheet at a path whose answers are accepted, once the places of closed streams are held.
-fn accept_as<Y: System>(
-    alloc: Global,
-    mut outside: Outside<Y>,
-    request: &Request,
-    path: &str,
-) -> Performed<Y>
-    ensures does { AcceptsHeld (outer Y.Places.Places (disks_seen Y.Disk.Disk Y.Disk.closed) (sources_seen Y.Sources.after Y.Sources.clock Y.Sources.wakes)
-        (streams_seen Y.Input.Read Y.Output.Write Y.Output.flushed Y.Output.tried Y.Errors.Write Y.Errors.tried)) outside result.outside result.ending path.now request.now }
+fn accept_as<Y: System>(mut outside: Outside<Y>, manner: &Manner<'_>, path: &str) -> Performed<Y>
+    ensures does { AcceptsHeld ⟦<Y as Seen>⟧.outer outside result.outside result.ending path.now manner.now.request.now }
     ensures leaves { result.outside.input ≡ outside.input }
 {
     let files = outside.places.open(path);
-    let Outside {
-        places,
-        sources,
-        input,
-        mut output,
-        mut errors,
-        mut progress,
-    } = outside;
-    let CheckedSources { ending, sources } = run_accept(
-        alloc,
-        request,
-        files,
-        sources,
-        &mut progress,
-        &mut output,
-        &mut errors,
-    );
-    Performed {
+    let (given, mut kept) = give(outside, files);
+    let GivenBack {
         ending,
-        outside: Outside {
-            places,
-            sources,
-            input,
-            output,
-            errors,
-            progress,
-        },
-    }
+        sources,
+        output,
+    } = run_accept(manner, given, &mut kept.progress, &mut kept.errors);
+    ended(ending, kept.with(sources, output))
 }
 
 /// `check` of the worksheet at one path, with answers that are accepted or without.
-fn check_by<Y: System>(
-    alloc: Global,
-    mut outside: Outside<Y>,
-    request: &Request,
-    jobs: u32,
-    path: &str,
-) -> Performed<Y>
-    ensures does { ChecksBy (outer Y.Places.Places (disks_seen Y.Disk.Disk Y.Disk.closed) (sources_seen Y.Sources.after Y.Sources.clock Y.Sources.wakes)
-        (streams_seen Y.Input.Read Y.Output.Write Y.Output.flushed Y.Output.tried Y.Errors.Write Y.Errors.tried)) outside result.outside result.ending path.now (check_plan request.now jobs) }
+fn check_by<Y: System>(mut outside: Outside<Y>, beside: &Beside<'_>, path: &str) -> Performed<Y>
+    ensures does { ChecksBy ⟦<Y as Seen>⟧.outer outside result.outside result.ending path.now (check_plan beside.now.manner.request.now beside.now.jobs) }
     ensures leaves { result.outside.input ≡ outside.input }
 {
     if let Err(why) = outside.places.hold() {
         let ending = end_unheld(why, &mut outside.errors);
         return Performed { ending, outside };
     }
-    match request.format {
-        Report::Accepting => accept_as(alloc, outside, request, path),
+    match beside.manner.request.format {
+        Report::Accepting => accept_as(outside, &beside.manner, path),
         Report::Text | Report::Whole | Report::Tap | Report::Junit | Report::Json => {
-            let Compared { end, outside } = compare(alloc, outside, request, jobs, path);
-            Performed {
-                ending: end.ending,
-                outside,
-            }
+            let Compared { end, outside } = compare(outside, beside, path);
+            ended(end.ending, outside)
         }
     }
 }
 
 /// One worksheet of several: a line with its path, and its check.
-fn compare_next<Y: System>(
-    alloc: Global,
-    mut outside: Outside<Y>,
-    request: &Request,
-    jobs: u32,
-    path: &str,
-) -> Compared<Y>
-    ensures does { ComparesNext (outer Y.Places.Places (disks_seen Y.Disk.Disk Y.Disk.closed) (sources_seen Y.Sources.after Y.Sources.clock Y.Sources.wakes)
-        (streams_seen Y.Input.Read Y.Output.Write Y.Output.flushed Y.Output.tried Y.Errors.Write Y.Errors.tried)) outside result.outside result.end path.now (check_plan request.now jobs) }
+fn compare_next<Y: System>(mut outside: Outside<Y>, beside: &Beside<'_>, path: &str) -> Compared<Y>
+    ensures does { ComparesNext ⟦<Y as Seen>⟧.outer outside result.outside result.end path.now (check_plan beside.now.manner.request.now beside.now.jobs) }
     ensures leaves { result.outside.input ≡ outside.input }
 {
     match tell_worksheet(path, &mut outside.output) {
-        Ok(()) => compare(alloc, outside, request, jobs, path),
+        Ok(()) => compare(outside, beside, path),
         Err(_) => Compared {
             end: end_unwritten(&mut outside.errors),
             outside,
@@ -230,19 +126,16 @@ fn compare_next<Y: System>(
 /// Worksheets one after another, and their total. Where the output fails nothing comes after that.
 #[tactic(auto, using(crate::proofs::EachChecked::each_steps))]
 fn compare_each<Y: System>(
-    alloc: Global,
     mut outside: Outside<Y>,
-    request: &Request,
-    jobs: u32,
+    beside: &Beside<'_>,
     paths: &[&str],
 ) -> Performed<Y>
-    ensures does { ComparesEach (outer Y.Places.Places (disks_seen Y.Disk.Disk Y.Disk.closed) (sources_seen Y.Sources.after Y.Sources.clock Y.Sources.wakes)
-        (streams_seen Y.Input.Read Y.Output.Write Y.Output.flushed Y.Output.tried Y.Errors.Write Y.Errors.tried)) (check_plan request.now jobs) [] (map (λ path. path.now) paths.now) outside result.outside result.ending }
+    ensures does { ComparesEach ⟦<Y as Seen>⟧.outer (check_plan beside.now.manner.request.now beside.now.jobs) [] (map (λ path. path.now) paths.now) outside result.outside result.ending }
     ensures leaves { result.outside.input ≡ outside.input }
 {
     let mut total = Total::none();
     for path in paths {
-        let Compared { end, outside: left } = compare_next(alloc, outside, request, jobs, path);
+        let Compared { end, outside: left } = compare_next(outside, beside, path);
         outside = left;
         total = total.with(end);
         if is_unwritten(end) {
@@ -260,32 +153,24 @@ fn compare_each<Y: System>(
 
 /// `check` of the worksheet at a path, or of several that the words name.
 fn check_paths<Y: System>(
-    alloc: Global,
     mut outside: Outside<Y>,
+    beside: &Beside<'_>,
     path: &str,
     words: &CheckWords<'_>,
-    request: &Request,
-    jobs: u32,
 ) -> Performed<Y>
-    ensures does { ChecksPaths (outer Y.Places.Places (disks_seen Y.Disk.Disk Y.Disk.closed) (sources_seen Y.Sources.after Y.Sources.clock Y.Sources.wakes)
-        (streams_seen Y.Input.Read Y.Output.Write Y.Output.flushed Y.Output.tried Y.Errors.Write Y.Errors.tried)) outside result.outside result.ending path.now (check_view words.now) (check_plan request.now jobs) }
+    ensures does { ChecksPaths ⟦<Y as Seen>⟧.outer outside result.outside result.ending path.now (check_view words.now) (check_plan beside.now.manner.request.now beside.now.jobs) }
     ensures leaves { result.outside.input ≡ outside.input }
 {
     if !are_several(words.paths.as_slice()) {
-        return check_by(alloc, outside, request, jobs, path);
+        return check_by(outside, beside, path);
     }
-    if let Some(why) = several_fault(request.format, words.leave_out, words.compare) {
-        return Performed {
-            ending: refuse_several(why, &mut outside.errors),
-            outside,
-        };
+    let format = beside.manner.request.format;
+    if let Some(why) = several_fault(format, words.leave_out, words.compare) {
+        return ended(refuse_several(why, &mut outside.errors), outside);
     }
     match outside.places.hold() {
-        Ok(()) => compare_each(alloc, outside, request, jobs, words.paths.as_slice()),
-        Err(why) => Performed {
-            ending: end_unheld(why, &mut outside.errors),
-            outside,
-        },
+        Ok(()) => compare_each(outside, beside, words.paths.as_slice()),
+        Err(why) => ended(end_unheld(why, &mut outside.errors), outside),
     }
 }
 
@@ -296,24 +181,15 @@ pub(crate) fn check_at<Y: System>(
     path: &str,
     words: CheckWords<'_>,
 ) -> Performed<Y>
-    ensures does { DoesCheck (outer Y.Places.Places (disks_seen Y.Disk.Disk Y.Disk.closed) (sources_seen Y.Sources.after Y.Sources.clock Y.Sources.wakes)
-        (streams_seen Y.Input.Read Y.Output.Write Y.Output.flushed Y.Output.tried Y.Errors.Write Y.Errors.tried)) outside result.outside result.ending path.now (check_view words.entry) }
+    ensures does { DoesCheck ⟦<Y as Seen>⟧.outer outside result.outside result.ending path.now (check_view words.entry) }
     ensures leaves { result.outside.input ≡ outside.input }
 {
     let Some(limit) = read_limit(words.timeout) else {
-        return Performed {
-            ending: refuse_check_limit(&mut outside.errors),
-            outside,
-        };
+        return ended(refuse_check_limit(&mut outside.errors), outside);
     };
     let jobs = match read_check_jobs(words.jobs, words.accept, words.timeout) {
         Ok(jobs) => jobs,
-        Err(why) => {
-            return Performed {
-                ending: refuse_jobs(why, &mut outside.errors),
-                outside,
-            };
-        }
+        Err(why) => return ended(refuse_jobs(why, &mut outside.errors), outside),
     };
     let report = ReportWords {
         accept: words.accept,
@@ -328,10 +204,13 @@ pub(crate) fn check_at<Y: System>(
         all: words.all,
     };
     match read_request(alloc, report, fields, limit) {
-        Ok(request) => check_paths(alloc, outside, path, &words, &request, jobs),
-        Err(why) => Performed {
-            ending: refuse_request(why, &mut outside.errors),
-            outside,
-        },
+        Ok(request) => {
+            let manner = Manner {
+                alloc,
+                request: &request,
+            };
+            check_paths(outside, &Beside { manner, jobs }, path, &words)
+        }
+        Err(why) => ended(refuse_request(why, &mut outside.errors), outside),
     }
 }

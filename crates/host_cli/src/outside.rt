@@ -1,10 +1,13 @@
 //! All that is outside of the program, as one value.
+ghost use Rattle.std.specs.Prelude.{◌≡◌};
+ghost use Rattle.host_cli.specs.Outside.{OutsideView, disks_seen, outside_view, sources_seen, streams_seen};
+
 use crate::Outlet;
 use offline_programs::Says;
 use partial_output::TellsPartial;
-use program_endings::Ending;
+use program_endings::{Ending, Given};
 use sheet_check::Progress;
-use sheet_files::{Close, Places};
+use sheet_files::{Close, FilesFault, Places};
 use std::io::Read;
 
 /// Of what kinds all that is outside of the program is.
@@ -25,6 +28,16 @@ pub trait System {
     type Progress: Progress + Drop;
 }
 
+/// How contracts see what is outside, of each system: `⟦<Y as Seen>⟧.outer`.
+pub trait Seen: System {
+    ghost outer: { OutsideView Self.Disk Self.Places Self.Sources Self.Input Self.Output Self.Errors };
+}
+
+impl<Y: System> Seen for Y {
+    ghost outer = { outside_view Y.Places.Places (disks_seen Y.Disk.Disk Y.Disk.closed) (sources_seen Y.Sources.after Y.Sources.clock Y.Sources.wakes)
+        (streams_seen Y.Input.Read Y.Output.Write Y.Output.flushed Y.Output.tried Y.Errors.Write Y.Errors.tried) };
+}
+
 /// All that is outside of the program. Each task lends the fields that it needs.
 #[derive(Drop)]
 pub struct Outside<Y: System> {
@@ -36,9 +49,76 @@ pub struct Outside<Y: System> {
     pub progress: Y::Progress,
 }
 
+/// What is left of that while a program has the sources and the output.
+pub(crate) struct Kept<Y: System> {
+    pub(crate) places: Y::Places,
+    pub(crate) input: Y::Input,
+    pub(crate) errors: Y::Errors,
+    pub(crate) progress: Y::Progress,
+}
+
 /// How the program ended, and what is outside of it then.
 #[derive(Drop)]
 pub struct Performed<Y: System> {
     pub ending: Ending,
     pub outside: Outside<Y>,
+}
+
+/// What a program is given, these files beside it, and what is left.
+pub(crate) fn give<Y: System>(
+    outside: Outside<Y>,
+    files: Result<Y::Disk, FilesFault>,
+) -> (Given<Y::Disk, Y::Sources, Y::Output>, Kept<Y>)
+    ensures given { result.0 ≡ record { files = files; sources = outside.sources; output = outside.output } }
+    ensures kept { result.1 ≡ record { places = outside.places; input = outside.input; errors = outside.errors; progress = outside.progress } }
+{
+    let Outside {
+        places,
+        sources,
+        input,
+        output,
+        errors,
+        progress,
+    } = outside;
+    let given = Given {
+        files,
+        sources,
+        output,
+    };
+    let kept = Kept {
+        places,
+        input,
+        errors,
+        progress,
+    };
+    (given, kept)
+}
+
+impl<Y: System> Kept<Y> {
+    /// All that is outside, once the program has given the sources and the output back.
+    pub(crate) fn with(self, sources: Y::Sources, output: Y::Output) -> Outside<Y>
+        ensures { result ≡ record { places = self.places; sources = sources; input = self.input; output = output; errors = self.errors; progress = self.progress } }
+    {
+        let Kept {
+            places,
+            input,
+            errors,
+            progress,
+        } = self;
+        Outside {
+            places,
+            sources,
+            input,
+            output,
+            errors,
+            progress,
+        }
+    }
+}
+
+/// The end of a program after which this is outside.
+pub(crate) fn ended<Y: System>(ending: Ending, outside: Outside<Y>) -> Performed<Y>
+    ensures { result ≡ record { ending = ending; outside = outside } }
+{
+    Performed { ending, outside }
 }

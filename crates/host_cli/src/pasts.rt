@@ -4,15 +4,15 @@ ghost use Rattle.command_words.specs.Asked as asked;
 ghost use Rattle.offline_programs.specs.Saying.{saying};
 ghost use Rattle.program_endings.specs.PastProgram.{PastExported};
 ghost use Rattle.program_endings.specs.Records.{streams, writing};
-ghost use Rattle.sheet_export.specs.Formats.{last_part};
-ghost use Rattle.host_cli.specs.Outside.{disks_seen, outer, sources_seen, streams_seen};
-ghost use Rattle.host_cli.specs.Tasks.{DoesExportAt, DoesHistory, DoesRestore, DoesShowAt, ExportsAfter, ExportsPast, LeavesAlone, RestoresAfter, ShowsAfter};
+ghost use Rattle.sheet_export.specs.Formats as exports;
+ghost use Rattle.host_cli.specs.Tasks.{DoesExportAt, DoesHistory, DoesRestore, DoesShowAt, ExportsAfter, ExportsPast, RestoresAfter, ShowsAfter};
+ghost use Rattle.host_cli.specs.WholeProgram.{LeavesAlone};
 
-use crate::outside::{Outside, System};
+use crate::outside::{Outside, Seen, System};
 use crate::refusing::{refuse_changes, refuse_format};
 use offline_programs::Says;
 use program_endings::{
-    Ending, end_past, end_unheld, read_past, run_export_past, run_history, run_rescue,
+    Ending, ExportForm, end_past, end_unheld, read_past, run_export_past, run_history, run_rescue,
     run_show_past,
 };
 use recovery::Rescued;
@@ -24,8 +24,7 @@ use std::io::Write;
 
 /// `history` of the worksheet at a path.
 pub(crate) fn history_at<Y: System>(alloc: Global, outside: &mut Outside<Y>, path: &str) -> Ending
-    ensures does { DoesHistory (outer Y.Places.Places (disks_seen Y.Disk.Disk Y.Disk.closed) (sources_seen Y.Sources.after Y.Sources.clock Y.Sources.wakes)
-        (streams_seen Y.Input.Read Y.Output.Write Y.Output.flushed Y.Output.tried Y.Errors.Write Y.Errors.tried)) outside.old outside.new result path.now }
+    ensures does { DoesHistory ⟦<Y as Seen>⟧.outer outside.old outside.new result path.now }
     ensures leaves { LeavesAlone outside.old outside.new (asked.history path.now) }
 {
     match outside.places.hold() {
@@ -46,8 +45,7 @@ fn show_after<Y: System>(
     path: &str,
     changes: u32,
 ) -> Ending
-    ensures does { ShowsAfter (outer Y.Places.Places (disks_seen Y.Disk.Disk Y.Disk.closed) (sources_seen Y.Sources.after Y.Sources.clock Y.Sources.wakes)
-        (streams_seen Y.Input.Read Y.Output.Write Y.Output.flushed Y.Output.tried Y.Errors.Write Y.Errors.tried)) outside.old outside.new result path.now changes }
+    ensures does { ShowsAfter ⟦<Y as Seen>⟧.outer outside.old outside.new result path.now changes }
     ensures leaves { LeavesAlone outside.old outside.new (asked.show_at path.now []) }
 {
     if let Err(why) = outside.places.hold() {
@@ -66,8 +64,7 @@ pub(crate) fn show_past_at<Y: System>(
     path: &str,
     changes: &str,
 ) -> Ending
-    ensures does { DoesShowAt (outer Y.Places.Places (disks_seen Y.Disk.Disk Y.Disk.closed) (sources_seen Y.Sources.after Y.Sources.clock Y.Sources.wakes)
-        (streams_seen Y.Input.Read Y.Output.Write Y.Output.flushed Y.Output.tried Y.Errors.Write Y.Errors.tried)) outside.old outside.new result path.now changes.now }
+    ensures does { DoesShowAt ⟦<Y as Seen>⟧.outer outside.old outside.new result path.now changes.now }
     ensures leaves { LeavesAlone outside.old outside.new (asked.show_at path.now changes.now) }
 {
     match read_number(changes.as_bytes()) {
@@ -76,20 +73,36 @@ pub(crate) fn show_past_at<Y: System>(
     }
 }
 
-/// Exports what was found at a path, with the last part of the path as the title.
+/// This format, with the last part of a path as the title.
+pub(crate) fn titled<'a>(format: Format, path: &'a str) -> ExportForm<'a>
+    ensures { (result.format ≡ format) × (result.title.now ≡ exports.last_part path.now) }
+{
+    ExportForm {
+        format,
+        title: last_part(path.as_bytes()),
+    }
+}
+
+/// In which format a worksheet is written, and at which path it lies, whose last part is the title.
+#[derive(Clone, Copy)]
+struct PathForm<'a> {
+    format: Format,
+    path: &'a str,
+}
+
+/// Exports what was found at a path.
 fn export_found<D: Close, W: Write, E: Says>(
     alloc: Global,
-    format: Format,
     found: Rescued<D>,
-    path: &str,
+    form: &PathForm<'_>,
     output: &mut W,
     errors: &mut E,
 ) -> Ending
-    ensures { PastExported D.closed found format (last_part path.now)
+    ensures { PastExported D.closed found form.now.format (exports.last_part form.now.path.now)
         (streams (writing W.contents output.old output.new) (saying E.contents E.tried errors.old errors.new)) result }
 {
-    let title = last_part(path.as_bytes());
-    run_export_past(alloc, format, found, title, output, errors)
+    let form = titled(form.format, form.path);
+    run_export_past(alloc, found, &form, output, errors)
 }
 
 /// `export` of the worksheet at a path after its first so many changes.
@@ -100,24 +113,20 @@ fn export_after<Y: System>(
     path: &str,
     changes: u32,
 ) -> Ending
-    ensures does { ExportsAfter (outer Y.Places.Places (disks_seen Y.Disk.Disk Y.Disk.closed) (sources_seen Y.Sources.after Y.Sources.clock Y.Sources.wakes)
-        (streams_seen Y.Input.Read Y.Output.Write Y.Output.flushed Y.Output.tried Y.Errors.Write Y.Errors.tried)) outside.old outside.new result path.now format changes }
+    ensures does { ExportsAfter ⟦<Y as Seen>⟧.outer outside.old outside.new result path.now format changes }
     ensures leaves { LeavesAlone outside.old outside.new (asked.export_at [] path.now []) }
 {
     if let Err(why) = outside.places.hold() {
         return end_unheld(why, &mut outside.errors);
     }
     match read_past(alloc, outside.places.open_to_read(path), u64::from(changes)) {
-        Ok(found) => {
-            export_found(
-                alloc,
-                format,
-                found,
-                path,
-                &mut outside.output,
-                &mut outside.errors,
-            )
-        }
+        Ok(found) => export_found(
+            alloc,
+            found,
+            &PathForm { format, path },
+            &mut outside.output,
+            &mut outside.errors,
+        ),
         Err(why) => end_past(why, &mut outside.errors),
     }
 }
@@ -130,8 +139,7 @@ pub(crate) fn export_as_past<Y: System>(
     path: &str,
     changes: &str,
 ) -> Ending
-    ensures does { ExportsPast (outer Y.Places.Places (disks_seen Y.Disk.Disk Y.Disk.closed) (sources_seen Y.Sources.after Y.Sources.clock Y.Sources.wakes)
-        (streams_seen Y.Input.Read Y.Output.Write Y.Output.flushed Y.Output.tried Y.Errors.Write Y.Errors.tried)) outside.old outside.new result path.now changes.now format }
+    ensures does { ExportsPast ⟦<Y as Seen>⟧.outer outside.old outside.new result path.now changes.now format }
     ensures leaves { LeavesAlone outside.old outside.new (asked.export_at [] path.now changes.now) }
 {
     match read_number(changes.as_bytes()) {
@@ -148,8 +156,7 @@ pub(crate) fn export_past_at<Y: System>(
     path: &str,
     changes: &str,
 ) -> Ending
-    ensures does { DoesExportAt (outer Y.Places.Places (disks_seen Y.Disk.Disk Y.Disk.closed) (sources_seen Y.Sources.after Y.Sources.clock Y.Sources.wakes)
-        (streams_seen Y.Input.Read Y.Output.Write Y.Output.flushed Y.Output.tried Y.Errors.Write Y.Errors.tried)) outside.old outside.new result name.now path.now changes.now }
+    ensures does { DoesExportAt ⟦<Y as Seen>⟧.outer outside.old outside.new result name.now path.now changes.now }
     ensures leaves { LeavesAlone outside.old outside.new (asked.export_at name.now path.now changes.now) }
 {
     match format_named(name) {
@@ -166,8 +173,7 @@ fn restore_after<Y: System>(
     changes: u32,
     new: &str,
 ) -> Ending
-    ensures does { RestoresAfter (outer Y.Places.Places (disks_seen Y.Disk.Disk Y.Disk.closed) (sources_seen Y.Sources.after Y.Sources.clock Y.Sources.wakes)
-        (streams_seen Y.Input.Read Y.Output.Write Y.Output.flushed Y.Output.tried Y.Errors.Write Y.Errors.tried)) outside.old outside.new result path.now new.now changes }
+    ensures does { RestoresAfter ⟦<Y as Seen>⟧.outer outside.old outside.new result path.now new.now changes }
     ensures leaves { LeavesAlone outside.old outside.new (asked.restore path.now [] new.now) }
 {
     if let Err(why) = outside.places.hold() {
@@ -193,8 +199,7 @@ pub(crate) fn restore_at<Y: System>(
     changes: &str,
     new: &str,
 ) -> Ending
-    ensures does { DoesRestore (outer Y.Places.Places (disks_seen Y.Disk.Disk Y.Disk.closed) (sources_seen Y.Sources.after Y.Sources.clock Y.Sources.wakes)
-        (streams_seen Y.Input.Read Y.Output.Write Y.Output.flushed Y.Output.tried Y.Errors.Write Y.Errors.tried)) outside.old outside.new result path.now changes.now new.now }
+    ensures does { DoesRestore ⟦<Y as Seen>⟧.outer outside.old outside.new result path.now changes.now new.now }
     ensures leaves { LeavesAlone outside.old outside.new (asked.restore path.now changes.now new.now) }
 {
     match read_number(changes.as_bytes()) {

@@ -1,37 +1,39 @@
 //! `run` and `live` over the worksheet at a path, with lines of the input.
 ghost use Rattle.std.specs.Prelude.{◌≡◌};
 ghost use Rattle.command_words.specs.Asked.{run_view};
-ghost use Rattle.host_cli.specs.Outside.{disks_seen, outer, sources_seen, streams_seen};
 ghost use Rattle.host_cli.specs.Tasks.{DoesLive, DoesRun, LivesAs, RunsScript};
 ghost use Rattle.tellings.specs.Json.{in_json};
 ghost use Rattle.tellings.specs.Words.{in_words};
 
-use crate::outside::{Outside, Performed, System};
+use crate::outside::{Outside, Performed, Seen, System, ended};
 use crate::plans::read_limit;
 use crate::refusing::refuse_run_limit;
 use command_words::RunWords;
 use live::Manner;
 use partial_output::TellsPartial;
-use program_endings::{LiveEnding, end_unheld, run_live, run_script};
+use program_endings::{Given, GivenBack, LineSetting, end_unheld, run_live, run_script};
 use sheet_files::Places;
 use std::alloc::Global;
 use tellings::{InJson, InWords, Tells};
 
-/// The lines of the input over the worksheet at a path, taken in this manner and printed in this voice.
+/// Lines and what comes of interpreters are taken as they come.
+const AS_IT_COMES: Manner = Manner {
+    lines_first: false,
+    limit: None,
+    strict: false,
+};
+
+/// The lines of the input over the worksheet at a path, taken and printed in this setting.
 fn live_reported<Y: System, T: Tells + Copy>(
-    alloc: Global,
+    setting: LineSetting<T>,
     mut outside: Outside<Y>,
-    manner: Manner,
-    tells: T,
     path: &str,
 ) -> Performed<Y>
-    ensures does { LivesAs (outer Y.Places.Places (disks_seen Y.Disk.Disk Y.Disk.closed) (sources_seen Y.Sources.after Y.Sources.clock Y.Sources.wakes)
-        (streams_seen Y.Input.Read Y.Output.Write Y.Output.flushed Y.Output.tried Y.Errors.Write Y.Errors.tried)) manner T.voice outside result.outside result.ending path.now }
+    ensures does { LivesAs ⟦<Y as Seen>⟧.outer setting.manner T.voice outside result.outside result.ending path.now }
     ensures leaves { result.outside.progress ≡ outside.progress }
 {
     if let Err(why) = outside.places.hold() {
-        let ending = end_unheld(why, &mut outside.errors);
-        return Performed { ending, outside };
+        return ended(end_unheld(why, &mut outside.errors), outside);
     }
     let files = outside.places.open(path);
     let Outside {
@@ -42,20 +44,16 @@ fn live_reported<Y: System, T: Tells + Copy>(
         mut errors,
         progress,
     } = outside;
-    let LiveEnding {
+    let given = Given {
+        files,
+        sources,
+        output,
+    };
+    let GivenBack {
         ending,
         sources,
         output,
-    } = run_live(
-        alloc,
-        manner,
-        &mut input,
-        tells,
-        output,
-        &mut errors,
-        files,
-        sources,
-    );
+    } = run_live(setting, &mut input, given, &mut errors);
     Performed {
         ending,
         outside: Outside {
@@ -71,21 +69,15 @@ fn live_reported<Y: System, T: Tells + Copy>(
 
 /// `live` in words.
 pub(crate) fn live_at<Y: System>(alloc: Global, outside: Outside<Y>, path: &str) -> Performed<Y>
-    ensures does { DoesLive (outer Y.Places.Places (disks_seen Y.Disk.Disk Y.Disk.closed) (sources_seen Y.Sources.after Y.Sources.clock Y.Sources.wakes)
-        (streams_seen Y.Input.Read Y.Output.Write Y.Output.flushed Y.Output.tried Y.Errors.Write Y.Errors.tried)) in_words outside result.outside result.ending path.now }
+    ensures does { DoesLive ⟦<Y as Seen>⟧.outer in_words outside result.outside result.ending path.now }
     ensures leaves { result.outside.progress ≡ outside.progress }
 {
-    live_reported(
+    let setting = LineSetting {
         alloc,
-        outside,
-        Manner {
-            lines_first: false,
-            limit: None,
-            strict: false,
-        },
-        InWords,
-        path,
-    )
+        manner: AS_IT_COMES,
+        tells: InWords,
+    };
+    live_reported(setting, outside, path)
 }
 
 /// `live` in lines of JSON.
@@ -94,21 +86,15 @@ pub(crate) fn live_json_at<Y: System>(
     outside: Outside<Y>,
     path: &str,
 ) -> Performed<Y>
-    ensures does { DoesLive (outer Y.Places.Places (disks_seen Y.Disk.Disk Y.Disk.closed) (sources_seen Y.Sources.after Y.Sources.clock Y.Sources.wakes)
-        (streams_seen Y.Input.Read Y.Output.Write Y.Output.flushed Y.Output.tried Y.Errors.Write Y.Errors.tried)) in_json outside result.outside result.ending path.now }
+    ensures does { DoesLive ⟦<Y as Seen>⟧.outer in_json outside result.outside result.ending path.now }
     ensures leaves { result.outside.progress ≡ outside.progress }
 {
-    live_reported(
+    let setting = LineSetting {
         alloc,
-        outside,
-        Manner {
-            lines_first: false,
-            limit: None,
-            strict: false,
-        },
-        InJson { alloc },
-        path,
-    )
+        manner: AS_IT_COMES,
+        tells: InJson { alloc },
+    };
+    live_reported(setting, outside, path)
 }
 
 /// The same, and what interpreters write before it is an answer is written beside it.
@@ -117,8 +103,7 @@ pub(crate) fn live_partial_at<Y: System>(
     mut outside: Outside<Y>,
     path: &str,
 ) -> Performed<Y>
-    ensures does { DoesLive (outer Y.Places.Places (disks_seen Y.Disk.Disk Y.Disk.closed) (sources_seen Y.Sources.after Y.Sources.clock Y.Sources.wakes)
-        (streams_seen Y.Input.Read Y.Output.Write Y.Output.flushed Y.Output.tried Y.Errors.Write Y.Errors.tried)) in_json outside result.outside result.ending path.now }
+    ensures does { DoesLive ⟦<Y as Seen>⟧.outer in_json outside result.outside result.ending path.now }
     ensures leaves { result.outside.progress ≡ outside.progress }
 {
     outside.sources.tell_partial();
@@ -132,13 +117,11 @@ fn run_reported<Y: System>(
     strict: bool,
     path: &str,
 ) -> Performed<Y>
-    ensures does { RunsScript (outer Y.Places.Places (disks_seen Y.Disk.Disk Y.Disk.closed) (sources_seen Y.Sources.after Y.Sources.clock Y.Sources.wakes)
-        (streams_seen Y.Input.Read Y.Output.Write Y.Output.flushed Y.Output.tried Y.Errors.Write Y.Errors.tried)) strict outside result.outside result.ending path.now }
+    ensures does { RunsScript ⟦<Y as Seen>⟧.outer strict outside result.outside result.ending path.now }
     ensures leaves { result.outside.progress ≡ outside.progress }
 {
     if let Err(why) = outside.places.hold() {
-        let ending = end_unheld(why, &mut outside.errors);
-        return Performed { ending, outside };
+        return ended(end_unheld(why, &mut outside.errors), outside);
     }
     let files = outside.places.open(path);
     let Outside {
@@ -149,19 +132,16 @@ fn run_reported<Y: System>(
         mut errors,
         progress,
     } = outside;
-    let LiveEnding {
+    let given = Given {
+        files,
+        sources,
+        output,
+    };
+    let GivenBack {
         ending,
         sources,
         output,
-    } = run_script(
-        alloc,
-        strict,
-        &mut input,
-        output,
-        &mut errors,
-        files,
-        sources,
-    );
+    } = run_script(alloc, strict, &mut input, given, &mut errors);
     Performed {
         ending,
         outside: Outside {
@@ -182,13 +162,11 @@ pub(crate) fn run_at<Y: System>(
     path: &str,
     words: RunWords<'_>,
 ) -> Performed<Y>
-    ensures does { DoesRun (outer Y.Places.Places (disks_seen Y.Disk.Disk Y.Disk.closed) (sources_seen Y.Sources.after Y.Sources.clock Y.Sources.wakes)
-        (streams_seen Y.Input.Read Y.Output.Write Y.Output.flushed Y.Output.tried Y.Errors.Write Y.Errors.tried)) outside result.outside result.ending path.now (run_view words.entry) }
+    ensures does { DoesRun ⟦<Y as Seen>⟧.outer outside result.outside result.ending path.now (run_view words.entry) }
     ensures leaves { result.outside.progress ≡ outside.progress }
 {
     let Some(limit) = read_limit(words.timeout) else {
-        let ending = refuse_run_limit(&mut outside.errors);
-        return Performed { ending, outside };
+        return ended(refuse_run_limit(&mut outside.errors), outside);
     };
     let manner = Manner {
         lines_first: true,
@@ -196,10 +174,22 @@ pub(crate) fn run_at<Y: System>(
         strict: words.strict,
     };
     if words.json {
-        return live_reported(alloc, outside, manner, InJson { alloc }, path);
+        let tells = InJson { alloc };
+        let setting = LineSetting {
+            alloc,
+            manner,
+            tells,
+        };
+        return live_reported(setting, outside, path);
     }
     if limit.is_some() {
-        return live_reported(alloc, outside, manner, InWords, path);
+        let tells = InWords;
+        let setting = LineSetting {
+            alloc,
+            manner,
+            tells,
+        };
+        return live_reported(setting, outside, path);
     }
     run_reported(alloc, outside, words.strict, path)
 }

@@ -1,10 +1,9 @@
-//! Which program runs for which words, over all that is outside. Each contract here has the same `outer ..`, which names what is
-//! outside: what stands before and after it is the contract's own.
+//! Which program runs for which words, over all that is outside.
 ghost use Rattle.std.specs.Prelude.{◌≡◌, ◌≢◌, [], Err, map, string_bytes};
 ghost use Rattle.command_words.specs.Asked.{eval_view, task_view};
 ghost use Rattle.command_words.specs.Asked as asked;
-ghost use Rattle.host_cli.specs.Outside.{disks_seen, outer, sources_seen, streams_seen};
-ghost use Rattle.host_cli.specs.Tasks.{FlushesOutput, DoesCreate, DoesEval, DoesExport, DoesRescue, DoesShow, DoesTask, EndsWithin, EvaluatesAs, ExportsAs, LeavesAlone, Performs, voice_by};
+ghost use Rattle.host_cli.specs.Tasks.{DoesCreate, DoesEval, DoesExport, DoesRescue, DoesShow, EvaluatesAs, ExportsAs, voice_by};
+ghost use Rattle.host_cli.specs.WholeProgram.{FlushesOutput, DoesTask, EndsWithin, LeavesAlone, Performs};
 ghost use Rattle.program_endings.specs.Ending.{TellsFault};
 ghost use Rattle.offline_programs.specs.Saying.{saying};
 ghost use Rattle.offline_programs.specs.declared.fault.RunFault.TheVariants as fault;
@@ -13,8 +12,8 @@ use crate::blocks::{blocks, blocks_in_json};
 use crate::checks::check_at;
 use crate::finding::FoundIn;
 use crate::outlet::Outlet;
-use crate::outside::{Outside, Performed, System};
-use crate::pasts::{export_as_past, export_past_at, history_at, restore_at, show_past_at};
+use crate::outside::{Outside, Performed, Seen, System, ended};
+use crate::pasts::{export_as_past, export_past_at, history_at, restore_at, show_past_at, titled};
 use crate::plans::read_plan;
 use crate::refusing::{refuse_format, refuse_plan};
 use crate::runs::{live_at, live_json_at, live_partial_at, run_at};
@@ -23,10 +22,10 @@ use command_words::{EvalWords, Task, read_words};
 use evaluation::Plan;
 use offline_programs::{RunFault, Says};
 use program_endings::{
-    Ending, LiveEnding, end_program, end_unheld, read_rescued, run_create, run_evaluation,
-    run_export, run_rescue, run_show,
+    Ending, FieldSetting, Given, GivenBack, end_program, end_unheld, read_rescued, run_create,
+    run_evaluation, run_export, run_rescue, run_show,
 };
-use sheet_export::{Format, format_named, last_part};
+use sheet_export::{Format, format_named};
 use sheet_files::Places;
 use std::alloc::Global;
 use std::io;
@@ -34,8 +33,7 @@ use tellings::{InJson, InWords, Tells};
 
 /// `create` at a path.
 fn create_at<Y: System>(outside: &mut Outside<Y>, path: &str) -> Ending
-    ensures does { DoesCreate (outer Y.Places.Places (disks_seen Y.Disk.Disk Y.Disk.closed) (sources_seen Y.Sources.after Y.Sources.clock Y.Sources.wakes)
-        (streams_seen Y.Input.Read Y.Output.Write Y.Output.flushed Y.Output.tried Y.Errors.Write Y.Errors.tried)) outside.old outside.new result path.now }
+    ensures does { DoesCreate ⟦<Y as Seen>⟧.outer outside.old outside.new result path.now }
     ensures leaves { LeavesAlone outside.old outside.new (asked.create path.now) }
 {
     match outside.places.hold() {
@@ -46,8 +44,7 @@ fn create_at<Y: System>(outside: &mut Outside<Y>, path: &str) -> Ending
 
 /// `show` of the worksheet at a path.
 fn show_at<Y: System>(alloc: Global, outside: &mut Outside<Y>, path: &str) -> Ending
-    ensures does { DoesShow (outer Y.Places.Places (disks_seen Y.Disk.Disk Y.Disk.closed) (sources_seen Y.Sources.after Y.Sources.clock Y.Sources.wakes)
-        (streams_seen Y.Input.Read Y.Output.Write Y.Output.flushed Y.Output.tried Y.Errors.Write Y.Errors.tried)) outside.old outside.new result path.now }
+    ensures does { DoesShow ⟦<Y as Seen>⟧.outer outside.old outside.new result path.now }
     ensures leaves { LeavesAlone outside.old outside.new (asked.show path.now) }
 {
     match outside.places.hold() {
@@ -69,13 +66,11 @@ fn eval_as<Y: System, T: Tells + Copy>(
     tells: T,
     path: &str,
 ) -> Performed<Y>
-    ensures does { EvaluatesAs (outer Y.Places.Places (disks_seen Y.Disk.Disk Y.Disk.closed) (sources_seen Y.Sources.after Y.Sources.clock Y.Sources.wakes)
-        (streams_seen Y.Input.Read Y.Output.Write Y.Output.flushed Y.Output.tried Y.Errors.Write Y.Errors.tried)) T.voice plan outside result.outside result.ending path.now }
+    ensures does { EvaluatesAs ⟦<Y as Seen>⟧.outer T.voice plan outside result.outside result.ending path.now }
     ensures leaves { (result.outside.input ≡ outside.input) × (result.outside.progress ≡ outside.progress) }
 {
     if let Err(why) = outside.places.hold() {
-        let ending = end_unheld(why, &mut outside.errors);
-        return Performed { ending, outside };
+        return ended(end_unheld(why, &mut outside.errors), outside);
     }
     let files = outside.places.open(path);
     let Outside {
@@ -86,21 +81,18 @@ fn eval_as<Y: System, T: Tells + Copy>(
         mut errors,
         progress,
     } = outside;
+    let setting = FieldSetting { alloc, plan, tells };
     let programs = FoundIn::<Y>::new(&places);
-    let LiveEnding {
+    let given = Given {
+        files,
+        sources,
+        output,
+    };
+    let GivenBack {
         ending,
         sources,
         output,
-    } = run_evaluation(
-        alloc,
-        plan,
-        programs,
-        tells,
-        output,
-        &mut errors,
-        files,
-        sources,
-    );
+    } = run_evaluation(setting, programs, given, &mut errors);
     Performed {
         ending,
         outside: Outside {
@@ -122,8 +114,7 @@ fn eval_reported<Y: System>(
     json: bool,
     path: &str,
 ) -> Performed<Y>
-    ensures does { EvaluatesAs (outer Y.Places.Places (disks_seen Y.Disk.Disk Y.Disk.closed) (sources_seen Y.Sources.after Y.Sources.clock Y.Sources.wakes)
-        (streams_seen Y.Input.Read Y.Output.Write Y.Output.flushed Y.Output.tried Y.Errors.Write Y.Errors.tried)) (voice_by json) plan outside result.outside result.ending path.now }
+    ensures does { EvaluatesAs ⟦<Y as Seen>⟧.outer (voice_by json) plan outside result.outside result.ending path.now }
     ensures leaves { (result.outside.input ≡ outside.input) × (result.outside.progress ≡ outside.progress) }
 {
     if json {
@@ -140,23 +131,18 @@ fn eval_at<Y: System>(
     path: &str,
     words: EvalWords<'_>,
 ) -> Performed<Y>
-    ensures does { DoesEval (outer Y.Places.Places (disks_seen Y.Disk.Disk Y.Disk.closed) (sources_seen Y.Sources.after Y.Sources.clock Y.Sources.wakes)
-        (streams_seen Y.Input.Read Y.Output.Write Y.Output.flushed Y.Output.tried Y.Errors.Write Y.Errors.tried)) outside result.outside result.ending path.now (eval_view words.entry) }
+    ensures does { DoesEval ⟦<Y as Seen>⟧.outer outside result.outside result.ending path.now (eval_view words.entry) }
     ensures leaves { LeavesAlone outside result.outside (asked.eval path.now (eval_view words.entry)) }
 {
     match read_plan(alloc, &words) {
         Ok(plan) => eval_reported(alloc, outside, plan, words.json, path),
-        Err(why) => {
-            let ending = refuse_plan(why, &mut outside.errors);
-            Performed { ending, outside }
-        }
+        Err(why) => ended(refuse_plan(why, &mut outside.errors), outside),
     }
 }
 
 /// `rescue` from a path to a new one, which is made only where there is something to rescue.
 fn rescue_at<Y: System>(alloc: Global, outside: &mut Outside<Y>, path: &str, new: &str) -> Ending
-    ensures does { DoesRescue (outer Y.Places.Places (disks_seen Y.Disk.Disk Y.Disk.closed) (sources_seen Y.Sources.after Y.Sources.clock Y.Sources.wakes)
-        (streams_seen Y.Input.Read Y.Output.Write Y.Output.flushed Y.Output.tried Y.Errors.Write Y.Errors.tried)) outside.old outside.new result path.now new.now }
+    ensures does { DoesRescue ⟦<Y as Seen>⟧.outer outside.old outside.new result path.now new.now }
     ensures leaves { LeavesAlone outside.old outside.new (asked.rescue path.now new.now) }
 {
     if let Err(why) = outside.places.hold() {
@@ -181,16 +167,14 @@ fn export_as<Y: System>(
     format: Format,
     path: &str,
 ) -> Ending
-    ensures does { ExportsAs (outer Y.Places.Places (disks_seen Y.Disk.Disk Y.Disk.closed) (sources_seen Y.Sources.after Y.Sources.clock Y.Sources.wakes)
-        (streams_seen Y.Input.Read Y.Output.Write Y.Output.flushed Y.Output.tried Y.Errors.Write Y.Errors.tried)) outside.old outside.new result path.now format }
+    ensures does { ExportsAs ⟦<Y as Seen>⟧.outer outside.old outside.new result path.now format }
     ensures leaves { LeavesAlone outside.old outside.new (asked.export [] path.now) }
 {
     match outside.places.hold() {
         Ok(()) => run_export(
             alloc,
-            format,
             outside.places.open_to_read(path),
-            last_part(path.as_bytes()),
+            &titled(format, path),
             &mut outside.output,
             &mut outside.errors,
         ),
@@ -200,8 +184,7 @@ fn export_as<Y: System>(
 
 /// `export` in the format of this name.
 fn export_at<Y: System>(alloc: Global, outside: &mut Outside<Y>, name: &str, path: &str) -> Ending
-    ensures does { DoesExport (outer Y.Places.Places (disks_seen Y.Disk.Disk Y.Disk.closed) (sources_seen Y.Sources.after Y.Sources.clock Y.Sources.wakes)
-        (streams_seen Y.Input.Read Y.Output.Write Y.Output.flushed Y.Output.tried Y.Errors.Write Y.Errors.tried)) outside.old outside.new result name.now path.now }
+    ensures does { DoesExport ⟦<Y as Seen>⟧.outer outside.old outside.new result name.now path.now }
     ensures leaves { LeavesAlone outside.old outside.new (asked.export name.now path.now) }
 {
     match format_named(name) {
@@ -215,65 +198,40 @@ fn export_at<Y: System>(alloc: Global, outside: &mut Outside<Y>, name: &str, pat
 /// the path, once the places of closed streams are held. What they give goes to the output, and the line of a fault to the
 /// errors. `check` alone has `progress` show something.
 pub fn do_task<Y: System>(alloc: Global, task: Task<'_>, mut outside: Outside<Y>) -> Performed<Y>
-    ensures does { DoesTask (outer Y.Places.Places (disks_seen Y.Disk.Disk Y.Disk.closed) (sources_seen Y.Sources.after Y.Sources.clock Y.Sources.wakes)
-        (streams_seen Y.Input.Read Y.Output.Write Y.Output.flushed Y.Output.tried Y.Errors.Write Y.Errors.tried)) outside result.outside result.ending (task_view task.entry) }
+    ensures does { DoesTask ⟦<Y as Seen>⟧.outer outside result.outside result.ending (task_view task.entry) }
     ensures leaves { LeavesAlone outside result.outside (task_view task.entry) }
 {
     match task {
-        Task::Blocks => Performed {
-            ending: blocks(alloc, &mut outside),
-            outside,
-        },
-        Task::BlocksJson => Performed {
-            ending: blocks_in_json(alloc, &mut outside),
-            outside,
-        },
-        Task::Create(path) => Performed {
-            ending: create_at(&mut outside, path),
-            outside,
-        },
+        Task::Blocks => ended(blocks(alloc, &mut outside), outside),
+        Task::BlocksJson => ended(blocks_in_json(alloc, &mut outside), outside),
+        Task::Create(path) => ended(create_at(&mut outside, path), outside),
         Task::Run(path, words) => run_at(alloc, outside, path, words),
         Task::Live(path) => live_at(alloc, outside, path),
         Task::LiveJson(path) => live_json_at(alloc, outside, path),
         Task::LivePartial(path) => live_partial_at(alloc, outside, path),
         Task::Eval(path, words) => eval_at(alloc, outside, path, words),
-        Task::Show(path) => Performed {
-            ending: show_at(alloc, &mut outside, path),
-            outside,
-        },
-        Task::ShowJson(path) => Performed {
-            ending: export_as(alloc, &mut outside, Format::Json, path),
-            outside,
-        },
+        Task::Show(path) => ended(show_at(alloc, &mut outside, path), outside),
+        Task::ShowJson(path) => ended(export_as(alloc, &mut outside, Format::Json, path), outside),
         Task::Check(path, words) => check_at(alloc, outside, path, words),
-        Task::Rescue(path, new) => Performed {
-            ending: rescue_at(alloc, &mut outside, path, new),
+        Task::Rescue(path, new) => ended(rescue_at(alloc, &mut outside, path, new), outside),
+        Task::Export(format, path) => ended(export_at(alloc, &mut outside, format, path), outside),
+        Task::History(path) => ended(history_at(alloc, &mut outside, path), outside),
+        Task::ShowAt(path, changes) => ended(
+            show_past_at(alloc, &mut outside, path, changes),
             outside,
-        },
-        Task::Export(format, path) => Performed {
-            ending: export_at(alloc, &mut outside, format, path),
+        ),
+        Task::ShowJsonAt(path, changes) => ended(
+            export_as_past(alloc, &mut outside, Format::Json, path, changes),
             outside,
-        },
-        Task::History(path) => Performed {
-            ending: history_at(alloc, &mut outside, path),
+        ),
+        Task::ExportAt(format, path, changes) => ended(
+            export_past_at(alloc, &mut outside, format, path, changes),
             outside,
-        },
-        Task::ShowAt(path, changes) => Performed {
-            ending: show_past_at(alloc, &mut outside, path, changes),
+        ),
+        Task::Restore(path, changes, new) => ended(
+            restore_at(alloc, &mut outside, path, changes, new),
             outside,
-        },
-        Task::ShowJsonAt(path, changes) => Performed {
-            ending: export_as_past(alloc, &mut outside, Format::Json, path, changes),
-            outside,
-        },
-        Task::ExportAt(format, path, changes) => Performed {
-            ending: export_past_at(alloc, &mut outside, format, path, changes),
-            outside,
-        },
-        Task::Restore(path, changes, new) => Performed {
-            ending: restore_at(alloc, &mut outside, path, changes, new),
-            outside,
-        },
+        ),
     }
 }
 
@@ -292,8 +250,7 @@ fn end_unsent<E: Says>(alone: Ending, errors: &mut E) -> Ending
 
 /// Flushes what the output keeps back, at the end of the program.
 fn flush_output<Y: System>(outside: &mut Outside<Y>, alone: Ending) -> Ending
-    ensures { FlushesOutput (outer Y.Places.Places (disks_seen Y.Disk.Disk Y.Disk.closed) (sources_seen Y.Sources.after Y.Sources.clock Y.Sources.wakes)
-        (streams_seen Y.Input.Read Y.Output.Write Y.Output.flushed Y.Output.tried Y.Errors.Write Y.Errors.tried)) outside.old outside.new alone result }
+    ensures { FlushesOutput ⟦<Y as Seen>⟧.outer outside.old outside.new alone result }
 {
     match outside.output.flush_out() {
         Ok(()) => alone,
@@ -307,8 +264,7 @@ fn perform_unsent<Y: System>(
     words: Result<Vec<String>, io::ErrorKind>,
     mut outside: Outside<Y>,
 ) -> Performed<Y>
-    ensures { EndsWithin (outer Y.Places.Places (disks_seen Y.Disk.Disk Y.Disk.closed) (sources_seen Y.Sources.after Y.Sources.clock Y.Sources.wakes)
-        (streams_seen Y.Input.Read Y.Output.Write Y.Output.flushed Y.Output.tried Y.Errors.Write Y.Errors.tried)) (λ all. map string_bytes all.items) words outside result.outside result.ending }
+    ensures { EndsWithin ⟦<Y as Seen>⟧.outer (λ all. map string_bytes all.items) words outside result.outside result.ending }
 {
     match words {
         Ok(words) => match read_words(alloc, words.as_slice()) {
@@ -332,8 +288,7 @@ pub fn perform<Y: System>(
     words: Result<Vec<String>, io::ErrorKind>,
     outside: Outside<Y>,
 ) -> Performed<Y>
-    ensures { Performs (outer Y.Places.Places (disks_seen Y.Disk.Disk Y.Disk.closed) (sources_seen Y.Sources.after Y.Sources.clock Y.Sources.wakes)
-        (streams_seen Y.Input.Read Y.Output.Write Y.Output.flushed Y.Output.tried Y.Errors.Write Y.Errors.tried)) (λ all. map string_bytes all.items) words outside result.outside result.ending }
+    ensures { Performs ⟦<Y as Seen>⟧.outer (λ all. map string_bytes all.items) words outside result.outside result.ending }
 {
     let Performed {
         ending,

@@ -9,15 +9,16 @@ ghost use Rattle.program_endings.specs.AcceptProgram.{AcceptDone, AcceptEnds, ac
 ghost use Rattle.program_endings.specs.CheckProgram.{EndsChecked};
 ghost use Rattle.program_endings.specs.Records.{calling, given_disk, streams, writing};
 
-use crate::check_program::{CheckedSources, end_in_words, found_any};
+use crate::check_program::{end_in_words, found_any};
+use crate::passing::{Given, GivenBack};
 use crate::telling::no_files;
 use crate::{Ending, end_program};
 use arrivals::Sources;
-use check_report::{Chosen, Counts, Request};
+use check_report::{Chosen, Counts};
 use offline_programs::Says;
+use script_agenda::Outside;
 use sheet_check::{CheckFault, Checked, Manner, Progress, check_accepting};
-use sheet_files::{Close, FilesFault};
-use std::alloc::Global;
+use sheet_files::Close;
 use std::io::Write;
 
 /// Whether a check that accepts ends well: no field was left unanswered, and, where those of one session
@@ -44,51 +45,64 @@ fn end_acceptance<E: Says>(
 
 /// Checks the worksheet on a disk and accepts what differs, and closes the disk at the end.
 fn accept_on<D: Close, C: Sources, P: Progress, W: Write, E: Says>(
-    alloc: Global,
-    request: &Request,
-    disk: D,
-    sources: C,
+    manner: &Manner<'_>,
+    outside: Outside<D, C, W>,
     progress: &mut P,
-    output: &mut W,
     errors: &mut E,
-) -> CheckedSources<Ending, C>
-    ensures { AcceptDone (to_accept (way C.after C.clock C.wakes request.now.limit) request.now.chosen)
-        (given_disk (closable D.view D.closed) disk) (calling sources result.sources)
-        (streams (writing W.contents output.old output.new) (saying E.contents E.tried errors.old errors.new)) result.ending }
+) -> GivenBack<Ending, C, W>
+    ensures { AcceptDone (to_accept (way C.after C.clock C.wakes manner.now.request.now.limit) manner.now.request.now.chosen)
+        (given_disk (closable D.view D.closed) outside.disk) (calling outside.sources result.sources)
+        (streams (writing W.contents outside.output result.output) (saying E.contents E.tried errors.old errors.new)) result.ending }
 {
+    let Outside {
+        disk,
+        sources,
+        mut output,
+    } = outside;
     let Checked {
         disk,
         sources,
         answer,
-    } = check_accepting(&Manner { alloc, request }, disk, sources, progress, output);
+    } = check_accepting(manner, disk, sources, progress, &mut output);
     disk.close();
-    CheckedSources {
-        ending: end_acceptance(&request.chosen, answer, errors),
+    GivenBack {
+        ending: end_acceptance(&manner.request.chosen, answer, errors),
         sources,
+        output,
     }
 }
 
 /// The whole program `check --accept` on its files, which are opened to write, or on why they weren't
-/// opened: the report goes to `output`, each part flushed once what it tells is on the disk, and the
-/// line of a fault to `errors`. `progress` shows how far it is, and nothing at its end. The sources are given back.
+/// opened: the report goes to the output, each part flushed once what it tells is on the disk, and the
+/// line of a fault to `errors`. `progress` shows how far it is, and nothing at its end. Sources and output are given back.
 pub fn run_accept<D: Close, C: Sources, P: Progress, W: Write, E: Says>(
-    alloc: Global,
-    request: &Request,
-    files: Result<D, FilesFault>,
-    sources: C,
+    manner: &Manner<'_>,
+    given: Given<D, C, W>,
     progress: &mut P,
-    output: &mut W,
     errors: &mut E,
-) -> CheckedSources<Ending, C>
-    ensures { AcceptEnds (closable D.view D.closed) (to_accept (way C.after C.clock C.wakes request.now.limit) request.now.chosen)
-        files (calling sources result.sources)
-        (streams (writing W.contents output.old output.new) (saying E.contents E.tried errors.old errors.new)) result.ending }
+) -> GivenBack<Ending, C, W>
+    ensures { AcceptEnds (closable D.view D.closed) (to_accept (way C.after C.clock C.wakes manner.now.request.now.limit) manner.now.request.now.chosen)
+        given.files (calling given.sources result.sources)
+        (streams (writing W.contents given.output result.output) (saying E.contents E.tried errors.old errors.new)) result.ending }
 {
+    let Given {
+        files,
+        sources,
+        output,
+    } = given;
     match files {
-        Ok(disk) => accept_on(alloc, request, disk, sources, progress, output, errors),
-        Err(why) => CheckedSources {
+        Ok(disk) => {
+            let outside = Outside {
+                disk,
+                sources,
+                output,
+            };
+            accept_on(manner, outside, progress, errors)
+        }
+        Err(why) => GivenBack {
             ending: end_program(Err(no_files(why)), errors),
             sources,
+            output,
         },
     }
 }

@@ -14,12 +14,14 @@ use crate::ending::ended;
 use crate::eval_program::end_without;
 use crate::live_program::end_reported;
 use crate::messages::NotEvaluated;
+use crate::passing::{Given, GivenBack};
 use crate::telling::no_files;
 use crate::{Ending, end_program};
 use arrivals::Sources;
-use check_report::{Chosen, Counts, Format, Request};
+use check_report::{Chosen, Counts, Format};
 use evaluation::EvalFault;
 use offline_programs::Says;
+use script_agenda::Outside;
 use sheet_check::{CheckFault, Checked, Manner, Progress, check};
 use sheet_files::{Close, FilesFault};
 use std::alloc::Global;
@@ -33,12 +35,6 @@ pub struct CheckEnding {
     pub answer: Result<Counts, CheckFault>,
     /// How the program ends that checks this worksheet alone.
     pub ending: Ending,
-}
-
-/// How a check ended, and the sources that it gives back.
-pub struct CheckedSources<T, C> {
-    pub ending: T,
-    pub sources: C,
 }
 
 /// Whether no output differs, and no field was left unanswered.
@@ -128,41 +124,43 @@ fn end_report<W: Write, E: Says>(
 
 /// Ends the program by what a check answered.
 pub(crate) fn end_check<W: Write, E: Says>(
-    alloc: Global,
-    request: &Request,
+    manner: &Manner<'_>,
     answer: Result<Counts, CheckFault>,
     output: &mut W,
     errors: &mut E,
 ) -> Ending
-    ensures last { LastOfCheck request.now.format (writing W.contents output.old output.new) result.reported
-        (answer_of_check request.now.chosen answer) }
+    ensures last { LastOfCheck manner.now.request.now.format (writing W.contents output.old output.new) result.reported
+        (answer_of_check manner.now.request.now.chosen answer) }
     ensures ends { EndsChecked (saying E.contents E.tried errors.old errors.new) result
-        (answer_of_check request.now.chosen answer) }
+        (answer_of_check manner.now.request.now.chosen answer) }
 {
-    match answer {
-        Ok(counts) => {
-            let passed = is_passed(&request.chosen, counts);
-            end_report(alloc, request.format, Ok(passed), output, errors)
-        }
-        Err(fault) => end_report(alloc, request.format, Err(fault), output, errors),
-    }
+    let answer = match answer {
+        Ok(counts) => Ok(is_passed(&manner.request.chosen, counts)),
+        Err(fault) => Err(fault),
+    };
+    end_report(manner.alloc, manner.request.format, answer, output, errors)
 }
 
 /// Ends the program where the files of its worksheet weren't opened.
 pub(crate) fn end_unopened<W: Write, E: Says>(
-    alloc: Global,
-    format: Format,
+    manner: &Manner<'_>,
     why: FilesFault,
     output: &mut W,
     errors: &mut E,
 ) -> CheckEnding
     ensures answer { result.answer ≡ Err (checks.Run (printed.no_files why)) }
-    ensures last { LastOfCheck format (writing W.contents output.old output.new) result.ending.reported
+    ensures last { LastOfCheck manner.now.request.now.format (writing W.contents output.old output.new) result.ending.reported
         (Err (checks.Run (printed.no_files why))) }
     ensures ends { EndsAs (saying E.contents E.tried errors.old errors.new) result.ending (Err (printed.no_files why)) }
 {
     let fault = CheckFault::Run(no_files(why));
-    let ending = end_report(alloc, format, Err(fault), output, errors);
+    let ending = end_report(
+        manner.alloc,
+        manner.request.format,
+        Err(fault),
+        output,
+        errors,
+    );
     CheckEnding {
         answer: Err(fault),
         ending,
@@ -171,54 +169,67 @@ pub(crate) fn end_unopened<W: Write, E: Says>(
 
 /// Checks the worksheet on a disk, and closes the disk at the end.
 fn check_on<D: Close, C: Sources, P: Progress, W: Write, E: Says>(
-    alloc: Global,
-    request: &Request,
-    disk: D,
-    sources: C,
+    manner: &Manner<'_>,
+    outside: Outside<D, C, W>,
     progress: &mut P,
-    output: &mut W,
     errors: &mut E,
-) -> CheckedSources<CheckEnding, C>
-    ensures { CheckDone (one_by_one (way C.after C.clock C.wakes request.now.limit) request.now.chosen request.now.format)
-        (given_disk (closable D.view D.closed) disk) (calling sources result.sources)
-        (streams (writing W.contents output.old output.new) (saying E.contents E.tried errors.old errors.new)) result.ending }
+) -> GivenBack<CheckEnding, C, W>
+    ensures { CheckDone (one_by_one (way C.after C.clock C.wakes manner.now.request.now.limit) manner.now.request.now.chosen manner.now.request.now.format)
+        (given_disk (closable D.view D.closed) outside.disk) (calling outside.sources result.sources)
+        (streams (writing W.contents outside.output result.output) (saying E.contents E.tried errors.old errors.new)) result.ending }
 {
+    let Outside {
+        disk,
+        sources,
+        mut output,
+    } = outside;
     let Checked {
         disk,
         sources,
         answer,
-    } = check(&Manner { alloc, request }, disk, sources, progress, output);
+    } = check(manner, disk, sources, progress, &mut output);
     disk.close();
-    let ending = end_check(alloc, request, answer, output, errors);
-    CheckedSources {
+    let ending = end_check(manner, answer, &mut output, errors);
+    GivenBack {
         ending: CheckEnding { answer, ending },
         sources,
+        output,
     }
 }
 
-/// The whole program `check` on its files, or on why they weren't opened: the report goes to `output`,
+/// The whole program `check` on its files, or on why they weren't opened: the report goes to the output,
 /// each part flushed when it is known, and the line of a fault to `errors`; one in JSON has the fault
 /// last. `progress` shows how far it is, and nothing at its end. What the check answered is
-/// given beside how the program ends, and the sources are given back.
+/// given beside how the program ends, and sources and output are given back.
 pub fn run_check<D: Close, C: Sources, P: Progress, W: Write, E: Says>(
-    alloc: Global,
-    request: &Request,
-    files: Result<D, FilesFault>,
-    sources: C,
+    manner: &Manner<'_>,
+    given: Given<D, C, W>,
     progress: &mut P,
-    output: &mut W,
     errors: &mut E,
-) -> CheckedSources<CheckEnding, C>
+) -> GivenBack<CheckEnding, C, W>
     ensures { CheckEnds (closable D.view D.closed)
-        (one_by_one (way C.after C.clock C.wakes request.now.limit) request.now.chosen request.now.format)
-        files (calling sources result.sources)
-        (streams (writing W.contents output.old output.new) (saying E.contents E.tried errors.old errors.new)) result.ending }
+        (one_by_one (way C.after C.clock C.wakes manner.now.request.now.limit) manner.now.request.now.chosen manner.now.request.now.format)
+        given.files (calling given.sources result.sources)
+        (streams (writing W.contents given.output result.output) (saying E.contents E.tried errors.old errors.new)) result.ending }
 {
+    let Given {
+        files,
+        sources,
+        mut output,
+    } = given;
     match files {
-        Ok(disk) => check_on(alloc, request, disk, sources, progress, output, errors),
-        Err(why) => CheckedSources {
-            ending: end_unopened(alloc, request.format, why, output, errors),
+        Ok(disk) => {
+            let outside = Outside {
+                disk,
+                sources,
+                output,
+            };
+            check_on(manner, outside, progress, errors)
+        }
+        Err(why) => GivenBack {
+            ending: end_unopened(manner, why, &mut output, errors),
             sources,
+            output,
         },
     }
 }

@@ -10,8 +10,9 @@ ghost use Rattle.program_endings.specs.Records.{calling, given_disk, streams, wr
 ghost use Rattle.sheet_files.specs.Closing.{closable};
 
 use crate::ending::ended;
-use crate::live_program::{LiveEnding, end_reported, is_printed, with_last};
+use crate::live_program::{end_reported, is_printed, with_last};
 use crate::messages::{NotEvaluated, StoppedAt};
+use crate::passing::{Answered, Given, GivenBack};
 use crate::telling::no_files;
 use crate::{Ending, end_program};
 use arrivals::Sources;
@@ -19,7 +20,8 @@ use driver::{Noting, Over, Voiced, run_over};
 use evaluation::{EvalEnd, EvalFault, Plan, Programs};
 use field_agenda::{ByFields, FieldLines, Stage};
 use offline_programs::{RunFault, Says};
-use sheet_files::{Close, FilesFault};
+use script_agenda::Outside;
+use sheet_files::Close;
 use std::alloc::Global;
 use std::io::Write;
 use tellings::{Counts, Frame, Overs, Tells};
@@ -45,13 +47,18 @@ fn status_by(counts: Counts) -> u8
     }
 }
 
-/// What a program answered, whether its last text went out, and what it was given back.
-struct Evaluated<S, W> {
-    answer: Result<EvalEnd, EvalFault>,
-    whole: bool,
-    sources: S,
-    output: W,
+/// Which fields are evaluated, and how what comes of them is printed.
+#[derive(Drop)]
+pub struct FieldSetting<T> {
+    /// Where memory is taken from.
+    pub alloc: Global,
+    pub plan: Plan,
+    /// The voice of what is printed.
+    pub tells: T,
 }
+
+/// What an evaluation answered.
+type Evaluated<S, W> = Answered<Result<EvalEnd, EvalFault>, S, W>;
 
 /// What the program answers after a run that came to its end so.
 fn answer_at(stage: Stage) -> Result<EvalEnd, EvalFault>
@@ -80,21 +87,18 @@ fn answer_after(run: Result<(), RunFault>, stage: Stage) -> Result<EvalEnd, Eval
 
 /// Evaluates the fields of the worksheet on a disk, and closes the disk at the end.
 fn evaluate_on<W: Write, D: Close, S: Sources, T: Tells + Copy, P: Programs + Drop>(
-    alloc: Global,
-    plan: Plan,
+    setting: FieldSetting<T>,
     programs: P,
-    tells: T,
-    output: W,
-    disk: D,
-    sources: S,
+    outside: Outside<D, S, W>,
 ) -> Evaluated<S, W>
-    ensures { EvaluatesTo (eval_setting plan programs P.finds T.voice S.after S.clock S.wakes) (given_disk (closable D.view D.closed) disk)
-        (calling sources result.sources) (writing W.contents output result.output) result.whole result.answer }
+    ensures { EvaluatesTo (eval_setting setting.plan programs P.finds T.voice S.after S.clock S.wakes) (given_disk (closable D.view D.closed) outside.disk)
+        (calling outside.sources result.sources) (writing W.contents outside.output result.output) result.whole result.answer }
 {
+    let FieldSetting { alloc, plan, tells } = setting;
     let sink = Noting {
         sink: Voiced {
             tells: FieldLines { tells },
-            writer: output,
+            writer: outside.output,
         },
         whole: true,
     };
@@ -105,14 +109,14 @@ fn evaluate_on<W: Write, D: Close, S: Sources, T: Tells + Copy, P: Programs + Dr
         sink,
         agenda,
         answer,
-    } = run_over(alloc, disk, sources, sink, agenda);
+    } = run_over(alloc, outside.disk, outside.sources, sink, agenda);
     disk.close();
     let stage = agenda.stage();
     let Noting {
         sink: Voiced { tells: _, writer },
         whole,
     } = sink;
-    Evaluated {
+    Answered {
         answer: answer_after(answer, stage),
         whole,
         sources,
@@ -248,25 +252,22 @@ fn end_evaluation<W: Write, E: Says, T: Tells>(
 
 /// Evaluates the fields of the worksheet on a disk, and reports how that ended.
 fn end_on<W: Write, E: Says, D: Close, S: Sources, T: Tells + Copy, P: Programs + Drop>(
-    alloc: Global,
-    plan: Plan,
+    setting: FieldSetting<T>,
     programs: P,
-    tells: T,
-    output: W,
+    outside: Outside<D, S, W>,
     errors: &mut E,
-    disk: D,
-    sources: S,
-) -> LiveEnding<S, W>
-    ensures { EvaluationBegun (eval_setting plan programs P.finds T.voice S.after S.clock S.wakes) (given_disk (closable D.view D.closed) disk) (calling sources result.sources)
-        (streams (writing W.contents output result.output) (saying E.contents E.tried errors.old errors.new)) result.ending }
+) -> GivenBack<Ending, S, W>
+    ensures { EvaluationBegun (eval_setting setting.plan programs P.finds T.voice S.after S.clock S.wakes) (given_disk (closable D.view D.closed) outside.disk) (calling outside.sources result.sources)
+        (streams (writing W.contents outside.output result.output) (saying E.contents E.tried errors.old errors.new)) result.ending }
 {
-    let Evaluated {
+    let tells = setting.tells;
+    let Answered {
         answer,
         whole,
         sources,
         mut output,
-    } = evaluate_on(alloc, plan, programs, tells, output, disk, sources);
-    LiveEnding {
+    } = evaluate_on(setting, programs, outside);
+    GivenBack {
         ending: end_evaluation(answer, whole, &tells, &mut output, errors),
         sources,
         output,
@@ -275,24 +276,25 @@ fn end_on<W: Write, E: Says, D: Close, S: Sources, T: Tells + Copy, P: Programs 
 
 /// Writes the voice's first message, evaluates, and reports how that ended.
 fn end_greeted<W: Write, E: Says, D: Close, S: Sources, T: Tells + Copy, P: Programs + Drop>(
-    alloc: Global,
-    plan: Plan,
+    setting: FieldSetting<T>,
     programs: P,
-    tells: T,
-    mut output: W,
+    mut outside: Outside<D, S, W>,
     errors: &mut E,
-    disk: D,
-    sources: S,
-) -> LiveEnding<S, W>
-    ensures { EvaluationEnded (eval_setting plan programs P.finds T.voice S.after S.clock S.wakes) (given_disk (closable D.view D.closed) disk) (calling sources result.sources)
-        (streams (writing W.contents output result.output) (saying E.contents E.tried errors.old errors.new)) result.ending }
+) -> GivenBack<Ending, S, W>
+    ensures { EvaluationEnded (eval_setting setting.plan programs P.finds T.voice S.after S.clock S.wakes) (given_disk (closable D.view D.closed) outside.disk) (calling outside.sources result.sources)
+        (streams (writing W.contents outside.output result.output) (saying E.contents E.tried errors.old errors.new)) result.ending }
 {
-    match tells.frame(Frame::Hello, &mut output) {
-        Ok(()) => end_on(alloc, plan, programs, tells, output, errors, disk, sources),
+    match setting.tells.frame(Frame::Hello, &mut outside.output) {
+        Ok(()) => end_on(setting, programs, outside, errors),
         Err(why) => {
+            let Outside {
+                disk,
+                sources,
+                mut output,
+            } = outside;
             disk.close();
-            LiveEnding {
-                ending: end_reported(Err(why), &tells, &mut output, errors),
+            GivenBack {
+                ending: end_reported(Err(why), &setting.tells, &mut output, errors),
                 sources,
                 output,
             }
@@ -301,29 +303,37 @@ fn end_greeted<W: Write, E: Says, D: Close, S: Sources, T: Tells + Copy, P: Prog
 }
 
 /// The whole program `eval` on its files, or on why they weren't opened. Each program that it needs is looked for
-/// first. What comes of each field goes to
-/// `output`, flushed at once, and the counts at the end. The line of a fault goes to `errors`, and so does
-/// that of the place where a strict evaluation stopped. Sources and output are given back.
+/// first, by `programs`. What comes of each field goes to the output, flushed at once, and the counts at the end. The line of a
+/// fault goes to `errors`, and so does that of the place where a strict evaluation stopped. Sources and output
+/// are given back.
 pub fn run_evaluation<W: Write, E: Says, D: Close, S: Sources, T: Tells + Copy, P: Programs + Drop>(
-    alloc: Global,
-    plan: Plan,
+    setting: FieldSetting<T>,
     programs: P,
-    tells: T,
-    mut output: W,
+    given: Given<D, S, W>,
     errors: &mut E,
-    files: Result<D, FilesFault>,
-    sources: S,
-) -> LiveEnding<S, W>
-    ensures unopened { IfErr files (LiveUnopened T.voice (calling sources result.sources)
-        (streams (writing W.contents output result.output) (saying E.contents E.tried errors.old errors.new)) result.ending) }
+) -> GivenBack<Ending, S, W>
+    ensures unopened { IfErr given.files (LiveUnopened T.voice (calling given.sources result.sources)
+        (streams (writing W.contents given.output result.output) (saying E.contents E.tried errors.old errors.new)) result.ending) }
 
-    ensures files { IfOk files (λ disk. EvaluationEnded (eval_setting plan programs P.finds T.voice S.after S.clock S.wakes) (given_disk (closable D.view D.closed) disk) (calling sources result.sources)
-        (streams (writing W.contents output result.output) (saying E.contents E.tried errors.old errors.new)) result.ending) }
+    ensures files { IfOk given.files (λ disk. EvaluationEnded (eval_setting setting.plan programs P.finds T.voice S.after S.clock S.wakes) (given_disk (closable D.view D.closed) disk) (calling given.sources result.sources)
+        (streams (writing W.contents given.output result.output) (saying E.contents E.tried errors.old errors.new)) result.ending) }
 {
+    let Given {
+        files,
+        sources,
+        mut output,
+    } = given;
     match files {
-        Ok(disk) => end_greeted(alloc, plan, programs, tells, output, errors, disk, sources),
-        Err(why) => LiveEnding {
-            ending: end_reported(Err(no_files(why)), &tells, &mut output, errors),
+        Ok(disk) => {
+            let outside = Outside {
+                disk,
+                sources,
+                output,
+            };
+            end_greeted(setting, programs, outside, errors)
+        }
+        Err(why) => GivenBack {
+            ending: end_reported(Err(no_files(why)), &setting.tells, &mut output, errors),
             sources,
             output,
         },

@@ -15,17 +15,23 @@ use sheet_files::{Close, FilesFault};
 use std::alloc::Global;
 use std::io::Write;
 
-/// Writes the worksheet of a disk in a format, and closes the disk at the end.
+/// In which format a worksheet is written, and with which title, where the format has one.
+#[derive(Clone, Copy)]
+pub struct ExportForm<'a> {
+    pub format: Format,
+    pub title: &'a [u8],
+}
+
+/// Writes the worksheet of a disk in this form, and closes the disk at the end.
 fn export_disk<D: Close, W: Write>(
     alloc: Global,
-    format: Format,
     disk: D,
-    title: &[u8],
+    form: &ExportForm<'_>,
     output: &mut W,
 ) -> Result<(), ExportFault>
-    ensures { ExportedFrom (given_disk (closable D.view D.closed) disk) format title.now (writing W.contents output.old output.new) result }
+    ensures { ExportedFrom (given_disk (closable D.view D.closed) disk) form.now.format form.now.title.now (writing W.contents output.old output.new) result }
 {
-    let Exported { disk, answer } = export(alloc, format, disk, title, output);
+    let Exported { disk, answer } = export(alloc, form.format, disk, form.title, output);
     disk.close();
     answer
 }
@@ -42,21 +48,19 @@ pub(crate) fn end_export<E: Says>(answer: Result<(), ExportFault>, errors: &mut 
 }
 
 /// The whole program `export` on its files, or on why they weren't opened: the worksheet goes to
-/// `output` in this format, with this title where the format has one, and the line of a fault to
-/// `errors`.
+/// `output` in this form, and the line of a fault to `errors`.
 pub fn run_export<D: Close, W: Write, E: Says>(
     alloc: Global,
-    format: Format,
     files: Result<D, FilesFault>,
-    title: &[u8],
+    form: &ExportForm<'_>,
     output: &mut W,
     errors: &mut E,
 ) -> Ending
-    ensures { ExportEnds (closable D.view D.closed) files format title.now
+    ensures { ExportEnds (closable D.view D.closed) files form.now.format form.now.title.now
         (streams (writing W.contents output.old output.new) (saying E.contents E.tried errors.old errors.new)) result }
 {
     let answer = match files {
-        Ok(disk) => export_disk(alloc, format, disk, title, output),
+        Ok(disk) => export_disk(alloc, disk, form, output),
         Err(why) => Err(ExportFault::Run(no_files(why))),
     };
     end_export(answer, errors)

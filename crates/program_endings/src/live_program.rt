@@ -10,6 +10,7 @@ ghost use Rattle.program_endings.specs.Records.{calling, given_disk, streams, wr
 ghost use Rattle.program_endings.specs.StrictProgram.{TellsStop, strict_status};
 ghost use Rattle.sheet_files.specs.Closing.{closable};
 
+use crate::passing::{Answered, Given, GivenBack};
 use crate::strict_program::end_strict;
 use crate::telling::no_files;
 use crate::{Ending, end_program};
@@ -18,34 +19,24 @@ use arrivals::{InputLines, Sources};
 use driver::{Noting, Over, Voiced, run_over};
 use live::Manner;
 use offline_programs::{RunFault, Says};
-use sheet_files::{Close, FilesFault};
+use script_agenda::Outside;
+use sheet_files::Close;
 use std::alloc::Global;
 use std::io::{Read, Write};
 use tellings::{Frame, Tells};
 
-/// What a program answered, whether its last text went out, and what it was given back.
-struct Answered<S, W> {
-    answer: Result<Option<u64>, RunFault>,
-    reported: bool,
-    sources: S,
-    output: W,
+/// How the lines of an input are taken, and how what comes of them is printed.
+#[derive(Clone, Copy)]
+pub struct LineSetting<T> {
+    /// Where memory is taken from.
+    pub alloc: Global,
+    pub manner: Manner,
+    /// The voice of what is printed.
+    pub tells: T,
 }
 
-/// How a program ended, and what it was given back.
-#[derive(Drop)]
-pub struct LiveEnding<S, W> {
-    pub ending: Ending,
-    pub sources: S,
-    pub output: W,
-}
-
-/// What a run over a disk answered, whether its last text went out, and what it was given back.
-struct Lived<S, W> {
-    answer: Result<Option<u64>, RunFault>,
-    whole: bool,
-    sources: S,
-    output: W,
-}
+/// What a run of lines answered: the number of the line after which a strict one stopped, if it did.
+type Lived<S, W> = Answered<Result<Option<u64>, RunFault>, S, W>;
 
 /// A fault is printed last.
 fn with_fault<S, W: Write, T: Tells + Copy>(
@@ -53,15 +44,15 @@ fn with_fault<S, W: Write, T: Tells + Copy>(
     tells: T,
     mut output: W,
     sources: S,
-) -> Answered<S, W>
+) -> Lived<S, W>
     ensures answer { result.answer ≡ Err why }
-    ensures last { FaultReported T.voice W.contents output result.output result.reported why }
+    ensures last { FaultReported T.voice W.contents output result.output result.whole why }
     ensures sources { result.sources ≡ sources }
 {
-    let reported = tells.fault(why, &mut output);
+    let whole = tells.fault(why, &mut output);
     Answered {
         answer: Err(why),
-        reported,
+        whole,
         sources,
         output,
     }
@@ -94,42 +85,38 @@ fn answer_after(run: Result<(), RunFault>, stopped: Option<u64>) -> Result<Optio
 
 /// Runs over a disk with these lines, and closes the disk at the end.
 fn live_on<R: Read, W: Write, D: Close, S: Sources, T: Tells + Copy>(
-    alloc: Global,
-    manner: Manner,
+    setting: LineSetting<T>,
     lines: InputLines<R>,
-    tells: T,
-    output: W,
-    disk: D,
-    sources: S,
+    outside: Outside<D, S, W>,
 ) -> Lived<S, W>
 where
     R: Drop,
     requires { lines.held ≡ nothing_held }
-    ensures { LivesOn (live_setting manner T.voice S.after S.clock S.wakes) (R.remaining lines.reader) (given_disk (closable D.view D.closed) disk)
-        (calling sources result.sources) (writing W.contents output result.output) result.whole result.answer }
+    ensures { LivesOn (live_setting setting.manner T.voice S.after S.clock S.wakes) (R.remaining lines.reader) (given_disk (closable D.view D.closed) outside.disk)
+        (calling outside.sources result.sources) (writing W.contents outside.output result.output) result.whole result.answer }
 {
     let sink = Noting {
         sink: Voiced {
-            tells,
-            writer: output,
+            tells: setting.tells,
+            writer: outside.output,
         },
         whole: true,
     };
-    let agenda = ByLines::new(alloc, manner, lines);
+    let agenda = ByLines::new(setting.alloc, setting.manner, lines);
     let Over {
         disk,
         sources,
         sink,
         agenda,
         answer,
-    } = run_over(alloc, disk, sources, sink, agenda);
+    } = run_over(setting.alloc, outside.disk, outside.sources, sink, agenda);
     disk.close();
     let stopped = agenda.stopped_at();
     let Noting {
         sink: Voiced { tells: _, writer },
         whole,
     } = sink;
-    Lived {
+    Answered {
         answer: answer_after(answer, stopped),
         whole,
         sources,
@@ -143,14 +130,14 @@ fn with_end<S, W: Write, T: Tells + Copy>(
     tells: T,
     mut output: W,
     sources: S,
-) -> Answered<S, W>
-    ensures ended { EndsFramed T.voice (writing W.contents output result.output) result.reported stopped result.answer }
+) -> Lived<S, W>
+    ensures ended { EndsFramed T.voice (writing W.contents output result.output) result.whole stopped result.answer }
     ensures sources { result.sources ≡ sources }
 {
     match tells.frame(Frame::End, &mut output) {
         Ok(()) => Answered {
             answer: Ok(stopped),
-            reported: true,
+            whole: true,
             sources,
             output,
         },
@@ -165,15 +152,15 @@ fn with_run_fault<S, W: Write, T: Tells + Copy>(
     tells: T,
     output: W,
     sources: S,
-) -> Answered<S, W>
+) -> Lived<S, W>
     ensures answer { result.answer ≡ Err why }
-    ensures ended { EndsFaulted T.voice (writing W.contents output result.output) whole result.reported why }
+    ensures ended { EndsFaulted T.voice (writing W.contents output result.output) whole result.whole why }
     ensures sources { result.sources ≡ sources }
 {
     if is_printed(why) {
         return Answered {
             answer: Err(why),
-            reported: whole,
+            whole,
             sources,
             output,
         };
@@ -181,17 +168,17 @@ fn with_run_fault<S, W: Write, T: Tells + Copy>(
     with_fault(why, tells, output, sources)
 }
 
-/// Prints what stands last after a run that was answered so, of whose last text this is known.
-fn end_lived<S, W: Write, T: Tells + Copy>(
-    answer: Result<Option<u64>, RunFault>,
-    whole: bool,
-    tells: T,
-    output: W,
-    sources: S,
-) -> Answered<S, W>
-    ensures ended { LivedEnds T.voice (writing W.contents output result.output) answer whole result.reported result.answer }
-    ensures sources { result.sources ≡ sources }
+/// Prints what stands last after a run.
+fn end_lived<S, W: Write, T: Tells + Copy>(lived: Lived<S, W>, tells: T) -> Lived<S, W>
+    ensures ended { LivedEnds T.voice (writing W.contents lived.output result.output) lived.answer lived.whole result.whole result.answer }
+    ensures sources { result.sources ≡ lived.sources }
 {
+    let Answered {
+        answer,
+        whole,
+        sources,
+        output,
+    } = lived;
     match answer {
         Ok(stopped) => with_end(stopped, tells, output, sources),
         Err(why) => with_run_fault(why, whole, tells, output, sources),
@@ -200,69 +187,57 @@ fn end_lived<S, W: Write, T: Tells + Copy>(
 
 /// Runs over a disk with these lines, and prints what stands last.
 fn live_lines<R: Read, W: Write, D: Close, S: Sources, T: Tells + Copy>(
-    alloc: Global,
-    manner: Manner,
+    setting: LineSetting<T>,
     lines: InputLines<R>,
-    tells: T,
-    output: W,
-    disk: D,
-    sources: S,
-) -> Answered<S, W>
+    outside: Outside<D, S, W>,
+) -> Lived<S, W>
 where
     R: Drop,
     requires { lines.held ≡ nothing_held }
-    ensures { LiveBegun (live_setting manner T.voice S.after S.clock S.wakes) (R.remaining lines.reader) (given_disk (closable D.view D.closed) disk)
-        (calling sources result.sources) (writing W.contents output result.output) result.reported result.answer }
+    ensures { LiveBegun (live_setting setting.manner T.voice S.after S.clock S.wakes) (R.remaining lines.reader) (given_disk (closable D.view D.closed) outside.disk)
+        (calling outside.sources result.sources) (writing W.contents outside.output result.output) result.whole result.answer }
 {
-    let Lived {
-        answer,
-        whole,
-        sources,
-        output,
-    } = live_on(alloc, manner, lines, tells, output, disk, sources);
-    end_lived(answer, whole, tells, output, sources)
+    let tells = setting.tells;
+    end_lived(live_on(setting, lines, outside), tells)
 }
 
 /// Runs over a disk with the lines of an input, and prints what stands last.
 fn live_read<R: Read, W: Write, D: Close, S: Sources, T: Tells + Copy>(
-    alloc: Global,
-    manner: Manner,
+    setting: LineSetting<T>,
     input: &mut R,
-    tells: T,
-    output: W,
-    disk: D,
-    sources: S,
-) -> Answered<S, W>
-    ensures { LiveBegun (live_setting manner T.voice S.after S.clock S.wakes) (R.remaining input.old) (given_disk (closable D.view D.closed) disk)
-        (calling sources result.sources) (writing W.contents output result.output) result.reported result.answer }
+    outside: Outside<D, S, W>,
+) -> Lived<S, W>
+    ensures { LiveBegun (live_setting setting.manner T.voice S.after S.clock S.wakes) (R.remaining input.old) (given_disk (closable D.view D.closed) outside.disk)
+        (calling outside.sources result.sources) (writing W.contents outside.output result.output) result.whole result.answer }
 {
-    match InputLines::new(alloc, input) {
-        Ok(lines) => live_lines(alloc, manner, lines, tells, output, disk, sources),
+    match InputLines::new(setting.alloc, input) {
+        Ok(lines) => live_lines(setting, lines, outside),
         Err(_) => {
-            disk.close();
-            with_fault(RunFault::OutOfMemory, tells, output, sources)
+            outside.disk.close();
+            with_fault(
+                RunFault::OutOfMemory,
+                setting.tells,
+                outside.output,
+                outside.sources,
+            )
         }
     }
 }
 
 /// Writes the voice's first message, goes on live, and prints what stands last.
 fn live_framed<R: Read, W: Write, D: Close, S: Sources, T: Tells + Copy>(
-    alloc: Global,
-    manner: Manner,
+    setting: LineSetting<T>,
     input: &mut R,
-    tells: T,
-    mut output: W,
-    disk: D,
-    sources: S,
-) -> Answered<S, W>
-    ensures { LiveAnswer (live_setting manner T.voice S.after S.clock S.wakes) (R.remaining input.old) (given_disk (closable D.view D.closed) disk)
-        (calling sources result.sources) (writing W.contents output result.output) result.reported result.answer }
+    mut outside: Outside<D, S, W>,
+) -> Lived<S, W>
+    ensures { LiveAnswer (live_setting setting.manner T.voice S.after S.clock S.wakes) (R.remaining input.old) (given_disk (closable D.view D.closed) outside.disk)
+        (calling outside.sources result.sources) (writing W.contents outside.output result.output) result.whole result.answer }
 {
-    match tells.frame(Frame::Hello, &mut output) {
-        Ok(()) => live_read(alloc, manner, input, tells, output, disk, sources),
+    match setting.tells.frame(Frame::Hello, &mut outside.output) {
+        Ok(()) => live_read(setting, input, outside),
         Err(why) => {
-            disk.close();
-            with_fault(why, tells, output, sources)
+            outside.disk.close();
+            with_fault(why, setting.tells, outside.output, outside.sources)
         }
     }
 }
@@ -319,26 +294,22 @@ fn end_stopped<E: Says>(answer: Result<Option<u64>, RunFault>, said: bool, error
 
 /// Holds the worksheet on a disk open, and tells the fault, or where it stopped.
 pub(crate) fn end_live<R: Read, W: Write, E: Says, D: Close, S: Sources, T: Tells + Copy>(
-    alloc: Global,
-    manner: Manner,
+    setting: LineSetting<T>,
     input: &mut R,
-    tells: T,
-    output: W,
+    outside: Outside<D, S, W>,
     errors: &mut E,
-    disk: D,
-    sources: S,
-) -> LiveEnding<S, W>
-    ensures { LiveEnded (live_setting manner T.voice S.after S.clock S.wakes) (R.remaining input.old) (given_disk (closable D.view D.closed) disk) (calling sources result.sources)
-        (streams (writing W.contents output result.output) (saying E.contents E.tried errors.old errors.new)) result.ending }
+) -> GivenBack<Ending, S, W>
+    ensures { LiveEnded (live_setting setting.manner T.voice S.after S.clock S.wakes) (R.remaining input.old) (given_disk (closable D.view D.closed) outside.disk) (calling outside.sources result.sources)
+        (streams (writing W.contents outside.output result.output) (saying E.contents E.tried errors.old errors.new)) result.ending }
 {
     let Answered {
         answer,
-        reported,
+        whole,
         sources,
         output,
-    } = live_framed(alloc, manner, input, tells, output, disk, sources);
-    LiveEnding {
-        ending: end_stopped(answer, reported, errors),
+    } = live_framed(setting, input, outside);
+    GivenBack {
+        ending: end_stopped(answer, whole, errors),
         sources,
         output,
     }
@@ -346,29 +317,37 @@ pub(crate) fn end_live<R: Read, W: Write, E: Says, D: Close, S: Sources, T: Tell
 
 /// The whole program `live`, or `run` line by line where lines come first, on its files, or on why they weren't
 /// opened: its lines come from `input`, which is read only where there are files, and what comes of them and
-/// of interpreters goes to `output`, flushed at once. The line of a fault goes to `errors`, and so does that of
+/// of interpreters goes to the output, flushed at once. The line of a fault goes to `errors`, and so does that of
 /// the line after which a strict input stopped. Sources and output are given back.
 pub fn run_live<R: Read, W: Write, E: Says, D: Close, S: Sources, T: Tells + Copy>(
-    alloc: Global,
-    manner: Manner,
+    setting: LineSetting<T>,
     input: &mut R,
-    tells: T,
-    mut output: W,
+    given: Given<D, S, W>,
     errors: &mut E,
-    files: Result<D, FilesFault>,
-    sources: S,
-) -> LiveEnding<S, W>
+) -> GivenBack<Ending, S, W>
     // It is printed before a line is read.
-    ensures unopened { IfErr files (λ why. (input.new ≡ input.old) × LiveUnopened T.voice (calling sources result.sources)
-        (streams (writing W.contents output result.output) (saying E.contents E.tried errors.old errors.new)) result.ending why) }
+    ensures unopened { IfErr given.files (λ why. (input.new ≡ input.old) × LiveUnopened T.voice (calling given.sources result.sources)
+        (streams (writing W.contents given.output result.output) (saying E.contents E.tried errors.old errors.new)) result.ending why) }
 
-    ensures files { IfOk files (λ disk. LiveEnded (live_setting manner T.voice S.after S.clock S.wakes) (R.remaining input.old) (given_disk (closable D.view D.closed) disk)
-        (calling sources result.sources) (streams (writing W.contents output result.output) (saying E.contents E.tried errors.old errors.new)) result.ending) }
+    ensures files { IfOk given.files (λ disk. LiveEnded (live_setting setting.manner T.voice S.after S.clock S.wakes) (R.remaining input.old) (given_disk (closable D.view D.closed) disk)
+        (calling given.sources result.sources) (streams (writing W.contents given.output result.output) (saying E.contents E.tried errors.old errors.new)) result.ending) }
 {
+    let Given {
+        files,
+        sources,
+        mut output,
+    } = given;
     match files {
-        Ok(disk) => end_live(alloc, manner, input, tells, output, errors, disk, sources),
-        Err(why) => LiveEnding {
-            ending: end_reported(Err(no_files(why)), &tells, &mut output, errors),
+        Ok(disk) => {
+            let outside = Outside {
+                disk,
+                sources,
+                output,
+            };
+            end_live(setting, input, outside, errors)
+        }
+        Err(why) => GivenBack {
+            ending: end_reported(Err(no_files(why)), &setting.tells, &mut output, errors),
             sources,
             output,
         },

@@ -9,14 +9,14 @@ ghost use Rattle.sheet_files.specs.Closing.{closable};
 ghost use Rattle.worksheet.specs.declared.op.Op.{Op};
 
 use crate::ending::{answered, ended};
-use crate::export_program::end_export;
+use crate::export_program::{ExportForm, end_export};
 use crate::messages::NoPast;
 use crate::telling::no_files;
 use crate::{Ending, end_program};
 use offline_programs::{RunFault, Says, tell_sheet};
 use past::{Listed, PastFault, Unread, list_changes, read_first};
 use recovery::Rescued;
-use sheet_export::{Format, write_in_format};
+use sheet_export::write_in_format;
 use sheet_files::{Close, FilesFault};
 use std::alloc::Global;
 use std::io::Write;
@@ -72,20 +72,19 @@ pub fn run_show_past<D: Close, W: Write, E: Says>(
     end_program(answered(answer), errors)
 }
 
-/// The end of the program `export` of an earlier worksheet: it goes to `output` in this format, with this
-/// title where the format has one, and the line of a fault to `errors`. The disk is closed.
+/// The end of the program `export` of an earlier worksheet: it goes to `output` in this form, and the line of a
+/// fault to `errors`. The disk is closed.
 pub fn run_export_past<D: Close, W: Write, E: Says>(
     alloc: Global,
-    format: Format,
     found: Rescued<D>,
-    title: &[u8],
+    form: &ExportForm<'_>,
     output: &mut W,
     errors: &mut E,
 ) -> Ending
-    ensures { PastExported D.closed found format title.now
+    ensures { PastExported D.closed found form.now.format form.now.title.now
         (streams (writing W.contents output.old output.new) (saying E.contents E.tried errors.old errors.new)) result }
 {
-    let answer = write_in_format(alloc, format, title, &found.sheet, output);
+    let answer = write_in_format(alloc, form.format, form.title, &found.sheet, output);
     found.disk.close();
     end_export(answer, errors)
 }

@@ -1,16 +1,17 @@
 //! The program `run` over a worksheet's files, in words and without a limit of time, from its files on.
-ghost use Rattle.std.specs.Prelude.{◌≡◌, ◌≤◌, IfErr, IfOk, None};
+ghost use Rattle.std.specs.Prelude.{◌≡◌, IfErr, IfOk, None, Some};
 ghost use Rattle.live.specs.Records.{line_by_line};
-ghost use Rattle.program_endings.specs.LiveProgram.{live_setting};
+ghost use Rattle.program_endings.specs.LiveProgram.{LiveEnded, live_setting};
 ghost use Rattle.offline_programs.specs.Saying.{saying};
 ghost use Rattle.program_endings.specs.Programs.{EndsUnopened};
 ghost use Rattle.program_endings.specs.Records.{calling, given_disk, streams, writing};
 ghost use Rattle.program_endings.specs.ScriptProgram as meant;
-ghost use Rattle.program_endings.specs.ScriptProgram.{ScriptEnds};
+ghost use Rattle.program_endings.specs.ScriptProgram.{RunsRead, RunsWhole, ScriptEnds};
 ghost use Rattle.sheet_files.specs.Closing.{closable};
 ghost use Rattle.tellings.specs.Words.{in_words};
 
-use crate::live_program::{LiveEnding, end_live};
+use crate::live_program::{LineSetting, end_live};
+use crate::passing::{Given, GivenBack};
 use crate::strict_program::end_strict;
 use crate::telling::no_files;
 use crate::{Ending, end_program};
@@ -19,7 +20,7 @@ use bstr::ByteSlice;
 use live::{LiveLine, Manner, read_live_line};
 use offline_programs::{Says, read_input};
 use script_agenda::{Outside, Ran, run_read};
-use sheet_files::{Close, FilesFault};
+use sheet_files::Close;
 use sheet_text::LineFault;
 use std::alloc::Global;
 use std::io::{Read, Write};
@@ -52,77 +53,141 @@ fn has_form(alloc: Global, script: &[u8]) -> bool
     script.lines().any(|line| says_form(alloc, line))
 }
 
-/// The whole program `run` on its files, or on why they weren't opened, strict or not: the script comes from
-/// `input`, which is read whole, and only where there are files, and what its lines give goes to `output`, each
-/// line or group of commands flushed. The line of a fault goes to `errors`, and so does that of the line after
-/// which a strict run stopped.
-///
-/// A script of which a line has a form that only `live` has (`print ID`, `wait SECONDS`, `interrupt NAME`, `export
-/// FORMAT`, `begin`, `end`) is taken line by line, as by `run_live` where lines come first.
-pub fn run_script<R: Read, W: Write, E: Says, D: Close, S: Sources>(
+/// Takes the lines of a script one by one over the worksheet on a disk, as `live` does it where lines come first.
+fn run_by_lines<W: Write, E: Says, D: Close, S: Sources>(
     alloc: Global,
     strict: bool,
-    input: &mut R,
-    output: W,
+    script: &[u8],
+    outside: Outside<D, S, W>,
     errors: &mut E,
-    files: Result<D, FilesFault>,
-    sources: S,
-) -> LiveEnding<S, W>
-    // Why there are no files is printed; the input isn't read.
-    ensures unopened { IfErr files (λ why. (input.new ≡ input.old) × EndsUnopened (calling sources result.sources)
-        (streams (writing W.contents output result.output) (saying E.contents E.tried errors.old errors.new)) result.ending why) }
-
-    ensures files { IfOk files (λ disk. ScriptEnds (live_setting (line_by_line None strict) in_words S.after S.clock S.wakes) (R.remaining input.old) (given_disk (closable D.view D.closed) disk) (calling sources result.sources)
-        (streams (writing W.contents output result.output) (saying E.contents E.tried errors.old errors.new)) result.ending) }
+) -> GivenBack<Ending, S, W>
+    ensures { LiveEnded (live_setting (line_by_line None strict) in_words S.after S.clock S.wakes) (Some script.now) (given_disk (closable D.view D.closed) outside.disk) (calling outside.sources result.sources)
+        (streams (writing W.contents outside.output result.output) (saying E.contents E.tried errors.old errors.new)) result.ending }
 {
-    let disk = match files {
-        Ok(disk) => disk,
-        Err(why) => {
-            return LiveEnding {
-                ending: end_program(Err(no_files(why)), errors),
-                sources,
-                output,
-            };
-        }
-    };
-    let whole = match read_input(alloc, input) {
-        Ok(whole) => whole,
-        Err(fault) => {
-            disk.close();
-            return LiveEnding {
-                ending: end_program(Err(fault), errors),
-                sources,
-                output,
-            };
-        }
-    };
-    let script = whole.as_slice();
-    if has_form(alloc, script) {
-        let manner = Manner {
+    let setting = LineSetting {
+        alloc,
+        manner: Manner {
             lines_first: true,
             limit: None,
             strict,
-        };
-        let mut lines = script;
-        return end_live(
-            alloc, manner, &mut lines, InWords, output, errors, disk, sources,
-        );
-    }
-    let given = Outside {
-        disk,
-        sources,
-        output,
+        },
+        tells: InWords,
     };
-    let Ran { outside, answer } = run_read(alloc, script, strict, given);
+    let mut lines = script;
+    end_live(setting, &mut lines, outside, errors)
+}
+
+/// Runs a script over the worksheet on a disk, and closes the disk at the end.
+fn run_as_script<W: Write, E: Says, D: Close, S: Sources>(
+    alloc: Global,
+    strict: bool,
+    script: &[u8],
+    outside: Outside<D, S, W>,
+    errors: &mut E,
+) -> GivenBack<Ending, S, W>
+    ensures { RunsWhole (live_setting (line_by_line None strict) in_words S.after S.clock S.wakes) script.now (given_disk (closable D.view D.closed) outside.disk) (calling outside.sources result.sources)
+        (streams (writing W.contents outside.output result.output) (saying E.contents E.tried errors.old errors.new)) result.ending }
+{
+    let Ran { outside, answer } = run_read(alloc, script, strict, outside);
     let Outside {
         disk,
         sources,
         output,
     } = outside;
     disk.close();
-    LiveEnding {
+    GivenBack {
         ending: end_strict(answer, errors),
         sources,
         output,
+    }
+}
+
+/// The one or the other, by what stands in the script.
+fn run_whole<W: Write, E: Says, D: Close, S: Sources>(
+    alloc: Global,
+    strict: bool,
+    script: &[u8],
+    outside: Outside<D, S, W>,
+    errors: &mut E,
+) -> GivenBack<Ending, S, W>
+    ensures { RunsRead (live_setting (line_by_line None strict) in_words S.after S.clock S.wakes) script.now (given_disk (closable D.view D.closed) outside.disk) (calling outside.sources result.sources)
+        (streams (writing W.contents outside.output result.output) (saying E.contents E.tried errors.old errors.new)) result.ending }
+{
+    if has_form(alloc, script) {
+        run_by_lines(alloc, strict, script, outside, errors)
+    } else {
+        run_as_script(alloc, strict, script, outside, errors)
+    }
+}
+
+/// Reads a script whole, and runs it over the worksheet on a disk.
+fn run_on<R: Read, W: Write, E: Says, D: Close, S: Sources>(
+    alloc: Global,
+    strict: bool,
+    input: &mut R,
+    outside: Outside<D, S, W>,
+    errors: &mut E,
+) -> GivenBack<Ending, S, W>
+    ensures { ScriptEnds (live_setting (line_by_line None strict) in_words S.after S.clock S.wakes) (R.remaining input.old) (given_disk (closable D.view D.closed) outside.disk) (calling outside.sources result.sources)
+        (streams (writing W.contents outside.output result.output) (saying E.contents E.tried errors.old errors.new)) result.ending }
+{
+    match read_input(alloc, input) {
+        Ok(whole) => run_whole(alloc, strict, whole.as_slice(), outside, errors),
+        Err(fault) => {
+            let Outside {
+                disk,
+                sources,
+                output,
+            } = outside;
+            disk.close();
+            GivenBack {
+                ending: end_program(Err(fault), errors),
+                sources,
+                output,
+            }
+        }
+    }
+}
+
+/// The whole program `run` on its files, or on why they weren't opened, strict or not: the script comes from
+/// `input`, which is read whole, and only where there are files, and what its lines give goes to the output, each
+/// line or group of commands flushed. The line of a fault goes to `errors`, and so does that of the line after
+/// which a strict run stopped. Sources and output are given back.
+///
+/// A script of which a line has a form that only `live` has (`print ID`, `wait SECONDS`, `interrupt NAME`, `export
+/// FORMAT`, `begin`, `end`) is taken line by line, as by [`run_live`](crate::run_live) where lines come first.
+pub fn run_script<R: Read, W: Write, E: Says, D: Close, S: Sources>(
+    alloc: Global,
+    strict: bool,
+    input: &mut R,
+    given: Given<D, S, W>,
+    errors: &mut E,
+) -> GivenBack<Ending, S, W>
+    // Why there are no files is printed; the input isn't read.
+    ensures unopened { IfErr given.files (λ why. (input.new ≡ input.old) × EndsUnopened (calling given.sources result.sources)
+        (streams (writing W.contents given.output result.output) (saying E.contents E.tried errors.old errors.new)) result.ending why) }
+
+    ensures files { IfOk given.files (λ disk. ScriptEnds (live_setting (line_by_line None strict) in_words S.after S.clock S.wakes) (R.remaining input.old) (given_disk (closable D.view D.closed) disk) (calling given.sources result.sources)
+        (streams (writing W.contents given.output result.output) (saying E.contents E.tried errors.old errors.new)) result.ending) }
+{
+    let Given {
+        files,
+        sources,
+        output,
+    } = given;
+    match files {
+        Ok(disk) => {
+            let outside = Outside {
+                disk,
+                sources,
+                output,
+            };
+            run_on(alloc, strict, input, outside, errors)
+        }
+        Err(why) => GivenBack {
+            ending: end_program(Err(no_files(why)), errors),
+            sources,
+            output,
+        },
     }
 }

@@ -5,7 +5,7 @@ use super::opened;
 use arrivals::ScriptedSources;
 use child_calls::Scripted;
 use disk_model::{Choice, Fill};
-use program_endings::{read_rescued, run_create, run_rescue, run_script, run_show};
+use program_endings::{Given, read_rescued, run_create, run_rescue, run_script, run_show};
 use std::alloc::Global;
 
 /// What a crash leaves of the ranges that were being written.
@@ -39,10 +39,13 @@ fn runs(alloc: Global, folder: &Folder, script: &[u8], reported: &[u8]) -> bool 
     let children = Scripted::new(alloc, Vec::new(alloc));
     let sources = ScriptedSources::new(children, Vec::new(alloc));
     let mut input = script;
-    let text: Vec<u8> = Vec::new(alloc);
     let mut errors: Vec<u8> = Vec::new(alloc);
-    let files = opened::open(&Machine { folder }, alloc, "sheet");
-    let done = run_script(alloc, false, &mut input, text, &mut errors, files, sources);
+    let given = Given {
+        files: opened::open(&Machine { folder }, alloc, "sheet"),
+        sources,
+        output: Vec::new(alloc),
+    };
+    let done = run_script(alloc, false, &mut input, given, &mut errors);
     done.ending.status == 0 && done.output.as_slice() == reported
 }
 

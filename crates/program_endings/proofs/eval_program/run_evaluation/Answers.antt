@@ -8,7 +8,7 @@ use Rattle.program_endings.proofs.eval_program.run_evaluation.Goals as goal
 
 pub returns-in-Ok-clause-files : goal.returns-in-Ok-clause-files
 returns-in-Ok-clause-files g c =
-    subst (λ files. IfOk files (λ disk. EvaluationEnded (eval_setting c.args.plan c.args.programs g.P.Programs.finds g.T.Tells.voice g.S.Children.after g.S.Sources.clock g.S.Sources.wakes)
-    (given_disk (closable g.D.Disk.view g.D.Close.closed) disk) (calling c.args.sources c.end_greeted.result.sources)
-    (streams (writing g.W.Write.contents c.args.output c.end_greeted.result.output) (saying g.E.Write.contents g.E.Says.tried c.args.errors.now c.end_greeted.new.errors)) c.end_greeted.result.ending))
+    subst (λ files. IfOk files (λ disk. EvaluationEnded (eval_setting c.args.setting.plan c.args.programs g.P.Programs.finds g.T.Tells.voice g.S.Children.after g.S.Sources.clock g.S.Sources.wakes)
+    (given_disk (closable g.D.Disk.view g.D.Close.closed) disk) (calling c.args.given.sources c.end_greeted.result.sources)
+    (streams (writing g.W.Write.contents c.args.given.output c.end_greeted.result.output) (saying g.E.Write.contents g.E.Says.tried c.args.errors.now c.end_greeted.new.errors)) c.end_greeted.result.ending))
     (sym c.in-Ok.is) c.end_greeted.ensures

@@ -9,5 +9,5 @@ returns-then-is_printed-clause-ended g c =
 
 pub returns-clause-ended : goal.returns-clause-ended
 returns-clause-ended g c =
-    faulted_by g.T.Tells.voice (writing g.W.Write.contents c.args.output c.with_fault.result.output) c.args.whole c.with_fault.result.reported c.args.why c.is_printed.result false c.is_printed.ensures c.if-is_printed.false
+    faulted_by g.T.Tells.voice (writing g.W.Write.contents c.args.output c.with_fault.result.output) c.args.whole c.with_fault.result.whole c.args.why c.is_printed.result false c.is_printed.ensures c.if-is_printed.false
     c.with_fault.ensures.last
