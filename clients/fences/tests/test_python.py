@@ -30,7 +30,8 @@ class Choice(unittest.TestCase):
 
     def test_how_many_there_are(self) -> None:
         with mock.patch.object(python, "DEBIANS", sys.executable):
-            self.assertEqual([python.count_there(names, (3, 9)) for names in (["json", "no_such_module"], [], ["json", "os"])], [1, 0, 2])
+            some: List[List[str]] = [["json", "no_such_module"], [], ["json", "os"]]
+            self.assertEqual([python.count_there(names, (3, 9)) for names in some], [1, 0, 2])
             self.assertLess(python.count_there(["json"], (9, 9)), 0)
         with mock.patch.object(python, "DEBIANS", "/nowhere/python3"):
             self.assertLess(python.count_there(["json"], (3, 9)), 0)
