@@ -16,6 +16,10 @@ from language_lines import LANGUAGES, Lines
 from odd_lines import ODD_LINES
 
 
+def is_wanted(output: str, wanted: str) -> bool:
+    return wanted[2:] in output if wanted.startswith("..") else output == wanted
+
+
 @dataclasses.dataclass(frozen=True)
 class Trial:
     """What is tried of an adapter."""

@@ -1,10 +1,12 @@
-"""The program that tests of clients run over: the one that TMHOST names, one on PATH, or the one that was built here."""
+"""What tests of clients share: the program that they run over, which TMHOST names, or is on PATH, or was built here; what is in a worksheet; processes; a folder."""
 
 import os
 import shutil
+import signal
 import subprocess
 import sys
 import time
+import unittest
 from typing import List
 
 CLIENTS = os.path.dirname(os.path.realpath(__file__))
@@ -37,3 +39,26 @@ def fields_of(sheet: str) -> List[Field]:
                 raise
             time.sleep(0.05)
     raise AssertionError("the worksheet stays in use")
+
+
+def children_of(pid: int) -> List[int]:
+    """The processes that this one has started and that it hasn't waited for."""
+    try:
+        with open(f"/proc/{pid}/task/{pid}/children", encoding="ascii") as file:
+            return [int(word) for word in file.read().split()]
+    except FileNotFoundError:
+        return []
+
+
+def heed_interrupts() -> None:
+    """For a process that is about to start: a script that is started by `&` ignores SIGINT, and so would what it starts."""
+    signal.signal(signal.SIGINT, signal.SIG_DFL)
+
+
+class InFolder(unittest.TestCase):
+    """A test with a folder of its own."""
+
+    folder: str
+
+    def place(self, name: str) -> str:
+        return os.path.join(self.folder, name)

@@ -102,7 +102,8 @@ def is_text(text, longest, below=b""):
     return len(text) <= longest and all(byte >= 32 or byte in below for byte in text)
 
 
-def escaped(text, kept=b""):
+def escaped(text: bytes, kept: bytes = b"") -> bytes:
+    """A text in print: bytes below 32, and 127, as `\\x` and two digits."""
     return b"".join(b"\\x%02x" % byte if (byte < 32 or byte == 127) and byte not in kept else bytes([byte]) for byte in text)
 
 

@@ -4,6 +4,8 @@ import random
 import re
 from typing import NamedTuple, Optional, Union
 
+from area import escaped
+
 MOST_DEPTH = 32
 MOST_PROMPT = 1_024
 
@@ -133,11 +135,6 @@ def read(block: Block) -> Read:
     prompt, default = (found[-1] if found else None for found in texts)
     output = Block(b"verbatim", b":", ()) if is_apart(block) else without(block)
     return Read(None if prompt is None else prompt[:MOST_PROMPT], default, output)
-
-
-def escaped(text: bytes, kept: bytes = b"") -> bytes:
-    """A text in print: bytes below 32, and 127, as `\\x` and two digits."""
-    return b"".join(b"\\x%02x" % byte if (byte < 32 or byte == 127) and byte not in kept else bytes([byte]) for byte in text)
 
 
 def quoted(text: bytes) -> bytes:

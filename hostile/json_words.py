@@ -4,7 +4,8 @@ import base64
 import json
 from typing import Any, Callable, NoReturn, Optional
 
-from json_blocks import MOST_DEPTH, MOST_PROMPT, Block, Item, escaped, printed, quoted, read, shown
+from area import escaped
+from json_blocks import MOST_DEPTH, MOST_PROMPT, Block, Item, printed, quoted, read, shown
 from model import Difference
 
 Object = dict[str, Any]

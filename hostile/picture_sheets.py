@@ -8,6 +8,7 @@ import os
 import sys
 from typing import NamedTuple, Optional
 
+from area import escaped
 from formula_readers import Element, output_of
 from model import Difference
 from picture_cases import OPENING, Case, png
@@ -37,8 +38,7 @@ class Field(NamedTuple):
 
 
 def as_printed(text: bytes, kept: bytes = b"") -> str:
-    escaped = b"".join(b"\\x%02x" % byte if (byte < 32 or byte == 127) and byte not in kept else bytes([byte]) for byte in text)
-    return escaped.decode(errors="replace")
+    return escaped(text, kept).decode(errors="replace")
 
 
 def drawn_in_page(case: Case) -> Optional[Element]:

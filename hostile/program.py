@@ -55,6 +55,11 @@ class Program:
     def run(self, sheet: str, script: bytes, **more: Any) -> subprocess.CompletedProcess[bytes]:
         return subprocess.run([self.path, "run", sheet], input=script, capture_output=True, **more)
 
+    def told(self, *words: str) -> tuple[int, bytes, bytes]:
+        """The status of a task, and what it wrote on its two streams."""
+        ended = subprocess.run([self.path, *words], stdin=subprocess.DEVNULL, capture_output=True)
+        return ended.returncode, ended.stdout, ended.stderr
+
     def show(self, sheet: str) -> str:
         """What is printed of a worksheet. An interpreter that was just being started when its host was killed may have the lock for a moment
         more."""

@@ -1,21 +1,13 @@
 """Which fences a text has, as CommonMark says it and as cmark sees it."""
 import random
 import shutil
-import subprocess
 import unittest
-import xml.etree.ElementTree
 from typing import Dict, List, Tuple
 
+from random_commonmark import fences_by_cmark, random_markdown
 from tmhost_fences.blocks import Block, blocks_of
 
-TAG = "{http://commonmark.org/xml/1.0}code_block"
-# No tabs: before a fence cmark counts one as a single column.
-STARTS = ["", "", "", " ", "  ", "   ", "    ", "> ", ">", "> > ", "- ", "-", "+ ", "* ", "1. ", "2. ", "10) ", "-   ", "-     ", "      "]
-LINES = [
-    "```py", "```", "````", "~~~r", "~~~", "``` a b", "```a`b", "~~~ x`y", "text", "", "", "# head", "#text", "---", "===", "* * *", "- - -", "___",
-    "<div>", "</div>", "<!-- c", "-->", "<pre>", "</pre>", "<b>", "<b x='1'>", "<?p", "?>", "<!X", ">", "1. one", "3. three", "-", "=", "`````js", "<a", "]]>",
-    "[a]: /b",
-]
+MORE = ["[a]: /b"]  # lines
 TEXTS = 400
 RARE = 4  # of so many texts, in which markdown-it doesn't agree with cmark in a corner of lists
 # Texts, each with the lines and info strings of its fences, and what stands in them.
@@ -44,17 +36,6 @@ def found_in(text: str) -> List[Block]:
     return blocks_of((text[:-1] if text.endswith("\n") else text).split("\n"))
 
 
-def random_text(rng: random.Random) -> str:
-    starts = ["".join(rng.choices(STARTS, k=rng.choice([0, 1, 1, 2, 3]))) for _ in range(rng.randint(1, 14))]
-    return "\n".join(start + rng.choice(LINES) for start in starts) + "\n"
-
-
-def their_fences(text: str) -> List[Tuple[str, str]]:
-    done = subprocess.run(["cmark", "-t", "xml"], input=text.encode("utf-8"), stdout=subprocess.PIPE, check=True)
-    blocks = xml.etree.ElementTree.fromstring(done.stdout).iter(TAG)
-    return [(block.get("info", ""), block.text or "") for block in blocks if block.get("info")]
-
-
 class Blocks(unittest.TestCase):
     def test_fences(self) -> None:
         for text, blocks in FENCES.items():
@@ -80,8 +61,8 @@ class Blocks(unittest.TestCase):
     def test_as_cmark_sees_them(self) -> None:
         count, others = 0, []
         for seed in range(TEXTS):
-            text = random_text(random.Random(seed))
-            theirs = their_fences(text)
+            text = random_markdown(random.Random(seed), MORE)
+            theirs = fences_by_cmark(text)
             ours = [(block.info_text, "".join(line + "\n" for line in block.content)) for block in found_in(text) if block.info_text]
             others += [] if ours == theirs else [text]
             count += len(theirs)

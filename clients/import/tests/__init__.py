@@ -3,4 +3,4 @@ import os
 import sys
 
 CLIENTS = os.path.join(os.path.dirname(os.path.realpath(__file__)), "..", "..")
-sys.path[:0] = [os.path.join(CLIENTS, name) for name in ("fences", "python")]
+sys.path[:0] = [CLIENTS, *(os.path.join(CLIENTS, name) for name in ("fences", "python"))]

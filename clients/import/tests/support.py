@@ -8,6 +8,8 @@ import subprocess
 import tempfile
 import unittest
 
+from tested import InFolder
+
 HERE = os.path.dirname(os.path.realpath(__file__))
 ROOT = os.path.dirname(os.path.dirname(os.path.dirname(HERE)))
 COMMAND = os.path.join(os.path.dirname(HERE), "tmhost-import")
@@ -38,24 +40,21 @@ def notebook(*cells: object, **more: object) -> str:
     return json.dumps({"cells": cells, "metadata": PYTHON, "nbformat": 4, "nbformat_minor": 4, **more})
 
 
-class Case(unittest.TestCase):
+class Case(InFolder):
     def setUp(self) -> None:
         self.folder = tempfile.mkdtemp(prefix="tmhost-import-test.")
         self.addCleanup(shutil.rmtree, self.folder)
 
-    def path(self, name: str) -> str:
-        return os.path.join(self.folder, name)
-
     def write(self, name: str, data: str | bytes) -> str:
-        with open(self.path(name), "wb") as file:
+        with open(self.place(name), "wb") as file:
             file.write(data.encode("utf-8") if isinstance(data, str) else data)
-        return self.path(name)
+        return self.place(name)
 
     def files(self) -> dict[str, bytes]:
         """The files of the folder, each with its bytes."""
         found = {}
         for name in os.listdir(self.folder):
-            with open(self.path(name), "rb") as file:
+            with open(self.place(name), "rb") as file:
                 found[name] = file.read()
         return found
 

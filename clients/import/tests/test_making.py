@@ -35,11 +35,11 @@ class Making(Case):
     def before(self, text: str) -> dict[str, str]:
         """The environment in which a program stands before tmhost."""
         os.chmod(self.write("before.sh", "#!/bin/sh\n" + text), 0o700)
-        return {"TMHOST": self.path("before.sh"), "REAL": os.path.abspath(PROGRAM), "TAKEN": self.path("new")}
+        return {"TMHOST": self.place("before.sh"), "REAL": os.path.abspath(PROGRAM), "TAKEN": self.place("new")}
 
     def states(self) -> dict[str, tuple[int, int, int]]:
         """What the system tells of each name in the folder, which changes with what it names."""
-        told = {name: os.lstat(self.path(name)) for name in os.listdir(self.folder)}
+        told = {name: os.lstat(self.place(name)) for name in os.listdir(self.folder)}
         return {name: (state.st_ino, state.st_mtime_ns, state.st_ctime_ns) for name, state in told.items()}
 
     def not_made(self, said: str, **environment: str) -> None:
@@ -82,8 +82,8 @@ class Making(Case):
         self.assertEqual(self.do("sheet", data=notebook(code("x"))).status, 0)
         self.write("file", "text")
         self.write("second.alt", "text")
-        os.mkdir(self.path("folder"))
-        os.symlink("nowhere", self.path("link"))
+        os.mkdir(self.place("folder"))
+        os.symlink("nowhere", self.place("link"))
         before = self.states()
         for name in ("sheet", "file", "second", "folder", "link"):
             done = self.do(name, data=notebook(code("y")))
@@ -126,10 +126,10 @@ class Making(Case):
     def test_files_that_others_make_meanwhile(self) -> None:
         for taken in ("new", "new.alt"):
             environment = self.before(MEANWHILE)
-            done = self.do("new", data=notebook(code("x")), **{**environment, "TAKEN": self.path(taken)})
+            done = self.do("new", data=notebook(code("x")), **{**environment, "TAKEN": self.place(taken)})
             self.assertEqual((done.status, done.out), (1, ""), done.errors)
             self.assertEqual({name: data for name, data in self.files().items() if name != "before.sh"}, {taken: b"theirs"})
-            os.unlink(self.path(taken))
+            os.unlink(self.place(taken))
 
     def test_a_limit_of_the_file_size(self) -> None:
         """The limit is one that the program's file meets when some of its fields are there."""
@@ -145,7 +145,7 @@ class Making(Case):
         environment = {**os.environ, **self.before(WAITS)}
         for number, status in ((signal.SIGINT, 130), (signal.SIGTERM, 143), (signal.SIGHUP, 129)):
             process = subprocess.Popen([COMMAND, document, "new"], cwd=self.folder, env=environment)
-            while not glob.glob(self.path(".tmhost-import-*/sheet.alt")):
+            while not glob.glob(self.place(".tmhost-import-*/sheet.alt")):
                 self.assertIsNone(process.poll())
                 time.sleep(0.01)
             process.send_signal(number)
@@ -161,7 +161,7 @@ class Making(Case):
             statuses = [process.wait(300) for process in two]
             self.assertEqual(sorted(statuses), [0, 1])
             self.assertEqual(self.host("export", "script", new), self.do("--script", documents[statuses.index(0)]).out)
-            self.assertFalse(glob.glob(self.path(".tmhost-import-*")))
+            self.assertFalse(glob.glob(self.place(".tmhost-import-*")))
 
 
 @needs_nbformat
@@ -184,14 +184,14 @@ class Words(Case):
 
     def test_an_installed_command(self) -> None:
         """It finds its parts and the adapters beside itself, also through a link."""
-        share, here = self.path("share/tmhost"), os.path.dirname(COMMAND)
+        share, here = self.place("share/tmhost"), os.path.dirname(COMMAND)
         shutil.copytree(os.path.join(here, "tmhost_import"), os.path.join(share, "clients/import/tmhost_import"))
         for name in ("fences/tmhost_fences", "python/tmhost"):
             shutil.copytree(os.path.join(here, "..", name), os.path.join(share, "clients", name))
         shutil.copy(COMMAND, os.path.join(share, "clients/import"))
-        os.symlink("share/tmhost/clients/import/tmhost-import", self.path("link"))
+        os.symlink("share/tmhost/clients/import/tmhost-import", self.place("link"))
         environment = {**os.environ, "PATH": "/usr/bin:/bin"}
-        words = [self.path("link"), "--script"]
+        words = [self.place("link"), "--script"]
         done = subprocess.run(words, input=notebook(code("x")).encode("utf-8"), capture_output=True, env=environment)
         self.assertIn(b"the adapter of python is not where it was installed: say --session python=WORDS", done.stderr)
         os.makedirs(os.path.join(share, "adapters/bin"))

@@ -134,9 +134,9 @@ class Notebooks(Case):
         self.assertIn("and 2 more like these", done.errors)
 
     def test_without_nbformat(self) -> None:
-        os.mkdir(self.path("modules"))
+        os.mkdir(self.place("modules"))
         self.write("modules/nbformat.py", "raise ImportError")
-        done = self.do("new", data=notebook(code("x")), PYTHONPATH=self.path("modules"))
+        done = self.do("new", data=notebook(code("x")), PYTHONPATH=self.place("modules"))
         self.assertEqual(done.status, 1)
         self.assertIn("python3-nbformat", done.errors)
-        self.assertEqual(self.do("--script", "--format", "markdown", data="```python\nx\n```\n", PYTHONPATH=self.path("modules")).status, 0)
+        self.assertEqual(self.do("--script", "--format", "markdown", data="```python\nx\n```\n", PYTHONPATH=self.place("modules")).status, 0)

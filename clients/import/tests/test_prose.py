@@ -400,7 +400,7 @@ class Words(Case):
             done = subprocess.run([PROSE, *words], input=b"", capture_output=True)
             self.assertEqual(done.returncode, status, words)
         self.write("x.md", field("mine", "*a*", NONE))
-        done = subprocess.run([PROSE, "--prose", "mine", self.path("x.md")], capture_output=True)
+        done = subprocess.run([PROSE, "--prose", "mine", self.place("x.md")], capture_output=True)
         self.assertEqual((done.returncode, done.stdout, done.stderr), (0, b"*a*\n", b""))
 
     def test_what_stays_is_told(self) -> None:

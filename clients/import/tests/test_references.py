@@ -4,20 +4,13 @@ import random
 import shutil
 import subprocess
 import unittest
-import xml.etree.ElementTree
 
+from random_commonmark import fences_by_cmark, random_markdown
 from tmhost_fences.troubles import Trouble
 from tmhost_import import fences, org
 
 from .support import Case
 
-TAG = "{http://commonmark.org/xml/1.0}code_block"
-# No tabs: before a fence cmark counts one as a single column.
-STARTS = ["", "", "", " ", "  ", "   ", "    ", "> ", ">", "> > ", "- ", "-", "+ ", "* ", "1. ", "2. ", "10) ", "-   ", "-     ", "      "]
-LINES = [
-    "```py", "```", "````", "~~~r", "~~~", "``` a b", "```a`b", "~~~ x`y", "text", "", "", "# head", "#text", "---", "===", "* * *", "- - -", "___",
-    "<div>", "</div>", "<!-- c", "-->", "<pre>", "</pre>", "<b>", "<b x='1'>", "<?p", "?>", "<!X", ">", "1. one", "3. three", "-", "=", "`````js", "<a", "]]>",
-]
 BEGINS = [
     "#+begin_src python", "#+BEGIN_SRC R :session foo", "#+begin_src py :session *R* :eval no", "#+begin_src", "#+begin_srcx",
     "#+begin_src sh -n 5 :results output :session a b :exports both", "#+begin_src c -i :session none", "#+begin_src x :eval never-export",
@@ -48,11 +41,6 @@ EMACS = """
 """
 
 
-def random_markdown(rng: random.Random) -> str:
-    starts = ["".join(rng.choices(STARTS, k=rng.choice([0, 1, 1, 2, 3]))) for _ in range(rng.randint(1, 14))]
-    return "\n".join(start + rng.choice(LINES) for start in starts) + "\n"
-
-
 def random_block(rng: random.Random) -> list[str]:
     indent = rng.choice(INDENTS)
     body = [rng.choice([indent, rng.choice(INDENTS)]) + rng.choice(BODIES) for _ in range(rng.randint(0, 4))]
@@ -64,11 +52,6 @@ def random_org(rng: random.Random) -> str:
     for _ in range(rng.randint(1, 4)):
         lines += random_block(rng) + [rng.choice(INDENTS) + rng.choice(AROUND) for _ in range(rng.randint(0, 2))]
     return "\n".join(lines) + "\n"
-
-
-def their_fences(text: str) -> list[tuple[str, str]]:
-    done = subprocess.run(["cmark", "-t", "xml"], input=text.encode("utf-8"), capture_output=True, check=True)
-    return [(block.get("info", ""), block.text or "") for block in xml.etree.ElementTree.fromstring(done.stdout).iter(TAG) if block.get("info")]
 
 
 def their_blocks(found: list[list[str]]) -> list[tuple[str, str, str | None, str]]:
@@ -83,7 +66,7 @@ class References(Case):
         count = 0
         for seed in range(400):
             text = random_markdown(random.Random(seed))
-            theirs = their_fences(text)
+            theirs = fences_by_cmark(text)
             ours = [(fence.info, "".join(line + "\n" for line in fence.lines)) for fence in fences.fences_of(text) if fence.info]
             self.assertEqual(ours, theirs, (seed, text))
             count += len(theirs)

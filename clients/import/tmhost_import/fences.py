@@ -240,6 +240,7 @@ class Reader:
 
 
 def lines_of(text: str) -> list[str]:
+    """The lines of a text, without their ends, whichever these are."""
     return text.replace("\r\n", "\n").replace("\r", "\n").removesuffix("\n").split("\n")
 
 

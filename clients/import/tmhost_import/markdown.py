@@ -8,6 +8,7 @@ from tmhost_fences.front import front_of, matter_end
 from tmhost_fences.troubles import Trouble
 
 from .cells import Cell, Document, plain, prose_cell
+from .fences import lines_of
 from .prose import REFERENCE
 from .sessions import Sessions
 
@@ -20,10 +21,6 @@ ANSWER_BEGINS, ANSWER_ENDS = "<!-- tmhost-answer -->", "<!-- /tmhost-answer -->"
 NO_ANSWER = re.compile(r"\*no answer(?:: \w+)?\*")
 FORMULA = re.compile(r"\$.*\$")
 MOST_NAMED = 5  # fences, in a message
-
-
-def lines_of(text: str) -> list[str]:
-    return text.replace("\r\n", "\n").replace("\r", "\n").removesuffix("\n").split("\n")
 
 
 def without_answers(lines: list[str], first: int) -> list[str]:

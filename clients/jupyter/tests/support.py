@@ -13,8 +13,9 @@ from typing import Any, Dict, List, Optional, Tuple
 HERE = os.path.dirname(os.path.realpath(__file__))
 CLIENT = os.path.dirname(HERE)
 ROOT = os.path.dirname(os.path.dirname(CLIENT))
-sys.path[:0] = [CLIENT, *(os.path.join(os.path.dirname(CLIENT), name) for name in ("python", "fences"))]
+sys.path[:0] = [CLIENT, os.path.dirname(CLIENT), *(os.path.join(os.path.dirname(CLIENT), name) for name in ("python", "fences"))]
 
+from tested import InFolder  # noqa: E402
 from tmhost import Field, InUse, Worksheet  # noqa: E402
 
 COMMAND = os.path.join(CLIENT, "tmhost-jupyter-kernel")
@@ -47,7 +48,7 @@ def fields_of(path: str) -> List[Field]:
         return worksheet.fields
 
 
-class Case(unittest.TestCase):
+class Case(InFolder):
     """A test with a folder of its own, in which Jupyter finds its kernels and front ends work."""
 
     def setUp(self) -> None:
@@ -69,9 +70,6 @@ class Case(unittest.TestCase):
             os.environ.pop(name, None)
         else:
             os.environ[name] = value
-
-    def path(self, name: str) -> str:
-        return os.path.join(self.folder, name)
 
     def command(self, *words: str) -> "subprocess.CompletedProcess[str]":
         return subprocess.run([sys.executable, "-B", COMMAND, *words], cwd=self.folder, stdin=subprocess.DEVNULL, capture_output=True, text=True)

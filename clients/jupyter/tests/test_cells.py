@@ -13,14 +13,14 @@ from tmhost_jupyter.cells import Cells, Names
 class Fields(Case):
     def setUp(self) -> None:
         super().setUp()
-        subprocess.run([PROGRAM, "create", self.path("sheet")], check=True)
+        subprocess.run([PROGRAM, "create", self.place("sheet")], check=True)
 
     def opened(self) -> Cells:
         """As a kernel opens it."""
-        worksheet: Worksheet = eventually(self.path("sheet"))
+        worksheet: Worksheet = eventually(self.place("sheet"))
         self.addCleanup(worksheet.close)
         worksheet.ensure_session("a", INTERPRETER)
-        return Cells(worksheet, "a", Names(self.path("sheet.cells")))
+        return Cells(worksheet, "a", Names(self.place("sheet.cells")))
 
     def inputs(self, cells: Cells) -> List[str]:
         return [field.input for field in cells.worksheet.fields]
@@ -45,17 +45,17 @@ class Fields(Case):
         cells = self.opened()
         ids = [cells.field(text, text, False).id for text in ("one", "two", "one ", "two ")]
         cells.worksheet.close()
-        os.unlink(self.path("sheet.cells"))
+        os.unlink(self.place("sheet.cells"))
         cells = self.opened()
         self.assertEqual([cells.field(text, text, False).id for text in ("one", "two", "one ", "two ")], ids)
 
     def test_the_file_of_names_is_cut(self) -> None:
-        with open(self.path("names"), "w", encoding="utf-8") as file:
+        with open(self.place("names"), "w", encoding="utf-8") as file:
             file.write('["x", 1]\n[3, "y"]\n7\n["z", 2]\n["w", ')
-        names = Names(self.path("names"))
+        names = Names(self.place("names"))
         self.assertEqual(names.fields, {"x": 1, "z": 2})
         names.add("w", 3)
-        self.assertEqual(Names(self.path("names")).fields, {"x": 1, "z": 2, "w": 3})
+        self.assertEqual(Names(self.place("names")).fields, {"x": 1, "z": 2, "w": 3})
 
     def test_by_text(self) -> None:
         cells = self.opened()
@@ -93,5 +93,5 @@ class Fields(Case):
         cells.worksheet.remove(1)
         cells = self.reopened(cells)
         self.assertEqual(cells.field("one", "x", False).id, 2)
-        with open(self.path("sheet.cells"), encoding="utf-8") as file:
+        with open(self.place("sheet.cells"), encoding="utf-8") as file:
             self.assertEqual([json.loads(line) for line in file], [["x", 1], ["x", 2]])

@@ -20,7 +20,7 @@ class Languages(unittest.TestCase):
 @needs_program
 class Installing(Case):
     def kernel(self, name: str) -> Dict[str, Any]:
-        with open(self.path(f"share/jupyter/kernels/{name}/kernel.json"), encoding="utf-8") as file:
+        with open(self.place(f"share/jupyter/kernels/{name}/kernel.json"), encoding="utf-8") as file:
             found: Dict[str, Any] = json.load(file)
         return found
 
@@ -41,25 +41,25 @@ class Installing(Case):
         self.assertEqual((self.kernel("tmhost-lua")["argv"][0], self.kernel("tmhost-lua")["argv"][-2:]), (DEBIANS, ["--", "tmhost-lua"]))
 
     def test_words(self) -> None:
-        os.mkdir(self.path("bin"))
-        with open(self.path("bin/mine"), "w", encoding="utf-8"):
+        os.mkdir(self.place("bin"))
+        with open(self.place("bin/mine"), "w", encoding="utf-8"):
             pass
         self.install("--name", "n", "--title", "Mine", "bin/mine", "--text", "a/b")
         found = self.kernel("n")
-        self.assertEqual((found["display_name"], found["argv"][-4:]), ("Mine", ["--", self.path("bin/mine"), "--text", "a/b"]))
+        self.assertEqual((found["display_name"], found["argv"][-4:]), ("Mine", ["--", self.place("bin/mine"), "--text", "a/b"]))
 
     def test_a_session_of_a_worksheet(self) -> None:
         script = f"session a plain {' '.join(INTERPRETER)}\nnew 0 a one\nsession b plain cat\n"
-        subprocess.run([PROGRAM, "create", self.path("my sheet.tmhost")], check=True)
-        subprocess.run([PROGRAM, "run", self.path("my sheet.tmhost")], input=script, text=True, stdout=subprocess.DEVNULL, check=True)
+        subprocess.run([PROGRAM, "create", self.place("my sheet.tmhost")], check=True)
+        subprocess.run([PROGRAM, "run", self.place("my sheet.tmhost")], input=script, text=True, stdout=subprocess.DEVNULL, check=True)
         done = self.command("install", "--prefix", self.folder, "--sheet", "my sheet.tmhost")
         self.assertEqual((done.returncode, done.stderr), (2, "tmhost-jupyter-kernel: --session has to name one of the sessions of my sheet.tmhost: a, b\n"))
         self.install("--sheet", "my sheet.tmhost", "--session", "a")
         self.assertEqual(self.kernel("tmhost-my-sheet-a")["display_name"], "my sheet: a (tmhost)")
-        os.mkdir(self.path("elsewhere"))
-        with Front(self.path("elsewhere"), "tmhost-my-sheet-a") as front:
+        os.mkdir(self.place("elsewhere"))
+        with Front(self.place("elsewhere"), "tmhost-my-sheet-a") as front:
             self.assertEqual(front.text("one"), "one 1")
-        self.assertEqual([(field.session, str(field.answer)) for field in fields_of(self.path("my sheet.tmhost"))], [("a", "one 1")])
+        self.assertEqual([(field.session, str(field.answer)) for field in fields_of(self.place("my sheet.tmhost"))], [("a", "one 1")])
 
     def test_what_is_refused(self) -> None:
         refused: List[Tuple[List[str], str]] = [
@@ -72,4 +72,4 @@ class Installing(Case):
             done = self.command("install", "--prefix", self.folder, *words)
             self.assertNotEqual(done.returncode, 0)
             self.assertIn(why, done.stderr)
-        self.assertFalse(os.path.exists(self.path("share")))
+        self.assertFalse(os.path.exists(self.place("share")))

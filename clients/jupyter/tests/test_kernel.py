@@ -21,7 +21,7 @@ class Answers(Case):
             self.assertEqual((reply["status"], outputs), ("ok", [
                 {"type": "execute_result", "data": {"text/plain": "hello 1"}, "metadata": {}, "execution_count": 1}]))
             self.assertEqual(front.text("two\nlines", "y"), "two\u2028lines 2")
-        self.assertEqual([(field.lines, str(field.answer)) for field in fields_of(self.path("kernel.tmhost"))],
+        self.assertEqual([(field.lines, str(field.answer)) for field in fields_of(self.place("kernel.tmhost"))],
                          [(["hello"], "hello 1"), (["two", "lines"], "two\u2028lines 2")])
 
     def test_formulas_and_pictures(self) -> None:
@@ -43,7 +43,7 @@ class Answers(Case):
             self.assertEqual(outputs[1]["traceback"], ["Traceback", "ValueError: no: never"])
             self.assertNotEqual(front.reply(asked[2])["status"], "ok")
             self.assertEqual(front.text("first"), "first 3")
-        self.assertEqual([field.input for field in fields_of(self.path("kernel.tmhost"))], ["first", "error"])
+        self.assertEqual([field.input for field in fields_of(self.place("kernel.tmhost"))], ["first", "error"])
 
     def test_interrupts(self) -> None:
         with Front(self.folder) as front:
@@ -63,7 +63,7 @@ class Answers(Case):
                 told = front.reply(asked)
                 self.assertEqual((told["matches"], told["cursor_start"], told["cursor_end"]), (["hello", "heap"], at - 2, at))
             front.execute("first")
-        self.assertEqual([field.input for field in fields_of(self.path("kernel.tmhost"))], ["first"])  # and none for the request
+        self.assertEqual([field.input for field in fields_of(self.place("kernel.tmhost"))], ["first"])  # and none for the request
 
     def test_what_is_no_cell(self) -> None:
         with Front(self.folder) as front:
@@ -71,7 +71,7 @@ class Answers(Case):
             self.assertIn("isn't kept", front.execute("hidden", silent=True)[0]["evalue"])
             self.assertEqual(front.text("x" * 5000), "BadInput: a field has at most 4095 bytes of text without control characters, and this cell has 5000")
             self.assertEqual(front.text("on"), "on 1")
-        self.assertEqual([field.input for field in fields_of(self.path("kernel.tmhost"))], ["on"])
+        self.assertEqual([field.input for field in fields_of(self.place("kernel.tmhost"))], ["on"])
 
 
 @needs_program
@@ -85,11 +85,11 @@ class Ends(Case):
             self.assertEqual(front.text("one", "x"), "one 1")
             self.assertIn("its variables are gone", front.text("end", "y"))
             self.assertEqual(front.text("two", "y"), "two 1")
-        self.assertEqual([str(field.answer) for field in fields_of(self.path("kernel.tmhost"))], ["one 1", "two 1"])
+        self.assertEqual([str(field.answer) for field in fields_of(self.place("kernel.tmhost"))], ["one 1", "two 1"])
 
     def test_the_interpreter_is_killed_between_cells(self) -> None:
-        shutil.copy(INTERPRETER[-1], self.path("mine.py"))
-        self.install("--name", "kernel", "--session", "a", *INTERPRETER[:-1], self.path("mine.py"))
+        shutil.copy(INTERPRETER[-1], self.place("mine.py"))
+        self.install("--name", "kernel", "--session", "a", *INTERPRETER[:-1], self.place("mine.py"))
         with Front(self.folder) as front:
             self.assertEqual(front.text("one"), "one 1")
             found = subprocess.run(["pgrep", "-f", f"^{sys.executable} -S -E {self.folder}/mine.py$"], stdout=subprocess.PIPE, text=True).stdout.split()
@@ -118,7 +118,7 @@ class Ends(Case):
             self.assertEqual(front.text("two", "x"), "two 1")
             front.client.stop_channels()
             front.manager.shutdown_kernel(now=False)
-            two, slept = fields_of(self.path("kernel.tmhost"))
+            two, slept = fields_of(self.place("kernel.tmhost"))
             self.assertEqual((two.input, two.state, slept.input), ("two", "answered", "sleep 100"))
             # Jupyter interrupts it before it has it stopped, so it may answer.
             self.assertIn(slept.answer.text if slept.answer else None, (None, "was interrupted"))
@@ -132,13 +132,13 @@ class Ends(Case):
             front.kill()
         with Front(self.folder) as front:
             self.assertEqual(front.text("end of it", "last"), "end of it 1")
-        shown = [(field.input, str(field.answer)) for field in fields_of(self.path("kernel.tmhost"))]
+        shown = [(field.input, str(field.answer)) for field in fields_of(self.place("kernel.tmhost"))]
         self.assertEqual(sorted(shown), [("end of it", "end of it 1")] + [(f"line {count}", f"line {count} 1") for count in (1, 2, 3)])
 
     def test_another_program_has_it(self) -> None:
         with Front(self.folder) as front:
-            subprocess.run([PROGRAM, "create", self.path("kernel.tmhost")], check=True)
-            with eventually(self.path("kernel.tmhost")):
+            subprocess.run([PROGRAM, "create", self.place("kernel.tmhost")], check=True)
+            with eventually(self.place("kernel.tmhost")):
                 self.assertIn("another program works on the worksheet kernel.tmhost", front.text("one"))
             self.assertEqual(front.text("one"), "one 1")
 
@@ -148,7 +148,7 @@ class Ends(Case):
         self.install("--name", "kernel", "--session", "a", "cat")
         with Front(self.folder) as front:
             self.assertIn("and this kernel is for `cat`; `tmhost-jupyter-kernel install --sheet kernel.tmhost --session a`", front.text("one"))
-            self.assertEqual(len(fields_of(self.path("kernel.tmhost"))), 1)  # it is open to others
+            self.assertEqual(len(fields_of(self.place("kernel.tmhost"))), 1)  # it is open to others
 
     def test_there_is_no_such_interpreter(self) -> None:
         self.install("--name", "kernel", "--session", "b", "no-such-program", "x")

@@ -136,7 +136,7 @@ class Lessons(Case):
     def setUp(self) -> None:
         super().setUp()
         self.install("--name", "kernel", "--session", "py", os.path.join(ROOT, "adapters", "python"))
-        self.sheet = self.path("lesson.tmhost")
+        self.sheet = self.place("lesson.tmhost")
         self.set_environment(TMHOST_SHEET=self.sheet, PYTHONHASHSEED="0")  # the order of sympy's sets is part of answers
 
     def answers(self) -> Dict[int, List[Tuple[str, Told]]]:

@@ -53,10 +53,10 @@ class Page(Case):
 
     def opened(self, browser: chromium.Browser) -> Any:
         """The page of a new notebook with the kernel."""
-        jupyter.write(self.path("lesson.ipynb"), 4)
-        with open(self.path("lesson.ipynb"), encoding="utf-8") as file:
+        jupyter.write(self.place("lesson.ipynb"), 4)
+        with open(self.place("lesson.ipynb"), encoding="utf-8") as file:
             text = file.read()
-        with open(self.path("lesson.ipynb"), "w", encoding="utf-8") as file:
+        with open(self.place("lesson.ipynb"), "w", encoding="utf-8") as file:
             file.write(text.replace('"name": "python3"', '"name": "kernel"'))
         port = jupyter.free_port()
         server = subprocess.Popen(
@@ -89,4 +89,4 @@ class Page(Case):
 def fields_of_running(case: Case, tab: Any) -> Any:
     """The fields, when the page has ended its kernel."""
     tab.value("new Promise((done) => Jupyter.notebook.session.delete(done, done))")
-    return fields_of(case.path("kernel.tmhost"))
+    return fields_of(case.place("kernel.tmhost"))

@@ -177,6 +177,14 @@ class Case(unittest.TestCase):
         self.addCleanup(browser.kill)
         return browser
 
+    def both_files(self) -> List[bytes]:
+        """What is in the worksheet's two files."""
+        found = []
+        for end in ("", ".alt"):
+            with open(self.sheet + end, "rb") as file:
+                found.append(file.read())
+        return found
+
     def show(self) -> str:
         """What `tmhost show` prints of the worksheet. It is locked while a server has it, so of a copy: any moment of it is a whole one."""
         copy = os.path.join(self.folder, "copy")

@@ -32,13 +32,6 @@ class Looking(Case):
         self.page.until_idle()
         self.looker = self.serve("--look")
 
-    def bytes(self) -> List[bytes]:
-        found = []
-        for end in ("", ".alt"):
-            with open(self.sheet + end, "rb") as file:
-                found.append(file.read())
-        return found
-
     def until(self, page: Page, member: str, wanted: Any) -> Dict[str, Any]:
         end = time.monotonic() + 60
         while True:
@@ -58,7 +51,7 @@ class Requests(Looking):
         told = page.snapshot()
         self.assertEqual((told["isLooking"], [cell["input"] for cell in told["cells"]], told.get("marks")), (True, ["say one", "say two", "# three"], None))
         self.assertEqual([cell["output"] and cell["output"]["text"] for cell in told["cells"]], ["one", None, None])
-        before = self.bytes()
+        before = self.both_files()
         calls: List[Tuple[str, Dict[str, Any]]] = [
             ("set", {"id": 1, "text": "x", "base": "say one", "draft": None}), ("new", {"session": "s", "text": "x", "after": 0}), ("remove", {"id": 1}), ("eval", {"id": 2}),
             ("eval_from", {"id": None, "stops": False}), ("move", {"id": 1, "by": 1}), ("clear", {"id": 1}), ("stop", {"session": "s"}), ("interrupt", {"session": "s"}),
@@ -68,7 +61,7 @@ class Requests(Looking):
         for call, members in calls:
             with self.subTest(call=call):
                 self.assertIn(page.call(call, **members).get("refused"), ("Over", "InUse"))
-        self.assertEqual(self.bytes(), before)
+        self.assertEqual(self.both_files(), before)
         self.assertNotIn("refused", page.call("output", id=1, start=0))
         status, _, data = page.request("GET", page.path + "export/markdown", {"Cookie": page.cookie})
         self.assertEqual((status, b"say one" in data), (200, True))

@@ -31,13 +31,6 @@ class Moved(Case):
         self.assertEqual(told.stdout.splitlines().count(b"asked"), 3, told.stdout + told.stderr)  # the last one ends its interpreter
         os.remove(self.adapter)
 
-    def files(self) -> List[bytes]:
-        found = []
-        for end in ("", ".alt"):
-            with open(self.sheet + end, "rb") as file:
-                found.append(file.read())
-        return found
-
     def told(self) -> List[Dict[str, Any]]:
         return rewording.told(self.sheet, PROGRAM)
 
@@ -71,19 +64,19 @@ class Words(Moved):
     def test_refusals(self) -> None:
         """Nothing is changed then."""
         self.begin()
-        before = self.files()
+        before = self.both_files()
         refused: List[Tuple[str, List[str]]] = [("none", ["x"]), ("s", []), ("s", [""]), ("s", ["a\0b"]), ("s", ["x"] * 100), ("s", ["x" * 10_000])]
         for session, words in refused:
             with self.subTest(session=session, words=words[:1]), self.assertRaises(NotDone):
                 rewording.reword(self.sheet, session, words, PROGRAM)
-            self.assertEqual(self.files(), before)
+            self.assertEqual(self.both_files(), before)
         other = Server(self.sheet)
         with self.assertRaisesRegex(NotDone, "in use"):
             rewording.reword(self.sheet, "s", ["x"], PROGRAM)
         other.kill()
         with mock.patch.object(os, "replace", side_effect=KeyboardInterrupt), self.assertRaises(KeyboardInterrupt):
             rewording.reword(self.sheet, "s", ["x"], PROGRAM)
-        self.assertEqual(self.files(), before)
+        self.assertEqual(self.both_files(), before)
         with open(self.sheet, "r+b") as file:
             file.truncate(len(before[0]) - 1)
         with self.assertRaisesRegex(NotDone, "damaged"):

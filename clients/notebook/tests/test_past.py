@@ -99,13 +99,6 @@ class Looks(Case):
         page.call("session", name="s", words=SPOKEN, tab=False)
         return page
 
-    def bytes(self) -> List[bytes]:
-        found = []
-        for end in ("", ".alt"):
-            with open(self.sheet + end, "rb") as file:
-                found.append(file.read())
-        return found
-
     def by_program(self, *words: str) -> str:
         told = subprocess.run([PROGRAM or "", *words], stdin=subprocess.DEVNULL, capture_output=True, check=True)
         return told.stdout.decode()
@@ -131,11 +124,11 @@ class Looks(Case):
         for _ in range(CHANGES):
             self.change(page, chance)
             told[page.call("past")["count"]] = seen(page.snapshot())
-        before, opening = self.bytes(), page.call("past")["opening"]
+        before, opening = self.both_files(), page.call("past")["opening"]
         for at, cells in told.items():
             self.assertEqual(seen(page.call("past_sheet", opening=opening, at=at, about=0, place=0)), cells[:50], at)
         self.versions(page, opening, told)
-        self.assertEqual(self.bytes(), before)
+        self.assertEqual(self.both_files(), before)
         print(f" {len(told)} looks", end="")
 
     def versions(self, page: Page, opening: str, told: Dict[int, List[Tuple[Any, ...]]]) -> None:
@@ -184,14 +177,14 @@ class Looks(Case):
             page.until_idle()
         page.call("remove", id=1)
         opening = page.call("past")["opening"]
-        before = self.bytes()
+        before = self.both_files()
         self.assertEqual(page.call("past_restore", opening=opening, at=4, name="then"), {"name": "then"})
         self.assertEqual(page.call("past_restore", opening=opening, at=4, name="then")["says"], "there is a file then already")
         for name in ("", "../x", ".x", "-x", "a/b", "x.alt", "sheet", "x" * 101, "sheet.alt"):
             self.assertEqual(page.call("past_restore", opening=opening, at=4, name=name)["refused"], "NotMade", name)
         self.assertEqual(page.call("past_restore", opening=opening, at=99, name="none")["refused"], "NoPast")
         self.assertEqual(sorted(os.listdir(self.folder)), ["sheet", "sheet.alt", "then", "then.alt"])
-        self.assertEqual(self.bytes(), before)
+        self.assertEqual(self.both_files(), before)
         self.server.stop()
         then = os.path.join(self.folder, "then")
         self.assertEqual(self.by_program("show", then), self.by_program("show", "--at", "4", self.sheet))

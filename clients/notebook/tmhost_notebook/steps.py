@@ -13,6 +13,7 @@ from tmhost.commands import Move, New, Remove, Set, input_of, length_of
 from tmhost.together import MOST_CHANGES
 
 from . import prose
+from .asked import NotDone
 from .telling import text_of
 
 if TYPE_CHECKING:
@@ -23,12 +24,11 @@ MOST_CELLS = 10_000
 LONGEST = 4_095  # bytes of an input
 
 
-class NotFit(Exception):
-    """A step can't be done, and nothing of it is. `name` is that of a refusal."""
+class NotFit(NotDone):
+    """A step can't be done, and nothing of it is. `name` is that of a refusal, which says it to people where nothing is said here."""
 
     def __init__(self, name: str, says: str = "") -> None:
         super().__init__(name, says)
-        self.name, self.says = name, says
 
 
 @dataclasses.dataclass(frozen=True)

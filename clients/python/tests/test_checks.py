@@ -11,7 +11,8 @@ from typing import Any, Iterable, List, Union
 
 from support import PROGRAM, ROOT, WORDS, Case, needs_program
 
-from tmhost import Block, Checked, Compared, Died, InUse, NoWorksheet, Took, check
+from tmhost import Block, Checked, CheckWords, Compared, Died, InUse, NoWorksheet, Took, check
+from tmhost.checks import words_of_check
 
 SCHEMA = os.path.join(ROOT, "docs/use/json.schema.json")
 TWICE = """import os, sys
@@ -39,6 +40,20 @@ def bare(told: "Iterable[Union[Checked, Compared]]") -> "List[Union[Checked, Com
 def starts(told: "Iterable[Union[Checked, Compared]]") -> List[bool]:
     """Of each field, whether an interpreter was started for it. What it took is known."""
     return [one.took.started for one in told if isinstance(one, Checked) and one.took and 0 <= one.took.millis < 60_000]
+
+
+class Words(unittest.TestCase):
+    def test_what_the_program_is_given(self) -> None:
+        self.assertEqual(words_of_check("tmhost", "sheet", CheckWords()), ["tmhost", "check", "--json", "--jobs=1", "sheet"])
+        asked = CheckWords("a", [3, 7], 60, 8, True)
+        more = ["--only=a", "--leave-out=3,7", "--timeout=60", "--all", "--jobs=8"]
+        self.assertEqual(words_of_check("tmhost", "sheet", asked), ["tmhost", "check", "--json", *more, "sheet"])
+
+    def test_what_it_is_not_asked_for(self) -> None:
+        """Nothing is begun then."""
+        old: Any = "a"
+        self.assertRaisesRegex(TypeError, "CheckWords", check, "sheet", old)
+        self.assertRaisesRegex(TypeError, "whole", check, "sheet", whole=True)
 
 
 @needs_program
@@ -72,10 +87,12 @@ class Checks(Case):
 
     def test_some_fields(self) -> None:
         self.made()
-        told = list(check(self.path, "a", [2, 3], 60, PROGRAM))
+        told = list(check(self.path, CheckWords("a", [2, 3], 60), PROGRAM))
         self.assertEqual([one.verdict for one in told if isinstance(one, Checked)], ["same", "left_out", "left_out", "same"])
         self.assertEqual(told[-1], Compared(2, 0, 0, 2))
+        self.assertEqual(bare(check(self.path, only="a", leave_out=[2, 3], timeout=60, program=PROGRAM)), bare(told))
         self.assertEqual(list(check(self.path, only="b", program=PROGRAM)), [Compared(0, 0, 0, 0)])
+        self.assertEqual(list(check(self.path, CheckWords("a", jobs=8), PROGRAM, only="b")), [Compared(0, 0, 0, 0)])
 
     def test_errors(self) -> None:
         script = os.path.join(self.folder, "wrong.sh")

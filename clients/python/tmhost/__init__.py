@@ -9,7 +9,7 @@ What a call returned is on the disk: a crash of this process, of the program or 
 
 from .aio import AsyncCell, AsyncCellLike, AsyncEvaluation, AsyncWorksheet
 from .blocking import Cell, CellLike, Evaluation, Worksheet
-from .checks import Checked, Compared, Took, check
+from .checks import Checked, CheckWords, Compared, Took, check
 from .errors import BadLine, Closed, Died, Gone, InUse, Lost, NoScript, NoWorksheet, ProtocolError, Refused, TimedOut, TmhostError, Undone
 from .events import Answered, Banner, Completed, Default, Done, Ended, Event, Finished, OfLife, Partial, Stopped, Warned
 from .program import find_program
@@ -33,6 +33,7 @@ __all__ = [
     "Cell",
     "Change",
     "CellLike",
+    "CheckWords",
     "Checked",
     "Closed",
     "Compared",

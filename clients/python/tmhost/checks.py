@@ -88,39 +88,58 @@ def read(line: bytes) -> "Union[Checked, Compared, Hello, Fault, End, None]":
     return OTHERS[kind](told) if kind in OTHERS else None
 
 
-def words_of_check(program: Program, path: str, only: Optional[str], leave_out: Sequence[int], timeout: Optional[int], jobs: int, all: bool) -> List[str]:
-    words = [*words_of_program(program), "check", "--json"]
-    if only is not None:
-        words.append(f"--only={only}")
-    if leave_out:
-        words.append("--leave-out=" + ",".join(str(id) for id in leave_out))
-    if timeout is not None:
-        words.append(f"--timeout={timeout}")
-    if all:
-        words.append("--all")
-    return [*words, f"--jobs={jobs}", path]
+@dataclasses.dataclass(frozen=True)
+class CheckWords:
+    """What a check is asked for.
 
-
-def check(
-    path: "Union[str, os.PathLike[str]]",
-    only: Optional[str] = None,
-    leave_out: Sequence[int] = (),
-    timeout: Optional[int] = None,
-    program: Program = None,
-    jobs: int = 1,
-    all: bool = False,
-) -> "Generator[Union[Checked, Compared], None, None]":
-    """Evaluates each field of a worksheet that shows an answer again, on a copy, with interpreters of its own; the worksheet stays as it is.
-    With `all`, also those that show none.
-
-    Gives a `Checked` for each field, in order and as soon as it is known, and at last a `Compared`. `only` names the one session whose
-    fields are evaluated; those of `leave_out` aren't compared; a field may take `timeout` seconds. Fields of up to `jobs` sessions (at most
-    64) are evaluated side by side; with more than one, all are given when the last is known. Raises InUse, NoWorksheet (a FileNotFoundError), or Died
-    for another fault, also where no field has a number of `leave_out`, or a death of the program. To stop early, close the iterator: the program is ended then.
+    `only` names the one session whose fields are evaluated; the outputs of fields with the numbers `leave_out` aren't compared; a field may
+    take `timeout` seconds. Fields of up to `jobs` sessions (at most 64) are evaluated side by side. With `all` also those that show no
+    answer are evaluated.
     """
-    child = Child(words_of_check(program, path_word(path), only, leave_out, timeout, jobs, all))
+
+    only: Optional[str] = None
+    leave_out: Sequence[int] = ()
+    timeout: Optional[int] = None
+    jobs: int = 1
+    all: bool = False
+
+
+def words_of_check(program: Program, path: str, asked: CheckWords) -> List[str]:
+    words = [*words_of_program(program), "check", "--json"]
+    if asked.only is not None:
+        words.append(f"--only={asked.only}")
+    if asked.leave_out:
+        words.append("--leave-out=" + ",".join(str(id) for id in asked.leave_out))
+    if asked.timeout is not None:
+        words.append(f"--timeout={asked.timeout}")
+    if asked.all:
+        words.append("--all")
+    return [*words, f"--jobs={asked.jobs}", path]
+
+
+def came_of(words: List[str]) -> "Generator[Union[Checked, Compared], None, None]":
+    """What the program with these words reports, which is started when the first of it is asked for."""
+    child = Child(words)
     told: "Iterator[Union[Checked, Compared]]" = told_by(child, read)
     try:
         yield from told
     finally:
         child.close()
+
+
+def check(
+    path: "Union[str, os.PathLike[str]]", words: Optional[CheckWords] = None, program: Program = None, **more: Any
+) -> "Generator[Union[Checked, Compared], None, None]":
+    """Evaluates each field of a worksheet that shows an answer again, on a copy, with interpreters of its own; the worksheet stays as it is.
+
+    What is asked for is said by `words`, or by their names alone: `check(path, only="a", jobs=8)` is `check(path, CheckWords(only="a", jobs=8))`.
+    Where both are given, a name counts.
+
+    Gives a `Checked` for each field, in order and as soon as it is known, and at last a `Compared`. With more `jobs` than one, all are given
+    when the last is known. Raises InUse, NoWorksheet (a FileNotFoundError), or Died for another fault, also where no field has a number of
+    `leave_out`, or a death of the program. To stop early, close the iterator: the program is ended then.
+    """
+    if not isinstance(words, (CheckWords, type(None))):
+        raise TypeError("what a check is asked for is a CheckWords, or has a name, as only=")
+    asked = dataclasses.replace(words or CheckWords(), **more)
+    return came_of(words_of_check(program, path_word(path), asked))

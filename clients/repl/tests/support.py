@@ -23,27 +23,13 @@ SECONDS = 120.0  # in which everything comes, beside other work too
 LINE_END = "\u2028"
 
 sys.path[:0] = [os.path.join(ROOT, "clients/python"), os.path.join(ROOT, "clients")]
-from tested import PROGRAM, WHY, fields_of  # noqa: E402
+from tested import PROGRAM, WHY, children_of as children_of, fields_of, heed_interrupts as heed_interrupts  # noqa: E402
 from tmhost import Field, Worksheet  # noqa: E402
 
 
 def environment(**more: str) -> Dict[str, str]:
     plain = {name: value for name, value in os.environ.items() if name not in ("INPUTRC", "NO_COLOR")}
     return {**plain, "TMHOST": PROGRAM, "TERM": "xterm", "INPUTRC": "/dev/null", "PYTHONUTF8": "1", **more}
-
-
-def heed_control_c() -> None:
-    """A script that is started by `&` ignores SIGINT, and so would what it starts."""
-    signal.signal(signal.SIGINT, signal.SIG_DFL)
-
-
-def program_of(pid: int) -> List[int]:
-    """The program that a command runs, where it does."""
-    try:
-        with open(f"/proc/{pid}/task/{pid}/children", encoding="ascii") as file:
-            return [int(word) for word in file.read().split()]
-    except FileNotFoundError:
-        return []
 
 
 class Screen:
@@ -116,7 +102,7 @@ class Terminal:
         self.heard = b""
         self.pid, self.end = pty.fork()
         if self.pid == 0:
-            heed_control_c()
+            heed_interrupts()
             ioctl(0, termios.TIOCSWINSZ, struct.pack("HHHH", 40, columns, 0, 0))
             if input:
                 os.dup2(os.open(input, os.O_RDONLY), 0)

@@ -12,14 +12,14 @@ import threading
 import time
 from typing import Callable, List
 
-from .support import COMMAND, Case, Terminal, environment, program_of
+from .support import COMMAND, Case, Terminal, children_of, environment
 
 KILLS = int(os.environ.get("TMHOST_KILLS", "12"))
 LINES = [f"say answer {number}" for number in range(400)]
 
 
 def kill_program(pid: int) -> None:
-    for child in program_of(pid):
+    for child in children_of(pid):
         os.kill(child, signal.SIGKILL)
 
 

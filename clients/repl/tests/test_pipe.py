@@ -7,7 +7,7 @@ import sys
 import time
 import unittest
 
-from .support import COMMAND, INTERPRETER, LINE_END, ROOT, Case, environment, heed_control_c, program_of
+from .support import COMMAND, INTERPRETER, LINE_END, ROOT, Case, children_of, environment, heed_interrupts
 
 
 class Pipe(Case):
@@ -199,7 +199,7 @@ class Interrupts(Case):
         self.make()
         return subprocess.Popen(
             [sys.executable, COMMAND, self.sheet, "t"], stdin=subprocess.PIPE, stdout=subprocess.PIPE, stderr=subprocess.PIPE, env=environment(),
-            preexec_fn=heed_control_c,
+            preexec_fn=heed_interrupts,
         )
 
     def test_an_interrupt_keeps_the_variables(self) -> None:
@@ -245,7 +245,7 @@ class Interrupts(Case):
             command.stdin.write(b"a\n")
             command.stdin.flush()
             self.assertEqual(command.stdout.readline(), b"a\n")
-            program = program_of(command.pid)[0]
+            program = children_of(command.pid)[0]
             os.kill(program, signal.SIGSTOP)
             command.stdin.write(b"b\n")
             command.stdin.flush()

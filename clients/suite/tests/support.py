@@ -6,7 +6,6 @@ import shutil
 import subprocess
 import sys
 import tempfile
-import unittest
 from typing import Any, Dict, List, NamedTuple
 
 HERE = os.path.dirname(os.path.realpath(__file__))
@@ -18,7 +17,7 @@ INTERPRETER = os.path.join(ROOT, "clients/weave/tests/interpreter.py")
 LIMIT = 600.0  # seconds of a run, on a busy machine
 
 sys.path[:0] = [os.path.dirname(HERE), *(os.path.join(ROOT, "clients", name) for name in ("", "python", "fences", "weave"))]
-from tested import PROGRAM as PROGRAM, WHY  # noqa: E402
+from tested import PROGRAM as PROGRAM, WHY, InFolder, heed_interrupts as heed_interrupts  # noqa: E402
 
 
 class Outcome(NamedTuple):
@@ -41,7 +40,7 @@ def case(code: str, wanted: "str | None" = None, info: str = "a") -> str:
     return found if wanted is None else f"{found}\n````answer\n{wanted}\n````\n"
 
 
-class Case(unittest.TestCase):
+class Case(InFolder):
     """`path` is that of the suite."""
 
     maxDiff = None
@@ -52,9 +51,6 @@ class Case(unittest.TestCase):
         self.folder = tempfile.mkdtemp(prefix="tmhost-suite-test.")
         self.addCleanup(shutil.rmtree, self.folder)
         self.path = self.place("suite.md")
-
-    def place(self, name: str) -> str:
-        return os.path.join(self.folder, name)
 
     def front(self, *names: str, more: str = "") -> str:
         """The front matter for sessions with these names, each of which logs its lines."""

@@ -8,17 +8,12 @@ import sys
 import time
 from typing import List, Tuple
 
-from .support import Case, case, environment, words
+from .support import Case, case, environment, heed_interrupts, words
 from .values import expected
 
 # It writes two long texts in turn, as `--accept` writes one.
 WRITER = "import itertools, sys; from tmhost_weave.files import put; print('writes', flush=True); [put(sys.argv[1], letter * 300000) for letter in itertools.cycle([b'a', b'b'])]"
 KILLS = int(os.environ.get("TMHOST_KILLS", "20"))
-
-
-def heeds_interrupts() -> None:
-    """Where a shell started the tests behind itself, they pass interrupts over."""
-    signal.signal(signal.SIGINT, signal.SIG_DFL)
 
 
 class Resuming(Case):
@@ -83,7 +78,7 @@ class Resuming(Case):
         self.write(case("say 1", "1"), case("sleep 20"), case("sleep 20", info="b"))
         run = subprocess.Popen(
             words(self.path, "--jobs", "1"), stdout=subprocess.DEVNULL, stderr=subprocess.PIPE, text=True, env=environment(), cwd=self.folder, start_new_session=True,
-            preexec_fn=heeds_interrupts,
+            preexec_fn=heed_interrupts,
         )
         until = time.monotonic() + 30
         while self.log("a")[-1:] != ["sleep 20"] and time.monotonic() < until:

@@ -7,7 +7,6 @@ import subprocess
 import sys
 import tempfile
 import time
-import unittest
 from typing import Any, Dict, List, NamedTuple, Sequence, Tuple
 
 HERE = os.path.dirname(os.path.realpath(__file__))
@@ -17,7 +16,7 @@ INTERPRETER = os.path.join(HERE, "interpreter.py")
 FENCED = re.compile(r"^```tmhost-answer\n(.*?)\n```$", re.MULTILINE | re.DOTALL)
 
 sys.path[:0] = [os.path.dirname(HERE), *(os.path.join(ROOT, "clients", name) for name in ("", "python", "fences", "notebook"))]
-from tested import PROGRAM as PROGRAM, WHY  # noqa: E402
+from tested import PROGRAM as PROGRAM, WHY, InFolder, children_of as children_of  # noqa: E402
 
 
 class Outcome(NamedTuple):
@@ -39,7 +38,7 @@ def fences(blocks: Sequence[Tuple[str, str]]) -> str:
     return "".join(f"Text {at}.\n\n```{info}\n{code}\n```\n\n" for at, (info, code) in enumerate(blocks))
 
 
-class Case(unittest.TestCase):
+class Case(InFolder):
     """`text` and `sheet` are the paths of a text and its worksheet."""
 
     def setUp(self) -> None:
@@ -48,9 +47,6 @@ class Case(unittest.TestCase):
         self.folder = tempfile.mkdtemp(prefix="tmhost-weave-test.")
         self.addCleanup(shutil.rmtree, self.folder)
         self.text, self.sheet = self.place("text.md"), self.place("text.sheet")
-
-    def place(self, name: str) -> str:
-        return os.path.join(self.folder, name)
 
     def front(self, *names: str, **words: List[str]) -> str:
         """The front matter for sessions with these names, each of which has an interpreter that logs its lines."""

@@ -11,7 +11,7 @@ import time
 from typing import Callable, Dict, List, Tuple
 
 from .interpreter import value
-from .support import Case, answers, command_words, environment, fences
+from .support import Case, answers, children_of, command_words, environment, fences
 
 KILLS = int(os.environ.get("TMHOST_KILLS", "20"))
 SLEEP = "0.01"  # seconds that a line takes
@@ -19,19 +19,11 @@ SLEEP = "0.01"  # seconds that a line takes
 Blocks = List[Tuple[str, str]]
 
 
-def children(pid: int) -> List[int]:
-    try:
-        with open(f"/proc/{pid}/task/{pid}/children", encoding="ascii") as file:
-            return [int(word) for word in file.read().split()]
-    except FileNotFoundError:
-        return []
-
-
 def kill_program(pid: int) -> None:
     """Ends the program that a weave runs, at the moment at which it runs one."""
     until = time.monotonic() + 1
     while time.monotonic() < until:
-        for child in children(pid):
+        for child in children_of(pid):
             with contextlib.suppress(ProcessLookupError):
                 os.kill(child, signal.SIGKILL)
             return
