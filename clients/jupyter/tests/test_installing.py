@@ -35,8 +35,8 @@ class Installing(Case):
     @unittest.skipUnless(count_there(["ipykernel", "jupyter_client"], (3, 9)) == 2, "Debian's Python has no Jupyter (python3-ipykernel)")
     def test_the_python_that_has_jupyter(self) -> None:
         """One that has no packages goes on in Debian's."""
-        os.symlink(sys.executable, self.path("python3"))
-        done = subprocess.run([self.path("python3"), "-S", "-B", COMMAND, "install", "--prefix", self.folder, "lua"], capture_output=True, text=True)
+        os.symlink(sys.executable, self.place("python3"))
+        done = subprocess.run([self.place("python3"), "-S", "-B", COMMAND, "install", "--prefix", self.folder, "lua"], capture_output=True, text=True)
         self.assertEqual((done.returncode, done.stderr), (0, ""))
         self.assertEqual((self.kernel("tmhost-lua")["argv"][0], self.kernel("tmhost-lua")["argv"][-2:]), (DEBIANS, ["--", "tmhost-lua"]))
 
