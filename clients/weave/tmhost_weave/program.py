@@ -11,9 +11,9 @@ from .files import locked
 from tmhost_fences.troubles import Trouble
 from .weaving import Weave
 
-ABOUT = "Evaluates the code in a CommonMark text, and puts each answer behind its fence."
+ABOUT = "Evaluates the code in a CommonMark text, and puts each answer after its fence."
 NOTES = """
-The front matter of TEXT names the sessions, as `sessions: {py: [tmhost-python]}`. Behind the session of a fence may
+The front matter of TEXT names the sessions, as `sessions: {py: [tmhost-python]}`. After the session of a fence may
 stand {whole}, {pure}, {hide} and {fold}; `fences: whole` in the front matter makes each fence one field. The answers are kept in the worksheet beside TEXT, whose name ends in .sheet.
 The program is the one that TMHOST names, tmhost on PATH, or the one that was built or installed with this. The status is 0 where all fields are answered, 1 where one
 isn't, where a fence such as {r} or r {hide} is that of no session, where --check says that something would change or
@@ -34,7 +34,7 @@ def arguments(words: List[str]) -> argparse.Namespace:
     parser.add_argument("text", metavar="TEXT")
     what = parser.add_mutually_exclusive_group()
     what.add_argument("--check", action="store_true", help="evaluate nothing, write nothing, and say what would change")
-    what.add_argument("--test", action="store_true", help="evaluate all anew, write nothing, and show which answers of TEXT are others now, as for a CI")
+    what.add_argument("--test", action="store_true", help="evaluate all again, write nothing, and show which answers of TEXT are others now, as for a CI")
     parser.add_argument("--output", metavar="FILE", help="where the woven text goes, in place of TEXT (-: standard output)")
     parser.add_argument("--seconds", type=seconds, metavar="N", help="how long a field may take (no limit)")
     given = parser.parse_args(words)
