@@ -11,3 +11,4 @@ pub mod Seen
 pub mod TrueFaults
 pub mod Joined
 pub mod Wholes
+pub mod OnStream

@@ -32,7 +32,7 @@ pub record SourceRules (C : Type 0) : Type 1 where
   pub wakes : C → Asked → Option Woken → C → Type 0
   pub clock : C → ℕ → Type 0
 
--- What a sink may do: its texts, what was printed so far, and what came of trying a text while the disk stood so.
+-- What a sink may do: its texts, what was printed so far, and what came of trying a text while the disk was in this state.
 pub record SinkRules (K : Type 0) : Type 1 where
   pub voice : Voice
   pub written : K → Option (List ℕ)
@@ -72,7 +72,7 @@ sink_rules voice written tried = record { voice = voice; written = written; trie
 abbrev pub rules : {A C K : Type 0} → AgendaRules A → SourceRules C → SinkRules K → Rules A C K
 rules agenda sources sink = record { agenda = agenda; sources = sources; sink = sink }
 
--- A text was tried while the disk stood so; where all of it went out, it comes after what was printed before.
+-- A text was tried while the disk was in this state; where all of it went out, it comes after what was printed before.
 pub record Tries {K : Type 0} (R : SinkRules K) (k : K) (disk : DiskView) (text : List ℕ) (whole : Bool) (l : K) : Type 0 where
   pub tried : R.tried k disk text whole l
   pub appends : whole ≡ true → Appends (R.written k) (R.written l) text

@@ -36,7 +36,7 @@ impl<D: Disk, S: Sources, K: Sink, A: Agenda> Driver<D, S, K, A> {
         }
     }
 
-    /// Prints what events gave, whatever the numbers of their lines are.
+    /// Prints what events gave whose lines have no number.
     pub(crate) fn print_lives(&mut self, outcomes: &[Outcome]) -> Result<(), RunFault>
         ensures same { SameDisk self.old.host.store.disk self.new.host.store.disk }
         ensures did { (n : ℕ) (rest : List Item) (w : World) → IsHost self.old.host w
@@ -67,7 +67,7 @@ impl<D: Disk, S: Sources, K: Sink, A: Agenda> Driver<D, S, K, A> {
         self.heed(&Came::Gave(GaveTogether { outcomes, replies }))
     }
 
-    /// Takes commands so, and prints what they gave.
+    /// Takes commands as one group, all of them or up to the first that is refused, and prints what they gave.
     pub(crate) fn take_edits(&mut self, up_to: bool, edits: Edits) -> Result<(), RunFault>
         ensures same { SameDisk self.old.host.store.disk self.new.host.store.disk }
         ensures did { (n : ℕ) (rest : List Item) (w : World) → IsHost self.old.host w

@@ -9,6 +9,7 @@ ghost use Rattle.driver.specs.Reports.{lives_report};
 
 use crate::report::Show;
 use crate::sink::Sink;
+use crate::stamped::Stamped;
 use disk_model::Disk;
 use host_events::{Outcome, Reply};
 use offline_programs::RunFault;
@@ -17,7 +18,7 @@ use std::io::Write;
 use std::slice;
 use tellings::Tells;
 
-/// A voice that prints on a stream.
+/// A voice that prints on a stream, which is stamped before each text.
 #[derive(Drop)]
 pub struct Voiced<T, W> {
     pub tells: T,
@@ -60,11 +61,11 @@ fn print_lives<D: Disk, T: Tells, W: Write>(
     Ok(())
 }
 
-impl<T: Tells, W: Write> Sink for Voiced<T, W> {
+impl<T: Tells, W: Stamped> Sink for Voiced<T, W> {
     ghost use Rattle.driver.specs.Place.{sink_rules};
 
-    // Nobody can say what a stream does.
-    ghost rules = { sink_rules T.voice (λ k. W.contents k.writer) (λ k d text whole l. Unit {0}) };
+    // When a text was tried the stream held what was printed before it, and the disk was in this state.
+    ghost rules = { sink_rules T.voice (λ k. W.contents k.writer) (λ k disk text whole l. W.held (W.contents k.writer) disk) };
 
     fn lines<D: Disk>(
         &mut self,
@@ -72,19 +73,23 @@ impl<T: Tells, W: Write> Sink for Voiced<T, W> {
         first: u64,
         outcomes: &[Outcome],
     ) -> Result<(), RunFault> {
+        self.writer.stamp(host);
         self.tells
             .outcomes(first, host.sheet(), outcomes, &mut self.writer)
     }
 
     fn lives<D: Disk>(&mut self, host: &Host<D>, outcomes: &[Outcome]) -> Result<(), RunFault> {
+        self.writer.stamp(host);
         print_lives(host, outcomes, &self.tells, &mut self.writer)
     }
 
     fn followed<D: Disk>(&mut self, host: &Host<D>, replies: &[Reply]) -> Result<(), RunFault> {
+        self.writer.stamp(host);
         self.tells.events(host, replies, &mut self.writer)
     }
 
     fn show<D: Disk>(&mut self, host: &Host<D>, show: Show) -> Result<(), RunFault> {
+        self.writer.stamp(host);
         match show {
             Show::Note(note) => self.tells.note(note, &mut self.writer),
             Show::Sheet(line) => self.tells.sheet(line, host, &mut self.writer),
@@ -96,7 +101,8 @@ impl<T: Tells, W: Write> Sink for Voiced<T, W> {
         }
     }
 
-    fn print_fault<D: Disk>(&mut self, _host: &Host<D>, why: RunFault) -> bool {
+    fn print_fault<D: Disk>(&mut self, host: &Host<D>, why: RunFault) -> bool {
+        self.writer.stamp(host);
         self.tells.fault(why, &mut self.writer)
     }
 }

@@ -1,5 +1,5 @@
 //! That whatever is driven over a disk is an invocation of the theorem (crate `theorem`), and that what it had printed when it was cut
-//! off was durable: premise A6, as a law of every sink whose relation names the disk. (The program's own names none.) And that what
+//! off was durable: premise A6, as a law of every sink whose relation names the disk, as that of `run`, `live` and `eval` does. And that what
 //! `check --accept` leaves is an acceptance of the theorem. So premise A7 holds of each program. The functions do nothing: their contracts
 //! are the laws.
 #![tactic(auto)]
@@ -15,7 +15,7 @@ ghost use Rattle.driver_visits.specs.Visits.{DrivenIsVisit, PrintedIsDurable};
 ghost use Rattle.sheet_check.specs.Evaluated.{way};
 
 use arrivals::Sources;
-use driver::{Agenda, Sink};
+use driver::{Agenda, Sink, Stamped};
 use evaluation::Programs;
 use std::io::Write;
 use tellings::Tells;
@@ -31,21 +31,21 @@ pub fn printed_is_durable<S: Sources, K: Sink, A: Agenda>()
 {}
 
 /// The same two of lines that are taken as they come, in the words of the contract of `live`, `run --json` and `run --timeout`.
-pub fn lines_are_visits<S: Sources, T: Tells>()
-    ensures visit { DrivenIsVisit (rules lines_rules (source_rules S.after S.wakes S.clock) (noting_rules T.voice)) }
-    ensures durable { PrintedIsDurable (rules lines_rules (source_rules S.after S.wakes S.clock) (noting_rules T.voice)) }
+pub fn lines_are_visits<S: Sources, T: Tells, W: Stamped>()
+    ensures visit { DrivenIsVisit (rules lines_rules (source_rules S.after S.wakes S.clock) (noting_rules T.voice W.held)) }
+    ensures durable { PrintedIsDurable (rules lines_rules (source_rules S.after S.wakes S.clock) (noting_rules T.voice W.held)) }
 {}
 
 /// Of a script that is run, in the words of the contract of `run`.
-pub fn scripts_are_visits<S: Sources>()
-    ensures visit { DrivenIsVisit (running_rules (source_rules S.after S.wakes S.clock)) }
-    ensures durable { PrintedIsDurable (running_rules (source_rules S.after S.wakes S.clock)) }
+pub fn scripts_are_visits<S: Sources, W: Stamped>()
+    ensures visit { DrivenIsVisit (running_rules (source_rules S.after S.wakes S.clock) W.held) }
+    ensures durable { PrintedIsDurable (running_rules (source_rules S.after S.wakes S.clock) W.held) }
 {}
 
 /// And of the fields of a worksheet that are evaluated, in the words of the contract of `eval`.
-pub fn fields_are_visits<P: Programs, S: Sources, T: Tells>()
-    ensures visit { DrivenIsVisit (rules (fields_rules P.finds) (source_rules S.after S.wakes S.clock) (noting_rules (by_field_lines T.voice))) }
-    ensures durable { PrintedIsDurable (rules (fields_rules P.finds) (source_rules S.after S.wakes S.clock) (noting_rules (by_field_lines T.voice))) }
+pub fn fields_are_visits<P: Programs, S: Sources, T: Tells, W: Stamped>()
+    ensures visit { DrivenIsVisit (rules (fields_rules P.finds) (source_rules S.after S.wakes S.clock) (noting_rules (by_field_lines T.voice) W.held)) }
+    ensures durable { PrintedIsDurable (rules (fields_rules P.finds) (source_rules S.after S.wakes S.clock) (noting_rules (by_field_lines T.voice) W.held)) }
 {}
 
 /// What `check --accept` leaves is an acceptance, in the words of its contract, to its end or to a fault.

@@ -1,4 +1,4 @@
--- What the words of `eval` ask for (docs/use/SCRIPT.md, "Evaluating a worksheet"), and what those of `check` do beside its request.
+-- What the words of `eval` ask for (docs/use/EVAL.md), and what those of `check` do beside its request.
 use Rattle.std.specs.Prelude.{◌≡◌, ◌&&◌, ◌||◌, ℕ, Bool, true, false, List, [], ◌∷◌, Option, Some, None, length, nat_le, nat_lt, Result, Ok, Err}
 use Rattle.std.specs.Option.{option_map}
 use Rattle.clap.specs.Words.{Text}
@@ -7,6 +7,7 @@ use Rattle.check_report.specs.declared.report.Format.TheVariants as format
 use Rattle.check_report.specs.declared.request.Request.{Request}
 use Rattle.command_words.specs.Asked.{EvalView}
 use Rattle.sheet_text.specs.Script.{number_written}
+use Rattle.live.specs.LiveLines.{most_seconds}
 use Rattle.evaluation.specs.declared.plan.Plan.{Plan}
 use Rattle.evaluation.specs.declared.plan.Which.{Which}
 use Rattle.evaluation.specs.declared.plan.Which.TheVariants as which
@@ -24,17 +25,21 @@ seconds_by false seconds = None
 
 abbrev pub limit_if : Option ℕ → Option (Option ℕ)
 limit_if None = None
-limit_if (Some seconds) = seconds_by (nat_le 1 seconds && nat_le seconds 1000000) seconds
+limit_if (Some seconds) = seconds_by (nat_le 1 seconds && nat_le seconds most_seconds) seconds
 
 abbrev pub limit_asked : Option Text → Option (Option ℕ)
 limit_asked None = Some None
 limit_asked (Some text) = limit_if (number_written text)
 
--- In how many sessions fields may wait at a time where no words write that, neither of `eval` nor of `check`: 64. But 1, so that fields go one
+-- in so many sessions fields may wait at a time at most
+abbrev pub most_jobs : ℕ
+most_jobs = 64
+
+-- In how many sessions they may where no words write that, neither of `eval` nor of `check`: in the most. But in 1, so that fields go one
 -- after another, where an evaluation is strict or a check accepts, and where a field's time has a limit, which is exact only so.
 abbrev pub jobs_unwritten : Bool → Option Text → ℕ
 jobs_unwritten true timeout = 1
-jobs_unwritten false None = 64
+jobs_unwritten false None = most_jobs
 jobs_unwritten false (Some text) = 1
 
 -- In how many they may: 1 to 64 where the words write that, which goes with no strict evaluation.
@@ -45,7 +50,7 @@ jobs_by false strict jobs = Err plans.Jobs
 
 abbrev pub jobs_if : Option ℕ → Bool → Result ℕ PlanFault
 jobs_if None strict = Err plans.Jobs
-jobs_if (Some jobs) strict = jobs_by (nat_le 1 jobs && nat_le jobs 64) strict jobs
+jobs_if (Some jobs) strict = jobs_by (nat_le 1 jobs && nat_le jobs most_jobs) strict jobs
 
 abbrev pub jobs_asked : Option Text → Bool → Option Text → Result ℕ PlanFault
 jobs_asked None strict timeout = Ok (jobs_unwritten strict timeout)
@@ -59,7 +64,7 @@ check_jobs_by false accept jobs = Err jobs_fault.Number
 
 abbrev pub check_jobs_if : Option ℕ → Bool → Result ℕ JobsFault
 check_jobs_if None accept = Err jobs_fault.Number
-check_jobs_if (Some jobs) accept = check_jobs_by (nat_le 1 jobs && nat_le jobs 64) accept jobs
+check_jobs_if (Some jobs) accept = check_jobs_by (nat_le 1 jobs && nat_le jobs most_jobs) accept jobs
 
 abbrev pub check_jobs_asked : Option Text → Bool → Option Text → Result ℕ JobsFault
 check_jobs_asked None accept timeout = Ok (jobs_unwritten accept timeout)

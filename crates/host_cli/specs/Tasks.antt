@@ -229,7 +229,7 @@ module _ {Y D P S I W E Q : Type 0} (o : OutsideView D P S I W E) where
   -- `run` of a script on a disk, in words, strict or not
   abbrev pub RunsOn : Bool → Outside Y D P S I W E Q → Outside Y D P S I W E Q → Ending → D → Type 0
   RunsOn strict old new ending disk =
-      ScriptEnds (live_setting (line_by_line None strict) in_words o.sources.after o.sources.clock o.sources.wakes) (o.streams.stream old.input) (given_disk o.disks disk) (calling_of old new) (streams_of old new) ending
+      ScriptEnds (live_setting (line_by_line None strict) in_words o.sources o.streams.held) (o.streams.stream old.input) (given_disk o.disks disk) (calling_of old new) (streams_of old new) ending
 
   -- `run` in words over what the places open at a path, strict or not
   abbrev pub RunsScript : Bool → Outside Y D P S I W E Q → Outside Y D P S I W E Q → Ending → Text → Type 0
@@ -240,7 +240,7 @@ module _ {Y D P S I W E Q : Type 0} (o : OutsideView D P S I W E) where
   -- `eval` on a disk, printed in a voice
   abbrev pub EvaluatesOn : Voice → Plan → Outside Y D P S I W E Q → Outside Y D P S I W E Q → Ending → D → Type 0
   EvaluatesOn V plan old new ending disk =
-      EvaluationEnded (eval_setting plan new.places o.places.finds V o.sources.after o.sources.clock o.sources.wakes) (given_disk o.disks disk) (calling_of old new) (streams_of old new) ending
+      EvaluationEnded (eval_setting plan new.places o.places.finds V o.sources o.streams.held) (given_disk o.disks disk) (calling_of old new) (streams_of old new) ending
 
   -- `eval` over what the places open at a path, by a plan
   abbrev pub EvaluatesAs : Voice → Plan → Outside Y D P S I W E Q → Outside Y D P S I W E Q → Ending → Text → Type 0
@@ -262,7 +262,7 @@ module _ {Y D P S I W E Q : Type 0} (o : OutsideView D P S I W E) where
   LivesAs manner V old new ending path =
       HeldFirst old new (λ why. (new.sources ≡ old.sources) × EndsWith old new ending (Err why)) (λ held. (files : Result D FilesFault) × o.places.opens held path files new.places
       × IfErr files (λ why. (new.input ≡ old.input) × LiveUnopened V (calling_of old new) (streams_of old new) ending why)
-      × IfOk files (λ disk. LiveEnded (live_setting manner V o.sources.after o.sources.clock o.sources.wakes) (o.streams.stream old.input) (given_disk o.disks disk) (calling_of old new) (streams_of old new) ending))
+      × IfOk files (λ disk. LiveEnded (live_setting manner V o.sources o.streams.held) (o.streams.stream old.input) (given_disk o.disks disk) (calling_of old new) (streams_of old new) ending))
 
   -- `live` in a voice
   abbrev pub DoesLive : Voice → Outside Y D P S I W E Q → Outside Y D P S I W E Q → Ending → Text → Type 0

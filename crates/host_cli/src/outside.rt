@@ -1,8 +1,10 @@
 //! All that is outside of the program, as one value.
 ghost use Rattle.std.specs.Prelude.{◌≡◌};
-ghost use Rattle.host_cli.specs.Outside.{OutsideView, disks_seen, outside_view, sources_seen, streams_seen};
+ghost use Rattle.driver.specs.Place.{source_rules};
+ghost use Rattle.host_cli.specs.Outside.{OutsideView, disks_seen, outside_view, output_seen, streams_seen};
 
 use crate::Outlet;
+use driver::Stamped;
 use offline_programs::Says;
 use partial_output::TellsPartial;
 use program_endings::{Ending, Given};
@@ -21,7 +23,7 @@ pub trait System {
     /// Standard input.
     type Input: Read + Drop;
     /// Standard output.
-    type Output: Outlet + Says + Drop;
+    type Output: Outlet + Says + Stamped + Drop;
     /// Standard error.
     type Errors: Says + Drop;
     /// Whoever shows how far a check is.
@@ -34,8 +36,8 @@ pub trait Seen: System {
 }
 
 impl<Y: System> Seen for Y {
-    ghost outer = { outside_view Y.Places.Places (disks_seen Y.Disk.Disk Y.Disk.closed) (sources_seen Y.Sources.after Y.Sources.clock Y.Sources.wakes)
-        (streams_seen Y.Input.Read Y.Output.Write Y.Output.flushed Y.Output.tried Y.Errors.Write Y.Errors.tried) };
+    ghost outer = { outside_view Y.Places.Places (disks_seen Y.Disk.Disk Y.Disk.closed) (source_rules Y.Sources.after Y.Sources.wakes Y.Sources.clock)
+        (streams_seen Y.Input.Read (output_seen Y.Output.Write Y.Output.held Y.Output.flushed Y.Output.tried) Y.Errors.Write Y.Errors.tried) };
 }
 
 /// All that is outside of the program. Each task lends the fields that it needs.

@@ -9,11 +9,9 @@ use block_tree::{OutOfMemory, Sequence};
 use check_report::Format as Report;
 use command_words::EvalWords;
 use evaluation::{Plan, Which};
+use live::MOST_SECONDS;
 use sheet_text::read_number;
 use std::alloc::Global;
-
-/// The most seconds that a field may be given, or a line of `run`.
-const MOST_SECONDS: u32 = 1_000_000;
 
 /// The most sessions in which fields may wait at a time.
 const MOST_JOBS: u32 = 64;

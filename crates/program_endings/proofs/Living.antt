@@ -10,9 +10,7 @@ use Rattle.arrivals.specs.declared.sources.Woken.{Woken}
 use Rattle.live.specs.declared.holding.Hold.{Hold}
 use Rattle.live.specs.declared.holding.Hold.TheVariants as hold
 use Rattle.live.specs.declared.manner.Manner.{Manner}
-use Rattle.driver.specs.declared.noting.Noting.{Noting}
-use Rattle.driver.specs.declared.voiced.Voiced.{Voiced}
-use Rattle.driver.specs.Place.{AgendaRules, Rules, SinkRules, SourceRules, agenda_rules, rules, sink_rules, turn_rules}
+use Rattle.driver.specs.Place.{AgendaRules, Rules, SourceRules, agenda_rules, rules, turn_rules}
 use Rattle.driver.specs.Noted.{PrintedSoFar, noting_rules, printed_so_far}
 use Rattle.driver.specs.Over.{Over, ProgramParts, program_parts}
 use Rattle.driver.proofs.Seen.{over_seen}
@@ -29,7 +27,7 @@ use Rattle.agendas.proofs.OwnFaults.{own_faults}
 use Rattle.offline_programs.specs.declared.fault.RunFault.{RunFault}
 use Rattle.sheet_files.specs.Closing.{Closable}
 use Rattle.tellings.specs.Voice.{Voice}
-use Rattle.program_endings.specs.LiveProgram.{FaultReported, FaultedBy, LiveBegun, LiveSetting, LivedEnds, LivesOn, answer_after, is_printed, lived}
+use Rattle.program_endings.specs.LiveProgram.{FaultReported, FaultedBy, LiveBegun, LiveSetting, LivedEnds, LivesOn, answer_after, is_printed, live_setting, lived}
 use Rattle.program_endings.specs.Records.{GivenDisk, Writing, calling, given_disk, writing}
 use Rattle.program_endings.specs.StrictProgram.{StrictAnswer}
 
@@ -60,53 +58,42 @@ given_agenda remaining = agenda_rules (turn_rules (λ a w now answer b. LinesSay
     (λ a w now came note b. LinesHeed (lines_stand remaining a) w now came note (lines_stand remaining b)))
     (λ a w first more b. LinesJoin (lines_stand remaining a) w first more (lines_stand remaining b))
 
-abbrev lines_driven : {C : Type 0} → Voice → SourceRules C → Rules LinesAt C PrintedSoFar
-lines_driven V s = rules lines_rules s (noting_rules V)
+abbrev lines_driven : {C : Type 0} → Voice → SourceRules C → (Option (List ℕ) → DiskView → Type 0) → Rules LinesAt C PrintedSoFar
+lines_driven V s held = rules lines_rules s (noting_rules V held)
 
-abbrev setting : {C : Type 0} → Voice → SourceRules C → Manner → LiveSetting C
-setting V s m = record { manner = m; voice = V; sources = s }
+module _ {I C W : Type 0} (remaining : I → Option (List ℕ)) (V : Voice) (contents : W → Option (List ℕ)) (held : Option (List ℕ) → DiskView → Type 0) (s : SourceRules C) (m : Manner) where
+  abbrev given_rules : Rules (ByLines I) C PrintedSoFar
+  given_rules = rules (given_agenda remaining) s (noting_rules V held)
 
-module _ {I C T W : Type 0} (remaining : I → Option (List ℕ)) (V : Voice) (contents : W → Option (List ℕ)) (s : SourceRules C) (m : Manner) where
-  abbrev given_sink : SinkRules (Noting (Voiced T W))
-  given_sink = sink_rules V (λ k. contents k.sink.writer) (λ k disk text whole l. Unit {0} × (l.whole ≡ whole))
+  -- what is seen of a program's parts
+  abbrev seen_of : ProgramParts (ByLines I) C PrintedSoFar → ProgramParts LinesAt C PrintedSoFar
+  seen_of x = program_parts x.disk x.sources x.sink (lines_stand remaining x.agenda)
 
-  abbrev given_rules : Rules (ByLines I) C (Noting (Voiced T W))
-  given_rules = rules (given_agenda remaining) s given_sink
-
-  over_lines : (first last : ProgramParts (ByLines I) C (Noting (Voiced T W))) (run : Result (Unit {0}) RunFault) → Over given_rules first last run
-      → Over (lines_driven V s) (program_parts first.disk first.sources (printed_so_far (contents first.sink.sink.writer) first.sink.whole) (lines_stand remaining first.agenda))
-      (program_parts last.disk last.sources (printed_so_far (contents last.sink.sink.writer) last.sink.whole) (lines_stand remaining last.agenda)) run
+  over_lines : (first last : ProgramParts (ByLines I) C PrintedSoFar) (run : Result (Unit {0}) RunFault) → Over given_rules first last run → Over (lines_driven V s held) (seen_of first) (seen_of last) run
   over_lines first last run o =
-      over_seen given_rules lines_rules (λ (k : PrintedSoFar). k.text) (λ (k : PrintedSoFar) (disk : DiskView) (text : List ℕ) (whole : Bool) (l : PrintedSoFar). l.whole ≡ whole) (lines_stand remaining) (λ (k : Noting (Voiced T W)). printed_so_far (contents k.sink.writer) k.whole)
-      (λ a w n r b said. said) (λ a w b reported. reported) (λ a w n c note b heeds. heeds) (λ a w first more b joins. joins) (λ k d text whole l t. record { tried = t.tried.1; appends = t.appends }) first last run o
+      over_seen given_rules lines_rules (λ (k : PrintedSoFar). k.text) (λ (k : PrintedSoFar) (disk : DiskView) (text : List ℕ) (whole : Bool) (l : PrintedSoFar). held k.text disk × (l.whole ≡ whole)) (lines_stand remaining) (λ (k : PrintedSoFar). k)
+      (λ a w n answer b said. said) (λ a w b reported. reported) (λ a w n c note b heeds. heeds) (λ a w first more b joins. joins) (λ k d text whole l t. record { tried = t.tried; appends = t.appends }) first last run o
 
-  -- what is seen of a program's parts, where it begins and where it ended
-  abbrev seen_first : DiskView → C → Noting (Voiced T W) → LinesAt → Bool → ProgramParts LinesAt C PrintedSoFar
-  seen_first disk c start lines whole = program_parts disk c (printed_so_far (contents start.sink.writer) whole) lines
-
-  abbrev seen_last : DiskView → C → Noting (Voiced T W) → ByLines I → ProgramParts LinesAt C PrintedSoFar
-  seen_last disk d sink done = program_parts disk d (printed_so_far (contents sink.sink.writer) sink.whole) (lines_stand remaining done)
-
-  pub lives : {D : Type 0} (k : Closable D) (disk later : D) (c d : C) (start sink : Noting (Voiced T W)) (begun done : ByLines I) (stream : Option (List ℕ)) (run : Result (Unit {0}) RunFault) (answer : StrictAnswer)
-      → start.whole ≡ true → lines_stand remaining begun ≡ first_lines m stream → Over given_rules (program_parts (k.view disk) c start begun) (program_parts (k.view later) d sink done) run
+  pub lives : {D : Type 0} (k : Closable D) (disk later : D) (c d : C) (old new : W) (whole : Bool) (begun done : ByLines I) (stream : Option (List ℕ)) (run : Result (Unit {0}) RunFault) (answer : StrictAnswer)
+      → lines_stand remaining begun ≡ first_lines m stream
+      → Over given_rules (program_parts (k.view disk) c (printed_so_far (contents old) true) begun) (program_parts (k.view later) d (printed_so_far (contents new) whole) done) run
       → k.closed later → SameDisk (k.view disk) (k.view later) → answer ≡ answer_after run (lines_stand remaining done)
-      → LivesOn (setting V s m) stream (given_disk k disk) (calling c d) (writing contents start.sink.writer sink.sink.writer) sink.whole answer
-  lives k disk later c d start sink begun done stream run answer fresh at over closed same is = record {
+      → LivesOn (live_setting m V s held) stream (given_disk k disk) (calling c d) (writing contents old new) whole answer
+  lives k disk later c d old new whole begun done stream run answer at over closed same is = record {
     later = later;
     closed = closed;
     same = same;
     lines = lines_stand remaining done;
     run = run;
     over = over_all;
-    true_of = over_true (lines_driven V s) own_faults (seen_first (k.view disk) c start (first_lines m stream) true) (seen_last (k.view later) d sink done) run over_all;
+    true_of = over_true (lines_driven V s held) own_faults (program_parts (k.view disk) c (printed_so_far (contents old) true) (first_lines m stream)) (program_parts (k.view later) d (printed_so_far (contents new) whole) (lines_stand remaining done)) run over_all;
     is = is;
   }
     where
-      over_all : Over (lines_driven V s) (seen_first (k.view disk) c start (first_lines m stream) true) (seen_last (k.view later) d sink done) run
+      over_all : Over (lines_driven V s held) (program_parts (k.view disk) c (printed_so_far (contents old) true) (first_lines m stream)) (program_parts (k.view later) d (printed_so_far (contents new) whole) (lines_stand remaining done)) run
       over_all =
-          subst (λ (whole : Bool). Over (lines_driven V s) (seen_first (k.view disk) c start (first_lines m stream) whole) (seen_last (k.view later) d sink done) run) fresh
-          (subst (λ (a : LinesAt). Over (lines_driven V s) (seen_first (k.view disk) c start a start.whole) (seen_last (k.view later) d sink done) run) at
-          (over_lines (program_parts (k.view disk) c start begun) (program_parts (k.view later) d sink done) run over))
+          subst (λ (a : LinesAt). Over (lines_driven V s held) (program_parts (k.view disk) c (printed_so_far (contents old) true) a) (program_parts (k.view later) d (printed_so_far (contents new) whole) (lines_stand remaining done)) run) at
+          (over_lines (program_parts (k.view disk) c (printed_so_far (contents old) true) begun) (program_parts (k.view later) d (printed_so_far (contents new) whole) done) run over)
 
 -- What stands last.
 

@@ -1,8 +1,7 @@
 -- How the program `eval` ends: what it evaluates and writes, what it says on which stream, and the exit status.
 use Rattle.std.specs.Io.KnownBytes.{Appends}
 use Rattle.std.specs.Prelude.{◌≡◌, ◌⊎◌, ◌==◌, ◌&&◌, ℕ, Bool, true, false, List, Option, Some, None, Result, Ok, Err, IfErr, if◌then◌else◌}
-use Rattle.disk_model.specs.Disk.{SameDisk}
-use Rattle.child_edge.specs.Faithful.{Relation}
+use Rattle.disk_model.specs.Disk.{DiskView, SameDisk}
 use Rattle.offline_programs.specs.Saying.{IsSaid, Saying}
 use Rattle.offline_programs.specs.declared.fault.RunFault.{RunFault}
 use Rattle.tellings.specs.Voice.{IsWithheld, Voice}
@@ -10,10 +9,9 @@ use Rattle.tellings.specs.declared.note.Counts.{Counts}
 use Rattle.tellings.specs.declared.note.Frame.{Frame}
 use Rattle.tellings.specs.declared.note.Frame.TheVariants as frame
 use Rattle.tellings.specs.declared.note.Overs.{Overs}
-use Rattle.live.specs.Records.{Clock, Watch}
 use Rattle.driver.specs.Noted.{PrintedSoFar, noting_rules, printed_so_far}
 use Rattle.driver.specs.Over.{Over, program_parts}
-use Rattle.driver.specs.Place.{Rules, SourceRules, rules, source_rules}
+use Rattle.driver.specs.Place.{Rules, SourceRules, rules}
 use Rattle.driver.specs.TrueFaults.{IsTrueOf}
 use Rattle.evaluation.specs.Faults.{eval_fault_text}
 use Rattle.evaluation.specs.Programs.{Finds}
@@ -58,22 +56,23 @@ abbrev pub TellsEval : {E : Type 0} → Saying E → Bool → EvaluationAnswer �
 TellsEval errors reported (Ok end) = TellsStop errors reported (Ok end.stopped_at)
 TellsEval errors reported (Err why) = IsSaid errors (eval_fault_text why) reported
 
--- How fields are evaluated: by which plan, with which programs and how a look for one may be answered, the voice of what is printed, and what the sources
--- may do.
+-- How fields are evaluated: by which plan, with which programs and how a look for one may be answered, the voice of what is printed, what the sources
+-- may do, and what the output held while a disk was in which state.
 pub record EvalSetting (C P : Type 0) : Type 1 where
   pub plan : Plan
   pub programs : P
   pub finds : P → Finds
   pub voice : Voice
   pub sources : SourceRules C
+  pub held : Option (List ℕ) → DiskView → Type 0
 
-abbrev pub eval_setting : {C P : Type 0} → Plan → P → (P → Finds) → Voice → Relation C → Clock C → Watch C → EvalSetting C P
-eval_setting plan programs finds V after clock wakes = record { plan = plan; programs = programs; finds = finds; voice = V; sources = source_rules after wakes clock }
+abbrev pub eval_setting : {C P : Type 0} → Plan → P → (P → Finds) → Voice → SourceRules C → (Option (List ℕ) → DiskView → Type 0) → EvalSetting C P
+eval_setting plan programs finds V sources held = record { plan = plan; programs = programs; finds = finds; voice = V; sources = sources; held = held }
 
--- A driver of fields: what is printed of a line is printed of that of a field. Of its sink is known what was printed, and whether all of the last text
--- went out.
+-- A driver of fields: what is printed of a line is printed of that of a field. Of its sink is known what was printed, in which state of the disk, and
+-- whether all of the last text went out.
 abbrev pub eval_rules : {C P : Type 0} → EvalSetting C P → Rules (ByFields P) C PrintedSoFar
-eval_rules o = rules (fields_rules o.finds) o.sources (noting_rules (by_field_lines o.voice))
+eval_rules o = rules (fields_rules o.finds) o.sources (noting_rules (by_field_lines o.voice) o.held)
 
 -- What the program answers after a run, by how far it came: what the evaluation came to, or what isn't there; or the fault of the run.
 pub data AnswersAfter : Result (Unit {0}) RunFault → Stage → EvaluationAnswer → Type 0 where

@@ -1,11 +1,9 @@
 -- How the programs `live`, `run --json` and `run --timeout` end: what becomes of the disk, what is written on which stream, and the exit status.
 use Rattle.std.specs.Prelude.{◌≡◌, ◌⊎◌, ℕ, Bool, true, false, List, Option, Result, Ok, Err, IfErr}
 use Rattle.std.specs.Io.KnownBytes.{Appends}
-use Rattle.disk_model.specs.Disk.{SameDisk}
-use Rattle.child_edge.specs.Faithful.{Relation}
-use Rattle.live.specs.Records.{Clock, Watch}
+use Rattle.disk_model.specs.Disk.{DiskView, SameDisk}
 use Rattle.live.specs.declared.manner.Manner.{Manner}
-use Rattle.driver.specs.Place.{Rules, SourceRules, rules, source_rules}
+use Rattle.driver.specs.Place.{Rules, SourceRules, rules}
 use Rattle.driver.specs.Noted.{PrintedSoFar, noting_rules, printed_so_far}
 use Rattle.driver.specs.Over.{Over, program_parts}
 use Rattle.driver.specs.TrueFaults.{IsTrueOf}
@@ -23,18 +21,19 @@ use Rattle.program_endings.specs.Records.{Calling, GivenDisk, Streams, Writing, 
 use Rattle.program_endings.specs.StrictProgram.{StrictAnswer, TellsStop, strict_status}
 use Rattle.program_endings.specs.declared.ending.Ending.{Ending}
 
--- How lines are taken, the voice of what is printed, and what the sources may do.
+-- How lines are taken, the voice of what is printed, what the sources may do, and what the output held while a disk was in which state.
 pub record LiveSetting (C : Type 0) : Type 1 where
   pub manner : Manner
   pub voice : Voice
   pub sources : SourceRules C
+  pub held : Option (List ℕ) → DiskView → Type 0
 
-abbrev pub live_setting : {C : Type 0} → Manner → Voice → Relation C → Clock C → Watch C → LiveSetting C
-live_setting manner voice after clock wakes = record { manner = manner; voice = voice; sources = source_rules after wakes clock }
+abbrev pub live_setting : {C : Type 0} → Manner → Voice → SourceRules C → (Option (List ℕ) → DiskView → Type 0) → LiveSetting C
+live_setting manner voice sources held = record { manner = manner; voice = voice; sources = sources; held = held }
 
--- a driver of lines: of its sink is known what was printed, and whether all of the last text went out
+-- a driver of lines: of its sink is known what was printed, in which state of the disk, and whether all of the last text went out
 abbrev pub live_rules : {C : Type 0} → LiveSetting C → Rules LinesAt C PrintedSoFar
-live_rules o = rules lines_rules o.sources (noting_rules o.voice)
+live_rules o = rules lines_rules o.sources (noting_rules o.voice o.held)
 
 -- what the program answers after a run: where a strict input stopped, or the fault
 abbrev pub answer_after : Result (Unit {0}) RunFault → LinesAt → StrictAnswer

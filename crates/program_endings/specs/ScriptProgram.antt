@@ -10,7 +10,7 @@ use Rattle.offline_programs.specs.Input.{IsInputFault, longest_standard_input}
 use Rattle.offline_programs.specs.Memory.{script_lines}
 use Rattle.offline_programs.specs.declared.fault.RunFault.{RunFault}
 use Rattle.offline_programs.specs.declared.fault.RunFault.TheVariants as fault
-use Rattle.script_agenda.specs.Run.{RanScript}
+use Rattle.script_agenda.specs.Run.{RanScript, running_rules}
 use Rattle.program_endings.specs.Ending.{EndsAs}
 use Rattle.program_endings.specs.LiveProgram.{LiveEnded, LiveSetting}
 use Rattle.program_endings.specs.Records.{Calling, DoesNothing, GivenDisk, Streams, outside_after, outside_before, view_given}
@@ -45,7 +45,7 @@ pub record RunsWhole {D C W E : Type 0} (o : LiveSetting C) (script : List ℕ) 
   pub closed : g.how.closed later
   pub same : SameDisk (view_given g) (g.how.view later)
   pub answer : StrictAnswer
-  pub ran : RanScript o.sources o.manner.strict script (outside_before g q s.output) (outside_after g later q s.output) answer
+  pub ran : RanScript (running_rules o.sources o.held) o.manner.strict script (outside_before g q s.output) (outside_after g later q s.output) answer
   pub status : ending.status ≡ strict_status answer
   pub reported : TellsStop s.errors ending.reported answer
 

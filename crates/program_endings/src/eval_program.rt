@@ -1,5 +1,6 @@
 //! The program `eval` over a worksheet's files, from its files on.
 ghost use Rattle.std.specs.Prelude.{◌≡◌, Err, IfErr, IfOk, Ok, true};
+ghost use Rattle.driver.specs.Place.{source_rules};
 ghost use Rattle.evaluation.specs.declared.fault.EvalFault.TheVariants as evals;
 ghost use Rattle.field_agenda.specs.Stages.{IsEnded};
 ghost use Rattle.offline_programs.specs.Saying.{saying};
@@ -16,7 +17,7 @@ use crate::passing::{Answered, Given, GivenBack};
 use crate::telling::no_files;
 use crate::{Ending, end_program};
 use arrivals::Sources;
-use driver::{Noting, Over, Voiced, run_over};
+use driver::{OverStream, Stamped, Voiced, run_voiced};
 use evaluation::{EvalEnd, EvalFault, Plan, Programs};
 use field_agenda::{ByFields, FieldLines, Stage};
 use offline_programs::{RunFault, Says};
@@ -86,36 +87,30 @@ fn answer_after(run: Result<(), RunFault>, stage: Stage) -> Result<EvalEnd, Eval
 }
 
 /// Evaluates the fields of the worksheet on a disk, and closes the disk at the end.
-fn evaluate_on<W: Write, D: Close, S: Sources, T: Tells + Copy, P: Programs + Drop>(
+fn evaluate_on<W: Stamped, D: Close, S: Sources, T: Tells + Copy, P: Programs + Drop>(
     setting: FieldSetting<T>,
     programs: P,
     outside: Outside<D, S, W>,
 ) -> Evaluated<S, W>
-    ensures { EvaluatesTo (eval_setting setting.plan programs P.finds T.voice S.after S.clock S.wakes) (given_disk (closable D.view D.closed) outside.disk)
+    ensures { EvaluatesTo (eval_setting setting.plan programs P.finds T.voice (source_rules S.after S.wakes S.clock) W.held) (given_disk (closable D.view D.closed) outside.disk)
         (calling outside.sources result.sources) (writing W.contents outside.output result.output) result.whole result.answer }
 {
     let FieldSetting { alloc, plan, tells } = setting;
-    let sink = Noting {
-        sink: Voiced {
-            tells: FieldLines { tells },
-            writer: outside.output,
-        },
-        whole: true,
+    let voiced = Voiced {
+        tells: FieldLines { tells },
+        writer: outside.output,
     };
     let agenda = ByFields::new(alloc, plan, programs);
-    let Over {
+    let OverStream {
         disk,
         sources,
-        sink,
+        writer,
         agenda,
+        whole,
         answer,
-    } = run_over(alloc, outside.disk, outside.sources, sink, agenda);
+    } = run_voiced(alloc, outside.disk, outside.sources, voiced, agenda);
     disk.close();
     let stage = agenda.stage();
-    let Noting {
-        sink: Voiced { tells: _, writer },
-        whole,
-    } = sink;
     Answered {
         answer: answer_after(answer, stage),
         whole,
@@ -251,13 +246,13 @@ fn end_evaluation<W: Write, E: Says, T: Tells>(
 }
 
 /// Evaluates the fields of the worksheet on a disk, and reports how that ended.
-fn end_on<W: Write, E: Says, D: Close, S: Sources, T: Tells + Copy, P: Programs + Drop>(
+fn end_on<W: Stamped, E: Says, D: Close, S: Sources, T: Tells + Copy, P: Programs + Drop>(
     setting: FieldSetting<T>,
     programs: P,
     outside: Outside<D, S, W>,
     errors: &mut E,
 ) -> GivenBack<Ending, S, W>
-    ensures { EvaluationBegun (eval_setting setting.plan programs P.finds T.voice S.after S.clock S.wakes) (given_disk (closable D.view D.closed) outside.disk) (calling outside.sources result.sources)
+    ensures { EvaluationBegun (eval_setting setting.plan programs P.finds T.voice (source_rules S.after S.wakes S.clock) W.held) (given_disk (closable D.view D.closed) outside.disk) (calling outside.sources result.sources)
         (streams (writing W.contents outside.output result.output) (saying E.contents E.tried errors.old errors.new)) result.ending }
 {
     let tells = setting.tells;
@@ -275,13 +270,13 @@ fn end_on<W: Write, E: Says, D: Close, S: Sources, T: Tells + Copy, P: Programs 
 }
 
 /// Writes the voice's first message, evaluates, and reports how that ended.
-fn end_greeted<W: Write, E: Says, D: Close, S: Sources, T: Tells + Copy, P: Programs + Drop>(
+fn end_greeted<W: Stamped, E: Says, D: Close, S: Sources, T: Tells + Copy, P: Programs + Drop>(
     setting: FieldSetting<T>,
     programs: P,
     mut outside: Outside<D, S, W>,
     errors: &mut E,
 ) -> GivenBack<Ending, S, W>
-    ensures { EvaluationEnded (eval_setting setting.plan programs P.finds T.voice S.after S.clock S.wakes) (given_disk (closable D.view D.closed) outside.disk) (calling outside.sources result.sources)
+    ensures { EvaluationEnded (eval_setting setting.plan programs P.finds T.voice (source_rules S.after S.wakes S.clock) W.held) (given_disk (closable D.view D.closed) outside.disk) (calling outside.sources result.sources)
         (streams (writing W.contents outside.output result.output) (saying E.contents E.tried errors.old errors.new)) result.ending }
 {
     match setting.tells.frame(Frame::Hello, &mut outside.output) {
@@ -306,7 +301,14 @@ fn end_greeted<W: Write, E: Says, D: Close, S: Sources, T: Tells + Copy, P: Prog
 /// first, by `programs`. What comes of each field goes to the output, flushed at once, and the counts at the end. The line of a
 /// fault goes to `errors`, and so does that of the place where a strict evaluation stopped. Sources and output
 /// are given back.
-pub fn run_evaluation<W: Write, E: Says, D: Close, S: Sources, T: Tells + Copy, P: Programs + Drop>(
+pub fn run_evaluation<
+    W: Stamped,
+    E: Says,
+    D: Close,
+    S: Sources,
+    T: Tells + Copy,
+    P: Programs + Drop,
+>(
     setting: FieldSetting<T>,
     programs: P,
     given: Given<D, S, W>,
@@ -315,7 +317,7 @@ pub fn run_evaluation<W: Write, E: Says, D: Close, S: Sources, T: Tells + Copy, 
     ensures unopened { IfErr given.files (LiveUnopened T.voice (calling given.sources result.sources)
         (streams (writing W.contents given.output result.output) (saying E.contents E.tried errors.old errors.new)) result.ending) }
 
-    ensures files { IfOk given.files (λ disk. EvaluationEnded (eval_setting setting.plan programs P.finds T.voice S.after S.clock S.wakes) (given_disk (closable D.view D.closed) disk) (calling given.sources result.sources)
+    ensures files { IfOk given.files (λ disk. EvaluationEnded (eval_setting setting.plan programs P.finds T.voice (source_rules S.after S.wakes S.clock) W.held) (given_disk (closable D.view D.closed) disk) (calling given.sources result.sources)
         (streams (writing W.contents given.output result.output) (saying E.contents E.tried errors.old errors.new)) result.ending) }
 {
     let Given {

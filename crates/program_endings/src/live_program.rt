@@ -2,6 +2,7 @@
 ghost use Rattle.std.specs.Prelude.{◌≡◌, ◌&&◌, Err, IfErr, IfOk, Ok, ℕ, true};
 ghost use Rattle.agendas.specs.LinesAt.{LinesAt, stopped_at};
 ghost use Rattle.arrivals.specs.Held.{nothing_held};
+ghost use Rattle.driver.specs.Place.{source_rules};
 ghost use Rattle.offline_programs.specs.Saying.{saying};
 ghost use Rattle.program_endings.specs.Ending.{TellsFault, status_of};
 ghost use Rattle.program_endings.specs.LiveProgram as meant;
@@ -16,7 +17,7 @@ use crate::telling::no_files;
 use crate::{Ending, end_program};
 use agendas::ByLines;
 use arrivals::{InputLines, Sources};
-use driver::{Noting, Over, Voiced, run_over};
+use driver::{OverStream, Stamped, Voiced, run_voiced};
 use live::Manner;
 use offline_programs::{RunFault, Says};
 use script_agenda::Outside;
@@ -84,7 +85,7 @@ fn answer_after(run: Result<(), RunFault>, stopped: Option<u64>) -> Result<Optio
 }
 
 /// Runs over a disk with these lines, and closes the disk at the end.
-fn live_on<R: Read, W: Write, D: Close, S: Sources, T: Tells + Copy>(
+fn live_on<R: Read, W: Stamped, D: Close, S: Sources, T: Tells + Copy>(
     setting: LineSetting<T>,
     lines: InputLines<R>,
     outside: Outside<D, S, W>,
@@ -92,30 +93,24 @@ fn live_on<R: Read, W: Write, D: Close, S: Sources, T: Tells + Copy>(
 where
     R: Drop,
     requires { lines.held ≡ nothing_held }
-    ensures { LivesOn (live_setting setting.manner T.voice S.after S.clock S.wakes) (R.remaining lines.reader) (given_disk (closable D.view D.closed) outside.disk)
+    ensures { LivesOn (live_setting setting.manner T.voice (source_rules S.after S.wakes S.clock) W.held) (R.remaining lines.reader) (given_disk (closable D.view D.closed) outside.disk)
         (calling outside.sources result.sources) (writing W.contents outside.output result.output) result.whole result.answer }
 {
-    let sink = Noting {
-        sink: Voiced {
-            tells: setting.tells,
-            writer: outside.output,
-        },
-        whole: true,
+    let voiced = Voiced {
+        tells: setting.tells,
+        writer: outside.output,
     };
     let agenda = ByLines::new(setting.alloc, setting.manner, lines);
-    let Over {
+    let OverStream {
         disk,
         sources,
-        sink,
+        writer,
         agenda,
+        whole,
         answer,
-    } = run_over(setting.alloc, outside.disk, outside.sources, sink, agenda);
+    } = run_voiced(setting.alloc, outside.disk, outside.sources, voiced, agenda);
     disk.close();
     let stopped = agenda.stopped_at();
-    let Noting {
-        sink: Voiced { tells: _, writer },
-        whole,
-    } = sink;
     Answered {
         answer: answer_after(answer, stopped),
         whole,
@@ -186,7 +181,7 @@ fn end_lived<S, W: Write, T: Tells + Copy>(lived: Lived<S, W>, tells: T) -> Live
 }
 
 /// Runs over a disk with these lines, and prints what stands last.
-fn live_lines<R: Read, W: Write, D: Close, S: Sources, T: Tells + Copy>(
+fn live_lines<R: Read, W: Stamped, D: Close, S: Sources, T: Tells + Copy>(
     setting: LineSetting<T>,
     lines: InputLines<R>,
     outside: Outside<D, S, W>,
@@ -194,7 +189,7 @@ fn live_lines<R: Read, W: Write, D: Close, S: Sources, T: Tells + Copy>(
 where
     R: Drop,
     requires { lines.held ≡ nothing_held }
-    ensures { LiveBegun (live_setting setting.manner T.voice S.after S.clock S.wakes) (R.remaining lines.reader) (given_disk (closable D.view D.closed) outside.disk)
+    ensures { LiveBegun (live_setting setting.manner T.voice (source_rules S.after S.wakes S.clock) W.held) (R.remaining lines.reader) (given_disk (closable D.view D.closed) outside.disk)
         (calling outside.sources result.sources) (writing W.contents outside.output result.output) result.whole result.answer }
 {
     let tells = setting.tells;
@@ -202,12 +197,12 @@ where
 }
 
 /// Runs over a disk with the lines of an input, and prints what stands last.
-fn live_read<R: Read, W: Write, D: Close, S: Sources, T: Tells + Copy>(
+fn live_read<R: Read, W: Stamped, D: Close, S: Sources, T: Tells + Copy>(
     setting: LineSetting<T>,
     input: &mut R,
     outside: Outside<D, S, W>,
 ) -> Lived<S, W>
-    ensures { LiveBegun (live_setting setting.manner T.voice S.after S.clock S.wakes) (R.remaining input.old) (given_disk (closable D.view D.closed) outside.disk)
+    ensures { LiveBegun (live_setting setting.manner T.voice (source_rules S.after S.wakes S.clock) W.held) (R.remaining input.old) (given_disk (closable D.view D.closed) outside.disk)
         (calling outside.sources result.sources) (writing W.contents outside.output result.output) result.whole result.answer }
 {
     match InputLines::new(setting.alloc, input) {
@@ -225,12 +220,12 @@ fn live_read<R: Read, W: Write, D: Close, S: Sources, T: Tells + Copy>(
 }
 
 /// Writes the voice's first message, goes on live, and prints what stands last.
-fn live_framed<R: Read, W: Write, D: Close, S: Sources, T: Tells + Copy>(
+fn live_framed<R: Read, W: Stamped, D: Close, S: Sources, T: Tells + Copy>(
     setting: LineSetting<T>,
     input: &mut R,
     mut outside: Outside<D, S, W>,
 ) -> Lived<S, W>
-    ensures { LiveAnswer (live_setting setting.manner T.voice S.after S.clock S.wakes) (R.remaining input.old) (given_disk (closable D.view D.closed) outside.disk)
+    ensures { LiveAnswer (live_setting setting.manner T.voice (source_rules S.after S.wakes S.clock) W.held) (R.remaining input.old) (given_disk (closable D.view D.closed) outside.disk)
         (calling outside.sources result.sources) (writing W.contents outside.output result.output) result.whole result.answer }
 {
     match setting.tells.frame(Frame::Hello, &mut outside.output) {
@@ -293,13 +288,13 @@ fn end_stopped<E: Says>(answer: Result<Option<u64>, RunFault>, said: bool, error
 }
 
 /// Holds the worksheet on a disk open, and tells the fault, or where it stopped.
-pub(crate) fn end_live<R: Read, W: Write, E: Says, D: Close, S: Sources, T: Tells + Copy>(
+pub(crate) fn end_live<R: Read, W: Stamped, E: Says, D: Close, S: Sources, T: Tells + Copy>(
     setting: LineSetting<T>,
     input: &mut R,
     outside: Outside<D, S, W>,
     errors: &mut E,
 ) -> GivenBack<Ending, S, W>
-    ensures { LiveEnded (live_setting setting.manner T.voice S.after S.clock S.wakes) (R.remaining input.old) (given_disk (closable D.view D.closed) outside.disk) (calling outside.sources result.sources)
+    ensures { LiveEnded (live_setting setting.manner T.voice (source_rules S.after S.wakes S.clock) W.held) (R.remaining input.old) (given_disk (closable D.view D.closed) outside.disk) (calling outside.sources result.sources)
         (streams (writing W.contents outside.output result.output) (saying E.contents E.tried errors.old errors.new)) result.ending }
 {
     let Answered {
@@ -319,7 +314,7 @@ pub(crate) fn end_live<R: Read, W: Write, E: Says, D: Close, S: Sources, T: Tell
 /// opened: its lines come from `input`, which is read only where there are files, and what comes of them and
 /// of interpreters goes to the output, flushed at once. The line of a fault goes to `errors`, and so does that of
 /// the line after which a strict input stopped. Sources and output are given back.
-pub fn run_live<R: Read, W: Write, E: Says, D: Close, S: Sources, T: Tells + Copy>(
+pub fn run_live<R: Read, W: Stamped, E: Says, D: Close, S: Sources, T: Tells + Copy>(
     setting: LineSetting<T>,
     input: &mut R,
     given: Given<D, S, W>,
@@ -329,7 +324,7 @@ pub fn run_live<R: Read, W: Write, E: Says, D: Close, S: Sources, T: Tells + Cop
     ensures unopened { IfErr given.files (λ why. (input.new ≡ input.old) × LiveUnopened T.voice (calling given.sources result.sources)
         (streams (writing W.contents given.output result.output) (saying E.contents E.tried errors.old errors.new)) result.ending why) }
 
-    ensures files { IfOk given.files (λ disk. LiveEnded (live_setting setting.manner T.voice S.after S.clock S.wakes) (R.remaining input.old) (given_disk (closable D.view D.closed) disk)
+    ensures files { IfOk given.files (λ disk. LiveEnded (live_setting setting.manner T.voice (source_rules S.after S.wakes S.clock) W.held) (R.remaining input.old) (given_disk (closable D.view D.closed) disk)
         (calling given.sources result.sources) (streams (writing W.contents given.output result.output) (saying E.contents E.tried errors.old errors.new)) result.ending) }
 {
     let Given {

@@ -1,5 +1,6 @@
 //! The program `run` over a worksheet's files, in words and without a limit of time, from its files on.
 ghost use Rattle.std.specs.Prelude.{◌≡◌, IfErr, IfOk, None, Some};
+ghost use Rattle.driver.specs.Place.{source_rules};
 ghost use Rattle.live.specs.Records.{line_by_line};
 ghost use Rattle.program_endings.specs.LiveProgram.{LiveEnded, live_setting};
 ghost use Rattle.offline_programs.specs.Saying.{saying};
@@ -17,13 +18,14 @@ use crate::telling::no_files;
 use crate::{Ending, end_program};
 use arrivals::Sources;
 use bstr::ByteSlice;
+use driver::Stamped;
 use live::{LiveLine, Manner, read_live_line};
 use offline_programs::{Says, read_input};
 use script_agenda::{Outside, Ran, run_read};
 use sheet_files::Close;
 use sheet_text::LineFault;
 use std::alloc::Global;
-use std::io::{Read, Write};
+use std::io::Read;
 use tellings::InWords;
 
 /// Whether a line has a form that `live` has and a script doesn't.
@@ -54,14 +56,14 @@ fn has_form(alloc: Global, script: &[u8]) -> bool
 }
 
 /// Takes the lines of a script one by one over the worksheet on a disk, as `live` does it where lines come first.
-fn run_by_lines<W: Write, E: Says, D: Close, S: Sources>(
+fn run_by_lines<W: Stamped, E: Says, D: Close, S: Sources>(
     alloc: Global,
     strict: bool,
     script: &[u8],
     outside: Outside<D, S, W>,
     errors: &mut E,
 ) -> GivenBack<Ending, S, W>
-    ensures { LiveEnded (live_setting (line_by_line None strict) in_words S.after S.clock S.wakes) (Some script.now) (given_disk (closable D.view D.closed) outside.disk) (calling outside.sources result.sources)
+    ensures { LiveEnded (live_setting (line_by_line None strict) in_words (source_rules S.after S.wakes S.clock) W.held) (Some script.now) (given_disk (closable D.view D.closed) outside.disk) (calling outside.sources result.sources)
         (streams (writing W.contents outside.output result.output) (saying E.contents E.tried errors.old errors.new)) result.ending }
 {
     let setting = LineSetting {
@@ -78,14 +80,14 @@ fn run_by_lines<W: Write, E: Says, D: Close, S: Sources>(
 }
 
 /// Runs a script over the worksheet on a disk, and closes the disk at the end.
-fn run_as_script<W: Write, E: Says, D: Close, S: Sources>(
+fn run_as_script<W: Stamped, E: Says, D: Close, S: Sources>(
     alloc: Global,
     strict: bool,
     script: &[u8],
     outside: Outside<D, S, W>,
     errors: &mut E,
 ) -> GivenBack<Ending, S, W>
-    ensures { RunsWhole (live_setting (line_by_line None strict) in_words S.after S.clock S.wakes) script.now (given_disk (closable D.view D.closed) outside.disk) (calling outside.sources result.sources)
+    ensures { RunsWhole (live_setting (line_by_line None strict) in_words (source_rules S.after S.wakes S.clock) W.held) script.now (given_disk (closable D.view D.closed) outside.disk) (calling outside.sources result.sources)
         (streams (writing W.contents outside.output result.output) (saying E.contents E.tried errors.old errors.new)) result.ending }
 {
     let Ran { outside, answer } = run_read(alloc, script, strict, outside);
@@ -103,14 +105,14 @@ fn run_as_script<W: Write, E: Says, D: Close, S: Sources>(
 }
 
 /// The one or the other, by what stands in the script.
-fn run_whole<W: Write, E: Says, D: Close, S: Sources>(
+fn run_whole<W: Stamped, E: Says, D: Close, S: Sources>(
     alloc: Global,
     strict: bool,
     script: &[u8],
     outside: Outside<D, S, W>,
     errors: &mut E,
 ) -> GivenBack<Ending, S, W>
-    ensures { RunsRead (live_setting (line_by_line None strict) in_words S.after S.clock S.wakes) script.now (given_disk (closable D.view D.closed) outside.disk) (calling outside.sources result.sources)
+    ensures { RunsRead (live_setting (line_by_line None strict) in_words (source_rules S.after S.wakes S.clock) W.held) script.now (given_disk (closable D.view D.closed) outside.disk) (calling outside.sources result.sources)
         (streams (writing W.contents outside.output result.output) (saying E.contents E.tried errors.old errors.new)) result.ending }
 {
     if has_form(alloc, script) {
@@ -121,14 +123,14 @@ fn run_whole<W: Write, E: Says, D: Close, S: Sources>(
 }
 
 /// Reads a script whole, and runs it over the worksheet on a disk.
-fn run_on<R: Read, W: Write, E: Says, D: Close, S: Sources>(
+fn run_on<R: Read, W: Stamped, E: Says, D: Close, S: Sources>(
     alloc: Global,
     strict: bool,
     input: &mut R,
     outside: Outside<D, S, W>,
     errors: &mut E,
 ) -> GivenBack<Ending, S, W>
-    ensures { ScriptEnds (live_setting (line_by_line None strict) in_words S.after S.clock S.wakes) (R.remaining input.old) (given_disk (closable D.view D.closed) outside.disk) (calling outside.sources result.sources)
+    ensures { ScriptEnds (live_setting (line_by_line None strict) in_words (source_rules S.after S.wakes S.clock) W.held) (R.remaining input.old) (given_disk (closable D.view D.closed) outside.disk) (calling outside.sources result.sources)
         (streams (writing W.contents outside.output result.output) (saying E.contents E.tried errors.old errors.new)) result.ending }
 {
     match read_input(alloc, input) {
@@ -156,7 +158,7 @@ fn run_on<R: Read, W: Write, E: Says, D: Close, S: Sources>(
 ///
 /// A script of which a line has a form that only `live` has (`print ID`, `wait SECONDS`, `interrupt NAME`, `export
 /// FORMAT`, `begin`, `end`) is taken line by line, as by [`run_live`](crate::run_live) where lines come first.
-pub fn run_script<R: Read, W: Write, E: Says, D: Close, S: Sources>(
+pub fn run_script<R: Read, W: Stamped, E: Says, D: Close, S: Sources>(
     alloc: Global,
     strict: bool,
     input: &mut R,
@@ -167,7 +169,7 @@ pub fn run_script<R: Read, W: Write, E: Says, D: Close, S: Sources>(
     ensures unopened { IfErr given.files (λ why. (input.new ≡ input.old) × EndsUnopened (calling given.sources result.sources)
         (streams (writing W.contents given.output result.output) (saying E.contents E.tried errors.old errors.new)) result.ending why) }
 
-    ensures files { IfOk given.files (λ disk. ScriptEnds (live_setting (line_by_line None strict) in_words S.after S.clock S.wakes) (R.remaining input.old) (given_disk (closable D.view D.closed) disk) (calling given.sources result.sources)
+    ensures files { IfOk given.files (λ disk. ScriptEnds (live_setting (line_by_line None strict) in_words (source_rules S.after S.wakes S.clock) W.held) (R.remaining input.old) (given_disk (closable D.view D.closed) disk) (calling given.sources result.sources)
         (streams (writing W.contents given.output result.output) (saying E.contents E.tried errors.old errors.new)) result.ending) }
 {
     let Given {

@@ -2,10 +2,8 @@
 use Rattle.std.proofs.Common.{◌≡◌, ◌≤◌, ℕ, Bool, true, false, List, length, subst}
 use Rattle.std.specs.Prelude.{IfSome, Option, Result}
 use Rattle.disk_model.specs.Disk.{DiskView}
-use Rattle.driver.specs.declared.noting.Noting.{Noting}
-use Rattle.driver.specs.declared.voiced.Voiced.{Voiced}
-use Rattle.driver.specs.Place.{AgendaRules, Rules, SinkRules, SourceRules, agenda_rules, rules, sink_rules, turn_rules}
-use Rattle.driver.specs.Noted.{PrintedSoFar, printed_so_far}
+use Rattle.driver.specs.Place.{AgendaRules, Rules, SourceRules, agenda_rules, rules, turn_rules}
+use Rattle.driver.specs.Noted.{PrintedSoFar, noting_rules, printed_so_far}
 use Rattle.driver.specs.Over.{Over, ProgramParts, program_parts}
 use Rattle.driver.proofs.Seen.{over_seen}
 use Rattle.driver.proofs.TrueFaults.{over_true}
@@ -26,44 +24,39 @@ given_agenda = agenda_rules (turn_rules (λ a w now answer b. ScriptSays (script
     (λ a w now came note b. ScriptHeeds (script_stand a) w now came note (script_stand b)))
     (λ a w first more b. ScriptJoins (script_stand a) w first more (script_stand b))
 
-module _ {C T W : Type 0} (contents : W → Option (List ℕ)) (s : SourceRules C) where
-  abbrev given_sink : SinkRules (Noting (Voiced T W))
-  given_sink = sink_rules in_words (λ k. contents k.sink.writer) (λ k disk text whole l. Unit {0} × (l.whole ≡ whole))
-
-  abbrev given_rules : Rules ByScript C (Noting (Voiced T W))
-  given_rules = rules given_agenda s given_sink
+module _ {C : Type 0} (held : Option (List ℕ) → DiskView → Type 0) (s : SourceRules C) where
+  abbrev given_rules : Rules ByScript C PrintedSoFar
+  given_rules = rules given_agenda s (noting_rules in_words held)
 
   -- what is seen of a program's parts
-  abbrev seen_of : DiskView → C → Noting (Voiced T W) → ScriptAt → Bool → ProgramParts ScriptAt C PrintedSoFar
-  seen_of disk c sink at whole = running_parts (outside disk c (contents sink.sink.writer)) whole at
+  abbrev seen_of : ProgramParts ByScript C PrintedSoFar → ProgramParts ScriptAt C PrintedSoFar
+  seen_of x = program_parts x.disk x.sources x.sink (script_stand x.agenda)
 
-  over_script : (first last : ProgramParts ByScript C (Noting (Voiced T W))) (run : Result (Unit {0}) RunFault) → Over given_rules first last run
-      → Over (running_rules s) (seen_of first.disk first.sources first.sink (script_stand first.agenda) first.sink.whole) (seen_of last.disk last.sources last.sink (script_stand last.agenda) last.sink.whole) run
+  over_script : (first last : ProgramParts ByScript C PrintedSoFar) (run : Result (Unit {0}) RunFault) → Over given_rules first last run → Over (running_rules s held) (seen_of first) (seen_of last) run
   over_script first last run o =
-      over_seen given_rules script_rules (λ (k : PrintedSoFar). k.text) (λ (k : PrintedSoFar) (disk : DiskView) (text : List ℕ) (whole : Bool) (l : PrintedSoFar). l.whole ≡ whole) script_stand (λ (k : Noting (Voiced T W)). printed_so_far (contents k.sink.writer) k.whole)
-      (λ a w n r b said. said) (λ a w b reported. reported) (λ a w n c note b heeds. heeds) (λ a w first more b joins. joins) (λ k d text whole l t. record { tried = t.tried.1; appends = t.appends }) first last run o
+      over_seen given_rules script_rules (λ (k : PrintedSoFar). k.text) (λ (k : PrintedSoFar) (disk : DiskView) (text : List ℕ) (whole : Bool) (l : PrintedSoFar). held k.text disk × (l.whole ≡ whole)) script_stand (λ (k : PrintedSoFar). k)
+      (λ a w n r b said. said) (λ a w b reported. reported) (λ a w n c note b heeds. heeds) (λ a w first more b joins. joins) (λ k d text whole l t. record { tried = t.tried; appends = t.appends }) first last run o
 
-  pub ran_script : (strict : Bool) (script : List ℕ) (disk later : DiskView) (c d : C) (start sink : Noting (Voiced T W)) (begun done : ByScript) (run : Result (Unit {0}) RunFault) (answer : Result (Option ℕ) RunFault)
-      → start.whole ≡ true → script_stand begun ≡ script_begun (script_lines script) strict → Over given_rules (program_parts disk c start begun) (program_parts later d sink done) run
-      → answer ≡ script_answer run sink.whole (script_stand done)
-      → RanScript s strict script (outside disk c (contents start.sink.writer)) (outside later d (contents sink.sink.writer)) answer
-  ran_script strict script disk later c d start sink begun done run answer fresh at over is = record {
+  pub ran_script : (strict : Bool) (script : List ℕ) (disk later : DiskView) (c d : C) (before after : Option (List ℕ)) (whole : Bool) (begun done : ByScript) (run : Result (Unit {0}) RunFault) (answer : Result (Option ℕ) RunFault)
+      → script_stand begun ≡ script_begun (script_lines script) strict → Over given_rules (program_parts disk c (printed_so_far before true) begun) (program_parts later d (printed_so_far after whole) done) run
+      → answer ≡ script_answer run whole (script_stand done)
+      → RanScript (running_rules s held) strict script (outside disk c before) (outside later d after) answer
+  ran_script strict script disk later c d before after whole begun done run answer at over is = record {
     at_end = script_stand done;
     run = run;
-    whole = sink.whole;
+    whole = whole;
     over = over_all;
-    true_of = over_true (running_rules s) own_faults (seen_of disk c start (script_begun (script_lines script) strict) true) (seen_of later d sink (script_stand done) sink.whole) run over_all;
+    true_of = over_true (running_rules s held) own_faults (running_parts (outside disk c before) true (script_begun (script_lines script) strict)) (running_parts (outside later d after) whole (script_stand done)) run over_all;
     is = is;
   }
     where
-      over_all : Over (running_rules s) (seen_of disk c start (script_begun (script_lines script) strict) true) (seen_of later d sink (script_stand done) sink.whole) run
+      over_all : Over (running_rules s held) (running_parts (outside disk c before) true (script_begun (script_lines script) strict)) (running_parts (outside later d after) whole (script_stand done)) run
       over_all =
-          subst (λ (whole : Bool). Over (running_rules s) (seen_of disk c start (script_begun (script_lines script) strict) whole) (seen_of later d sink (script_stand done) sink.whole) run) fresh
-          (subst (λ (a : ScriptAt). Over (running_rules s) (seen_of disk c start a start.whole) (seen_of later d sink (script_stand done) sink.whole) run) at
-          (over_script (program_parts disk c start begun) (program_parts later d sink done) run over))
+          subst (λ (a : ScriptAt). Over (running_rules s held) (running_parts (outside disk c before) true a) (running_parts (outside later d after) whole (script_stand done)) run) at
+          (over_script (program_parts disk c (printed_so_far before true) begun) (program_parts later d (printed_so_far after whole) done) run over)
 
 -- the script is what was read
-pub from_whole : {C : Type 0} (s : SourceRules C) (stream : Option (List ℕ)) (bytes script : List ℕ) (first last : Outside C) (answer : Result (Option ℕ) RunFault) → bytes ≡ script → IfSome stream (λ all. bytes ≡ all)
-    → length bytes ≤ longest_standard_input → RanScript s false script first last answer → RanRead s stream first last answer
-from_whole s stream bytes script first last answer is all short ran =
+pub from_whole : {C : Type 0} (R : Rules ScriptAt C PrintedSoFar) (stream : Option (List ℕ)) (bytes script : List ℕ) (first last : Outside C) (answer : Result (Option ℕ) RunFault) → bytes ≡ script → IfSome stream (λ all. bytes ≡ all)
+    → length bytes ≤ longest_standard_input → RanScript R false script first last answer → RanRead R stream first last answer
+from_whole R stream bytes script first last answer is all short ran =
     ran_whole script answer (subst (λ (it : List ℕ). IfSome stream (λ all. it ≡ all)) is all) (subst (λ (it : List ℕ). length it ≤ longest_standard_input) is short) ran

@@ -22,9 +22,9 @@ pub record Outside (C : Type 0) : Type 0 where
 abbrev pub outside : {C : Type 0} → DiskView → C → Option (List ℕ) → Outside C
 outside disk sources written = record { disk = disk; sources = sources; written = written }
 
--- a driver of a script, which prints the texts of its replies
-abbrev pub running_rules : {C : Type 0} → SourceRules C → Rules ScriptAt C PrintedSoFar
-running_rules sources = rules script_rules sources (noting_rules in_words)
+-- a driver of a script, which prints the texts of its replies on a stream that is stamped so
+abbrev pub running_rules : {C : Type 0} → SourceRules C → (Option (List ℕ) → DiskView → Type 0) → Rules ScriptAt C PrintedSoFar
+running_rules sources held = rules script_rules sources (noting_rules in_words held)
 
 -- what it is given and gives back, where the script stands so and all of the last text went out or not
 abbrev pub running_parts : {C : Type 0} → Outside C → Bool → ScriptAt → ProgramParts ScriptAt C PrintedSoFar
@@ -37,20 +37,20 @@ script_answer run false at = Err fault.Output
 script_answer (Ok done) true at = Ok (stopped_line at)
 script_answer (Err why) true at = Err why
 
--- The driver ran over the disk with the lines of this script, from before the first of them on. A fault is true of the disk: that it failed is reported
+-- The driver ran by these rules over the disk with the lines of this script, from before the first of them on. A fault is true of the disk: that it failed is reported
 -- only where it did. Whatever is answered but that the output failed, what was written is the texts of the steps, and no more.
-pub record RanScript {C : Type 0} (sources : SourceRules C) (strict : Bool) (script : List ℕ) (first last : Outside C) (answer : Result (Option ℕ) RunFault) : Type 0 where
+pub record RanScript {C : Type 0} (R : Rules ScriptAt C PrintedSoFar) (strict : Bool) (script : List ℕ) (first last : Outside C) (answer : Result (Option ℕ) RunFault) : Type 0 where
   pub at_end : ScriptAt
   pub run : Result (Unit {0}) RunFault
   pub whole : Bool
-  pub over : Over (running_rules sources) (running_parts first true (script_begun (script_lines script) strict)) (running_parts last whole at_end) run
+  pub over : Over R (running_parts first true (script_begun (script_lines script) strict)) (running_parts last whole at_end) run
   pub true_of : IfErr run (λ why. IsTrueOf why first.disk last.disk)
   pub is : answer ≡ script_answer run whole at_end
 
 -- The same of a script that comes from a reader with this stream, where that is known.
-pub data RanRead {C : Type 0} (sources : SourceRules C) (stream : Option (List ℕ)) (first last : Outside C) : Result (Option ℕ) RunFault → Type 0 where
+pub data RanRead {C : Type 0} (R : Rules ScriptAt C PrintedSoFar) (stream : Option (List ℕ)) (first last : Outside C) : Result (Option ℕ) RunFault → Type 0 where
   ran_whole : (script : List ℕ) (answer : Result (Option ℕ) RunFault) → IfSome stream (λ bytes. script ≡ bytes) → length script ≤ longest_standard_input
-      → RanScript sources false script first last answer → RanRead sources stream first last answer
+      → RanScript R false script first last answer → RanRead R stream first last answer
   -- it couldn't be read whole, and nothing was done
   unread : (why : RunFault) → IsInputFault why → (why ≡ fault.InputTooLong → IfSome stream (λ bytes. longest_standard_input < length bytes)) → last ≡ first
-      → RanRead sources stream first last (Err why)
+      → RanRead R stream first last (Err why)

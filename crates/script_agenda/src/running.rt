@@ -3,17 +3,17 @@ ghost use Rattle.std.specs.Prelude.{◌≡◌, false};
 ghost use Rattle.disk_model.specs.Disk.{SameDisk};
 ghost use Rattle.driver.specs.Place.{source_rules};
 ghost use Rattle.script_agenda.specs.Run as meant;
-ghost use Rattle.script_agenda.specs.Run.{RanRead, RanScript, outside};
+ghost use Rattle.script_agenda.specs.Run.{RanRead, RanScript, outside, running_rules};
 ghost use Rattle.script_agenda.specs.ScriptAt.{ScriptAt, stopped_line};
 
 use crate::by_script::ByScript;
 use arrivals::Sources;
 use bstr::ByteSlice;
 use disk_model::Disk;
-use driver::{Noting, Over, Voiced, run_over};
+use driver::{OverStream, Stamped, Voiced, run_voiced};
 use offline_programs::{RunFault, read_input};
 use std::alloc::Global;
-use std::io::{Read, Write};
+use std::io::Read;
 use tellings::InWords;
 
 /// What is outside of a run: its disk, the sources of all that comes, the interpreters among them, and where it writes.
@@ -54,14 +54,14 @@ fn answer_after(
 /// that is refused, or one by which lines or requests were lost, since an interpreter ended. No line after that is taken.
 ///
 /// Faults are those of `run`, but that there is none of its reader.
-pub fn run_read<W: Write, D: Disk, S: Sources>(
+pub fn run_read<W: Stamped, D: Disk, S: Sources>(
     alloc: Global,
     script: &[u8],
     strict: bool,
     given: Outside<D, S, W>,
 ) -> Ran<D, S, W>
     ensures same { SameDisk (D.view given.disk) (D.view result.outside.disk) }
-    ensures ran { RanScript (source_rules S.after S.wakes S.clock) strict script.now (outside (D.view given.disk) given.sources (W.contents given.output))
+    ensures ran { RanScript (running_rules (source_rules S.after S.wakes S.clock) W.held) strict script.now (outside (D.view given.disk) given.sources (W.contents given.output))
         (outside (D.view result.outside.disk) result.outside.sources (W.contents result.outside.output)) result.answer }
 {
     let Outside {
@@ -69,26 +69,20 @@ pub fn run_read<W: Write, D: Disk, S: Sources>(
         sources,
         output,
     } = given;
-    let sink = Noting {
-        sink: Voiced {
-            tells: InWords,
-            writer: output,
-        },
-        whole: true,
+    let voiced = Voiced {
+        tells: InWords,
+        writer: output,
     };
     let agenda = ByScript::new(alloc, script.lines(), strict);
-    let Over {
+    let OverStream {
         disk,
         sources,
-        sink,
+        writer,
         agenda,
-        answer,
-    } = run_over(alloc, disk, sources, sink, agenda);
-    let stopped = agenda.stopped_at();
-    let Noting {
-        sink: Voiced { tells: _, writer },
         whole,
-    } = sink;
+        answer,
+    } = run_voiced(alloc, disk, sources, voiced, agenda);
+    let stopped = agenda.stopped_at();
     Ran {
         outside: Outside {
             disk,
@@ -113,13 +107,13 @@ pub fn run_read<W: Write, D: Disk, S: Sources>(
 /// `Open` where the disk isn't opened: nothing was written, and no child was called. `Host` where the host has a fault, and
 /// `OutOfMemory`: what was returned before is written and no more, and nothing of commands that were taken together when the disk failed.
 /// `Output` where the writer fails, a flush included: a part of the last text may have gone out, and no clause says what is written then.
-pub fn run<R: Read, W: Write, D: Disk, S: Sources>(
+pub fn run<R: Read, W: Stamped, D: Disk, S: Sources>(
     alloc: Global,
     reader: &mut R,
     given: Outside<D, S, W>,
 ) -> Ran<D, S, W>
     ensures same { SameDisk (D.view given.disk) (D.view result.outside.disk) }
-    ensures ran { RanRead (source_rules S.after S.wakes S.clock) (R.remaining reader.old) (outside (D.view given.disk) given.sources (W.contents given.output))
+    ensures ran { RanRead (running_rules (source_rules S.after S.wakes S.clock) W.held) (R.remaining reader.old) (outside (D.view given.disk) given.sources (W.contents given.output))
         (outside (D.view result.outside.disk) result.outside.sources (W.contents result.outside.output)) result.answer }
 {
     match read_input(alloc, reader) {

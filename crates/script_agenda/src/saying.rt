@@ -18,7 +18,7 @@ use sheet_text::{LineFault, ScriptLine, read_line};
 use std::alloc::Global;
 use tellings::Note;
 
-/// What is asked for of a life in the turn with this number.
+/// What is asked for of a life in the round with this number.
 fn ask_life(rounds: u32, seat: Seat) -> Turn
     ensures { result ≡ says.asks_life rounds seat }
 {
@@ -45,7 +45,7 @@ impl<'a> ByScript<'a> {
         Some(self.round.remove(0))
     }
 
-    /// Begins another turn of the wait, of which so many were begun, or ends it.
+    /// Begins another round of the wait, of which so many were begun, or ends it.
     fn begin_round<D: Disk>(
         &mut self,
         alloc: Global,

@@ -5,7 +5,7 @@ use disk_model::MemoryDisk;
 use offline_programs::RunFault;
 use script_agenda::{Outside, Ran, run, run_read};
 use std::alloc::Global;
-use std::io::Write;
+use std::io::{BufWriter, Write};
 use tests_desk::{Full, Parts, Unflushed};
 
 // An empty worksheet, and where the text of a run over it goes.
@@ -37,6 +37,7 @@ fn reader_fault(alloc: Global) -> Option<RunFault> {
 
 // That of a script of a session whose text goes to this writer.
 fn writer_fault<W: Write + Drop>(alloc: Global, writer: W) -> Option<RunFault> {
+    let writer = BufWriter::with_capacity(alloc, 64, writer).ok()?;
     let mut reader = b"session b plain p\nnew 0 b y\neval 1\n".as_slice();
     run(alloc, &mut reader, over(alloc, writer)?).answer.err()
 }

@@ -1,0 +1,35 @@
+//! A stream of which it can be said what it held while a disk was in which state.
+
+use disk_model::Disk;
+use session_engine::Host;
+use std::io::{BufWriter, Write};
+
+/// A stream of which it can be said what it held while a host's disk was in which state.
+///
+/// Bytes don't say when they were written. So a call that does nothing is made before each text. Its relation says which bytes the
+/// stream held then, and in which state the disk was. Each byte after these was written later. Code that is generic over the stream has
+/// the relation by that call alone. The relations of the streams below hold of everything, since nobody can say what a real one does.
+pub trait Stamped: Write {
+    ghost use Rattle.std.specs.Prelude.{List, Option, ℕ};
+    ghost use Rattle.disk_model.specs.Disk.{DiskView};
+
+    /// There was a moment at which the stream held these bytes, and the disk was in this state.
+    ghost held: { Option (List ℕ) → DiskView → Type 0 };
+
+    /// Does nothing. It is called for its relation.
+    fn stamp<D: Disk>(&self, host: &Host<D>)
+        ensures held { held (Self.contents self.now) host.now.store.disk };
+}
+
+/// Bytes in memory.
+impl Stamped for Vec<u8> {
+    ghost held = { λ _ _. Unit {0} };
+
+    fn stamp<D: Disk>(&self, _host: &Host<D>) {}
+}
+
+impl<W: Write + Drop> Stamped for BufWriter<W> {
+    ghost held = { λ _ _. Unit {0} };
+
+    fn stamp<D: Disk>(&self, _host: &Host<D>) {}
+}
