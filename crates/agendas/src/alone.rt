@@ -16,7 +16,7 @@ use child_edge::is_idle;
 use disk_model::Disk;
 use driver::{Show, Turn};
 use host_events::{Command, Event};
-use live::{Hold, LiveLine, Manner, go_on, read_live_line, wait_for};
+use live::{Hold, LiveLine, Manner, read_live_line, wait_for};
 use session_engine::{Edits, Host};
 use sheet_text::{LineFault, ScriptLine};
 use std::alloc::{AllocError, Global};

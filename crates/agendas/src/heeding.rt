@@ -88,7 +88,7 @@ fn joined_wrong(gave: &GaveJoined) -> bool
 }
 
 /// Whether something closed.
-fn closed_one(came: &Came) -> bool
+pub fn closed_one(came: &Came) -> bool
     ensures { result ≡ heeds.closed_one (came_of came.now) }
 {
     match came {

@@ -12,7 +12,7 @@ ghost use Rattle.agendas.specs.Heeds as heeds;
 use crate::doing::{Chosen, Doing, Transaction};
 use child_edge::MOST_TOGETHER;
 use driver::{Came, Show, Turn};
-use host_events::{Command, Outcome, Reply};
+use host_events::{Command, Outcome};
 use live::{Hold, LiveLine, read_live_line};
 use session_engine::{AddFault, is_refusal};
 use sheet_text::{LineFault, ScriptLine};

@@ -4,22 +4,15 @@ ghost use Rattle.session_engine.specs.World.{World, sheet_in};
 ghost use Rattle.session_engine.specs.Host.{IsHost};
 ghost use Rattle.worksheet.specs.Checks.{has_field, has_session};
 ghost use Rattle.live.specs.Saying as saying;
-ghost use Rattle.live.specs.Saying.{IsLimited, IsTimed, StallsAtEnd, seconds_from};
+ghost use Rattle.live.specs.Saying.{IsLimited, IsTimed, StallsAtEnd};
 ghost use Rattle.live.specs.Arrivals.{IsOver, input_at, patience_at};
 ghost use Rattle.agendas.specs.Waits as waits;
 
 use arrivals::Input;
 use disk_model::Disk;
-use live::{Hold, RESPITE};
+use live::{Hold, RESPITE, seconds_after};
 use session_engine::Host;
 use worksheet::Name;
-
-/// The moment so many seconds after this one.
-fn seconds_after(now: u64, seconds: u32) -> u64
-    ensures { result ≡ seconds_from now seconds }
-{
-    now.saturating_add(u64::from(seconds) * 1_000)
-}
 
 /// The wait of a line that names no seconds, where a line may take so many, if there is a limit.
 pub(crate) fn untimed(limit: Option<u32>, now: u64) -> Hold

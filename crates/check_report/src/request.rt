@@ -13,7 +13,7 @@ use worksheet::Name;
 #[derive(Debug, Drop)]
 pub struct Request {
     pub chosen: Chosen,
-    /// How many seconds a field may take from when its line was sent, where there is a limit.
+    /// How many seconds a field may take, where there is a limit (`docs/use/CHECK.md` says from when on).
     pub limit: Option<u32>,
     pub format: Format,
 }

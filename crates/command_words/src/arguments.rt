@@ -100,7 +100,7 @@ const UNANSWERED: Word = Word {
 const KEEP_GOING: Word = Word {
     name: "keep-going",
     given: Given::Flag,
-    help: "With --timeout, pass over no field",
+    help: "Pass over no field",
 };
 
 const STOP_AT_ERROR: Word = Word {

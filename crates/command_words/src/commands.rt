@@ -8,7 +8,7 @@ ghost use Rattle.command_words.specs.inside.Arguments.{rule_given, with_words};
 ghost use Rattle.command_words.specs.inside.Table as table;
 
 use crate::arguments::{Word, argument, words_of};
-use crate::table::{NOTES, Row, Shape, row_at};
+use crate::table::{NOTES, Row, row_at};
 use build_kind::VERSION;
 use clap::Command;
 use std::alloc::{AllocError, Global};

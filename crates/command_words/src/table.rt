@@ -129,18 +129,20 @@ With --strict it stops after the first field that is lost or refused: the fields
 after it keep what they show, and standard error has `stopped at line N`, where the\n\
 Nth field that is evaluated has the lines 2N - 1 and 2N. With --stop-at-error it\n\
 does so, and also after a field whose answer its interpreter marks as an error.\n\n\
+Where a field shows no answer, since its interpreter ended or didn't start, the\n\
+later ones of its session are passed over: they keep what they show. With\n\
+--keep-going none is passed over, and the next one starts another interpreter.\n\n\
 With --timeout SECONDS (1 to 1,000,000) the interpreter of a field that takes\n\
 longer is sent SIGINT, which is reported as `over ID`, and is stopped where it\n\
-hasn't answered two seconds later. Fields after one of their session that shows no\n\
-answer are passed over then, and keep what they show, but with --keep-going. A\n\
-line `over 1 passed 12` has these counts. With --json each line is one object\n\
-(docs/use/JSON.md).\n\n\
+hasn't answered two seconds later. A start has a time of its own, as long. A line\n\
+`over 1 passed 12` has these counts, with --timeout and where some were passed\n\
+over. With --json each line is one object (docs/use/JSON.md).\n\n\
 Fields of up to 64 sessions wait at a time, of each session one: first the first\n\
 field of each session is asked, then the second of each, and so on. With --strict,\n\
 --stop-at-error and --timeout one field goes after another, in the worksheet's\n\
 order. With --jobs N (1 to 64) fields of up to N sessions wait at a time, and with\n\
---timeout the time of those begins when the last of them was asked. It goes with no\n\
---strict and no --stop-at-error.\n\n\
+--timeout the time of those begins when the last of them was asked, and again at\n\
+each banner or answer of one. It goes with no --strict and no --stop-at-error.\n\n\
 Status: 0 where each field but prose shows an answer, and none was over or\n\
 passed over; 1 where that isn't so, or at a fault; 2 where the words are refused; 3\n\
 where --strict or --stop-at-error stopped it.\n\n\
@@ -191,7 +193,8 @@ nothing is written until the last answer came. With --accept, with --timeout, an
 where all are of one session, one goes after another in the worksheet's order, and\n\
 what differs is written at once. With --jobs N (1 to 64) fields of up to N sessions\n\
 wait at a time, and with --timeout the time of those begins when the last of them\n\
-was asked. The report is the same. It goes with no --accept.\n\n\
+was asked, and again at each banner or answer of one. The report is the same. It\n\
+goes with no --accept.\n\n\
 With several PATHs each is checked as it would be alone, one after another, under\n\
 a line `worksheet PATH`; at a fault of one the next is checked all the same. The\n\
 last line is their total, as `total of 3 worksheets: same 9 differ 1 unanswered 0`,\n\

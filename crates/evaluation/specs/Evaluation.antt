@@ -1,4 +1,4 @@
--- Where an evaluation begins, and what it needs. (docs/use/SCRIPT.md, "Evaluating a worksheet".)
+-- Where an evaluation begins, and what it needs. (docs/use/EVAL.md.)
 use Rattle.std.specs.Prelude.{ℕ, false, List, []}
 use Rattle.worksheet.specs.Contents.{Contents}
 use Rattle.live.specs.declared.holding.Hold.TheVariants as hold

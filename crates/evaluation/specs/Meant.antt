@@ -1,5 +1,5 @@
--- Which fields are evaluated, which of them are passed over, and what an evaluation comes to. (docs/use/SCRIPT.md, "Evaluating a worksheet".)
-use Rattle.std.specs.Prelude.{◌≡◌, ◌==◌, ◌<◌, ◌≤◌, ◌-◌, ◌*◌, ◌&&◌, ◌||◌, ℕ, Bool, true, false, not, List, [], ◌∷◌, Option, Some, None, codes, count_by, filter, find, if◌then◌else◌, is_some, length, map, slice_get}
+-- Which fields are evaluated, which of them are passed over, and what an evaluation comes to. (docs/use/EVAL.md.)
+use Rattle.std.specs.Prelude.{◌≡◌, ◌==◌, ◌<◌, ◌≤◌, ◌-◌, ◌*◌, ◌&&◌, ◌||◌, ℕ, Bool, true, false, not, List, [], ◌∷◌, Option, Some, None, codes, count_by, filter, find, if◌then◌else◌, is_some, length, map, nat_lt, slice_get}
 use Rattle.std.specs.List.{list_any}
 use Rattle.std.specs.Str.{bytes_eq}
 use Rattle.worksheet.specs.Checks.{field_in, session_named}
@@ -93,21 +93,21 @@ abbrev pub is_after_lost : List Field → List Last → Option Field → Bool
 is_after_lost fields lasts None = false
 is_after_lost fields lasts (Some field) = is_lost fields (last_asked lasts field.session)
 
--- whether fields are passed over
-abbrev pub is_passing : Plan → Bool
-is_passing plan = is_some plan.limit && not plan.keep_going
+-- whether a field is passed over: where the one that was asked last of its session shows no answer, so that its interpreter ended or didn't start
+abbrev pub passes : Plan → List Field → List Last → Option Field → Bool
+passes plan fields lasts field = not plan.keep_going && is_after_lost fields lasts field
 
 abbrev pub field_at : List Field → Option ℕ → Option Field
 field_at fields None = None
 field_at fields (Some id) = field_in fields id
 
--- this field is passed over, where the one that was asked last of its session shows no answer
+-- the field with this number is passed over, by the one of its session that was asked last
 abbrev pub is_passed_over : Plan → List Field → List Last → ℕ → Bool
-is_passed_over plan fields lasts id = is_passing plan && is_after_lost fields lasts (field_in fields id)
+is_passed_over plan fields lasts id = passes plan fields lasts (field_in fields id)
 
 -- the same of the field at this place of those that are to be evaluated
 abbrev pub is_passed : Plan → List Field → List Last → List ℕ → ℕ → Bool
-is_passed plan fields lasts meant k = is_passing plan && is_after_lost fields lasts (field_at fields (slice_get meant k))
+is_passed plan fields lasts meant k = passes plan fields lasts (field_at fields (slice_get meant k))
 
 -- This place is after that one, or the same, and the fields from that one up to it are passed over.
 abbrev pub IsNext : Plan → List Field → List Last → List ℕ → ℕ → ℕ → Type 0
@@ -156,15 +156,19 @@ pub record EndsHere (plan : Plan) (fields : List Field) (meant : List ℕ) (stan
   pub is : stopped ≡ stop_line plan fields stand
   pub all : stopped ≡ None → IsNext plan fields stand.lasts meant stand.taken (length meant)
 
--- what a limit of time came to where so many fields were to be evaluated
-abbrev pub overs_by : Option ℕ → ℕ → Stand → Option Overs
-overs_by None all stand = None
-overs_by (Some seconds) all stand = Some (record { over = stand.overs; passed = all - stand.asked })
+-- whether it is said how many fields were over and passed over, of which so many weren't asked: with a limit of time, and without one where some were passed
+-- over. A strict evaluation without a limit passes none over.
+abbrev pub counts_overs : Plan → ℕ → Bool
+counts_overs plan passed = is_some plan.limit || (not plan.strict && nat_lt 0 passed)
 
--- How many of a worksheet's fields show an answer, how many don't and aren't prose, and what the limit of time came to.
+-- how many were over, and passed over, where so many fields were to be evaluated
+abbrev pub overs_by : Plan → ℕ → Stand → Option Overs
+overs_by plan all stand = if counts_overs plan (all - stand.asked) then Some (record { over = stand.overs; passed = all - stand.asked }) else None
+
+-- How many of a worksheet's fields show an answer, how many don't and aren't prose, and how many were over or passed over.
 abbrev pub evaluation_counts : Plan → ℕ → Contents → Stand → Counts
 evaluation_counts plan all sheet stand = record {
   answered = count_by is_answered sheet.fields;
   unanswered = count_by (λ field. not (is_answered field) && not (is_prose sheet.sessions field)) sheet.fields;
-  overs = overs_by plan.limit all stand;
+  overs = overs_by plan all stand;
 }

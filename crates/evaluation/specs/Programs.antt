@@ -1,4 +1,4 @@
--- Which programs an evaluation needs, and whether they are there. (docs/use/SCRIPT.md, "Evaluating a worksheet".)
+-- Which programs an evaluation needs, and whether they are there. (docs/use/EVAL.md.)
 use Rattle.std.specs.Prelude.{◌≡◌, ℕ, Bool, true, false, List, [], ◌∷◌}
 use Rattle.std.specs.List.{AllByRecursion, list_any}
 use Rattle.worksheet.specs.Checks.{field_in}

@@ -1,4 +1,4 @@
--- In which order the fields that are to be evaluated are asked. (docs/use/SCRIPT.md, "Evaluating a worksheet".)
+-- In which order the fields that are to be evaluated are asked. (docs/use/EVAL.md.)
 use Rattle.std.specs.Prelude.{◌==◌, ℕ, zero, suc, Bool, true, false, List, [], ◌∷◌, ◌++◌, Option, Some, None, count_by, filter, length, map, nat_le}
 use Rattle.std.specs.Str.{bytes_eq}
 use Rattle.worksheet.specs.Checks.{field_in}

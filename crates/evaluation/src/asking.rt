@@ -53,14 +53,11 @@ fn is_after_lost(sheet: &Sheet, lasts: &[Last], field: Option<&Field>) -> bool
     }
 }
 
-/// Whether the field with this number is passed over, by the one that was asked last of its session.
+/// Whether the field with this number is passed over, by the one of its session that was asked last.
 pub fn is_passed_over(plan: &Plan, sheet: &Sheet, lasts: &[Last], id: u32) -> bool
     ensures { result ≡ meant.is_passed_over plan.now sheet.now.contents.fields lasts.now id }
 {
-    if plan.limit.is_none() || plan.keep_going {
-        return false;
-    }
-    is_after_lost(sheet, lasts, sheet.field(id))
+    !plan.keep_going && is_after_lost(sheet, lasts, sheet.field(id))
 }
 
 /// Whether the field at this place of those that are to be evaluated is passed over.

@@ -27,14 +27,14 @@ pub struct Plan {
     pub which: Which,
     /// Whether only those of them that show no answer are evaluated.
     pub unanswered: bool,
-    /// Whether it stops after the first field that is lost or refused.
+    /// Whether it stops after the first field whose `eval` left no item waiting, or that shows no answer.
     pub strict: bool,
     /// Whether a strict one also stops after a field whose answer is an error.
     pub at_errors: bool,
-    /// How many seconds a field may take from when it was asked, or the last of those that wait with it,
-    /// where there is a limit.
+    /// How many seconds a field may take, where there is a limit: from when it was asked, or the last of those that wait with it, and again
+    /// from each banner or answer of one of them.
     pub limit: Option<u32>,
-    /// Whether, with a limit, fields are asked after one of their session that shows no answer.
+    /// Whether fields are asked after one of their session that shows no answer, where they would be passed over.
     pub keep_going: bool,
     /// In how many sessions fields may wait for answers at a time: 1 for one field after another.
     pub jobs: u32,
@@ -73,16 +73,25 @@ pub struct EvalEnd {
     pub counts: Counts,
 }
 
-/// What a limit of time came to, where there is one.
-fn overs_by(limit: Option<u32>, all: u64, stand: &Stand) -> Option<Overs>
-    ensures { result ≡ meant.overs_by limit all stand.now }
+/// Whether it is said how many fields were over and passed over, of which so many weren't asked.
+fn counts_overs(plan: &Plan, passed: u64) -> bool
+    ensures { result ≡ meant.counts_overs plan.now passed }
 {
-    match limit {
-        None => None,
-        Some(_) => Some(Overs {
+    plan.limit.is_some() || (!plan.strict && 0 < passed)
+}
+
+/// How many fields were over, and passed over, where that is said.
+fn overs_by(plan: &Plan, all: u64, stand: &Stand) -> Option<Overs>
+    ensures { result ≡ meant.overs_by plan.now all stand.now }
+{
+    let passed = all.saturating_sub(stand.asked);
+    if counts_overs(plan, passed) {
+        Some(Overs {
             over: stand.overs,
-            passed: all.saturating_sub(stand.asked),
-        }),
+            passed,
+        })
+    } else {
+        None
     }
 }
 
@@ -104,6 +113,6 @@ pub fn counts_of(plan: &Plan, all: u64, sheet: &Sheet, stand: &Stand) -> Counts
             .fields()
             .filter(|field| is_lacking(sheet, field))
             .count(),
-        overs: overs_by(plan.limit, all, stand),
+        overs: overs_by(plan, all, stand),
     }
 }

@@ -1,5 +1,5 @@
--- What an agenda of fields makes of what came. (docs/use/SCRIPT.md, "Evaluating a worksheet".)
-use Rattle.std.specs.Prelude.{◌≡◌, ℕ, Bool, not, Option, None}
+-- What an agenda of fields makes of what came. (docs/use/EVAL.md.)
+use Rattle.std.specs.Prelude.{◌≡◌, ◌&&◌, ℕ, Bool, not, Option, None, if◌then◌else◌}
 use Rattle.session_engine.specs.World.{World}
 use Rattle.tellings.specs.declared.note.Note.{Note}
 use Rattle.tellings.specs.declared.note.Note.TheVariants as note
@@ -8,11 +8,17 @@ use Rattle.live.specs.declared.holding.Hold.TheVariants as hold
 use Rattle.live.specs.Arrivals.{respite}
 use Rattle.live.specs.Saying.{WaitGoesOn, is_held, seconds_from}
 use Rattle.driver.specs.Reports.{TurnCame}
-use Rattle.agendas.specs.Heeds.{interrupt_note}
+use Rattle.agendas.specs.Heeds.{closed_one, interrupt_note}
+use Rattle.evaluation.specs.declared.plan.Stand.{Stand}
 use Rattle.field_agenda.specs.declared.by_fields.ByFields.{ByFields}
 use Rattle.field_agenda.specs.declared.stage.FieldDoing.{FieldDoing}
 use Rattle.field_agenda.specs.declared.stage.FieldDoing.TheVariants as doing
 use Rattle.field_agenda.specs.Standing.{does_at, limit_begun, waiting_so}
+
+-- The wait of fields after what came. Where something closed, as the banner of an interpreter that was started for one of them, the line of that session
+-- was sent, so their time begins again. After an interrupt it doesn't.
+abbrev pub waited : Option ℕ → Stand → ℕ → Bool → Hold
+waited limit s now closed = if is_held s.held && (closed && not s.warned) then limit_begun limit now else s.held
 
 -- The wait that goes on, by what was done: for the fields that were asked one begins, which is over where no item waits; after an interrupt there are two
 -- seconds more; and where those are over none goes on.
@@ -41,5 +47,5 @@ noted_of doing.Stall c = None
 
 -- It heeds what came.
 abbrev pub FieldsHeed : {P : Type 0} → ByFields P → World → ℕ → TurnCame → Option Note → ByFields P → Type 0
-FieldsHeed a w now c n b = (held : Hold) × WaitAfter a.doing a.plan.limit w now a.stand.held held × (n ≡ noted_of a.doing c)
+FieldsHeed a w now c n b = (held : Hold) × WaitAfter a.doing a.plan.limit w now (waited a.plan.limit a.stand now (closed_one c)) held × (n ≡ noted_of a.doing c)
     × (b ≡ does_at a doing.Nothing (waiting_so a.stand held (at_once_after a.doing a.stand.at_once held)))

@@ -1,4 +1,4 @@
--- Which fields are asked by the gate by which answers of others are made durable. (docs/use/SCRIPT.md, "Evaluating a worksheet".)
+-- Which fields are asked by the gate by which answers of others are made durable. (docs/use/EVAL.md.)
 use Rattle.std.specs.Prelude.{◌≡◌, ℕ, ◌+◌, List, [], Option, Some, None, map}
 use Rattle.host_events.specs.declared.event.Event.{Event}
 use Rattle.session_engine.specs.World.{World, sheet_in}

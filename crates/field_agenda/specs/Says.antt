@@ -1,4 +1,4 @@
--- What an agenda of fields says is next. (docs/use/SCRIPT.md, "Evaluating a worksheet".)
+-- What an agenda of fields says is next. (docs/use/EVAL.md.)
 use Rattle.std.specs.Prelude.{◌≡◌, ◌≢◌, ◌⊎◌, ℕ, ◌+◌, ◌^◌, ◌≤◌, ◌<◌, true, false, List, Option, Some, None, Result, Ok, Err, length, map}
 use Rattle.worksheet.specs.Checks.{field_in}
 use Rattle.worksheet.specs.declared.field.Field.{Field}

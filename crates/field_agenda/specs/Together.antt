@@ -1,4 +1,4 @@
--- Which fields are asked together. (docs/use/SCRIPT.md, "Evaluating a worksheet".)
+-- Which fields are asked together. (docs/use/EVAL.md.)
 use Rattle.std.specs.Prelude.{ℕ, ◌+◌, ◌-◌, ◌&&◌, Bool, false, not, List, [], ◌∷◌, ◌++◌, Option, Some, None, drop, if◌then◌else◌, length, nat_lt}
 use Rattle.worksheet.specs.Checks.{field_in}
 use Rattle.worksheet.specs.declared.field.Field.{Field}

@@ -18,7 +18,7 @@ ghost use Rattle.field_agenda.specs.Standing as standing;
 
 use crate::asking::{Grouping, asked_together, evals, group_from, lasts_after, next_asked};
 use crate::bounds::{has_few_fields, is_beyond, is_full};
-use crate::heeding::{at_once_after, noted_of, wait_after};
+use crate::heeding::{at_once_after, noted_of, wait_after, waited};
 use crate::looking::{Found, look_for};
 use crate::stage::{FieldDoing, Stage};
 use crate::times::{late_now, life_due};
@@ -43,7 +43,7 @@ use std::mem;
 use tellings::Note;
 use worksheet::Field;
 
-/// The fields of a worksheet that are evaluated by a plan (docs/use/SCRIPT.md, "Evaluating a worksheet").
+/// The fields of a worksheet that are evaluated by a plan (docs/use/EVAL.md).
 ///
 /// It looks first whether each field and each program is there that is needed. Then fields that may wait side by side are asked
 /// together, and what lives have that are ready is taken together.
@@ -387,7 +387,8 @@ impl<P: Programs> Agenda for ByFields<P> {
 
     fn heed<D: Disk>(&mut self, host: &Host<D>, now: u64, came: &Came) -> Option<Note> {
         let doing = mem::replace(&mut self.doing, FieldDoing::Nothing);
-        let held = wait_after(host, self.plan.limit, now, doing, self.stand.held);
+        let before = waited(self.plan.limit, &self.stand, now, came);
+        let held = wait_after(host, self.plan.limit, now, doing, before);
         self.stand.at_once = at_once_after(doing, self.stand.at_once, held);
         self.stand.held = held;
         noted_of(doing, came)

@@ -3,16 +3,17 @@ ghost use Rattle.std.specs.Prelude.{◌≡◌};
 ghost use Rattle.session_engine.specs.World.{World};
 ghost use Rattle.session_engine.specs.Host.{IsHost};
 ghost use Rattle.driver.specs.Reports.{came_of};
-ghost use Rattle.agendas.specs.Heeds.{interrupt_note};
+ghost use Rattle.agendas.specs.Heeds.{closed_one as closes_one, interrupt_note};
 ghost use Rattle.field_agenda.specs.Heeds as heeds;
 
 use crate::stage::FieldDoing;
 use crate::times::limit_begun;
-use agendas::heeding::interrupt_of;
+use agendas::heeding::{closed_one, interrupt_of};
 use agendas::waits::is_held;
 use child_edge::Interrupted;
 use disk_model::Disk;
 use driver::Came;
+use evaluation::plan::Stand;
 use live::{Hold, RESPITE, go_on, wait_for};
 use session_engine::Host;
 use tellings::Note;
@@ -37,6 +38,18 @@ pub(crate) fn noted_of(doing: FieldDoing, came: &Came) -> Option<Note>
         FieldDoing::Life => None,
         FieldDoing::Over(id) => note_over(id, interrupt_of(came)),
         FieldDoing::Stall => None,
+    }
+}
+
+/// The wait of fields after what came: where something closed, their time begins again.
+pub(crate) fn waited(limit: Option<u32>, stand: &Stand, now: u64, came: &Came) -> Hold
+    ensures { result ≡ heeds.waited limit stand.now now (closes_one (came_of came.now)) }
+{
+    let begins = closed_one(came) && !stand.warned;
+    if is_held(stand.held) && begins {
+        limit_begun(limit, now)
+    } else {
+        stand.held
     }
 }
 

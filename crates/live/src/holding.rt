@@ -29,8 +29,8 @@ pub enum Hold {
     Stopped,
 }
 
-/// The moment so many seconds after this one.
-fn seconds_after(now: u64, seconds: u32) -> u64
+/// The moment so many seconds after this one, or the last one that a clock can read; in milliseconds.
+pub fn seconds_after(now: u64, seconds: u32) -> u64
     ensures { result ≡ seconds_from now seconds }
 {
     now.saturating_add(u64::from(seconds) * 1_000)

@@ -11,8 +11,8 @@ use sheet_text::{LineFault, ScriptLine, read_line, read_number, split_space};
 use std::alloc::Global;
 use worksheet::Name;
 
-/// The most seconds that a line can have a wait last.
-const MOST_SECONDS: u32 = 1_000_000;
+/// The most seconds that a line can have a wait last, or that a field, or a line of `run`, may be given.
+pub const MOST_SECONDS: u32 = 1_000_000;
 
 /// What a line says that comes while interpreters work.
 #[derive(Debug, Drop)]

@@ -129,6 +129,9 @@ compare 'without one it is not looked for there' "$(answer eval sheet </dev/null
 made 'session a plain sh count.sh\nsession b plain ./broken\nnew 0 a x\nnew 1 a end\nnew 2 a z\nnew 3 b y\n'
 evaluates 'an end goes on with another interpreter' 1 \
     'asked\nbanner a\nanswered 1\nasked\nended a Ended lost 1\nasked\nbanner a\nanswered 3\nasked\nended b StartRefused lost 1\nanswered 2 unanswered 2\n' \
+    '#1 a\n> x\nx 1\n#2 a\n> end\n? Ended\n#3 a\n> z\nz 1\n#4 b\n> y\n? StartRefused\n' --jobs 1 --keep-going
+evaluates 'the fields after an end are passed over' 1 \
+    'asked\nbanner a\nanswered 1\nasked\nended a Ended lost 1\nasked\nended b StartRefused lost 1\nanswered 2 unanswered 2\nover 0 passed 1\n' \
     '#1 a\n> x\nx 1\n#2 a\n> end\n? Ended\n#3 a\n> z\nz 1\n#4 b\n> y\n? StartRefused\n' --jobs 1
 evaluates 'strictly: it stops behind the first one, and the fields behind keep what they show' 3 \
     'asked\nbanner a\nanswered 1\nasked\nended a Ended lost 1\nanswered 2 unanswered 2\nstopped at line 4\n' \
@@ -159,6 +162,16 @@ cp sheet damaged
 printf 'x' | dd of=damaged bs=1 seek=0 conv=notrunc 2>errors
 compare 'a damaged worksheet' "$(answer eval damaged </dev/null)" "$(ending 'fault 31 NotASheet\n' 1)"
 words 'no worksheet' 1 'fault 32 Disk\n' eval missing
+
+# A session that doesn't start any more: its first field loses its answer, and the later ones keep theirs.
+cp count.sh there.sh
+made 'session a plain sh there.sh\nsession b plain sh count.sh\nnew 0 a x\nnew 1 a y\nnew 2 b v\nnew 3 a z\n'
+"$tmhost" eval sheet >text </dev/null
+printf 'exit 1\n' >there.sh
+evaluates 'a session that does not start' 1 'asked\nended a Ended lost 1\nasked\nbanner b\nanswered 3\nanswered 3 unanswered 1\nover 0 passed 2\n' \
+    '#1 a\n> x\n? Ended\n#2 a\n> y\ny 2\n#3 b\n> v\nv 1\n#4 a\n> z\nz 3\n' --jobs 1
+evaluates 'each field of it' 1 'asked\nended a Ended lost 1\nasked\nended a Ended lost 1\nasked\nbanner b\nanswered 3\nasked\nended a Ended lost 1\nanswered 1 unanswered 3\n' \
+    '#1 a\n> x\n? Ended\n#2 a\n> y\n? Ended\n#3 b\n> v\nv 1\n#4 a\n> z\n? Ended\n' --jobs 1 --keep-going
 
 # Limits of time.
 made 'session a plain env --default-signal=INT sh turns.sh\nsession b plain sh count.sh\nnew 0 a x\nnew 1 a loop\nnew 2 a y\nnew 3 b z\n'
@@ -197,6 +210,18 @@ passes() {
         echo "status $?"
     } </dev/null >"$1.told" 2>&1 &
 }
+# Each of two seconds, a start and an answer: together they take longer than the limit, and neither does.
+cat >slowly.sh <<'END'
+sleep 2
+printf '\002verbatim:\005'
+read -r l
+sleep 2
+printf '\002verbatim:%s\005' "$l"
+END
+"$tmhost" create slow
+printf 'session a plain sh slowly.sh\nnew 0 a x\n' >given
+"$tmhost" run slow <given >text
+{ "$tmhost" eval --timeout 3 slow </dev/null 2>&1; echo "status $?"; } >slow.told &
 passes clock32 4294967
 passes clock20 16384000
 beside deaf --timeout 2
@@ -208,6 +233,7 @@ for clock in clock32 clock20; do
     ended_so $clock "a limit beside a turn of the clock, $clock" 1 'asked\nbanner a\nover 5\nended a Stalled lost 1\nanswered 3 unanswered 1\nover 1 passed 0\n' \
         '#1 a\n> x\nx\n#5 a\n> deaf\n? Stalled\n#3 a\n> y\ny\n#4 b\n> z\nz 1\n'
 done
+ended_so slow 'a slow start takes none of the time that its field has' 0 'asked\nbanner a\nanswered 1\nanswered 1 unanswered 0\nover 0 passed 0\n' '#1 a\n> x\nx\n'
 ended_so deaf 'one that hears no interrupt stalls, and the fields after it keep what they show' 1 \
     'asked\nbanner a\nanswered 1\nasked\nover 5\nended a Stalled lost 1\nasked\nbanner b\nanswered 4\nanswered 3 unanswered 1\nover 1 passed 1\n' \
     '#1 a\n> x\nx\n#5 a\n> deaf\n? Stalled\n#3 a\n> y\ny\n#4 b\n> z\nz 1\n'

@@ -41,7 +41,7 @@ fn is_late(marks: &[Mark], id: u32) -> bool
     marks.iter().any(|mark| is_over(*mark, id))
 }
 
-/// Whether it wasn't.
+/// Whether a field's time wasn't over.
 pub(crate) fn is_in_time(marks: &[Mark], id: u32) -> bool
     ensures { result ≡ not (marked.is_late marks.now id) }
 {

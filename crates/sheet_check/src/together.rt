@@ -213,18 +213,18 @@ pub(crate) fn check_by_sessions<C: Sources, W: Write, P: Progress>(
 /// reported, in the worksheet's order, as by `check`. Where the fields that are checked are of one session it is
 /// `check`, which reports each when it is known.
 ///
-/// With a limit, the time of fields that wait together begins when the last of them was asked. A field whose
-/// time was over is unanswered, whatever came after its interpreter was interrupted, and the fields after it are
+/// With a limit, the time of fields that wait together begins when the last of them was asked, and again at each banner or answer of one
+/// of them. A field whose time was over is unanswered, whatever came after its interpreter was interrupted, and the fields after it are
 /// checked.
 ///
 /// At the end and at a fault each life that goes on is stopped. The disk is only read, and the worksheet there
 /// stays as it is.
 ///
 /// `Open` where the disk isn't opened, `NoField` where the worksheet lacks a field whose number is left out or
-/// compared: nothing was done. `OutOfMemory` where there is no memory for the copy,
-/// `OutOfMemory`, `Host`, `Input` and `InputTooLong` where the evaluation has such a fault: nothing was
-/// written. `OutOfMemory` where there is no memory for a line: what was reported before is written. `Output`
-/// where the writer fails: a part of the text may have gone out.
+/// compared: nothing was done. `OutOfMemory` where there is no memory for the copy, and that, `Host`, `Input` and `InputTooLong` where the
+/// evaluation has such a fault: nothing was written. `OutOfMemory` where there is no memory for what is reported: what was reported before
+/// is written. (A line that is refused for lack of memory leaves its field unanswered.) `Output` where the writer fails: a part of the text
+/// may have gone out.
 pub fn check_together<D: Disk, C: Sources, W: Write, P: Progress>(
     beside: &Beside<'_>,
     disk: D,
