@@ -12,7 +12,7 @@ use block_tree::Reason;
 use serde_json::Value;
 use sheet_text::reason_name;
 use std::alloc::{AllocError, Global};
-use worksheet::{Answer, Field, Session, Sheet};
+use worksheet::{Answer, Field};
 
 /// A field that shows an answer; its input has a line feed for each U+2028, as in each of these.
 fn answered_field(alloc: Global, field: &Field, answer: &Answer) -> Result<Value, AllocError>

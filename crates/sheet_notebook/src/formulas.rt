@@ -6,7 +6,7 @@ ghost use Rattle.block_tree.specs.Tree.{items_from};
 ghost use Rattle.block_tree.specs.View.{piece_of, tree_of};
 ghost use Rattle.sheet_notebook.specs.Formulas as formula;
 
-use block_tree::{Block, Item, Node, Tag};
+use block_tree::{Block, Item, Node};
 use sheet_text::{is_bare_tag, is_plain};
 
 /// Whether a byte stands for itself in a formula.

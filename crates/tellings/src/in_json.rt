@@ -16,7 +16,6 @@ use crate::{Frame, Note, Tells, faults};
 use disk_model::Disk;
 use host_events::{ChildReply, Outcome, Reply};
 use offline_programs::RunFault;
-use serde_json::Value;
 use session_engine::Host;
 use sheet_export::Format;
 use sheet_json::{

@@ -28,11 +28,11 @@ pub struct Overs {
 /// What an evaluation came to.
 #[derive(Clone, Copy, Debug, PartialEq, Eq)]
 pub struct Counts {
-    /// How many fields of the worksheet show an answer; prose isn't counted.
+    /// How many fields of the worksheet show an answer.
     pub answered: usize,
-    /// How many others don't.
+    /// How many don't and aren't prose.
     pub unanswered: usize,
-    /// What its limit of time came to, where it had one.
+    /// How many were over and passed over: with a limit of time, and where some were passed over.
     pub overs: Option<Overs>,
 }
 

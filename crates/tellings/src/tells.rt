@@ -11,7 +11,7 @@ use worksheet::Sheet;
 /// A format of what is printed. Each call but `lives` flushes what it writes.
 ///
 /// `Output` where the writer fails: a part may have gone out. `OutOfMemory` where a voice that takes memory
-/// has none for a line: what was written before it is whole.
+/// has none for a line. Of what went out of such a text no clause says more.
 pub trait Tells {
     ghost use Rattle.std.specs.Prelude.{IfErr, OnOk, ◌≡◌, ◌+◌, ◌<◌, ◌^◌, false, length, true};
     ghost use Rattle.std.specs.Io.KnownBytes.{Appends};

@@ -1,9 +1,7 @@
 //! Calls while no memory is left.
 ghost use Rattle.std.specs.Prelude.{◌≤◌};
 
-use super::desk::{
-    Appended, SESSION, append, cause_of, created, empty, empty_in, frame, has, rewrite,
-};
+use super::desk::{Appended, SESSION, append, cause_of, empty, empty_in, frame, has, rewrite};
 use disk_model::{Area, Disk, DiskFault, MemoryDisk};
 use journal::{CreateCause, Frame, Journal, OpenCause, Opening, create};
 use std::alloc::Global;
