@@ -1,6 +1,6 @@
 """Lines for each adapter with what their outputs are, as `show` prints them; `try` evaluates them.
 
-Of an output that begins with `..` it is what the output has somewhere. A line with True behind it is interrupted behind a while.
+Of an output that begins with `..` it is what the output has somewhere. A line with True after it is interrupted after a while.
 """
 import dataclasses
 from typing import Dict, List, Optional, Sequence, Tuple
@@ -24,7 +24,7 @@ def is_wanted(output: str, wanted: str) -> bool:
 class Trial:
     """What is tried of an adapter."""
 
-    words: str  # behind the folder of the adapters
+    words: str  # after the folder of the adapters
     program: str  # that has to be here, or a file
     leaving: str  # a line that ends it; empty where none does
     busy: str  # a line without an end

@@ -39,7 +39,7 @@ class Names:
                 names.add(name.decode())
 
     def behind(self, front: bytes, functions: bytes, members: bytes, made: bytes) -> Tuple[str, Set[str]]:
-        """The word at the end of a text, and the names that may stand there; what gp has told to the questions comes behind the text."""
+        """The word at the end of a text, and the names that may stand there; what gp has reported to the questions comes after the text."""
         is_member, word = word_at_end(as_text(front))
         if is_member:
             found = {name for group in MEMBER.findall(as_text(members)) for name in group.replace(" ", "").split(",")}

@@ -92,7 +92,7 @@ class Output:
         self.add(Part(told, ERROR))
 
     def replace(self, display: str, data: Dict[str, Any]) -> None:
-        """Shows another value where a named one is shown. Where it would be too long, all that is shown is cut anew."""
+        """Shows another value where a named one is shown. Where it would be too long, all that is shown is cut again."""
         new = of_value(data, display, self.is_text)
         parts, is_to_be_cleared = self.parts, self.is_to_be_cleared
         self.clear()
@@ -118,7 +118,7 @@ class Output:
                 self.clear()
 
     def take_reply(self, reply: Message) -> bool:
-        """What the reply to a line shows, as its help, and offers as the next input; whether the kernel ends by it. An error that was told by the
+        """What the reply to a line shows, as its help, and offers as the next input; whether the kernel ends by it. An error that was reported by the
         reply alone is shown, too."""
         is_end = False
         if reply.get("status") == "error" and not any(part.format == ERROR for part in self.parts):

@@ -1,5 +1,5 @@
 """Lines for the interpreters of languages.py, as those of cases.py and odd_lines.py: with what their outputs are, and what could take what isn't
-theirs. A numbered line stands behind each, and its answer."""
+theirs. A numbered line stands after each, and its answer."""
 from typing import Dict, List, NamedTuple, Tuple
 
 from gp_lines import Line

@@ -73,7 +73,7 @@ class Lines:
 
     def tried(self, work: Callable[[], Result]) -> Optional[Result]:
         """What some work gives; None where it ends by an error, or by an interrupt."""
-        with contextlib.suppress(KeyboardInterrupt):  # one that comes while an error is told
+        with contextlib.suppress(KeyboardInterrupt):  # one that comes while an error is reported
             try:
                 self.is_at_a_line = True
                 result = work()
@@ -108,7 +108,7 @@ def shown_of(value: Any) -> List[Shown]:
 
 
 def without_own_frames(told: traceback.TracebackException) -> None:
-    """Leaves out the adapter's own frames, of the errors behind an error, too."""
+    """Leaves out the adapter's own frames, of the errors after an error, too."""
     told.stack[:] = [frame for frame in told.stack if frame.filename not in (__file__, tmhost_figures.__file__)]
     for behind in (told.__cause__, told.__context__):
         if behind:

@@ -182,7 +182,7 @@ class Screen:
             self.shift(letter, count)
 
     def erase(self, letter: str, what: int) -> None:
-        """Erases the line or all, behind the cursor, before it, or both."""
+        """Erases the line or all, after the cursor, before it, or both."""
         line, column = self.line(), self.at()
         if what == 0 or what >= 2:
             line.put(column, [], max(0, len(line.cells) - column))

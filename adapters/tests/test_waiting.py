@@ -23,7 +23,7 @@ def is_told() -> bool:
 @unittest.skipUnless(is_told(), "the kernel doesn't tell what a process waits in")
 class Waiting(unittest.TestCase):
     def reads(self, code: str, wanted: bool) -> None:
-        """Whether a program of Python is told to read its input, when it stands still."""
+        """Whether a program of Python is reported to read its input, when it stands still."""
         ours, kept = os.pipe()
         with subprocess.Popen([sys.executable, "-c", "import os, select, sys, time\n" + BEGUN + code], stdin=ours, stdout=subprocess.PIPE) as process:
             files = [os.readlink(f"/proc/self/fd/{ours}")]

@@ -3,7 +3,7 @@
 ;;; Commentary:
 
 ;; The program takes lines and writes objects, a line each (docs/use/JSON.md).  An
-;; object with a `line' is about the line with this number; others are told of
+;; object with a `line' is about the line with this number; others are reported of
 ;; interpreters.  A talk belongs to the buffer in which it was started.
 
 ;;; Code:
@@ -44,13 +44,13 @@
 (defvar-local tmhost-talk--is-taking nil
   "Whether lines are being taken.")
 (defvar-local tmhost-talk--told nil
-  "What was told of the end of the program: a string.")
+  "What was reported of the end of the program: a string.")
 (defvar-local tmhost-talk--is-over t
-  "Whether there is no program, or its end was told.")
+  "Whether there is no program, or its end was reported.")
 (defvar-local tmhost-talk-handler #'ignore
   "A function that is given each object that ends no line.")
 (defvar-local tmhost-talk-ended #'ignore
-  "A function that is told, as a string, how the program ended.")
+  "A function that is called with a string, how the program ended.")
 
 (defun tmhost-talk--without-nul (line)
   "LINE, a JSON text, with `\\x00' in place of the character 0.
@@ -141,10 +141,10 @@ Some of Emacs's readers refuse that character."
 
 (defun tmhost-talk-wait (condition seconds)
   "Wait for the function CONDITION to give true, SECONDS at most.
-Where the program ends, wait until that is told.  Give what CONDITION gave last."
+Where the program ends, wait until that is reported.  Give what CONDITION gave last."
   (let ((until (+ (float-time) seconds)) (told (funcall condition)))
     (while (and (not told) (not tmhost-talk--is-over) (< (float-time) until))
-      ;; The end is told when what stands in the other pipe was read, too.
+      ;; The end is reported when what stands in the other pipe was read, too.
       (accept-process-output (and (tmhost-talk-is-live) tmhost-talk--process)
                              0.05)
       (setq told (funcall condition)))
@@ -203,7 +203,7 @@ To send a line may let more text come meanwhile: that waits for its turn."
 
 (defun tmhost-talk--sentinel (buffer process errors)
   "Tell BUFFER that PROCESS has ended, with what stands in the buffer ERRORS.
-It may be called once more, when that was told."
+It may be called once more, when that was reported."
   (unless (or (process-live-p process) (not (buffer-live-p errors)))
     (let ((text (with-current-buffer errors (string-trim (buffer-string)))))
       (kill-buffer errors)

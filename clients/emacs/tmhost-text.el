@@ -80,7 +80,7 @@ That is a block of the channel `error', or of `output' in another of these."
     (buffer-string)))
 
 (defun tmhost-text-shown (told)
-  "The output in TOLD as the program prints it, pictures in a few words."
+  "The output in REPORTED as the program prints it, pictures in a few words."
   (let ((text (tmhost-text-of (alist-get 'shown told))))
     (dolist (picture (tmhost-text--pictures (alist-get 'output told)) text)
       (setq text (tmhost-text--replaced

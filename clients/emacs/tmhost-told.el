@@ -13,10 +13,10 @@
 (require 'tmhost-sheet)
 
 (defvar-local tmhost-told--fields nil
-  "The fields that were told of a print that isn't over, the last one first.")
+  "The fields that were reported of a print that isn't over, the last one first.")
 
 (defun tmhost-told-take (object)
-  "Take OBJECT, which is told of an interpreter or within a print.
+  "Take OBJECT, which is reported of an interpreter or within a print.
 An object of another type, and what there isn't, is passed over."
   (let ((type (alist-get 'type object))
         (session (tmhost-sheet-session (alist-get 'session object)))
@@ -53,7 +53,7 @@ An object of another type, and what there isn't, is passed over."
   (tmhost-sheet--go-on))
 
 (defun tmhost-told--completed (session told)
-  "Give TOLD to the one that has waited longest for completions of SESSION."
+  "Give REPORTED to the one that has waited longest for completions of SESSION."
   (let ((request (assoc (tmhost-session-name session) tmhost-sheet--requests)))
     (when request
       (setq tmhost-sheet--requests (delq request tmhost-sheet--requests))
@@ -77,7 +77,7 @@ so it is looked at."
   (tmhost-sheet--give-up session (format "ended: %s" reason)))
 
 (defun tmhost-told--look (field)
-  "Have FIELD told anew."
+  "Have FIELD reported again."
   (tmhost-talk-send
    (format "print %d" (tmhost-field-id field))
    (lambda (reply)
@@ -92,7 +92,7 @@ so it is looked at."
                                  :reason (tmhost-field-reason new))))))))
 
 (defun tmhost-told--read (told)
-  "The field that is in TOLD, a FIELD of the protocol."
+  "The field that is in REPORTED, a FIELD of the protocol."
   (tmhost-field-make
    :id (alist-get 'id told) :session (alist-get 'session told)
    :input (tmhost-text-input (alist-get 'input told))
@@ -102,7 +102,7 @@ so it is looked at."
    :wrong (tmhost-text-is-error (alist-get 'output told))))
 
 (defun tmhost-told--take-over (told)
-  "The field of which TOLD is told anew: the one that is there, or TOLD.
+  "The field of which REPORTED is reported again: the one that is there, or REPORTED.
 Replies that are to come are about the one that is there."
   (let ((field (tmhost-view-field (tmhost-field-id told))))
     (if (null field)
@@ -116,7 +116,7 @@ Replies that are to come are about the one that is there."
       field)))
 
 (defun tmhost-told--take-over-session (told)
-  "The session of which TOLD, a SESSION of the protocol, is told anew."
+  "The session of which REPORTED, a SESSION of the protocol, is reported again."
   (let ((session (or (tmhost-sheet-session (alist-get 'name told))
                      (tmhost-session-make :name (alist-get 'name told)
                                           :words (alist-get 'words told)
@@ -125,7 +125,7 @@ Replies that are to come are about the one that is there."
     session))
 
 (defun tmhost-told-show (sheet drafts)
-  "Show the fields that were told before SHEET, the end of a print.
+  "Show the fields that were reported before SHEET, the end of a print.
 DRAFTS are texts that weren't saved: they are put back, and one whose field is
 gone into the kill ring."
   (setq tmhost-sheet-sessions (mapcar #'tmhost-told--take-over-session
@@ -158,7 +158,7 @@ gone into the kill ring."
 (defun tmhost-told-cut-off ()
   "The program has ended: nothing that is under way comes to its end.
 A field that it was asked to evaluate may be without its answer, even
-where it hasn't told that it was asked."
+where it hasn't reported that it was asked."
   (setq tmhost-told--fields nil)
   (let ((asked (delq nil (mapcar #'tmhost-session-busy tmhost-sheet-sessions))))
     (dolist (session tmhost-sheet-sessions)

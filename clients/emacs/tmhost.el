@@ -21,7 +21,7 @@
 (require 'tmhost-told)
 
 (defcustom tmhost-save-delay 1.0
-  "Seconds of rest behind which changed inputs are saved; nil for never."
+  "Seconds of rest after which changed inputs are saved; nil for never."
   :type '(choice number (const nil))
   :group 'tmhost)
 
@@ -38,7 +38,7 @@
 (defvar-local tmhost--path nil
   "The file of the worksheet.")
 (defvar-local tmhost--is-shown nil
-  "Whether the worksheet was told.")
+  "Whether the worksheet was reported.")
 (defvar-local tmhost--end nil
   "How the program has ended: a string, nil while it runs.")
 (defvar-local tmhost--timer nil
@@ -157,13 +157,13 @@ Interpreters run in its folder."
     (message "tmhost: %s" (or tmhost--end "it says nothing yet"))))
 
 (defun tmhost-refresh ()
-  "Show the worksheet anew, with the inputs that aren't saved."
+  "Show the worksheet again, with the inputs that aren't saved."
   (interactive)
   (setq tmhost--is-shown nil)
   (tmhost-talk-send "print" #'tmhost--show))
 
 (defun tmhost--show (sheet)
-  "Show the worksheet whose fields were told before SHEET."
+  "Show the worksheet whose fields were reported before SHEET."
   (when (equal (alist-get 'type sheet) "sheet")
     (let* ((field (tmhost-view-field-at (point)))
            (id (and field (tmhost-field-id field)))
@@ -231,7 +231,7 @@ Interpreters run in its folder."
         (tmhost-sheet-save-all)))))
 
 (defun tmhost-save ()
-  "Save all inputs, and wait until that is told.  True, so it can be a hook."
+  "Save all inputs, and wait until that is reported.  True, so it can be a hook."
   (interactive)
   (dolist (field (tmhost-sheet-unsaved))
     (setf (tmhost-field-refused field) nil))

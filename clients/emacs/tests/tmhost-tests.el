@@ -100,7 +100,7 @@ It has the session t, which completes."
           tmhost-view-order))
 
 (defun tmhost-tests-kept-at (id offset)
-  "Whether point is OFFSET behind the head of the field with number ID."
+  "Whether point is OFFSET after the head of the field with number ID."
   (= (point) (+ (tmhost-view-head-end (tmhost-view-field id)) offset)))
 
 (defun tmhost-tests-text ()
@@ -208,7 +208,7 @@ It has the session t, which completes."
     (should (equal (tmhost-tests-inputs) '("x")))))
 
 (ert-deftest tmhost-tests-rest ()
-  "A moment behind the last change it is saved."
+  "A moment after the last change it is saved."
   (tmhost-tests-with-sheet path
     (tmhost-tests-new "one")
     (insert "!")
@@ -342,7 +342,7 @@ It has the session t, which completes."
     (should (equal (tmhost-field-shown (tmhost-view-field 3)) "three"))))
 
 (ert-deftest tmhost-tests-typed-meanwhile ()
-  "What is typed while the worksheet is told anew isn't lost."
+  "What is typed while the worksheet is reported again isn't lost."
   (tmhost-tests-with-sheet path
     (tmhost-tests-new "one" "two")
     (tmhost-refresh)

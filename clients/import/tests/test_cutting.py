@@ -111,7 +111,7 @@ class Cells(Case):
         self.assertEqual(inputs[2].split(LINE_END)[-1], "f3()[:2]")
 
     def test_a_long_block_of_markdown(self) -> None:
-        """Of a block with a statement that no field can hold nothing is taken, since what stands behind it may need it."""
+        """Of a block with a statement that no field can hold nothing is taken, since what stands after it may need it."""
         long = "f() = {\n" + f"{FILL};\n" * 3 + "}"
         document = f"a\n\n```gp\nx = 1\n{long}\n2\n```\n\n```gp\n3\n```\n"
         self.assertEqual(self.inputs(document, form="markdown"), [("prose", "a"), ("gp", "3")])

@@ -95,7 +95,7 @@ class Making(Case):
         self.not_made("tmhost run ended with status 3: stopped at line 3 (cell 2)", **self.before(STOPS))
 
     def test_a_run_that_tells_nothing(self) -> None:
-        self.not_made("told something else", **self.before(SILENT))
+        self.not_made("reported something else", **self.before(SILENT))
 
     def test_programs_that_are_none(self) -> None:
         self.not_made("can't be started", TMHOST="/nowhere/tmhost")

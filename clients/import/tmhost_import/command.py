@@ -26,7 +26,7 @@ session `prose` whose only word is `true`, but with --no-prose. What is not to b
 `active="md"`) is text.
 Languages with an interpreter: {", ".join(LANGUAGES)}.
 The program is the one that TMHOST names, tmhost on PATH, or the one that was built or installed with this. The status
-is 0 where the worksheet is made, 1 where it isn't, which is told, and 2 where the words are refused.
+is 0 where the worksheet is made, 1 where it isn't, which is reported, and 2 where the words are refused.
 """
 
 
@@ -155,7 +155,7 @@ def do(given: argparse.Namespace) -> None:
 
 
 def end_by(number: int, _: object) -> None:
-    """A signal ends the program as an error does, so that nothing is left behind."""
+    """A signal ends the program as an error does, so that nothing is left."""
     sys.exit(128 + number)
 
 

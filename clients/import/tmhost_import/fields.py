@@ -60,7 +60,7 @@ class Sheet:
         self.sessions, self.is_split, self.has_prose = Sessions(given, has_prose), is_split, has_prose
         self.fields: list[Field] = []
         self.cuts = 0  # texts of prose that became several fields
-        self.long: list[str] = []  # what is told of cells that no field could hold
+        self.long: list[str] = []  # what is reported of cells that no field could hold
         self.troubles: list[str] = []
         self.unknown: set[str] = set()  # sessions for which there is no interpreter
         self.left_out = document.left_out.copy()
@@ -133,7 +133,7 @@ class Sheet:
         pieces = list(self.pieces_of(cell, session))
         self.cuts += cell.is_prose and len(pieces) > 1
         parts = [(piece.place, self.parts_of(cell, piece, session)) for piece in pieces]
-        # Of code all or nothing: what stands behind a statement may need it.
+        # Of code all or nothing: what stands after a statement may need it.
         if cell.is_prose or all(found for _, found in parts):
             for place, found in parts:
                 for part in found:

@@ -82,7 +82,7 @@ def fill(made: str, sheet: Sheet) -> None:
         place = f" ({sheet.place_of_line(int(stopped[1]))})" if stopped else ""
         raise Trouble(f"{trouble}{place}") from trouble
     if told.split("\n")[:-1] != sheet.replies():
-        raise Trouble("tmhost run told something else than that all was made")
+        raise Trouble("tmhost run reported something else than that all was made")
 
 
 def make(new: str, sheet: Sheet) -> None:

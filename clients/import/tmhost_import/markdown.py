@@ -39,7 +39,7 @@ def without_answers(lines: list[str], first: int) -> list[str]:
 
 
 def told_of(lines: list[int]) -> list[str]:
-    """What is told of fences that stand in these lines, from 1, and look like answers of an export: a text of an author's own may have such, too."""
+    """What is reported of fences that stand in these lines, from 1, and look like answers of an export: a text of an author's own may have such, too."""
     if not lines:
         return []
     are = "fence was taken for an answer" if len(lines) == 1 else "fences were taken for answers"

@@ -1,6 +1,6 @@
 """What stands in a tree of GNU TeXmacs: as Markdown, with its formulas as LaTeX, and as the code that an input in mathematics is.
 
-All is told as the strings of a document are, a backslash before what has a meaning: `texmacs.py` takes these away.
+All is written as the strings of a document are, a backslash before what has a meaning: `texmacs.py` takes these away.
 """
 import re
 from collections.abc import Iterator
@@ -40,7 +40,7 @@ OF_PYTHON = ("python", "sympy")
 
 
 class NoCode(Exception):
-    """An input in mathematics has what no interpreter is told here."""
+    """An input in mathematics has what no interpreter is given here."""
 
 
 def is_named(tree: Tree, names: "set[str]") -> bool:

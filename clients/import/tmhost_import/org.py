@@ -22,7 +22,7 @@ ELSEWHERE = re.compile(r"[ \t]*(?:#\+headers?:|#\+property:[ \t]*header-args|:he
 
 
 def arguments(header: str) -> dict[str, str]:
-    """The header arguments behind a block's language: of one that stands twice the last."""
+    """The header arguments after a block's language: of one that stands twice the last."""
     return {key.lower(): value.strip(" \t").strip('"') for key, value in ARGUMENT.findall(header)}
 
 
@@ -72,7 +72,7 @@ class Reader:
         return self.document
 
     def behind(self, at: int) -> int:
-        """Takes what begins in this line, and gives the place behind it."""
+        """Takes what begins in this line, and gives the place after it."""
         line = self.lines[at]
         if found := BEGIN.fullmatch(line):
             end = self.end_of_block(at)
@@ -94,7 +94,7 @@ class Reader:
         raise Trouble(f"line {begin + 1}: the block that begins here has no end")
 
     def behind_verbatim(self, begin: int, kind: str) -> int:
-        """The place behind the verbatim block that begins here, or behind its first line where it has no end."""
+        """The place after the verbatim block that begins here, or after its first line where it has no end."""
         at = max(begin + 1, self.endless.get(kind, 0))
         while at < len(self.lines) and not HEADLINE.fullmatch(self.lines[at]) and begin >= self.endless.get(kind, 0):
             if self.lines[at].strip(" \t").lower() == f"#+end_{kind}":

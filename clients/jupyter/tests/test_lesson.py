@@ -79,7 +79,7 @@ def words(pid: int) -> str:
 
 
 class Run:
-    """A run of the lesson by a process of its own. `cells` has what it was told so far: outputs by their cells."""
+    """A run of the lesson by a process of its own. `cells` has what it was sent so far: outputs by their cells."""
 
     def __init__(self, folder: str) -> None:
         self.ours, theirs = Forks.Pipe(duplex=False)
@@ -90,7 +90,7 @@ class Run:
         self.end = ""
 
     def hear(self, until: float) -> bool:
-        """The next that is told; false where nothing comes in time, or any more."""
+        """The next that is reported; false where nothing comes in time, or any more."""
         if self.end or not self.ours.poll(max(0.0, until - time.monotonic())):
             return False
         try:
@@ -173,7 +173,7 @@ class Lessons(Case):
                 run.hear_all()
                 acknowledged += len(run.cells)
                 held.update(run.cells)
-                asked = len(run.cells)  # the cell whose answer may be gone, or there and not told
+                asked = len(run.cells)  # the cell whose answer may be gone, or there and not reported
                 held.pop(asked, None)
                 found = self.answers()
                 self.assertEqual({at: found.get(at) for at in held}, held)

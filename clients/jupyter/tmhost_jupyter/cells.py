@@ -44,9 +44,9 @@ class Names:
 class Cells:
     """The cells that a kernel has run. `last` is the field of the one before.
 
-    A cell is the field of its name. One without a known name is the field that has its text and nobody's name, the next one behind the cell
+    A cell is the field of its name. One without a known name is the field that has its text and nobody's name, the next one after the cell
     before it, or else the nearest in front of it. Where a whole notebook is run into a worksheet of its own, by a front end that
-    names no cells, each is the field behind that of the cell before it. Any other is a new field there.
+    names no cells, each is the field after that of the cell before it. Any other is a new field there.
     """
 
     def __init__(self, worksheet: Worksheet, session: str, names: Names) -> None:

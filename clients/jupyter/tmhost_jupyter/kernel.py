@@ -135,7 +135,7 @@ class WorksheetKernel(Kernel):
         """What the interpreter says that can stand there; None where it doesn't say, or there is no worksheet."""
         text = code.replace("\n", LINE_END)
         if self.sheet.has_lost_variables or self.sheet.ended():
-            return None  # the next cell is told
+            return None  # the next cell says so
         try:
             cells = self.sheet.opened()
             if not self.sheet.answers_completions:

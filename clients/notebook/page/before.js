@@ -25,7 +25,7 @@ export class Before {
     this.opening = "";
     /** @type {[number, string][]} */
     this.left = []; // versions that aren't shown yet
-    this.newer = ""; // the text behind those that are left
+    this.newer = ""; // the text after those that are left
     this.turn = 0; // of which one the list is: another one may be opened while its parts come
     this.list = byId("before-list", HTMLElement);
     byId("before-close", HTMLButtonElement).addEventListener("click", () => dialog().close());
@@ -84,7 +84,7 @@ export class Before {
     more().hidden = this.left.length === 0;
   }
 
-  /** @type {(at: number, what: string, told: import("./types").Reply) => HTMLElement} */
+  /** @type {(at: number, what: string, reported: import("./types").Reply) => HTMLElement} */
   versionOf(at, what, told) {
     const { opening } = this, part = make("section");
     const head = make("h3", "then-when", `After change ${at}: ${WORDS[what] ?? what}`);

@@ -20,7 +20,7 @@ import { AT_FIRST, conflictOf, describe, emptyShape, fitRows, isOther, partsOf, 
 
 const SAVED_BEHIND = 1_000; // milliseconds without a key
 const SAVED_WITHIN = 2_500; // milliseconds of the first key that isn't saved: half a second is for the disk, so that it is saved within three
-const UNKNOWN = ["Ended", "TimedOut", "Unreached"]; // refusals behind which a text may be saved or not
+const UNKNOWN = ["Ended", "TimedOut", "Unreached"]; // refusals after which a text may be saved or not
 
 export class CellView {
   /**
@@ -37,7 +37,7 @@ export class CellView {
     /** @type {string | null} */
     this.kept = null;
     this.changedAt = 0; // number of this page's last change of it
-    this.toldAt = 0; // up to which change it was told last
+    this.toldAt = 0; // up to which change it was reported last
     this.asked = 0; // calls without a reply by which the answer may go
     this.askedFor = ""; // what the last one is to do
     this.isElsewhere = false;
@@ -134,7 +134,7 @@ export class CellView {
   }
 
   /**
-   * What was asked and may have taken the answer away, until it is told what came of it.
+   * What was asked and may have taken the answer away, until the server says what came of it.
    * @returns {string | undefined}
    */
   get unsettled() {
@@ -145,7 +145,7 @@ export class CellView {
   // ---- what the server tells
 
   /**
-   * All is told anew. Another server counts changes from its start on.
+   * All is reported again. Another server counts changes from its start on.
    * @param {boolean} isOther
    */
   begin(isOther) {
@@ -154,7 +154,7 @@ export class CellView {
   }
 
   /**
-   * Takes what the cell is now. What was told before this page changed it last is older than what the page knows.
+   * Takes what the cell is now. What was reported before this page changed it last is older than what the page knows.
    * @type {(cell: Cell, at: number) => void}
    */
   update(cell, at) {
@@ -360,7 +360,7 @@ export class CellView {
   // ---- evaluations
 
   /**
-   * Does a call by which the answer may go. From now on until it is told what came of that, the answer isn't shown as one of the file.
+   * Does a call by which the answer may go. From now on until the server says what came of that, the answer isn't shown as one of the file.
    * @type {(words: string, call: () => Promise<Reply>) => Promise<Reply>}
    */
   async risk(words, call) {

@@ -10,7 +10,7 @@ import { toolbarOf } from "./toolbar.js";
 /** @typedef {import("./types").Message} Message */
 
 const AT_ONCE = 200; // new cells that get their parts before they are in the page
-const TOLD_WITHIN = 5_000; // milliseconds until the page is told of what was done
+const TOLD_WITHIN = 5_000; // milliseconds until the server reports what was done
 
 /**
  * Waits until a cell has come or gone.
@@ -101,7 +101,7 @@ export class Cells {
   }
 
   /**
-   * The order of the cells behind some changes of it, if there are any.
+   * The order of the cells after some changes of it, if there are any.
    * @type {(message: Message) => number[] | undefined}
    */
   orderBehind({ placed = [], gone = [] }) {

@@ -40,7 +40,7 @@ export class Earlier {
     press("earlier-newer", () => this.page(this.listed[0].at + 200));
     press("earlier-older", () => this.page(this.listed[this.listed.length - 1].first - 1));
     press("earlier-before", () => this.look(this.goal - 1));
-    press("earlier-behind", () => this.look(this.goal + 1));
+    press("earlier-after", () => this.look(this.goal + 1));
     press("earlier-above", () => this.look(this.at, this.start - 1));
     press("earlier-below", () => this.look(this.at, this.start + this.cells.childElementCount));
     press("earlier-restore", () => this.restore());
@@ -87,7 +87,7 @@ export class Earlier {
 
   // ---- the list
 
-  /** @type {(told: Reply) => boolean} */
+  /** @type {(reported: Reply) => boolean} */
   take(told) {
     if (!told.changes) return false;
     this.opening = told.opening ?? "";
@@ -127,7 +127,7 @@ export class Earlier {
   }
 
   /**
-   * The change that stands so many lines below that which is looked at, or behind the end of the list.
+   * The change that stands so many lines below that which is looked at, or after the end of the list.
    * @type {(by: number) => number}
    */
   beside(by) {
@@ -176,7 +176,7 @@ export class Earlier {
     if (told.then && !this.wanted && dialog().open) this.show(at, told, about);
   }
 
-  /** @type {(at: number, told: Reply, about: number) => void} */
+  /** @type {(at: number, reported: Reply, about: number) => void} */
   show(at, told, about) {
     const does = { say: (/** @type {string} */ text) => this.say(text), takeBack: this.takeBack };
     this.at = at;
@@ -206,7 +206,7 @@ export class Earlier {
     parts.querySelector("span")?.replaceChildren(`cells ${start + 1} to ${start + shown} of ${count} are shown`);
     if (count === 0) this.cells.replaceChildren(make("p", "", "There was no cell."));
     enable("earlier-before", at > 0);
-    enable("earlier-behind", !isNow);
+    enable("earlier-after", !isNow);
     enable("earlier-above", start > 0);
     enable("earlier-below", start + shown < count);
   }

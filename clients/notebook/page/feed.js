@@ -13,7 +13,7 @@ const AGAIN_BEHIND = 1_000; // milliseconds; a browser gives up by itself where 
 
 /**
  * Listens, as long as the page is seen: a browser has six connections to a server, and each page that listens has one. A page that is seen
- * again is told all anew, and so is one whose server was started again: it is looked for until it answers.
+ * again gets all again, and so does one whose server was started again: it is looked for until it answers.
  * @type {(hearer: Hearer) => void}
  */
 export function listen(hearer) {

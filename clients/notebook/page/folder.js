@@ -48,7 +48,7 @@ function rowOf(sheet) {
   return row;
 }
 
-/** @type {(told: Reply) => void} */
+/** @type {(reported: Reply) => void} */
 function show(told) {
   const isThere = told.sheets !== undefined;
   const place = byId("connection", HTMLElement);

@@ -118,7 +118,7 @@ export class Keys {
   /** @param {KeyboardEvent} event */
   press(event) {
     if (this.isUndo(event)) return;
-    // Where nothing has the focus the selected cell takes keys, but not behind a dialog.
+    // Where nothing has the focus the selected cell takes keys, but not after a dialog.
     const isNowhere = event.target === document.body && !document.querySelector("dialog[open]");
     const view = isNowhere ? this.cells.selected : this.cells.of(event.target);
     if (!view || event.isComposing) return;

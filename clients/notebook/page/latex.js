@@ -13,7 +13,7 @@ const DELIMITERS = [
   ...ENVIRONMENTS.map((name) => ({ begin: `\\begin{${name}}`, end: `\\end{${name}}`, display: true, keep: true })),
 ];
 
-// Words: what has no meaning of its own in LaTeX, such characters behind a backslash, and the colours that gp's own mode begins with.
+// Words: what has no meaning of its own in LaTeX, such characters after a backslash, and the colours that gp's own mode begins with.
 const WORDS = /(?:[^\\{}$~^_&#%]|\\[%$#&_{}]|\\(?:magenta|blue)(?![A-Za-z])\s*)+/y;
 
 // What no text of a formula needs, and what would be unseen or turn the direction of others.
@@ -36,7 +36,7 @@ const DEFINING = new Set([
 const WORD = /\\([A-Za-z]+|[^]?)/g;
 
 /**
- * Where the end of a formula stands: outside of braces, and not behind a backslash. -1 if nowhere.
+ * Where the end of a formula stands: outside of braces, and not after a backslash. -1 if nowhere.
  * @type {(text: string, from: number, end: string) => number}
  */
 function endOf(text, from, end) {
@@ -110,12 +110,12 @@ const BLANK = new Set([" ", "\t", "\n", "~", "\\,", "\\:", "\\;", "\\>", "\\!", 
 const OPENING = new Set(["(", "[", "\\{"]);
 const CLOSING = new Set([")", "]", "\\}"]);
 
-// A sign behind one of these is that of a number.
+// A sign after one of these is that of a number.
 const OPERATORS = new Set([..."=<>*/,:;", ...("cdot times div pm mp ast star circ bullet wedge vee cap cup oplus otimes le leq ge geq ne neq lt gt in ni notin subset supset to "
   + "rightarrow leftarrow Rightarrow mapsto equiv sim simeq approx cong propto mid ll gg sum prod int oint lim max min sup inf det gcd sin cos tan cot sec csc sinh cosh tanh coth "
   + "arcsin arccos arctan exp log ln lg arg deg dim hom ker Pr kern mkern hskip mskip limits nolimits not").split(" ").map((name) => `\\${name}`)]);
 
-// These are about all that stands before or behind them.
+// These are about all that stands before or after them.
 const OF_THE_WHOLE = new Set(["&", "\\\\", ...("over atop above choose brace brack color tag label verb char cr newline rm bf it sf tt cal mit textstyle scriptstyle scriptscriptstyle tiny small "
   + "normalsize large Large LARGE huge Huge").split(" ").map((name) => `\\${name}`)]);
 
@@ -125,7 +125,7 @@ const ENDS = new Map(PAIRS);
 const BEGINS = new Map(PAIRS.map(([begin, end]) => [end, begin]));
 
 /**
- * The places behind the signs between terms, outside of braces, fences and environments, and in how many brackets each is. null where one of those has
+ * The places after the signs between terms, outside of braces, fences and environments, and in how many brackets each is. null where one of those has
  * no end, or no beginning, and where a word is about the whole.
  * @type {(tex: string) => {at: number, brackets: number}[] | null}
  */
@@ -156,8 +156,8 @@ function signsOf(tex) {
 }
 
 /**
- * A formula in pieces that are set one behind the other, each but the last with the sign at its end: so a line ends where it would end anyway, between
- * two terms. A piece ends at the first sign behind so many characters, `least`. One piece where it is no long formula; null where there is no sign for that.
+ * A formula in pieces that are set one after the other, each but the last with the sign at its end: so a line ends where it would end anyway, between
+ * two terms. A piece ends at the first sign after so many characters, `least`. One piece where it is no long formula; null where there is no sign for that.
  * @type {(tex: string, isDisplay: boolean, least: number) => string[] | null}
  */
 export function piecesOf(tex, isDisplay, least) {

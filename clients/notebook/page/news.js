@@ -4,7 +4,7 @@ import { byId, visible } from "./dom.js";
 
 /** @typedef {import("./types").Cell} Cell */
 
-const TOLD_BEHIND = 400; // milliseconds: what comes within it is told together
+const TOLD_BEHIND = 400; // milliseconds: what comes within it is reported together
 const LONGEST = 300; // characters of an answer
 
 export class News {

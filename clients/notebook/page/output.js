@@ -16,7 +16,7 @@ const MOST_LONG = 1_000_000; // characters of all long formulas that are set in 
 const grouped = (number) => number.toLocaleString("en");
 
 /**
- * A formula, as its source until it is set; of a long one it is told why it isn't.
+ * A formula, as its source until it is set; of a long one the page says why it isn't.
  * @type {(tex: string, tell: (why: string) => void) => HTMLElement}
  */
 function formulaOf(tex, tell) {

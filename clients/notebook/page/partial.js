@@ -10,7 +10,7 @@ const NEAR = 20; // dots from the end at which the end is followed
 /** @type {WeakMap<CellView, {box: HTMLElement, mark: HTMLElement, text: HTMLElement}>} */
 const places = new WeakMap();
 
-/** @type {(view: CellView | undefined, told: Partial | null) => void} */
+/** @type {(view: CellView | undefined, reported: Partial | null) => void} */
 export function showPartial(view, told) {
   if (!view) return;
   if (!told || view.cell.state !== "running") {

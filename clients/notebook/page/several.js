@@ -41,7 +41,7 @@ export class Several {
 
   /**
    * Waits until the page shows what came of a step, so that the next key finds it, and selects that.
-   * @param {import("./types").Reply} told
+   * @param {import("./types").Reply} reported
    */
   async follow({ ids = [], gone = [] }) {
     await this.cells.whenGone(gone);

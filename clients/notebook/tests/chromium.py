@@ -179,7 +179,7 @@ class Tab:
             time.sleep(0.03)
 
     def reload(self) -> None:
-        """Loads the page anew; what is asked behind it is asked of the new one."""
+        """Loads the page again; what is asked after it is asked of the new one."""
         self.value("window.isOld = true")
         self.ask("Page.reload")
         self.until("window.isOld ?? false", False)

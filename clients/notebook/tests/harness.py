@@ -137,7 +137,7 @@ class Page:
         return told
 
     def snapshot(self) -> Dict[str, Any]:
-        """The first message that a page is told."""
+        """The first message that a page gets."""
         connection = http.client.HTTPConnection(self.host, timeout=240)
         connection.request("GET", self.path + "events", headers={"Cookie": self.cookie})
         reply = connection.getresponse()
@@ -241,7 +241,7 @@ class SharedCase(PageCase):
         return kind.shared
 
     def open(self, server: Optional[Server] = None) -> "chromium.Tab":
-        """A page in a tab of its own, which is closed behind the test."""
+        """A page in a tab of its own, which is closed after the test."""
         tab = opened(self.browser, server or self.server)
         self.addCleanup(tab.close)
         return tab

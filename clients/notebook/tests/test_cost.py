@@ -157,12 +157,12 @@ class Opening(Costs):
         before = self.settled(browser.process.pid)
         tab.ask("Page.addScriptToEvaluateOnNewDocument", {"source": SEEN})
         tab.ask("Page.navigate", {"url": server.address})
-        while not self.is_ready(tab):  # behind it cells that aren't seen get their parts; who asks more often spends the browser's time
+        while not self.is_ready(tab):  # then cells that aren't seen get their parts; who asks more often spends the browser's time
             time.sleep(0.1)
         after = times_of(browser.process.pid)
         page = sum(spent - before.get(pid, 0.0) for pid, spent in after.items())
         own = time_of(server.process.pid)
-        print(f" {MANY} cells open in {page:.1f} s of the browser's processor time and {own:.1f} of the server's, and are seen behind "
+        print(f" {MANY} cells open in {page:.1f} s of the browser's processor time and {own:.1f} of the server's, and are seen after "
             f"{tab.value('window.seen') / 1000:.1f} s", end="")
         self.assertEqual(tab.value("document.querySelectorAll('.cell').length"), MANY)
         states: List[str] = tab.value("[...new Set([...document.querySelectorAll('.cell')].map((cell) => cell.dataset.state))]")

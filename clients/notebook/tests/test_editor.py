@@ -105,7 +105,7 @@ class Colours(Written):
         self.assertEqual(self.browser.trouble, [])
 
     def test_comments_and_lines(self) -> None:
-        """Control-/ makes comments and takes them back; Enter goes deeper behind what opens; L shows numbers of lines, over a reload too."""
+        """Control-/ makes comments and takes them back; Enter goes deeper after what opens; L shows numbers of lines, over a reload too."""
         tab = self.start("a\n  b\n\nc")
         self.edit(tab, 1, 0, 8)
         tab.key("/", "Control")
@@ -131,7 +131,7 @@ class Colours(Written):
         tab.until(numbers, "none")
 
     def test_cells_that_are_not_seen(self) -> None:
-        """They have no parts till they are wanted; what is told of them, found, copied and read out is theirs all the same."""
+        """They have no parts till they are wanted; what is reported of them, found, copied and read out is theirs all the same."""
         self.begin()
         self.server.stop()
         lines = [f"session s tab {SPOKEN}", *(f"new {number} s say {number}{' needle' if number == 950 else ''}" for number in range(1_000))]
@@ -171,7 +171,7 @@ class Colours(Written):
         self.assertEqual(self.browser.trouble, [])
 
     def fold_unseen(self, tab: chromium.Tab) -> None:
-        """What is folded of a cell that isn't seen stands behind its parts, when it has them."""
+        """What is folded of a cell that isn't seen stands after its parts, when it has them."""
         tab.click("#cell-900 .number")
         tab.key("O", "Shift")
         tab.until("document.querySelector('#cell-900 > .unfold')?.textContent", "1 line folded")

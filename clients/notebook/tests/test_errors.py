@@ -74,7 +74,7 @@ class Errors(Case):
         self.assertEqual(self.tab.browser.trouble, [])
 
     def test_all_stops(self) -> None:
-        """Where the box asks for that, what comes behind the error isn't asked, and keeps its answers. The box is so after a reload, too."""
+        """Where the box asks for that, what comes after the error isn't asked, and keeps its answers. The box is so after a reload, too."""
         self.begin()
         self.tab.click("#stop-at-errors")
         self.tab.click("[data-do=evaluateAll]")
@@ -94,7 +94,7 @@ class Errors(Case):
         self.tab.click("[data-do=evaluateFrom]")
         self.tab.until(NOTE, "stopped at an error, of cell 3: 2 cells that waited were not asked")
         self.assertEqual(self.answered(), [2, 3, 5])
-        self.tab.click("#cell-4 .number")  # the error is behind that
+        self.tab.click("#cell-4 .number")  # the error is after that
         self.tab.click("[data-do=evaluateFrom]")
         self.tab.until(f"[4, 5, 6].every((id) => {STATES}[id] === 'answered')")
 

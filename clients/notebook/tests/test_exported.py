@@ -87,7 +87,7 @@ class Exported(Case):
         os.rename(self.sheet + ".away", self.sheet + ".alt")
 
     def test_while_it_is_changed(self) -> None:
-        """Each export has what had been told before it was asked for, and each of its answers is whole and of its line."""
+        """Each export has what had been reported before it was asked for, and each of its answers is whole and of its line."""
         for number in range(4):
             self.page.call("new", session="s", text="long 0", after=number)
         self.saved: Dict[int, int] = {}

@@ -67,7 +67,7 @@ class Lesson(Case):
 @needs_chromium
 class Kills(Lesson):
     def test_kills(self) -> None:
-        """At random moments behind "Evaluate all" and "from here": all but one answer of each session are in the file."""
+        """At random moments after "Evaluate all" and "from here": all but one answer of each session are in the file."""
         seed = int(os.environ.get("TMHOST_SEED", str(random.randrange(10**6))))
         rng = random.Random(seed)
         browser, lost = self.browse(), 0
@@ -156,7 +156,7 @@ class Stops(Lesson):
         self.assertEqual(self.without(), {"s": 1, "t": 0})
         self.assertEqual(self.answers()[5], "interrupted")
         self.tab.click("#cell-8 .number")
-        self.tab.key("Enter", "Control")  # what was stopped begins anew
+        self.tab.key("Enter", "Control")  # what was stopped begins again
         self.tab.until("document.querySelector('#cell-8 .prompt').textContent", "1> ")
 
     def test_an_end(self) -> None:

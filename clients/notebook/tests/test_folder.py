@@ -77,7 +77,7 @@ class Requests(FolderCase):
         self.assertEqual(children_of(self.server.process.pid), [])
 
     def test_what_was_closed_stays_so(self) -> None:
-        """A page that looks for it doesn't open it again, but asking for the page does; behind a restart of the server a page that looks for it does."""
+        """A page that looks for it doesn't open it again, but asking for the page does; after a restart of the server a page that looks for it does."""
         listed = self.begin("one")
         one = SheetPage(listed, "one")
         one.get()

@@ -1,4 +1,4 @@
-"""What help leaves behind: nothing, whatever ends the server."""
+"""What help leaves: nothing, whatever ends the server."""
 
 import os
 import unittest

@@ -78,7 +78,7 @@ WITHIN = """
 
 
 def outputs() -> List[bytes]:
-    """What the interpreter is told to write, a line each: a hundred and more."""
+    """What the interpreter is asked to write, a line each: a hundred and more."""
     said = [(b"verbatim", text.replace(b"%s", SCRIPT)) for text in ESCAPES] + [(b"verbatim",
         text.encode("utf-8", "surrogatepass")) for text in CHARACTERS]
     said += [(b"latex", tex.encode()) for tex in TEX] + [(b"html", ESCAPES[0] % SCRIPT), (b"command", b"(exec-delayed)"),

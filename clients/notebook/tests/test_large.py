@@ -1,5 +1,5 @@
-"""A worksheet of 1,000 cells: how long its page takes to open, a key to be seen, and an answer to be seen behind the moment at which the program
-told it, so when it was on the disk. What is measured is printed. Where TMHOST_LIMITS=1 says so it is held to the limits, and Jupyter is measured
+"""A worksheet of 1,000 cells: how long its page takes to open, a key to be seen, and an answer to be seen after the moment at which the program
+reported it, so when it was on the disk. What is measured is printed. Where TMHOST_LIMITS=1 says so it is held to the limits, and Jupyter is measured
 beside it; else not, since tests run beside other work."""
 
 import math
@@ -35,7 +35,7 @@ new Promise((done) => {
   next();
 })
 """
-# Evaluates a cell with a new text, and gives the moment at which a picture of the page has its answer, and how long that is behind the key.
+# Evaluates a cell with a new text, and gives the moment at which a picture of the page has its answer, and how long that is after the key.
 ANSWER = """
 new Promise((done) => {
   const start = performance.now(), cell = document.querySelector("#cell-%d"), text = cell.querySelector("textarea"), shown = cell.querySelector(".output pre");
@@ -79,13 +79,13 @@ class Large(Case):
         page.until_idle()
 
     def stamp_of(self, id: int) -> float:
-        """When the last answer of a cell was told."""
+        """When the last answer of a cell was reported."""
         with open(self.stamps, encoding="utf-8") as file:
             stamps: Dict[int, float] = {int(line.split()[0]): float(line.split()[1]) for line in file}
         return stamps[id]
 
     def answers(self, tab: chromium.Tab) -> Tuple[List[float], List[float]]:
-        """How long they come behind the disk, and behind the key."""
+        """How long they come after the disk, and after the key."""
         behind_disk, behind_key = [], []
         for number in range(TIMES):
             id = 101 + 40 * number
@@ -120,8 +120,8 @@ class Large(Case):
         self.assertEqual(browser.trouble, [])
         server.stop()
         self.tell([("it opens in", [opens], OPENS_WITHIN), ("a key is seen in", keys, KEY_WITHIN),
-                   ("an answer is seen, behind being on the disk, in", behind_disk, ANSWER_WITHIN),
-                   ("an answer is seen, behind its key, in", behind_key, None)])
+                   ("an answer is seen, after being on the disk, in", behind_disk, ANSWER_WITHIN),
+                   ("an answer is seen, after its key, in", behind_key, None)])
         self.tell_beside(browser)
 
     def tell(self, measured: List[Tuple[str, List[float], Optional[float]]]) -> None:

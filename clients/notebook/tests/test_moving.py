@@ -55,7 +55,7 @@ class Words(Moved):
         self.keeps_the_rest()
 
     def test_behind_checkpoints(self) -> None:
-        """The journal lies in the second file, and in the first one behind another checkpoint."""
+        """The journal lies in the second file, and in the first one after another checkpoint."""
         self.begin()
         for _ in range(2):
             subprocess.run([PROGRAM or "", "run", "--strict", self.sheet], input=b"checkpoint\n", check=True, capture_output=True)
@@ -84,7 +84,7 @@ class Words(Moved):
         self.assertEqual(sorted(os.listdir(self.folder)), ["sheet", "sheet.alt"])
 
     def test_what_stands_first_isnt_changed(self) -> None:
-        """The kill of a moment: behind the rename all is in the first file, whatever the second one has."""
+        """The kill of a moment: after the rename all is in the first file, whatever the second one has."""
         self.begin()
         rewording.reword(self.sheet, "s", ["x"], PROGRAM)
         words, shown = self.words(), self.show()

@@ -117,7 +117,7 @@ class Model:
 
 
 class ManyPlaces(unittest.TestCase):
-    """Random changes of worksheets of some blocks: order and stale answers are those of the model, and who became stale or fresh is told."""
+    """Random changes of worksheets of some blocks: order and stale answers are those of the model, and who became stale or fresh is reported."""
 
     def setUp(self) -> None:
         self.seed = int(os.environ.get("TMHOST_SEED", str(random.randrange(10**6))))
@@ -147,7 +147,7 @@ class ManyPlaces(unittest.TestCase):
                 known = now
 
     def change(self) -> Tuple[int, Set[int]]:
-        """A random change of one cell. Gives its number, and what was told of it."""
+        """A random change of one cell. Gives its number, and what was reported of it."""
         does = self.random.choice([self.put, self.edit, self.evaluate, self.evaluate, self.move, self.drop])
         return does() if self.model.fields else self.put()
 

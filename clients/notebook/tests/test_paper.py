@@ -27,7 +27,7 @@ Words with a formula $\\frac13$, which go on so long that a line of them has its
 | a name that takes much room | 123456789012345678901234567890123456789 | a remark that is long, long, long, long, long, long |
 
 ```
-code in prose that is one line, and goes on behind the right side of the page, with more words, to its END_OF_CODE
+code in prose that is one line, and goes on after the right side of the page, with more words, to its END_OF_CODE
 for i in 1 2 3; do echo "this is a long line of a program"; echo "which is broken on paper, where a line is shorter than on a screen"; done
 ```
 

@@ -1,4 +1,4 @@
-"""What is shown of an answer before it is whole: how it is read, how often pages are told, and how it looks. The program's part is played by `telling`,
+"""What is shown of an answer before it is whole: how it is read, how often pages get it, and how it looks. The program's part is played by `telling`,
 but in the last test."""
 
 import base64
@@ -124,7 +124,7 @@ class Telling(Case):
         return id
 
     def ready(self) -> List[str]:
-        """The sessions whose interpreters have told their banner: a piece of one that came before is dropped by that."""
+        """The sessions whose interpreters have reported their banner: a piece of one that came before is dropped by that."""
         time.sleep(0.3)
         return [session["name"] for session in self.page.snapshot()["sessions"] if session["runs"]]
 

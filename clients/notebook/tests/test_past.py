@@ -119,7 +119,7 @@ class Looks(Case):
         page.until_idle()
 
     def test_each_look_is_what_was_told(self) -> None:
-        """After each of 150 random changes the look has the cells that pages were told at that time, and nothing was written by looking."""
+        """After each of 150 random changes the look has the cells that pages were sent at that time, and nothing was written by looking."""
         page, chance, told = self.begin(), random.Random(int(os.environ.get("TMHOST_SEED", "3"))), {}
         for _ in range(CHANGES):
             self.change(page, chance)
@@ -132,7 +132,7 @@ class Looks(Case):
         print(f" {len(told)} looks", end="")
 
     def versions(self, page: Page, opening: str, told: Dict[int, List[Tuple[Any, ...]]]) -> None:
-        """What a cell had before is what pages were told then, and each answer that they were told and that is no more is in it."""
+        """What a cell had before is what pages were sent then, and each answer that they were sent and that is no more is in it."""
         now = {cell[0]: cell for cell in seen(page.snapshot())}
         for id in now:
             found = []
@@ -157,7 +157,7 @@ class Looks(Case):
         self.assertEqual(page.cells()[1]["state"], "running")
 
     def test_many_changes_and_cells(self) -> None:
-        """They are told in parts."""
+        """They are reported in parts."""
         page = self.begin()
         page.call("step", what="x", set=[], move=[], remove=[], new=[{"after": 0, "session": "s", "text": f"say {n}"} for n in range(450)])
         told = page.call("past")

@@ -1,4 +1,4 @@
-"""What a user does by one key is in the worksheet whole, or not at all, where the program is killed in the middle: behind the last of its lines, in front of
+"""What a user does by one key is in the worksheet whole, or not at all, where the program is killed in the middle: after the last of its lines, in front of
 that which ends them, and as soon as it has that, too."""
 
 import os
@@ -126,7 +126,7 @@ class Acts(SharedCase):
                 before(tab)
                 tab.until(IS_BUSY, False)
                 cells = self.cells()
-                self.arm("behind")
+                self.arm("after")
                 act(tab)
                 self.until_killed()
                 there = self.opened_again(tab)

@@ -1,7 +1,7 @@
 """The address of a worksheet's page: its port and its secrets. They are kept in a file of this user alone, so that a page finds its server when that is
 started again, and an address that was noted stays right.
 
-Where they are kept, another user's program may take the port while no server has it, and be told the secrets by a page that looks for its server.
+Where they are kept, another user's program may take the port while no server has it, and get the secrets from a page that looks for its server.
 So they count for processes of this user alone, which the server looks at (`is_of_this_user`); where it can't, as on another system than Linux,
 nothing is kept.
 """

@@ -1,4 +1,4 @@
-"""The worksheet as pages see it: the client's mirror with the notes, the cells that wait to be asked, and who has to be told of what."""
+"""The worksheet as pages see it: the client's mirror with the notes, the cells that wait to be asked, and which pages have to hear of what."""
 
 import contextlib
 import secrets
@@ -77,7 +77,7 @@ class Book:
                     self.drafts.keep(id, None)
 
     def reopen(self) -> None:
-        """Opens the worksheet again behind a death of the program."""
+        """Opens the worksheet again after a death of the program."""
         with self.order:
             if self.ended is None:
                 return
@@ -94,7 +94,7 @@ class Book:
             self._tell_all()
 
     def _tell_all(self) -> None:
-        """Has each page told all cells again."""
+        """Has each page get all cells again."""
         with self.lock:
             for watcher in self.watchers:
                 watcher.begin()
@@ -145,7 +145,7 @@ class Book:
             self.heard.wait_for(lambda: self.ended is not None or is_so(), HEARD_WITHIN)
 
     def touch(self, *ids: int) -> None:
-        """Has pages told these cells again."""
+        """Has pages get these cells again."""
         with self.lock:
             for id in ids:
                 self._look(id)
@@ -158,7 +158,7 @@ class Book:
         self.touch(id)
 
     def new(self, session: Optional[str], text: str, after: int) -> int:
-        """A new cell behind another one; without a session it is prose."""
+        """A new cell after another one; without a session it is prose."""
         sessions = self.sheet.sessions
         new = New(after, prose.name_in(sessions) if session is None else session, input_of(text))
         id = self.sheet.together(*(prose.missing_in(sessions) if session is None else []), new)[-1] or 0
@@ -223,7 +223,7 @@ class Book:
     # ---- evaluations
 
     def evaluate(self, id: int) -> None:
-        """Has a cell evaluated, with `order`: now, or behind those of its session that wait. Not one of prose, nor one that waits already."""
+        """Has a cell evaluated, with `order`: now, or after those of its session that wait. Not one of prose, nor one that waits already."""
         field = self.sheet.cell(id).field
         with self.lock:
             is_asked = field.session in self.prose or self.waits(field)
@@ -343,7 +343,7 @@ class Book:
             else:
                 self._take(event)
             self.heard.notify_all()
-        if not isinstance(event, Partial):  # of that pages are told now and then
+        if not isinstance(event, Partial):  # that goes to pages now and then
             self.wake()
 
     def _take(self, event: Event) -> None:
@@ -378,7 +378,7 @@ class Book:
         return found
 
     def _place(self, done: Done, id: int) -> Set[int]:
-        """The order of the cells behind a command."""
+        """The order of the cells after a command."""
         if done.command == "new" and done.session is not None:
             for watcher in self.watchers:
                 watcher.put(id)
@@ -394,7 +394,7 @@ class Book:
         return set()
 
     def _look(self, id: int) -> Set[int]:
-        """What a cell has now. Gives the cells that are stale by it, or are so no more, and has pages told their marks."""
+        """What a cell has now. Gives the cells that are stale by it, or are so no more, and has pages get their marks."""
         field = self.field(id)
         if field is None or id not in self.places:
             return set()

@@ -143,7 +143,7 @@ def call_change(book: Book, asked: Facts) -> Facts:
 
 
 def call_move(book: Book, asked: Facts) -> Facts:
-    """Moves a cell by so many places. A key that is held down asks faster than pages are told, so places are counted here."""
+    """Moves a cell by so many places. A key that is held down asks faster than pages hear of it, so places are counted here."""
     by = member(asked, "by", int, int)
     with book.order:
         id = number(asked, "id")
@@ -240,7 +240,7 @@ def call_stop(book: Book, asked: Facts) -> Facts:
 
 
 def call_interrupt(book: Book, asked: Facts) -> Facts:
-    """Interrupts the line of a session. What waits behind it isn't asked any more."""
+    """Interrupts the line of a session. What waits after it isn't asked any more."""
     session = text(asked, "session")
     with book.order:
         return {"dropped": book.drop_fed(session), "outcome": book.sheet.interrupt(session)}

@@ -20,7 +20,7 @@ LOCKS = "/proc/locks"
 
 
 class NotDone(Exception):
-    """Nothing was done, for a reason that is told to people."""
+    """Nothing was done, for a reason that is reported to people."""
 
 
 def is_name(name: str) -> bool:
@@ -107,7 +107,7 @@ def free_path(folder: str, name: str) -> str:
 
 
 def rename(folder: str, old: str, new: str) -> None:
-    """Gives a worksheet another name, with its drafts. What is to be done is noted first, so that it is done to its end behind a crash."""
+    """Gives a worksheet another name, with its drafts. What is to be done is noted first, so that it is done to its end after a crash."""
     was = os.path.join(folder, old)
     free_path(folder, new)
     with held(was):

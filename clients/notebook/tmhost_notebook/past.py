@@ -24,13 +24,13 @@ from .folder import NotDone, free_path
 WITHIN = 30.0  # seconds that a command may take, and that one waits for another
 LARGEST = 500_000_000  # bytes of a worksheet of which a copy is made for a look
 MOST_KEPT = 100  # answers that a page has looked at, of each worksheet
-LOOKED_WITHIN = 20.0  # seconds behind which no further worksheet of then is looked at for what was removed
+LOOKED_WITHIN = 20.0  # seconds after which no further worksheet of then is looked at for what was removed
 
 NEW_TEXT = ("new", "set")  # what gives a cell a text, and takes its answer away
 
 
 class NoPast(Exception):
-    """There is nothing to be shown, for a reason that is told to people."""
+    """There is nothing to be shown, for a reason that is reported to people."""
 
 
 class Sheet(NamedTuple):
@@ -59,7 +59,7 @@ class Past:
         self._answers: "collections.OrderedDict[Tuple[int, int], Optional[Answer]]" = collections.OrderedDict()
 
     def changes(self, is_new: bool) -> List[str]:
-        """The changes, one line for each; `is_new` says that those that were told last won't do."""
+        """The changes, one line for each; `is_new` says that those that were reported last won't do."""
         if is_new or not self._changes:
             self._changes = self._told("history").decode().splitlines()
         return self._changes
@@ -102,7 +102,7 @@ class Past:
         return path
 
     def _told(self, *words: str, behind: Tuple[str, ...] = ()) -> bytes:
-        """What a command of the program writes of a copy of the worksheet. The path comes behind the words of a flag, and in front of `restore`'s."""
+        """What a command of the program writes of a copy of the worksheet. The path comes after the words of a flag, and in front of `restore`'s."""
         command, *rest = words
         front, back = ([], rest) if command == "restore" else (rest, [])
         if not self.lock.acquire(timeout=WITHIN):
@@ -134,7 +134,7 @@ def sheet_in(at: int, lines: Iterable[bytes]) -> Sheet:
             order = told["fields"]
             sessions = {one.name: one for one in map(session_of, told["sessions"])}
     if len(order) != len(fields):
-        raise NoPast("the program told another worksheet than it listed")
+        raise NoPast("the program reported another worksheet than it listed")
     return Sheet(at, order, {id: fields[place] for place, id in enumerate(order)}, sessions)
 
 
@@ -198,7 +198,7 @@ def removals_in(changes: Iterable[str]) -> List[Removal]:
 
 
 def moments(removals: Iterable[Removal]) -> List[int]:
-    """Behind which changes the worksheet is to be looked at, so that each of these cells is seen as it was last; as few as can be, the last one first."""
+    """After which changes the worksheet is to be looked at, so that each of these cells is seen as it was last; as few as can be, the last one first."""
     found: List[int] = []
     for one in sorted(removals, key=lambda one: -one.since):
         if not found or not one.since <= found[-1] < one.at:

@@ -64,7 +64,7 @@ def dots_of_png(data: bytes) -> Tuple[int, int]:
 
 
 def dots_of_jpeg(data: bytes) -> Tuple[int, int]:
-    """By its frame's head, which comes behind others."""
+    """By its frame's head, which comes after others."""
     if data[:3] != b"\xff\xd8\xff":
         raise NotDrawn
     at = 2
@@ -241,7 +241,7 @@ def picture_of(block: Block) -> Optional[Picture]:
 
 
 def pictures_in(block: Block) -> Dict[int, Picture]:
-    """The pictures in a block, by the identity of theirs. Those behind what is drawn at once are heavy."""
+    """The pictures in a block, by the identity of theirs. Those after what is drawn at once are heavy."""
     found: Dict[int, Picture] = {}
     left, at_once, open_blocks = LONGEST, 1.0, [block]
     while open_blocks:

@@ -47,7 +47,7 @@ class Part:
 
     @property
     def end(self) -> Chain:
-        """The chain behind the block."""
+        """The chain after the block."""
         return (self.before * self.power + self.number) % PRIME
 
     def fresh(self, before: Chain) -> Set[int]:
@@ -148,7 +148,7 @@ class Places:
     # ---- what is changed
 
     def put(self, field: Field, after: int) -> Set[int]:
-        """A new cell, behind another one or first."""
+        """A new cell, after another one or first."""
         place = self._of[field.id] = Place(field, None)
         return self._put(place, after)
 

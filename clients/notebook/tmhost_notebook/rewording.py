@@ -1,5 +1,5 @@
 """A session gets other words, as where its worksheet comes from a machine on which its interpreter lies elsewhere. The program has no command for that, so
-the journal (docs/trust/FORMAT.md) is written anew with these words in place of the old ones: each answer, number and text stays.
+the journal (docs/trust/FORMAT.md) is written again with these words in place of the old ones: each answer, number and text stays.
 
 What was written is opened by the program and compared with the worksheet as it was. Then it takes the place of the first file, in one step: all of it
 is in that one, whose selector says so, and the second file means nothing until it is written again. So a crash leaves the one or the other.

@@ -128,7 +128,7 @@ class Handler(http.server.BaseHTTPRequestHandler):
         return f"http://{self.server.host}"
 
     def name_asked(self) -> Optional[str]:
-        """What stands behind the page's path; None where the request isn't from a page of ours."""
+        """What stands after the page's path; None where the request isn't from a page of ours."""
         path = urllib.parse.unquote(urllib.parse.urlsplit(self.path).path)
         own = f"/{self.server.path}/"
         if not (self.is_for_us() and self.has_cookie() and self.is_from_our_page() and path.startswith(own)):

@@ -21,7 +21,7 @@ def why_not(session: Session) -> Optional[str]:
 
 
 def missing(session: Session) -> Optional[str]:
-    """The program for which a session can't be started, as far as was looked a moment ago: pages are told it often."""
+    """The program for which a session can't be started, as far as was looked a moment ago: pages get it often."""
     return _missed(session.words[:1], int(time.monotonic() / LOOKED_AGAIN_BEHIND))
 
 

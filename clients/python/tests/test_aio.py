@@ -136,7 +136,7 @@ class Calls(AsyncCase):
         cell = await sheet.new("a", "sleep 2")
         with self.assertRaises(TimedOut):
             await cell.evaluate(timeout=0.1)
-        await sheet.refresh()  # behind its reply the line is asked, however slow that was
+        await sheet.refresh()  # after its reply the line is asked, however slow that was
         waits = cell.evaluation
         assert waits
         task = asyncio.ensure_future(waits.result())
@@ -146,7 +146,7 @@ class Calls(AsyncCase):
         for one in (task, late):
             one.cancel()
             self.assertTrue(isinstance((await asyncio.gather(one, return_exceptions=True))[0], asyncio.CancelledError))
-        last = await sheet.new("a", "last")  # behind the other one, whose reply is still to come
+        last = await sheet.new("a", "last")  # after the other one, whose reply is still to come
         self.assertTrue(await holds)
         self.assertEqual(((await waits).text, last.id), ("slept", 3))
         self.assertEqual([cell.input for cell in sheet.cells], ["sleep 2", "late", "last"])

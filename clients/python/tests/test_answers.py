@@ -49,9 +49,9 @@ class Answers(Case):
     def test_errors(self) -> None:
         """Those that adapters write, which print shows bare, and those of the channel `error`."""
         sheet = self.sheet()
-        error, told, none = (sheet.new("a", text).evaluate() for text in ("error no way", "told no", "formula x"))
+        error, own, none = (sheet.new("a", text).evaluate() for text in ("error no way", "reported no", "formula x"))
         self.assertEqual((error.errors, error.text), (["no way"], "so\nno way"))
-        self.assertEqual((told.errors, told.text), (["no"], "{error#no}and more"))
+        self.assertEqual((own.errors, own.text), (["no"], "{error#no}and more"))
         self.assertEqual((none.errors, Block("output", "channel", ("x",)).errors), ([], []))
         deep = Block("verbatim", "format", (Block("output", "channel", (Block("output", "channel", ("a", Block("latex", "format", ("$b$",)))), "c")),))
         self.assertEqual([one.plain for one in deep.errors], ["a$b$"])
@@ -86,7 +86,7 @@ class Answers(Case):
     def test_whose_turn_it_is(self) -> None:
         sheet = self.sheet("a", "b")
         first, second, other = sheet.new("a", "sleep 60"), sheet.new("a", "count"), sheet.new("b", "sleep 60")
-        sheet.new("a", "hello").evaluate(timeout=SECONDS)  # behind it a signal ends no interpreter
+        sheet.new("a", "hello").evaluate(timeout=SECONDS)  # after it a signal ends no interpreter
         waits = [first.eval(), second.eval(), other.eval()]
         self.until(lambda: other.turn == "running")
         self.assertEqual([cell.turn for cell in sheet.cells], ["running", "queued", "running", None])
@@ -157,7 +157,7 @@ class Lines(Case):
         self.assertEqual(behind.evaluate().text, "x")
 
     def test_an_answer_and_an_end_in_one_piece(self) -> None:
-        """The line behind such an answer keeps no reason, which can't be known without a look."""
+        """The line after such an answer keeps no reason, which can't be known without a look."""
         sheet = self.sheet()
         cells = [sheet.new("a", text) for text in ("sleep 0.3", "both", "x", "y")]
         waits = [cell.eval() for cell in cells]
@@ -184,7 +184,7 @@ class Lines(Case):
             cell.evaluate(timeout=0.3)
         self.assertIsInstance(told.exception, TimedOut)
         self.assertTrue(0.3 <= time.monotonic() - begun < SECONDS / 2)
-        sheet.refresh()  # behind its reply the line is asked, however slow that was
+        sheet.refresh()  # after its reply the line is asked, however slow that was
         waits = cell.evaluation
         assert waits
         self.assertEqual((cell.state, waits.done()), ("waiting", False))

@@ -33,7 +33,7 @@ def lines(*words: str) -> List[bytes]:
 
 
 def bare(told: "Iterable[Union[Checked, Compared]]") -> "List[Union[Checked, Compared]]":
-    """What a check told, without what each field took, which differs in each run."""
+    """What a check reported, without what each field took, which differs in each run."""
     return [dataclasses.replace(one, took=None) if isinstance(one, Checked) else one for one in told]
 
 

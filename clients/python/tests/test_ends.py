@@ -179,7 +179,7 @@ class Ends(Case):
         self.assertEqual(os.getpgid(sheet.pid), sheet.pid)
 
     def test_a_process_that_does_not_close(self) -> None:
-        """The program ends with the process that started it, and keeps what was told."""
+        """The program ends with the process that started it, and keeps what was reported."""
         code = f"import sys; sys.path.insert(0, {os.path.dirname(os.path.dirname(__file__))!r})\nfrom tmhost import Worksheet\n"
         code += f"sheet = Worksheet({self.path!r}, create=True, program={PROGRAM!r})\nsheet.session('a', {WORDS!r})\n"
         code += "print(sheet.new('a', 'x').evaluate(60).text)\n"
@@ -216,7 +216,7 @@ class Programs(Case):
                     os.environ[name] = value
 
     def test_a_create_beside_another(self) -> None:
-        """Somebody else makes the worksheet just then: that is as good. But where there is none afterwards, it is told why."""
+        """Somebody else makes the worksheet just then: that is as good. But where there is none afterwards, the error says why."""
         refuses = """if [ "$1" = create ]; then %s echo 'fault 34 NotEmpty' >&2; exit 1; fi\n"""
         end = """read line; echo '{"lines":1,"type":"end"}'"""
         with self.assertRaises(Died) as told:
@@ -266,7 +266,7 @@ class Programs(Case):
             self.assertRaises(Died, sheet.checkpoint)
 
     def test_an_end_that_takes_its_time(self) -> None:
-        """A program that has told its end isn't killed."""
+        """A program that has reported its end isn't killed."""
         mark = os.path.join(self.folder, "mark")
         end = f"""read line; echo '{{"lines":1,"type":"end"}}'; exec >&-; sleep 0.3; echo >{mark}"""
         Worksheet(self.path, program=self.fake(self.HELLO + self.EMPTY + end)).close()

@@ -174,7 +174,7 @@ class Kills(Case):
             os.kill(int(file.read()), signal.SIGKILL)
 
     def compared(self, ledger: Ledger) -> Ledger:
-        """Opens the worksheet and looks for all that was told."""
+        """Opens the worksheet and looks for all that was reported."""
         with eventually(lambda: Worksheet(self.path, program=PROGRAM, timeout=SECONDS)) as sheet:
             fields = {field.id: field for field in sheet.fields}
         there = {id: state_of(field) for id, field in fields.items()}

@@ -1,4 +1,4 @@
-"""What an interpreter has written of a block that isn't closed, told by a program that knows that."""
+"""What an interpreter has written of a block that isn't closed, reported by a program that knows that."""
 
 import asyncio
 import os
@@ -42,7 +42,7 @@ class Partials(Case):
         self.words = [sys.executable, slow]
 
     def begun(self) -> bool:
-        """Whether all of it was told, however it was cut."""
+        """Whether all of it was reported, however it was cut."""
         return b"".join(event.data for event in self.told if isinstance(event, Partial)) == b"\x02verbatim:begun \xc3"
 
     def test_blocking(self) -> None:

@@ -48,7 +48,7 @@ class Talk:
 class Pages(unittest.TestCase):
     @unittest.skipUnless(os.path.isfile(PAGE), "the page isn't there")
     def test_the_talk_of_the_page(self) -> None:
-        """Each line of the talk is what its command sends, each object is taken, and the worksheet behind it is as the page says."""
+        """Each line of the talk is what its command sends, each object is taken, and the worksheet after it is as the page says."""
         with open(PAGE, encoding="utf-8") as file:
             talk = [line[:-1] for line in file if re.match("[<>] ", line)]
         output = Block("verbatim", "format", (Block("latex", "format", ("$x^2$",)), "\n"))
@@ -65,7 +65,7 @@ class Pages(unittest.TestCase):
             commands.Eval(1, again),
             commands.Stop("a"),
         ]
-        end = next(place for place, line in enumerate(talk) if '"type":"stopped"' in line) + 1  # behind it a look is sent
+        end = next(place for place, line in enumerate(talk) if '"type":"stopped"' in line) + 1  # after it a look is sent
         waits, events = self.held(Talk(), talk[:end], iter(made))
         self.assertEqual([type(one.exception(0)) for one in waits], [type(None)] * 4 + [Refused] + [type(None)] * 4)
         self.assertEqual(first.result(0), answer)
@@ -77,7 +77,7 @@ class Pages(unittest.TestCase):
         self.assertTrue(self.protocol.is_over)
 
     def held(self, talk: Talk, lines: List[str], made: Any) -> Any:
-        """The futures of the lines that were sent, and the events that were told."""
+        """The futures of the lines that were sent, and the events that were reported."""
         waits, events = [], []
         self.protocol = talk.protocol
         for line in lines:
@@ -202,7 +202,7 @@ class Objects(unittest.TestCase):
         return talk, evaluation
 
     def test_turns(self) -> None:
-        """A line runs from when it was sent: behind the banner of its interpreter, and behind the answers to those before it."""
+        """A line runs from when it was sent: after the banner of its interpreter, and after the answers to those before it."""
         talk, _ = self.asked()
         mirror, waits = talk.protocol.mirror, commands.Eval(2, concurrent.futures.Future())
         mirror.insert(Field(2, "a", "y"), 1)
@@ -265,7 +265,7 @@ class Objects(unittest.TestCase):
         self.assertRaises(ProtocolError, talk.told, {**told, "format": "html", "line": 4, "text": ""})
 
     def test_a_look_behind_a_loss(self) -> None:
-        """Whether a lost line keeps its reason isn't told, so its cell is looked at; who listens is told where it was another."""
+        """Whether a lost line keeps its reason isn't reported, so its cell is looked at; who listens hears where it was another."""
         talk, evaluation = self.asked()
         taken = talk.told({"life": 1, "lost": [{"id": 1, "text": "x"}], "reason": "BadTag", "session": "a", "type": "ended"})
         self.assertIsInstance(evaluation.exception(0), Lost)
@@ -275,7 +275,7 @@ class Objects(unittest.TestCase):
         self.assertEqual((talk.protocol.mirror.field(1).reason, talk.protocol.mirror.field(1).state), (None, "empty"))
 
     def test_inputs_of_several_lines(self) -> None:
-        """A field is told with line feeds; its input is what the worksheet has, which is what would be sent."""
+        """A field is reported with line feeds; its input is what the worksheet has, which is what would be sent."""
         talk, _ = self.asked()
         talk.send(commands.Look(1))
         talk.told({"field": {"id": 1, "input": "a\n\tb\n", "session": "a", "state": "empty"}, "line": 2, "type": "field"})

@@ -10,7 +10,7 @@ from tmhost import Answered, Ended, InUse, Made, NoWorksheet, OneField, Refusal,
 
 
 def kinds(told: Sequence[object]) -> List[str]:
-    """The types of what was told; of a line with its number."""
+    """The types of what was reported; of a line with its number."""
     return [f"{one.line} {one.type}" if isinstance(one, Reply) else type(one).__name__ for one in told]
 
 

@@ -47,7 +47,7 @@ class Threads(Case):
         self.assert_exact(sheet)
 
     def test_all_at_the_end(self) -> None:
-        """Each cell is put behind the one that is last when it comes, also where that goes or moves meanwhile."""
+        """Each cell is put after the one that is last when it comes, also where that goes or moves meanwhile."""
         sheet = self.sheet()
 
         def work(thread: int) -> List[int]:
@@ -77,7 +77,7 @@ class Threads(Case):
         self.assertEqual(done, {cell.input for cell in cells})
 
     def test_random_calls(self) -> None:
-        """Behind any calls of any threads the worksheet shows what the program has."""
+        """After any calls of any threads the worksheet shows what the program has."""
         for seed in range(3):
             with self.subTest(seed=seed):
                 self.path = f"{self.folder}/{seed}"
@@ -185,7 +185,7 @@ class Listening(Case):
         self.assertEqual(self.all_of(sheet, self.listened(sheet)), [Finished(None)])
 
     def test_a_callback_of_an_evaluation(self) -> None:
-        """It runs on the thread that reads, so it can't wait for a reply: it is told so, and nothing stands still."""
+        """It runs on the thread that reads, so it can't wait for a reply: an error says so, and nothing stands still."""
         sheet = self.sheet("a", "b")
         told: List[BaseException] = []
         line, never = sheet.new("a", "sleep 60"), sheet.new("b", "sleep 60")

@@ -149,7 +149,7 @@ class Calls(TogetherCase):
         self.assert_exact(sheet)
 
     def test_a_timeout(self) -> None:
-        """What waits behind a `wait` may be done yet."""
+        """What waits after a `wait` may be done yet."""
         sheet = self.three()
         sheet.cell(1).set("sleep 1")
         sheet.cell(1).eval()
@@ -214,7 +214,7 @@ class Async(TogetherCase, AsyncCase):
 @needs_program
 class Kills(TogetherCase):
     def cut(self, lines: int, *changes: Change) -> Tuple[List[Field], List[Field]]:
-        """The fields in front of a kill behind so many lines of the transaction, and behind it. It has no reply."""
+        """The fields in front of a kill after so many lines of the transaction, and after it. It has no reply."""
         sheet = eventually(lambda: Worksheet(self.path, program=[sys.executable, os.path.join(HERE, "cutter.py"), str(lines), PROGRAM], timeout=SECONDS))
         held = self.shown(sheet)
         with self.assertRaises(Died) as told:
@@ -259,7 +259,7 @@ class Kills(TogetherCase):
         print(f"\nseed {seed}: {KILLS} kills, {done} transactions")
 
     def until_killed(self, sheet: Worksheet, chance: random.Random) -> int:
-        """Has each cell changed by each transaction until a kill; gives the number of the last one that was told. Some transactions are refused."""
+        """Has each cell changed by each transaction until a kill; gives the number of the last one that was reported. Some transactions are refused."""
         with sheet:
             at = int(inputs(sheet)[0])
             try:
@@ -282,7 +282,7 @@ class Kills(TogetherCase):
 
 
 class Told(unittest.TestCase):
-    """What is told of a transaction, without a program."""
+    """What is reported of a transaction, without a program."""
 
     def begun(self, *changes: Change) -> Tuple[Talk, Any]:
         talk = Talk()
@@ -304,7 +304,7 @@ class Told(unittest.TestCase):
         self.assertIsNone(behind.result(0))
 
     def test_all_that_wait_are_told(self) -> None:
-        """The line behind a transaction that is undone has its own reply."""
+        """The line after a transaction that is undone has its own reply."""
         for told in ({"line": 3, "name": "NoField", "number": 2, "type": "refused"}, {"line": 3, "type": "bad"}):
             talk, waits = self.begun(Set(1, "y"), Set(2, "y"), Set(3, "y"))
             behind = talk.send(Checkpoint())

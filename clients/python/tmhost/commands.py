@@ -69,7 +69,7 @@ def expect_done(reply: Reply) -> None:
 
 @dataclasses.dataclass
 class Command(Generic[R]):
-    """`word` is the first word of its line; `about` is what those who listen are told: its cell, its session, and behind which cell it put
+    """`word` is the first word of its line; `about` is what those who listen get: its cell, its session, and after which cell it put
     its own."""
 
     word = ""
@@ -303,7 +303,7 @@ class Checkpoint(Command[None]):
 
 @dataclasses.dataclass
 class Print(Command[None]):
-    """Its cells are shown as they come; the sheet behind them is the reply."""
+    """Its cells are shown as they come; the sheet after them is the reply."""
 
     word = "print"
 

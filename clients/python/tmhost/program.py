@@ -18,7 +18,7 @@ NOT_EMPTY, IN_USE = 34, 35
 LONGEST_SAYING = 65_536  # bytes of standard error that are kept
 PARTIAL = "--partial"
 HELP = ("help", "live")
-GRACE = 10.0  # seconds that it has for its end behind that of its output
+GRACE = 10.0  # seconds that it has for its end after that of its output
 
 Program = Union[None, str, Sequence[str]]
 
@@ -132,7 +132,7 @@ class Child:
             raise
 
     def kill(self) -> None:
-        """Ends the program with its interpreters; what it told is on the disk. As long as nobody has asked for its status, its number is
+        """Ends the program with its interpreters; what it reported is on the disk. As long as nobody has asked for its status, its number is
         that of the group, also where it has ended."""
         with self._asking, contextlib.suppress(ProcessLookupError):
             if self.process.returncode is None:

@@ -1,4 +1,4 @@
-"""The protocol of docs/use/JSON.md without input or output: lines come in, and what is to be told and sent goes out."""
+"""The protocol of docs/use/JSON.md without input or output: lines come in, and what is to be reported and sent goes out."""
 
 import collections
 import copy
@@ -20,7 +20,7 @@ VERSION = 2  # of the protocol
 
 @dataclasses.dataclass
 class Taken:
-    """What comes of something that was told: events in their order, calls that wake those who wait, lines that are to be sent."""
+    """What comes of something that was reported: events in their order, calls that wake those who wait, lines that are to be sent."""
 
     events: List[Event] = dataclasses.field(default_factory=list)
     settled: List[Callable[[], None]] = dataclasses.field(default_factory=list)
@@ -74,7 +74,7 @@ class Lines:
 
 
 class Protocol:
-    """One talk with the program. `mirror` is exact behind each `take`, `error` says why nothing goes any more."""
+    """One talk with the program. `mirror` is exact after each `take`, `error` says why nothing goes any more."""
 
     def __init__(self, opened: "Settles[Hello]") -> None:
         self.mirror = Mirror()
@@ -87,7 +87,7 @@ class Protocol:
 
     @property
     def is_over(self) -> bool:
-        """The program has told how it ends."""
+        """The program has reported how it ends."""
         return self._has_end or self._fault is not None
 
     def send(self, command: Command[R], waiter: "Settles[R]") -> bytes:
@@ -126,7 +126,7 @@ class Protocol:
     def _replied(self, reply: Reply, taken: Taken) -> None:
         place = reply.line - self._told - 1
         if not self._awaited or not 0 <= place < self._awaited[0][0].length:
-            out_of_step(f"of line {reply.line} behind line {self._told}")
+            out_of_step(f"of line {reply.line} after line {self._told}")
         command, waiter = self._awaited[0]
         if isinstance(command, Together):
             if command.takes(place, reply):
@@ -146,7 +146,7 @@ class Protocol:
         self._drop_first()
 
     def _drop_first(self) -> None:
-        """All is told of what was sent first."""
+        """All is reported of what was sent first."""
         self._told += self._awaited.popleft()[0].length
 
     def _end_transaction(self, transaction: Together, reply: Reply, taken: Taken) -> None:

@@ -41,7 +41,7 @@ class End:
 
 @dataclasses.dataclass(frozen=True)
 class Reply:
-    """What is told of a line. `more` says that more will be told of it. Types that have no members of their own are this one."""
+    """What is reported of a line. `more` says that more will be reported of it. Types that have no members of their own are this one."""
 
     line: int
     type: str
@@ -66,7 +66,7 @@ class Refusal(Reply):
 
 @dataclasses.dataclass(frozen=True)
 class NothingDone(Reply):
-    """Of a transaction, whose line `begin` has the number `first`: it is told of its line `end`."""
+    """Of a transaction, whose line `begin` has the number `first`: it is reported of its line `end`."""
 
     first: int
 
@@ -243,7 +243,7 @@ def outcome(told: Members) -> str:
     return told.one_of("outcome", "sent", "idle", "failed")
 
 
-# What is told of a line, by its type: each gets the members of Reply, and reads those of its own.
+# What is reported of a line, by its type: each gets the members of Reply, and reads those of its own.
 REPLIES: Dict[str, Callable[[Tuple[int, str, bool], Members], Reply]] = {
     "made": lambda front, told: Made(*front, told.number("id")),
     "asked": lambda front, told: Asked(*front, told.number("life")),
@@ -265,7 +265,7 @@ def next_prompt(told: Members) -> Optional[Text]:
     return told.or_none("next", text) if "next" in told.data else None
 
 
-# What is told without a line, by its type: of an interpreter, with its session and its life in front, or of the program.
+# What is reported without a line, by its type: of an interpreter, with its session and its life in front, or of the program.
 EVENTS: Dict[str, Callable[[str, int, Members], Event]] = {
     "banner": lambda name, life, told: Banner(name, life, block(told.get("output")), told.text("shown"), next_prompt(told)),
     "answered": lambda name, life, told: Answered(name, life, told.number("id"), answer(told), next_prompt(told)),

@@ -11,7 +11,7 @@ from .reading import End, Fault, Hello
 
 PIECE = 65_536
 
-Told = TypeVar("Told")
+Read = TypeVar("Read")
 
 
 def lines_of(child: Child) -> Iterator[bytes]:
@@ -35,7 +35,7 @@ def died(child: Child, fault: Optional[Fault]) -> Died:
     return death(fault or fault_in(said), said, status, missing(child.path))
 
 
-def told_by(child: Child, read: "Callable[[bytes], Union[Told, Hello, Fault, End, None]]") -> Iterator[Told]:
+def told_by(child: Child, read: "Callable[[bytes], Union[Read, Hello, Fault, End, None]]") -> Iterator[Read]:
     """What the lines tell by this reader, but for the first and the last of them. It raises where the last is missing, or is a fault."""
     for line in lines_of(child):
         told = read(line)

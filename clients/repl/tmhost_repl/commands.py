@@ -113,7 +113,7 @@ class Commands:
         return [cell.id for cell in cells if sessions[cell.field.session].words != PROSE]
 
     def _evaluate(self, ids: List[int]) -> None:
-        """One after another: an interpreter that ends takes the answer of one field alone, and those behind it keep theirs, since they
+        """One after another: an interpreter that ends takes the answer of one field alone, and those after it keep theirs, since they
         would be evaluated without the variables of the ones before."""
         for place, id in enumerate(ids):
             cell = self.worksheet.cell(id)

@@ -102,7 +102,7 @@ class Typed:
 
 class Terminal(Console):
     """Where a line was typed at the prompt that its answer tells, it stays as it is. Else that prompt takes the place of the other one: the line is
-    written anew, where it is sure which rows of the screen it has."""
+    written again, where it is sure which rows of the screen it has."""
 
     is_terminal = True
 
@@ -125,7 +125,7 @@ class Terminal(Console):
         return text
 
     def prompt(self, name: str, told: Optional[Text]) -> str:
-        """The prompt that an interpreter has told, where it has one that is plainly seen on a part of a row; else the name of its session."""
+        """The prompt that an interpreter has reported, where it has one that is plainly seen on a part of a row; else the name of its session."""
         text = harmless(told) if told else ""
         return text if text.strip() and 0 < (columns(text) or 0) <= min(WIDEST, self._size().columns // 2) else f"{name}> "
 

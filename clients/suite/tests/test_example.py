@@ -11,7 +11,7 @@ from .support import LIMIT, PROGRAM, ROOT, Case
 
 
 def command_in(name: str, key: str) -> str:
-    """The last command behind this key of a nightly file."""
+    """The last command after this key of a nightly file."""
     with open(os.path.join(ROOT, "examples/suite", name), encoding="utf-8") as file:
         return [line.partition(key)[2].strip() for line in file if line.lstrip().startswith(key)][-1]
 

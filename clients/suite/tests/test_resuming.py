@@ -72,7 +72,7 @@ class Resuming(Case):
         os.unlink(self.place("a.log"))
         self.assertEqual(self.verdicts(self.path, "--resume"), ["ok"] * 3)
         self.assertEqual(self.log("a"), [])
-        self.assertIn("goes on behind 3 of 3 cases", self.outcome.output)
+        self.assertIn("goes on after 3 of 3 cases", self.outcome.output)
 
     def test_an_interrupt_ends_it_and_it_goes_on(self) -> None:
         self.write(case("say 1", "1"), case("sleep 20"), case("sleep 20", info="b"))
@@ -92,7 +92,7 @@ class Resuming(Case):
         left = subprocess.run(["pgrep", "-f", self.place("a.log")], capture_output=True, text=True).stdout
         self.assertEqual(left, "")
         ran = self.run_suite(self.path, "--resume", "--only", "say 1")
-        self.assertIn("goes on behind 1 of 3 cases", ran.output)
+        self.assertIn("goes on after 1 of 3 cases", ran.output)
 
     def test_a_long_answer_before_the_time_is_over(self) -> None:
         said = "\U0001f600" * 600
@@ -100,7 +100,7 @@ class Resuming(Case):
         self.write(case("say 1", "1"), case(f"say {said}\nstuck", f"{said}\n? over 2 s", "a {timeout 2}"))
         self.assertEqual(self.verdicts(self.path), ["ok"] * 2)
         self.assertEqual(self.verdicts(self.path, "--resume"), ["ok"] * 2)
-        self.assertIn("goes on behind 2 of 2 cases", self.outcome.output)
+        self.assertIn("goes on after 2 of 2 cases", self.outcome.output)
 
     def test_other_code_is_refused(self) -> None:
         self.write(case("say 1", "1"))

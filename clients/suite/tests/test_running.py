@@ -248,7 +248,7 @@ class Reports(Case):
         self.assertEqual(points[2:], [f"not ok 3 - {self.path}:27 say 5 # TODO n#t", f"ok 4 - {self.path}:37 x # SKIP"])
 
     def test_errors_are_told(self) -> None:
-        """An answer that its interpreter reports as an error is told as one, wanted or not, also by a run that goes on."""
+        """An answer that its interpreter reports as an error is reported as one, wanted or not, also by a run that goes on."""
         self.write(case("error a\\n|no", "a\nno"), case("error |way", "none"), case("say none", "way"), case("error |new"))
         found = self.objects(self.path)
         self.assertEqual([(one["verdict"], one["isError"]) for one in found], [("ok", True), ("differs", True), ("differs", False), ("new", True)])

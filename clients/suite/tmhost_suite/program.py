@@ -26,10 +26,10 @@ from .telling import Teller, standard
 from .readers import as_text, read_other
 from .text import Text, names_sessions
 
-ABOUT = "Runs test suites that are texts: evaluates the code in their fences, and compares what comes with the answers behind them."
+ABOUT = "Runs test suites that are texts: evaluates the code in their fences, and compares what comes with the answers after them."
 NOTES = """
 The front matter of SUITE names the sessions, as `sessions: {py: [tmhost-python]}`, and may have `normal`, `tolerance` and
-`timeout`. A fence of a session is a case, and a fence `answer` behind it what is wanted. Behind the session may stand {setup},
+`timeout`. A fence of a session is a case, and a fence `answer` after it what is wanted. After the session may stand {setup},
 {teardown}, {xfail REASON}, {may_fail REASON}, {skip REASON}, {timeout SECONDS}, {tags A B}, {flaky N}, {whole} and others
 (clients/suite/README.md).
 What came is kept in the worksheet SUITE.run while the suite runs, so --resume goes on where a run was cut off.
@@ -189,7 +189,7 @@ class Runner:
 
     @contextlib.contextmanager
     def _told_of(self, path: str) -> Iterator[None]:
-        """What goes wrong with a suite is told at the end, and the others are run."""
+        """What goes wrong with a suite is reported at the end, and the others are run."""
         try:
             yield
         except (Trouble, TmhostError, OSError) as trouble:
@@ -208,7 +208,7 @@ class Runner:
         found = worksheets.resume(path, suite) if self.given.resume else None
         if found is not None:
             done = sum(not suite.cases[at].is_own for at in found.results)
-            self.teller.say(f"{suite.path}: goes on behind {done} of {suite.count} cases")
+            self.teller.say(f"{suite.path}: goes on after {done} of {suite.count} cases")
         kept = found or worksheets.begin(path, suite)
         with kept.sheet:
             self.sheets.append(kept.sheet)
@@ -255,7 +255,7 @@ class Runner:
         self.teller.out.flush()
         return sys.stdin.readline().strip().lower() in ("y", "yes")
 
-    # ---- what is told
+    # ---- what is reported
 
     def _tell(self, told: List[Told], taken: float) -> None:
         for one in told:

@@ -82,7 +82,7 @@ class Told:
 
     @functools.cached_property
     def diff(self) -> List[str]:
-        """From what was wanted to what came, and behind that the same of errors that are apart."""
+        """From what was wanted to what came, and after that the same of errors that are apart."""
         if not self.is_wrong or self.verdict == "xpass":
             return []
         found = self._diff_of(self.case.wanted, self.got, "")

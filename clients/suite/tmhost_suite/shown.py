@@ -54,7 +54,7 @@ def has_more_than_text(block: Block) -> bool:
 
 
 def shown_of(answer: Answer, rules: Rules) -> Shown:
-    """Without line ends behind it."""
+    """Without line ends after it."""
     errors = answer.output.errors if rules.apart else []
     if not errors and not has_more_than_text(answer.output):
         return Shown(str(answer).rstrip("\n"))

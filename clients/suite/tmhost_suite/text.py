@@ -1,4 +1,4 @@
-"""The text form of a suite: CommonMark, whose fences of sessions are cases, each with a fence `answer` behind it for what is wanted, and one
+"""The text form of a suite: CommonMark, whose fences of sessions are cases, each with a fence `answer` after it for what is wanted, and one
 `error` where errors are compared apart."""
 import dataclasses
 import difflib
@@ -165,7 +165,7 @@ class Text:
             at += 1
             name = session_in(block.info_text)
             if name in (ANSWER, ERROR) and name not in self.sessions:
-                raise Trouble(f"line {block.begin + 1}: an {name} stands behind no case")
+                raise Trouble(f"line {block.begin + 1}: an {name} stands after no case")
             if name is None or name not in self.sessions:
                 named = next((one for one, words in self.sessions.items() if name and os.path.basename(words[0]) == f"tmhost-{name}"), None)
                 if named:

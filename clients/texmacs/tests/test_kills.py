@@ -16,7 +16,7 @@ KILLS = int(os.environ.get("TMHOST_KILLS", "4"))
 
 
 class Kills(Case):
-    """A document that goes on, through kills. It has, of each field that it was told of, the input, and the answer where one was shown."""
+    """A document that goes on, through kills. It has, of each field that it has heard of, the input, and the answer where one was shown."""
 
     def setUp(self) -> None:
         super().setUp()

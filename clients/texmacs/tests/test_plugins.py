@@ -59,7 +59,7 @@ class Plugins(unittest.TestCase):
             file.write(PLUGIN.replace("PICTURE", self.picture))
 
     def answers(self, *lines: str) -> List[str]:
-        """What the blocks for the lines show, behind the greeting."""
+        """What the blocks for the lines show, after the greeting."""
         words = [sys.executable, "-B", os.path.join(ADAPTERS, "texmacs"), "octave", sys.executable, self.plugin]
         with subprocess.Popen(words, stdin=subprocess.PIPE, stdout=subprocess.PIPE, env={**os.environ, "HOME": self.folder}) as adapter:
             assert adapter.stdin and adapter.stdout

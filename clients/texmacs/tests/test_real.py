@@ -86,12 +86,12 @@ class Systems(Real):
         lines = [line for line, _ in LINES[name] if line]  # TeXmacs sends no empty one
         for line in lines:
             self.says(texmacs, session, line)
-        texmacs.does('(define tmhost-told "")')
+        texmacs.does('(define tmhost-completed "")')
         text, has = COMPLETED[name]
         quoted = f'(complete \\"{text}\\" {len(text)})'
-        texmacs.does(f'(begin (plugin-command "tmhost" "{session}" "{quoted}" (lambda (x) (set! tmhost-told x)) (list)) "asked")')
+        texmacs.does(f'(begin (plugin-command "tmhost" "{session}" "{quoted}" (lambda (x) (set! tmhost-completed x)) (list)) "asked")')
         texmacs.waits(session)
-        self.assertIn(has.strip(), texmacs.does("tmhost-told"))
+        self.assertIn(has.strip(), texmacs.does("tmhost-completed"))
         texmacs.types(BUSY[name])
         time.sleep(3)
         texmacs.does('(begin (plugin-interrupt) "interrupted")')

@@ -18,7 +18,7 @@ from .test_real import Real
 KILLS = int(os.environ.get("TMHOST_KILLS", "4"))
 BUSY = "import time; time.sleep(100)"
 REMARKS = re.compile(r"^(?:\[[^\]]*\] )+")
-TRIES = 5  # of a line behind a kill: one that is on its way then is lost, too
+TRIES = 5  # of a line after a kill: one that is on its way then is lost, too
 
 
 def environment_of(process: int) -> List[str]:

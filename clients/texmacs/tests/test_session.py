@@ -208,7 +208,7 @@ class Documents(Case):
         self.assertIn("[not in the worksheet any more: #7]", told.text)
         self.assertIn("#3 say three", told.text)
         self.assertTrue(told.text.endswith("four"))
-        self.assertNotIn("#4", told.text)  # the line itself isn't told as missing
+        self.assertNotIn("#4", told.text)  # the line itself isn't reported as missing
         self.assertEqual(self.kept()["4"], ("say four", "four"))  # the remarks are no part of the answer
 
     def test_what_a_document_lacks_is_put_in(self) -> None:

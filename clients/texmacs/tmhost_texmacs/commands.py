@@ -70,7 +70,7 @@ class Commands:
         self._tell("\n".join(compared(self.talk.fields, asked.shown or [])) or "this document shows what the worksheet has")
 
     def _restore(self, asked: Asked, words: List[str]) -> None:
-        """Orders TeXmacs to put each field that the document lacks behind the one before it; it asks for their answers then."""
+        """Orders TeXmacs to put each field that the document lacks after the one before it; it asks for their answers then."""
         there = {one.id for one in asked.shown or ()}
         lacking: List[str] = []  # of each field the number, the input, and the number of the one before it
         before = ""

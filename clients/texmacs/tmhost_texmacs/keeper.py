@@ -1,7 +1,7 @@
 """The program that keeps a worksheet open for all its sessions in TeXmacs, which each have a process of their own.
 
 It ends with the last of them, and so do the interpreters. A connection begins with a line of JSON, who it is; then come the lines of TeXmacs, and an
-interrupt as a line that is the byte 3. Back go blocks, behind a line of JSON that says whether it was joined.
+interrupt as a line that is the byte 3. Back go blocks, after a line of JSON that says whether it was joined.
 """
 
 import itertools

@@ -86,7 +86,7 @@ def greeted(path: str, hello: bytes) -> Tuple[Optional[socket.socket], Optional[
 
 
 def line_of(connection: socket.socket) -> bytes:
-    """The first line, and nothing behind it."""
+    """The first line, and nothing after it."""
     line = b""
     while not line.endswith(b"\n"):
         byte = connection.recv(1)

@@ -2,7 +2,7 @@
 
 A line is an input, or begins with the byte 16 and is a list of Scheme:
 
-    (evaluate INPUT ID BEFORE BEHIND DOCUMENT SHOWN ..)   ID is the field that the document has for the input, BEFORE and BEHIND those beside it;
+    (evaluate INPUT ID BEFORE AFTER DOCUMENT SHOWN ..)   ID is the field that the document has for the input, BEFORE and AFTER those beside it;
                                                           a SHOWN is (ID MARK INPUT), and is there where the document is to be compared
     (kept ID ..)                                          the answers that the worksheet has, of fields that are put into the document
     (complete INPUT CURSOR)                               TeXmacs' own
@@ -148,7 +148,7 @@ class Talk:
         return next((Cell(self.sheet, field.id) for field in self.fields if str(field.id) == id), None)
 
     def _place(self, asked: Asked) -> Optional[int]:
-        """The field behind which a new one is to stand, 0 for the first place, None for the last."""
+        """The field after which a new one is to stand, 0 for the first place, None for the last."""
         order = [field.id for field in self.sheet.fields]
         names = {str(id): at for at, id in enumerate(order)}
         if asked.before in names:

@@ -119,7 +119,7 @@ function firstOf(nodes, name) {
 }
 
 /**
- * The formula that KaTeX told, as the page gets it. Throws `Refused` where it has what is not allowed.
+ * The formula that KaTeX reported, as the page gets it. Throws `Refused` where it has what is not allowed.
  * @type {(markup: string, tex: string, display: boolean) => string}
  */
 function mathOf(markup, tex, display) {

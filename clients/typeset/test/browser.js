@@ -7,7 +7,7 @@ const os = require("node:os");
 const path = require("node:path");
 const { pathToFileURL } = require("node:url");
 
-/** @typedef {Record<string, any>} Told what Chromium's protocol tells */
+/** @typedef {Record<string, any>} Reported what Chromium's protocol tells */
 
 const CHROMIUM = "/usr/bin/chromium";
 const WORDS = [
@@ -23,7 +23,7 @@ class Browser {
     });
     const [, , , toBrowser, fromBrowser] = /** @type {any[]} */ (this.process.stdio);
     this.toBrowser = toBrowser;
-    /** @type {Map<number, {resolve: (told: Told) => void, reject: (error: Error) => void}>} */
+    /** @type {Map<number, {resolve: (reported: Reported) => void, reject: (error: Error) => void}>} */
     this.asked = new Map();
     /** @type {{resolve: () => void}[]} */
     this.loading = [];
@@ -41,7 +41,7 @@ class Browser {
     for (const line of lines) this.take(JSON.parse(line));
   }
 
-  /** @param {Told} told */
+  /** @param {Reported} reported */
   take(told) {
     const waiting = this.asked.get(told.id);
     if (waiting && told.error) waiting.reject(new Error(told.error.message));
@@ -51,19 +51,19 @@ class Browser {
     if (told.method === "Page.loadEventFired") this.loading.splice(0).forEach(({ resolve }) => resolve());
   }
 
-  /** @type {(method: string, params?: Told) => Promise<Told>} */
+  /** @type {(method: string, params?: Reported) => Promise<Reported>} */
   ask(method, params = {}) {
     this.count += 1;
     const id = this.count;
     const told = new Promise((resolve, reject) => this.asked.set(id, { resolve, reject }));
     this.toBrowser.write(`${JSON.stringify({ id, method, params, sessionId: this.session })}\0`);
-    return /** @type {Promise<Told>} */ (told);
+    return /** @type {Promise<Reported>} */ (told);
   }
 
   /** Begins to look at the one tab. */
   async start() {
     const { targetInfos } = await this.ask("Target.getTargets");
-    const tab = targetInfos.find((/** @type {Told} */ one) => one.type === "page");
+    const tab = targetInfos.find((/** @type {Reported} */ one) => one.type === "page");
     this.session = (await this.ask("Target.attachToTarget", { targetId: tab.targetId, flatten: true })).sessionId;
     for (const domain of ["Page", "Network", "Runtime"]) await this.ask(`${domain}.enable`);
   }

@@ -37,7 +37,7 @@ for (const [index, { name, tex, shows, slow }] of HOSTILE.entries()) {
       assert.equal(trees.length, 1);
       assert.equal(textOf(trees[0]), shows);
     }
-    assert.equal(readContent(contents[2 * index + 1]).map(textOf).join(""), "12", "the one behind it");
+    assert.equal(readContent(contents[2 * index + 1]).map(textOf).join(""), "12", "the one after it");
   });
 }
 

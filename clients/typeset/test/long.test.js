@@ -15,7 +15,7 @@ const LONG = sum(600, power);
 const WORD = "\\displaystyle ";
 
 /**
- * The pieces without what was put before and behind them.
+ * The pieces without what was put before and after them.
  * @type {(pieces: string[]) => string}
  */
 const joined = (pieces) => pieces.map((piece) => piece.slice(piece.startsWith(WORD) ? WORD.length : 0).replace(/\{\}$/, "")).join("");
@@ -30,7 +30,7 @@ const SUMS = [
   ["in fences", sum(300, (at) => `\\left(${at} + \\left[x - 1\\right]\\right)`), 300],
   ["with a sign of a number", sum(400, (at) => `a \\cdot -${at} = -b, -c`), 400],
   ["with a script that is a sign", sum(900, () => "x^+ y_- z"), 900],
-  ["behind a word for all", `\\displaystyle ${LONG}`, 600],
+  ["after a word for all", `\\displaystyle ${LONG}`, 600],
   ["of a table", sum(200, (at) => `\\begin{pmatrix}${at} + 1 & -1\\end{pmatrix}`), 200],
   ["brackets that are no fences", sum(400, (at) => `(${at} + 1)x^{${at}}`), 400],
 ];

@@ -135,8 +135,8 @@ test("prose that means harm: nothing but the list comes out, and no page grows w
 function fake(name, body) {
   const file = path.join(folder, `${name}.js`);
   const ruler = "{ ruler: { before() {} } }";
-  fs.writeFileSync(file, `const told = (text) => { ${body} };
-process.on("message", ({ text }) => process.send({ trees: told(text) }));
+  fs.writeFileSync(file, `const reported = (text) => { ${body} };
+process.on("message", ({ text }) => process.send({ trees: reported(text) }));
 process.on = () => process;
 module.exports = () => ({ inline: ${ruler}, block: ${ruler} });\n`);
   return file;

@@ -5,8 +5,8 @@ lines that it has got, so that an answer tells what was evaluated before it.
     bytes HEX     these bytes
     latex TEXT    a block `latex`
     both TEXT|LATEX|TEXT ..    texts, and blocks `latex` between them
-    picture TEXT|FORMAT|DATA    a text, and a picture behind it
-    error TEXT|TEXT   a text, and an error behind it
+    picture TEXT|FORMAT|DATA    a text, and a picture after it
+    error TEXT|TEXT   a text, and an error after it
     file PATH     what stands in a file
     quiet         nothing
     sleep SECONDS
@@ -29,7 +29,7 @@ def escaped(text: bytes) -> bytes:
 
 
 def value(lines: List[str]) -> str:
-    """What a line is answered that comes behind the others."""
+    """What a line is answered that comes after the others."""
     return f"{len(lines)} {hashlib.sha256(repr(lines).encode()).hexdigest()[:12]}"
 
 

@@ -79,7 +79,7 @@ class Weave:
         self.fields: Dict[int, Field] = {}
         self.pictures = Pictures(self.target or self.path)
         for line in self.document.strays:
-            self.say(f"line {line}: an answer that is behind no fence of a session stays as text")
+            self.say(f"line {line}: an answer that is after no fence of a session stays as text")
         for line, why in self.document.unevaluated:
             self.say(f"line {line}: {why}")
         if not self.document.fences:
@@ -128,7 +128,7 @@ class Weave:
         if stale:
             self.say(f"{name}: {len(plan.of(name)) - stale} fields kept, {stale} stale, {evaluator.replayed.get(name, 0)} replayed")
         if others:
-            self.say(f"{name}: {others} kept answers aren't those of the replay; to have all anew, remove {self.sheet_path} and its .alt")
+            self.say(f"{name}: {others} kept answers aren't those of the replay; to have all again, remove {self.sheet_path} and its .alt")
 
     def as_it_is(self) -> Plan:
         """Takes what the worksheet has, without a change of it."""
@@ -143,7 +143,7 @@ class Weave:
     # ---- the text
 
     def shown(self, plan: Plan) -> List[Shown]:
-        """What is to stand behind each fence. Behind the first field without an answer nothing more is said of a fence."""
+        """What is to stand after each fence. After the first field without an answer nothing more is said of a fence."""
         pieces: Dict[int, List[Piece]] = {fence.begin: [] for fence in self.document.fences}
         failed = set()
         for wanted in plan.wanted:
@@ -219,7 +219,7 @@ class Weave:
         for name in plan.words:
             stale = plan.stale(name)
             kept = 0 if not stale or stale[0].fence.is_pure else len(plan.of(name)) - len(stale)
-            behind = f", behind {kept} that would be replayed" if kept else ""
+            behind = f", after {kept} that would be replayed" if kept else ""
             if stale:
                 print(f"{self.name}: {name}: {len(stale)} fields would be evaluated, from line {stale[0].line} on{behind}")
         if plan.is_stale:
