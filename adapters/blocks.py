@@ -130,8 +130,8 @@ def completions(root: str, names: Iterable[str]) -> bytes:
     """The block that says which of the names begin with the root, each without it; the first ones where there are many. What has other
     letters than names have is left out, since it could mean something in the block."""
     found = sorted(name[len(root):] for name in set(names) if name.startswith(root) and re.fullmatch(r"[\w.]+", name))[:MOST_COMPLETIONS]
-    told = " ".join(f'"{text}"' for text in [root, *found])
-    return block(b"scheme:", f"(tuple {told})".encode()) if found else NO_COMPLETIONS
+    reported = " ".join(f'"{text}"' for text in [root, *found])
+    return block(b"scheme:", f"(tuple {reported})".encode()) if found else NO_COMPLETIONS
 
 
 def write(data: bytes, descriptor: int = 1) -> None:
@@ -165,9 +165,9 @@ def lines(signals: Signals) -> Iterator[bytes]:
     waiting.register(0, select.POLLIN)
     waiting.register(signals.descriptor, select.POLLIN)
     while True:
-        line, end, behind = rest.partition(b"\n")
+        line, end, after = rest.partition(b"\n")
         if end:
-            rest = behind
+            rest = after
             yield line if line.startswith(REQUEST) else line.replace(LINE_SEPARATOR, b"\n")
         elif any(descriptor == 0 for descriptor, _ in waiting.poll()):
             piece = os.read(0, PIECE)
@@ -186,10 +186,10 @@ def serve(banner: bytes, answer: Answering, signals: Signals, complete: Answerin
     in front of the cursor of a request."""
     write(banner)
     for line in lines(signals):
-        told = complete(front_of(line)) if line.startswith(REQUEST) else answer(line)
-        if told is None:
+        reported = complete(front_of(line)) if line.startswith(REQUEST) else answer(line)
+        if reported is None:
             break
-        write(told)
+        write(reported)
 
 
 def new_name() -> bytes:

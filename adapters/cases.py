@@ -281,9 +281,9 @@ TEN_LINES = {
 }
 
 
-def ten_lines(name: str, call: str = "k(10)", said: str = "", told: str = "-5") -> List[Case]:
+def ten_lines(name: str, call: str = "k(10)", said: str = "", reported: str = "-5") -> List[Case]:
     """The function as one field, and its value."""
-    return [(TEN_LINES[name].replace("\n", "\u2028"), said), (call, told)]
+    return [(TEN_LINES[name].replace("\n", "\u2028"), said), (call, reported)]
 
 
 # From the first line to the second one of a pair nothing, or more than its own, is shown of a line.
@@ -388,9 +388,9 @@ TRIALS = {
     "prompted_python": by_prompted("python", "python3", "quit()", "while True: pass", PROMPTED_PYTHON + ten_lines("python")),
     "sh": by_prompted("sh", "bash", "exit", "while :; do :; done", SH + ten_lines("sh", "k 10")),
     "bc": by_prompted("bc", "bc", "quit", "while (1) a = a + 1", BC + ten_lines("bc")),
-    "octave": by_prompted("octave", "octave-cli", "quit", "while true, end", OCTAVE + ten_lines("octave", told="ans = -5")),
+    "octave": by_prompted("octave", "octave-cli", "quit", "while true, end", OCTAVE + ten_lines("octave", reported="ans = -5")),
     "octave_latex": by_prompted("octave --latex", "octave-cli", "quit", "while true, end", OCTAVE_LATEX),
-    "R": by_prompted("R", "R", "q()", "while (TRUE) 0", R + ten_lines("R", told="[1] -5")),
+    "R": by_prompted("R", "R", "q()", "while (TRUE) 0", R + ten_lines("R", reported="[1] -5")),
     "gap": by_prompted("gap", "gap", "quit;", "while true do od;", GAP + ten_lines("gap", said="function( n ) ... end")),
     "maxima": by_prompted("maxima", "maxima", "quit();", "while true do 0;", MAXIMA + ten_lines("maxima")),
     "maxima_latex": by_prompted("maxima --latex", "maxima", "quit();", "while true do 0;", MAXIMA_LATEX),

@@ -17,9 +17,9 @@ class Lines(NamedTuple):
     odd: List[str]
 
 
-def called(text: str, call: str, said: str = "", told: str = "-5") -> List[Line]:
+def called(text: str, call: str, said: str = "", reported: str = "-5") -> List[Line]:
     """A function of several lines as one field, and its value at 10."""
-    return [(text.replace("\n", "\u2028"), said), (call, told)]
+    return [(text.replace("\n", "\u2028"), said), (call, reported)]
 
 
 NODE: List[Line] = [

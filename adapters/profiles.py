@@ -263,9 +263,9 @@ class Profile:
     def refuses(self, line: bytes) -> bool:
         return bool(re.search(self.input, line))
 
-    def told(self, text: bytes) -> List[Part]:
+    def reported(self, text: bytes) -> List[Part]:
         """A text, and the errors in it."""
-        return errors.told(text, self.errors)
+        return errors.reported(text, self.errors)
 
 
 PROFILES = {

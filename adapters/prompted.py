@@ -190,7 +190,7 @@ class Interpreter(blocks.Child):
         texts = said.split(self.mark)
         if len(texts) % 2 == 0:
             texts[-2:] = [b"".join(texts[-2:])]
-        return [part for at, text in enumerate(texts) for part in ([formula(text)] if at % 2 else self.profile.told(text))]
+        return [part for at, text in enumerate(texts) for part in ([formula(text)] if at % 2 else self.profile.reported(text))]
 
     def answer(self, line: bytes) -> Optional[Parts]:
         """The parts of the answer to a line; None where it has ended."""

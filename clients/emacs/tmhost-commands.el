@@ -11,7 +11,7 @@
 (require 'tmhost-text)
 (require 'tmhost-view)
 (require 'tmhost-sheet)
-(require 'tmhost-told)
+(require 'tmhost-reported)
 
 (defvar tmhost-patience)
 (defvar tmhost-completion-patience)
@@ -68,7 +68,7 @@
    (format "stop %s" name)
    (lambda (reply)
      (if (equal (alist-get 'type reply) "stopped")
-         (tmhost-told-ended (tmhost-sheet-session name) "Stopped"
+         (tmhost-reported-ended (tmhost-sheet-session name) "Stopped"
                              (alist-get 'lost reply))
        (message "Stop: %s" (tmhost-sheet-refusal reply))))))
 
@@ -254,24 +254,24 @@ It is asked about the text as it stands here, which isn't saved by that."
          (text-to (lambda (end)
                     (tmhost-text-input
                      (buffer-substring-no-properties begin end))))
-         (is-over nil) (told nil))
+         (is-over nil) (reported nil))
     (tmhost-sheet-complete field
                            (funcall text-to (tmhost-view-input-end field))
                            (tmhost-text-bytes (funcall text-to (point)))
                            (lambda (object)
-                             (setq told object is-over t)))
+                             (setq reported object is-over t)))
     (tmhost-talk-wait (lambda () is-over) tmhost-completion-patience)
-    told))
+    reported))
 
-(defun tmhost--completions (field told)
+(defun tmhost--completions (field reported)
   "What completion takes of what was REPORTED of FIELD, or nil."
-  (let* ((root (and told (tmhost-text-of (alist-get 'root told))))
+  (let* ((root (and reported (tmhost-text-of (alist-get 'root reported))))
          (begin (and root (- (point) (length root)))))
-    (when (and told (>= begin (tmhost-view-head-end field))
+    (when (and reported (>= begin (tmhost-view-head-end field))
                (equal root (buffer-substring-no-properties begin (point))))
       (let ((words (mapcar (lambda (rest)
                              (concat root (tmhost-text-of rest)))
-                           (alist-get 'rest told))))
+                           (alist-get 'rest reported))))
         (list begin (point)
               (cl-remove-if-not
                (lambda (word) (equal word (tmhost-text-harmless word)))

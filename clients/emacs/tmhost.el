@@ -18,7 +18,7 @@
 (require 'tmhost-text)
 (require 'tmhost-view)
 (require 'tmhost-sheet)
-(require 'tmhost-told)
+(require 'tmhost-reported)
 
 (defcustom tmhost-save-delay 1.0
   "Seconds of rest after which changed inputs are saved; nil for never."
@@ -77,7 +77,7 @@ be changed, and may have several lines.
 
 \\{tmhost-mode-map}"
   (setq-local tmhost-view-fields (make-hash-table)
-              tmhost-talk-handler #'tmhost-told-take
+              tmhost-talk-handler #'tmhost-reported-take
               tmhost-talk-ended #'tmhost--ended
               header-line-format '(:eval (tmhost--header))
               bidi-paragraph-direction 'left-to-right
@@ -168,7 +168,7 @@ Interpreters run in its folder."
     (let* ((field (tmhost-view-field-at (point)))
            (id (and field (tmhost-field-id field)))
            (offset (and field (- (point) (tmhost-field-place field)))))
-      (tmhost-told-show sheet (tmhost-sheet-drafts))
+      (tmhost-reported-show sheet (tmhost-sheet-drafts))
       (setq tmhost--is-shown t
             field (tmhost-view-field id))
       (goto-char (if field
@@ -191,7 +191,7 @@ Interpreters run in its folder."
 (defun tmhost--ended (how)
   "The program has ended; HOW is a string."
   (setq tmhost--end how)
-  (tmhost-told-cut-off)
+  (tmhost-reported-cut-off)
   (force-mode-line-update)
   (message "tmhost has ended: %s.  What was saved or answered is kept" how))
 

@@ -128,7 +128,7 @@ class Cells(Case):
         self.assertIn("len(v0 + v8)\n1800\n", shown)
         self.assertTrue(shown.endswith("math.floor(2.5)\n2\n"), shown[-300:])
 
-    def test_what_is_told_of_magics(self) -> None:
+    def test_what_is_reported_of_magics(self) -> None:
         cells = [code("%matplotlib inline"), code("%matplotlib inline\nx"), code("!ls"), code("%%bash\nls")]
         done = self.do("--script", data=notebook(*cells))
         self.assertIn("left out: lines %matplotlib: 2; lines !ls: 1\n", done.errors)

@@ -39,8 +39,8 @@ class Making(Case):
 
     def states(self) -> dict[str, tuple[int, int, int]]:
         """What the system tells of each name in the folder, which changes with what it names."""
-        told = {name: os.lstat(self.place(name)) for name in os.listdir(self.folder)}
-        return {name: (state.st_ino, state.st_mtime_ns, state.st_ctime_ns) for name, state in told.items()}
+        reported = {name: os.lstat(self.place(name)) for name in os.listdir(self.folder)}
+        return {name: (state.st_ino, state.st_mtime_ns, state.st_ctime_ns) for name, state in reported.items()}
 
     def not_made(self, said: str, **environment: str) -> None:
         """Nothing is made of a good notebook, and nothing is left of it."""

@@ -8,7 +8,7 @@ from tmhost_fences.troubles import Trouble
 
 from . import markdown, notebook, org, texmacs
 from .cells import Document
-from .fields import Sheet, told
+from .fields import Sheet, reported
 from .making import make, refuse_taken
 from .sessions import LANGUAGES, given_session
 
@@ -119,7 +119,7 @@ def tell(document: Document, sheet: Sheet) -> None:
     more = [f"{len(kinds) - MOST_KINDS} kinds more"] if len(kinds) > MOST_KINDS else []
     if kinds:
         say("left out: " + "; ".join(kinds[:MOST_KINDS] + more))
-    say(*document.notes, *sheet.sessions.renamed(), *told(sheet.long))
+    say(*document.notes, *sheet.sessions.renamed(), *reported(sheet.long))
     if sheet.cuts:
         say(f"texts that are several fields of prose, cut at empty lines: {sheet.cuts}")
     if count := sheet.count_of_many_lines():

@@ -13,7 +13,7 @@ from .prose import WORDS, parts_of, size_of
 from .sessions import COMMAND, Sessions, language_of
 
 MOST_FIELDS = 10_000
-MOST_TOLD = 10  # troubles, and cells that were too long
+MOST_REPORTED = 10  # troubles, and cells that were too long
 PYTHON = "python"
 
 
@@ -47,9 +47,9 @@ def misfit(lines: list[str]) -> str | None:
     return None
 
 
-def told(lines: list[str]) -> list[str]:
-    more = len(lines) - MOST_TOLD
-    return [*lines[:MOST_TOLD], *([f"and {more} more like these"] if more > 0 else [])]
+def reported(lines: list[str]) -> list[str]:
+    more = len(lines) - MOST_REPORTED
+    return [*lines[:MOST_REPORTED], *([f"and {more} more like these"] if more > 0 else [])]
 
 
 class Sheet:
@@ -67,7 +67,7 @@ class Sheet:
         for cell in document.cells:
             self.add(cell)
         if self.troubles:
-            raise Trouble(*told(self.troubles))
+            raise Trouble(*reported(self.troubles))
 
     def add(self, cell: Cell) -> None:
         """Adds the fields of a cell, or says why there is none."""

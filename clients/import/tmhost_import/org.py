@@ -66,12 +66,12 @@ class Reader:
     def read(self) -> Document:
         at = 0
         while at < len(self.lines):
-            at = self.behind(at)
+            at = self.after(at)
         if self.elsewhere:
             self.document.notes.append(f"header arguments beside those of #+begin_src are not read: {self.elsewhere} lines have some")
         return self.document
 
-    def behind(self, at: int) -> int:
+    def after(self, at: int) -> int:
         """Takes what begins in this line, and gives the place after it."""
         line = self.lines[at]
         if found := BEGIN.fullmatch(line):
@@ -79,7 +79,7 @@ class Reader:
             self.add_block(at, end, found[1], found[2] or "")
             return end + 1
         if found := VERBATIM.fullmatch(line):
-            return self.behind_verbatim(at, found[1].lower())
+            return self.after_verbatim(at, found[1].lower())
         self.elsewhere += bool(ELSEWHERE.fullmatch(line))
         return at + 1
 
@@ -93,7 +93,7 @@ class Reader:
                 raise Trouble(f"line {begin + 1}: the block that begins here has no end{reason}")
         raise Trouble(f"line {begin + 1}: the block that begins here has no end")
 
-    def behind_verbatim(self, begin: int, kind: str) -> int:
+    def after_verbatim(self, begin: int, kind: str) -> int:
         """The place after the verbatim block that begins here, or after its first line where it has no end."""
         at = max(begin + 1, self.endless.get(kind, 0))
         while at < len(self.lines) and not HEADLINE.fullmatch(self.lines[at]) and begin >= self.endless.get(kind, 0):

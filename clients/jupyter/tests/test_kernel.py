@@ -60,8 +60,8 @@ class Answers(Case):
         with Front(self.folder) as front:
             for code, at in (("one\nhe + 1", 6), ("he", 2)):
                 asked = front.client.complete(code, at)
-                told = front.reply(asked)
-                self.assertEqual((told["matches"], told["cursor_start"], told["cursor_end"]), (["hello", "heap"], at - 2, at))
+                reported = front.reply(asked)
+                self.assertEqual((reported["matches"], reported["cursor_start"], reported["cursor_end"]), (["hello", "heap"], at - 2, at))
             front.execute("first")
         self.assertEqual([field.input for field in fields_of(self.place("kernel.tmhost"))], ["first"])  # and none for the request
 

@@ -72,11 +72,11 @@ class Cells:
             if named:
                 return named
         at = next((at for at, field in enumerate(mine, 1) if field.id == self.last), 0)
-        before, behind = mine[:at], mine[at:]
+        before, after = mine[:at], mine[at:]
         if is_in_order and not name:
-            return behind[0] if behind else None
+            return after[0] if after else None
         taken = set(self.names.fields.values())
-        free = [field for field in [*behind, *reversed(before)] if field.id not in taken]
+        free = [field for field in [*after, *reversed(before)] if field.id not in taken]
         spare = [field for field in free[:1] if field is mine[-1] and self.is_unused(field)]
         return next((field for field in free if field.input == input), spare[0] if spare else None)
 

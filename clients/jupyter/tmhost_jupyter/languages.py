@@ -58,7 +58,7 @@ def language_of(words: Sequence[str]) -> str:
     return names[0] if names else ""
 
 
-def told_of(name: str) -> Dict[str, Any]:
+def reported_of(name: str) -> Dict[str, Any]:
     """What a front end gets to know of a language."""
     known = LANGUAGES.get(name, Language(name, ()))
     colours = {"codemirror_mode": known.code, "pygments_lexer": known.code} if known.code else {}

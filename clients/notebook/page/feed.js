@@ -9,7 +9,7 @@
  * @property {() => void} end the worksheet was closed, and isn't looked for any more
  */
 
-const AGAIN_BEHIND = 1_000; // milliseconds; a browser gives up by itself where a server refuses once
+const AGAIN_AFTER = 1_000; // milliseconds; a browser gives up by itself where a server refuses once
 
 /**
  * Listens, as long as the page is seen: a browser has six connections to a server, and each page that listens has one. A page that is seen
@@ -32,7 +32,7 @@ export function listen(hearer) {
       source?.close();
       hearer.connect(false);
       clearTimeout(again);
-      again = setTimeout(open, AGAIN_BEHIND);
+      again = setTimeout(open, AGAIN_AFTER);
     });
     source.addEventListener("over", () => {
       source?.close();

@@ -195,10 +195,10 @@ export class Keys {
   /** @type {(view: CellView, isBack: boolean) => boolean} */
   tab(view, isBack) {
     const { selectionStart: at, selectionEnd, value } = view.text;
-    const isBehindWord = /\S/.test(value[at - 1] ?? "");
+    const isAfterWord = /\S/.test(value[at - 1] ?? "");
     if (isBack && at === selectionEnd && !view.isProse && wordAt(value, at)) this.help.open(view);
     else if (isBack || at !== selectionEnd) indent(view, isBack);
-    else if (isBehindWord && view.page.sessions.get(view.cell.session)?.tab) this.completions.open(view);
+    else if (isAfterWord && view.page.sessions.get(view.cell.session)?.tab) this.completions.open(view);
     else insert(view, INDENT);
     return true;
   }

@@ -44,9 +44,9 @@ const earlier = new Earlier(takeBack, () => document.title);
 const before = new Before(takeBack, (at) => earlier.open(at));
 let isForCell = false; // whether a session is made for a new cell
 const askSession = sessionDialog(async (name, words, tab) => {
-  const told = await actions.ask("session", { name, words, tab });
-  if (!told.refused) bars.offerSession(name);
-  if (!told.refused && isForCell) await actions.make(cells.order.at(-1) ?? 0, name, true);
+  const reported = await actions.ask("session", { name, words, tab });
+  if (!reported.refused) bars.offerSession(name);
+  if (!reported.refused && isForCell) await actions.make(cells.order.at(-1) ?? 0, name, true);
 }, (name) => page.sessions.has(name));
 const askWords = wordsDialog((session, words) => actions.ask("words", { session, words }));
 new Keys(cells, actions, { several, completions, help, find, folds, earlier, before }, showKeys);

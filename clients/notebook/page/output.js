@@ -225,12 +225,12 @@ export class OutputView {
   /** Fetches a further piece of a long answer. */
   async showMore() {
     const { shown } = this;
-    const told = await this.piece(this.end);
-    if (told.refused || shown !== this.shown || told.text === undefined) return;
-    this.body.append(visible(told.text));
-    this.end += [...told.text].length;
+    const reported = await this.piece(this.end);
+    if (reported.refused || shown !== this.shown || reported.text === undefined) return;
+    this.body.append(visible(reported.text));
+    this.end += [...reported.text].length;
     this.more?.remove();
-    if (told.text && this.end < (told.length ?? 0)) this.offerMore();
+    if (reported.text && this.end < (reported.length ?? 0)) this.offerMore();
   }
 
   get hasFormulas() {

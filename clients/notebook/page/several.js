@@ -32,9 +32,9 @@ export class Several {
     const { actions, cells } = this;
     return actions.held.during(async () => {
       for (const view of views) if (!(await actions.isSaved(view))) return false;
-      const told = await actions.ask("step", { what, new: [], set: [], move: [], remove: [], ...change() });
-      if (told.refused) return false;
-      await this.follow(told);
+      const reported = await actions.ask("step", { what, new: [], set: [], move: [], remove: [], ...change() });
+      if (reported.refused) return false;
+      await this.follow(reported);
       return cells.selected !== undefined;
     });
   }
@@ -203,10 +203,10 @@ export class Several {
   /** @param {boolean} isBack */
   go(isBack) {
     return this.actions.held.during(async () => {
-      const told = await this.actions.ask("undo", { isBack });
-      if (told.refused) return false;
-      await this.follow(told);
-      this.actions.note(told.says ?? "");
+      const reported = await this.actions.ask("undo", { isBack });
+      if (reported.refused) return false;
+      await this.follow(reported);
+      this.actions.note(reported.says ?? "");
       return this.cells.selected !== undefined;
     });
   }

@@ -115,7 +115,7 @@ class Again(PageCase):
         self.tab.until(states, ["empty", "answered", "answered"])
         self.assertEqual([self.tab.value(OUTPUT % id) for id in (2, 3)], ["2", "3"])
 
-    def test_a_reload_behind_it(self) -> None:
+    def test_a_reload_after_it(self) -> None:
         """The page's own address stays right, too."""
         self.begin()
         self.kill()
@@ -236,9 +236,9 @@ class Kept(Case):
         """Also one who knows the token and the cookie, as from a page that looked for its server where theirs listened."""
         server = self.serve()
         page = Page(server)
-        for user, told in ((os.geteuid(), [200, 200]), (NOBODY, [403, 403])):
+        for user, reported in ((os.geteuid(), [200, 200]), (NOBODY, [403, 403])):
             words = [sys.executable, "-c", ASKS, str(user), server.host, server.address.partition("token=")[2], page.path, page.cookie]
-            self.assertEqual(json.loads(subprocess.run(words, stdout=subprocess.PIPE, check=True).stdout), told)
+            self.assertEqual(json.loads(subprocess.run(words, stdout=subprocess.PIPE, check=True).stdout), reported)
 
 
 class Users(unittest.TestCase):

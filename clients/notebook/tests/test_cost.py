@@ -74,17 +74,17 @@ class Changes(Costs):
         self.addCleanup(connection.close)
         connection.request("GET", page.path + "events", headers={"Cookie": page.cookie})
         reply = connection.getresponse()
-        is_told = threading.Event()
+        is_reported = threading.Event()
 
         def read() -> None:
             try:
                 while reply.readline():
-                    is_told.set()
+                    is_reported.set()
             except (OSError, ValueError, AttributeError):
                 pass
 
         threading.Thread(target=read, daemon=True).start()
-        self.assertTrue(is_told.wait(240))
+        self.assertTrue(is_reported.wait(240))
 
     def spent(self, count: int) -> Dict[str, float]:
         """Milliseconds that changes of each kind take, at the first cell, in the middle and at the end."""
@@ -97,8 +97,8 @@ class Changes(Costs):
 
         def edit(number: int) -> None:
             id = places[number % 3]
-            told = page.call("set", id=id, text=f"say {number}", base=texts[id])
-            self.assertNotIn("refused", told)
+            reported = page.call("set", id=id, text=f"say {number}", base=texts[id])
+            self.assertNotIn("refused", reported)
             texts[id] = f"say {number}"
 
         def evaluate(number: int) -> None:

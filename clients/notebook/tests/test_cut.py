@@ -80,7 +80,7 @@ class Server(Case):
         cells = page.cells()
         return [cells[id]["input"] for id in page.snapshot()["order"]]
 
-    def test_cuts_one_behind_the_other(self) -> None:
+    def test_cuts_one_after_the_other(self) -> None:
         """All of them are there after a kill, the last one at the end, with their answers; what was pasted, and what is blank, isn't."""
         page = self.begin("say 1", "say 2", "", "say 3", "say 4")
         page.call("eval_from", id=None)
@@ -154,7 +154,7 @@ class Keys(SharedCase):
             self.tab.key(key, *(["Shift"] if key.isupper() else []))
             self.tab.until(IS_IDLE, "false")
 
-    def test_a_paste_behind_a_cut(self) -> None:
+    def test_a_paste_after_a_cut(self) -> None:
         """The page doesn't know yet that the cell is gone: the paste is for the cell that is selected then, and both are done again."""
         self.begin_page("a", "b", "c")
         self.press("x", "v")
@@ -186,7 +186,7 @@ class Keys(SharedCase):
         self.press("v")
         self.tab.until(TEXTS, ["sleep 60", "a", "c"])
 
-    def test_the_list_behind_a_restart(self) -> None:
+    def test_the_list_after_a_restart(self) -> None:
         """It is looked for when the list is opened."""
         self.begin_page("a", "b", "c")
         self.press("x", "x")

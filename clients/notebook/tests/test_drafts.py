@@ -310,7 +310,7 @@ class DraftsOnTheDisk(unittest.TestCase):
                             pass
                     self.assertIn(self.opened().of, [{1: old}, {1: new}])
 
-    def test_synced_before_it_is_told(self) -> None:
+    def test_synced_before_it_is_reported(self) -> None:
         """The bytes before the file gets its name, and its folder after that."""
         steps: List[str] = []
         sync, replace = os.fsync, os.replace

@@ -32,9 +32,9 @@ def facts(*items: Any) -> Dict[str, Any]:
 class Parts(unittest.TestCase):
     def test_parts(self) -> None:
         error = channel("output", channel("output", "no", Block("latex", "format", ("$x$",))))
-        told = facts("so\n", error, "and", channel("error", "b"), channel("output", "c"))
-        self.assertEqual(told["parts"], [{"text": "so\n"}, {"error": "no"}, {"tex": "$x$"}, {"text": "and"}, {"error": "b"}, {"text": "c"}])
-        self.assertEqual(told["isError"], True)
+        reported = facts("so\n", error, "and", channel("error", "b"), channel("output", "c"))
+        self.assertEqual(reported["parts"], [{"text": "so\n"}, {"error": "no"}, {"tex": "$x$"}, {"text": "and"}, {"error": "b"}, {"text": "c"}])
+        self.assertEqual(reported["isError"], True)
         self.assertEqual((facts("so", channel("output", "b"))["isError"], facts("x" * 30_000, error)["isError"]), (False, True))
 
 

@@ -101,9 +101,9 @@ class Hostile(Case):
         self.page.call("session", name="evil", words=SPOKEN, tab=False)
 
     def add(self, line: str, session: str = "evil", after: int = 0) -> int:
-        told = self.page.call("new", session=session, text=line, after=after)
-        self.assertIn("id", told, (line[:50], told))
-        id: int = told["id"]
+        reported = self.page.call("new", session=session, text=line, after=after)
+        self.assertIn("id", reported, (line[:50], reported))
+        id: int = reported["id"]
         return id
 
     def short_and_long(self) -> Tuple[List[str], List[bytes]]:

@@ -161,8 +161,8 @@ class Steps(test_kills.Kills):
                 journal += file.read()
         self.assertEqual([text for text in self.texts if text.encode() not in journal], [])
         for name in self.made:
-            told = subprocess.run([PROGRAM or "", "show", os.path.join(self.folder, name)], stdin=subprocess.DEVNULL, capture_output=True)
-            self.assertEqual(told.returncode, 0, (name, told.stderr))
+            reported = subprocess.run([PROGRAM or "", "show", os.path.join(self.folder, name)], stdin=subprocess.DEVNULL, capture_output=True)
+            self.assertEqual(reported.returncode, 0, (name, reported.stderr))
 
     def test_kills(self) -> None:
         seed = int(os.environ.get("TMHOST_SEED", str(random.randrange(10**6))))

@@ -53,7 +53,7 @@ new Promise((done) => {
 """
 
 
-def told(name: str, times: List[float], limit: Optional[float]) -> str:
+def reported(name: str, times: List[float], limit: Optional[float]) -> str:
     middle = sorted(times)[len(times) // 2]
     wanted = [] if limit is None else [f"{limit:.0f} wanted"]
     beside = wanted + [f"{max(times):.0f} at most"] * (len(times) > 1)
@@ -86,13 +86,13 @@ class Large(Case):
 
     def answers(self, tab: chromium.Tab) -> Tuple[List[float], List[float]]:
         """How long they come after the disk, and after the key."""
-        behind_disk, behind_key = [], []
+        after_disk, after_key = [], []
         for number in range(TIMES):
             id = 101 + 40 * number
             moment, took = tab.value(ANSWER % (id, f"new {number}", f"new {number}"))
-            behind_disk.append(moment - self.stamp_of(id))
-            behind_key.append(took)
-        return behind_disk, behind_key
+            after_disk.append(moment - self.stamp_of(id))
+            after_key.append(took)
+        return after_disk, after_key
 
     def move(self, tab: chromium.Tab) -> None:
         tab.until("document.querySelector('#cell-500 .text-state').textContent", "saved")
@@ -115,17 +115,17 @@ class Large(Case):
         tab.until("document.activeElement.closest('.cell')?.id", "cell-500")
         keys = tab.value(KEYS)
         self.move(tab)
-        behind_disk, behind_key = self.answers(tab)
+        after_disk, after_key = self.answers(tab)
         self.assertEqual(self.show().count("\n#"), CELLS - 1)
         self.assertEqual(browser.trouble, [])
         server.stop()
         self.tell([("it opens in", [opens], OPENS_WITHIN), ("a key is seen in", keys, KEY_WITHIN),
-                   ("an answer is seen, after being on the disk, in", behind_disk, ANSWER_WITHIN),
-                   ("an answer is seen, after its key, in", behind_key, None)])
+                   ("an answer is seen, after being on the disk, in", after_disk, ANSWER_WITHIN),
+                   ("an answer is seen, after its key, in", after_key, None)])
         self.tell_beside(browser)
 
     def tell(self, measured: List[Tuple[str, List[float], Optional[float]]]) -> None:
-        print(f" {CELLS} cells: {'; '.join(told(*one) for one in measured)}.", end=" ")
+        print(f" {CELLS} cells: {'; '.join(reported(*one) for one in measured)}.", end=" ")
         for name, times, limit in measured if ARE_HELD else []:
             self.assertLess(sorted(times)[len(times) // 2], limit or math.inf, name)
 
@@ -135,7 +135,7 @@ class Large(Case):
         if beside is None:
             print("Jupyter isn't installed (Debian's package jupyter-notebook), so it wasn't measured", end=" ")
         elif beside:
-            print(f"Jupyter Notebook: {'; '.join(told(*one, None) for one in beside)}", end=" ")
+            print(f"Jupyter Notebook: {'; '.join(reported(*one, None) for one in beside)}", end=" ")
 
 
 if __name__ == "__main__":

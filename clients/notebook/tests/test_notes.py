@@ -245,8 +245,8 @@ class Shown(unittest.TestCase):
         def facts(*lengths: int, text: str = "so") -> Tuple[List[Any], bool, int]:
             items = [Block("latex", "format", (formula(length),)) for length in lengths]
             block = Block("verbatim", "format", (text, *items))
-            told = shown.facts_of(Answer("> ", block, shown.text_of(block, {})))
-            return [*(len(part["tex"]) if "tex" in part else "text" for part in told["parts"])], told["isCut"], told["unset"]
+            reported = shown.facts_of(Answer("> ", block, shown.text_of(block, {})))
+            return [*(len(part["tex"]) if "tex" in part else "text" for part in reported["parts"])], reported["isCut"], reported["unset"]
 
         most, one = shown.LONGEST_FORMULAS, shown.LONG_FORMULA
         self.assertEqual(facts(3), (["text", 3], False, 0))
@@ -258,8 +258,8 @@ class Shown(unittest.TestCase):
         self.assertEqual(facts(most, text="x" * (shown.LONGEST + 1)), (["text"], True, 0))
         self.assertEqual(facts(*[one] * 5), (["text", one, one, one, "text"], True, one))
         tex = formula(one + 1)
-        told = shown.facts_of(Answer("> ", Block("latex", "format", (tex,)), "{latex:" + tex + "}"))
-        self.assertEqual((told["text"], told["length"]), ("{latex:" + tex + "}", one + 9))
+        reported = shown.facts_of(Answer("> ", Block("latex", "format", (tex,)), "{latex:" + tex + "}"))
+        self.assertEqual((reported["text"], reported["length"]), ("{latex:" + tex + "}", one + 9))
 
 
 class Prose(unittest.TestCase):

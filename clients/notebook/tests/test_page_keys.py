@@ -222,11 +222,11 @@ class KeysOfThePage(PageCase):
         text = f"document.querySelector('#cell-{id} textarea').value"
         tab.click(f"#cell-{id} .number")
         tab.key("Enter")
-        for typed, told, wanted in ((one, text, f"{line}\n{whole}"), (several, SHOWN, shown)):
+        for typed, reported, wanted in ((one, text, f"{line}\n{whole}"), (several, SHOWN, shown)):
             tab.key("Enter")
             tab.type(typed)
             tab.key("Tab")
-            tab.until(told, wanted)
+            tab.until(reported, wanted)
         self.assertEqual(tab.value("document.querySelector('#completions').getAttribute('role')"), "listbox")
         tab.key("ArrowDown")
         tab.key("Enter")

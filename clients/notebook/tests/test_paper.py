@@ -120,10 +120,10 @@ class Paper(PageCase):
         tab.value("Promise.all([...document.images].map((one) => one.decode()))")
         for paper, (width, height) in PAPERS.items():
             with self.subTest(paper=paper):
-                told = tab.ask("Page.printToPDF", {"printBackground": True, "paperWidth": width, "paperHeight": height})
+                reported = tab.ask("Page.printToPDF", {"printBackground": True, "paperWidth": width, "paperHeight": height})
                 path = os.path.join(PICTURES or self.folder, f"{paper}.pdf")
                 with open(path, "wb") as file:
-                    file.write(base64.b64decode(told["data"]))
+                    file.write(base64.b64decode(reported["data"]))
                 self.look(path, wanted)
                 self.assertEqual(tab.value(LEFT_OVER), 0)
 

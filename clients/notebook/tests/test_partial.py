@@ -103,10 +103,10 @@ class Telling(Case):
 
     def tell(self, data: bytes, session: str = "s", life: int = 1) -> None:
         try:
-            told: Any = data.decode()
+            reported: Any = data.decode()
         except UnicodeDecodeError:
-            told = {"base64": base64.b64encode(data).decode()}
-        line = json.dumps({"bytes": told, "life": life, "session": session, "type": "partial"}).encode() + b"\n"
+            reported = {"base64": base64.b64encode(data).decode()}
+        line = json.dumps({"bytes": reported, "life": life, "session": session, "type": "partial"}).encode() + b"\n"
         while line:
             line = line[os.write(self.pipe, line) :]
 
@@ -130,7 +130,7 @@ class Telling(Case):
 
 
 @needs_program
-class Told(Telling):
+class Reported(Telling):
     def messages(self) -> Iterator[Dict[str, Any]]:
         connection = http.client.HTTPConnection(self.page.host, timeout=60)
         self.addCleanup(connection.close)
@@ -140,7 +140,7 @@ class Told(Telling):
             if line.startswith(b"data: "):
                 yield json.loads(line[len(b"data: ") :])
 
-    def test_pages_are_told_now_and_then(self) -> None:
+    def test_pages_are_reported_now_and_then(self) -> None:
         self.begin_telling()
         id = self.run_cell("sleep 60")
         messages = self.messages()
@@ -151,8 +151,8 @@ class Told(Telling):
         writer.start()
         found: List[Dict[str, Any]] = []
         while not found or not found[-1]["text"].endswith("line 3999\n"):
-            told = next(messages).get("partial", {})
-            found += [told[str(id)]] if str(id) in told else []
+            reported = next(messages).get("partial", {})
+            found += [reported[str(id)]] if str(id) in reported else []
         writer.join()
         self.assertLessEqual(len(found), (time.monotonic() - begin) / 0.2 + 2)
         self.assertEqual((len(found[-1]["text"]), found[-1]["isCut"]), (LONGEST, True))
@@ -293,8 +293,8 @@ class ByAnAdapter(Case):
         id = page.call("new", session="p", text=text, after=0)["id"]
         page.call("eval", id=id)
         end = time.monotonic() + 60
-        while not (told := page.snapshot().get("partial", {}).get(str(id), {}).get("text", "")).startswith("0\n1\n2\n"):
-            self.assertLess(time.monotonic(), end, told)
+        while not (reported := page.snapshot().get("partial", {}).get(str(id), {}).get("text", "")).startswith("0\n1\n2\n"):
+            self.assertLess(time.monotonic(), end, reported)
             time.sleep(0.1)
         page.call("interrupt", session="p")
         page.until_idle()

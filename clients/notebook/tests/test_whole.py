@@ -98,9 +98,9 @@ class Acts(SharedCase):
 
     def cells(self) -> List[str]:
         """The texts of the cells, and which of them are prose."""
-        told = self.page.snapshot()
-        by_id = {cell["id"]: PROSE * (cell["session"] != "s") + cell["input"] for cell in told.get("cells", [])}
-        return [by_id[id] for id in told["order"]]
+        reported = self.page.snapshot()
+        by_id = {cell["id"]: PROSE * (cell["session"] != "s") + cell["input"] for cell in reported.get("cells", [])}
+        return [by_id[id] for id in reported["order"]]
 
     def test_kills_in_front_of_the_end(self) -> None:
         """Nothing of it is in the file."""
@@ -117,7 +117,7 @@ class Acts(SharedCase):
                 self.assertEqual(self.opened_again(tab), cells)
                 self.end_page(tab)
 
-    def test_kills_behind_the_end(self) -> None:
+    def test_kills_after_the_end(self) -> None:
         """All of it is in the file, or nothing."""
         done = 0
         for name, (before, act, wanted) in ACTS.items():

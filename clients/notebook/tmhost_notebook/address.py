@@ -103,12 +103,12 @@ def user_of(ours: Tuple[str, int], theirs: Tuple[str, int]) -> Optional[int]:
         with socket.socket(socket.AF_NETLINK, socket.SOCK_DGRAM, SOCK_DIAG) as kernel:
             kernel.settimeout(1)
             kernel.send(struct.pack("=IHHII", HEAD + len(asked), BY_FAMILY, IS_REQUEST, 1, 0) + asked)
-            told = kernel.recv(LONGEST)
+            reported = kernel.recv(LONGEST)
     except (OSError, AttributeError):
         return None
-    if len(told) < USER_AT + 4 or struct.unpack_from("=H", told, 4)[0] != BY_FAMILY or told[HEAD + 1] != ESTABLISHED:
+    if len(reported) < USER_AT + 4 or struct.unpack_from("=H", reported, 4)[0] != BY_FAMILY or reported[HEAD + 1] != ESTABLISHED:
         return None
-    user: int = struct.unpack_from("=I", told, USER_AT)[0]
+    user: int = struct.unpack_from("=I", reported, USER_AT)[0]
     return user
 
 

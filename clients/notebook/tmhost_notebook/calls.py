@@ -186,8 +186,8 @@ def evaluate_each(book: Book, fields: Sequence[Field], missing: Dict[str, str], 
     named = {field.session for field in fields} - book.prose
     missing = {**{name: why for name, why in ((name, book.why_not(name)) for name in named) if why}, **missing}
     count = book.evaluate_each((field for field in fields if field.session in named and field.session not in missing), stops)
-    told = "; ".join(missing[name] for name in sorted(missing))
-    return {"count": count, **({"warning": f"{told}. Nothing was asked there, and no answer is lost"} if missing else {})}
+    reported = "; ".join(missing[name] for name in sorted(missing))
+    return {"count": count, **({"warning": f"{reported}. Nothing was asked there, and no answer is lost"} if missing else {})}
 
 
 def call_eval_from(book: Book, asked: Facts) -> Facts:

@@ -57,11 +57,11 @@ class Dashes:
     def begin(self, element: int, name: str, attributes: Dict[str, str]) -> bool:
         """Takes an element; false where it isn't known what it means."""
         self.opened.append(self.opened[-1])
-        is_told = all([self.attribute(element, *one) for one in attributes.items()])
+        is_reported = all([self.attribute(element, *one) for one in attributes.items()])
         self.periods[element] = self.opened[-1]
         if name == "use":
             self.everywhere = min(self.everywhere, self.opened[-1])
-        return is_told
+        return is_reported
 
     def end(self) -> None:
         self.opened.pop()

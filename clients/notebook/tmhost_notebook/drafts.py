@@ -68,10 +68,10 @@ class Drafts:
         if self.trouble:
             raise NotKept(self.trouble)
         place, *others = self.places
-        told = {"drafts": {str(id): dataclasses.asdict(draft) for id, draft in of.items()}}
+        reported = {"drafts": {str(id): dataclasses.asdict(draft) for id, draft in of.items()}}
         try:
             if of:
-                replace(place, json.dumps(told).encode(), stat.S_IMODE(os.stat(self.sheet).st_mode) & 0o666)
+                replace(place, json.dumps(reported).encode(), stat.S_IMODE(os.stat(self.sheet).st_mode) & 0o666)
             else:
                 remove(place)
         except OSError as error:
@@ -83,9 +83,9 @@ class Drafts:
 
 
 def drafts_in(data: bytes) -> Dict[int, Draft]:
-    told: Any = json.loads(data)
+    reported: Any = json.loads(data)
     try:
-        return {int(id): Draft(*(text_of(one[name]) for name in ("session", "base", "text"))) for id, one in told["drafts"].items()}
+        return {int(id): Draft(*(text_of(one[name]) for name in ("session", "base", "text"))) for id, one in reported["drafts"].items()}
     except (AttributeError, KeyError, TypeError):
         raise ValueError("it has no drafts") from None
 

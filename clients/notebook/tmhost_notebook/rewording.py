@@ -61,7 +61,7 @@ def journal_of(path: str, session: str, words: Sequence[str]) -> bytes:
     return MAGIC + VERSION + b"A" + records + CLOSED
 
 
-def told(path: str, program: Optional[str]) -> List[Dict[str, Any]]:
+def reported(path: str, program: Optional[str]) -> List[Dict[str, Any]]:
     """What the program says of a worksheet."""
     lines = written_by([*words_of_program(program), "export", "json", path_word(path)]).splitlines()
     return [json.loads(line) for line in lines]
@@ -90,7 +90,7 @@ def reword(path: str, session: str, words: Sequence[str], program: Optional[str]
             os.fsync(file.fileno())
         open(new + ".alt", "wb").close()
         try:
-            is_right = has_other_words(told(old, program), told(new, program), session, words)
+            is_right = has_other_words(reported(old, program), reported(new, program), session, words)
         except NotExported as error:
             raise NotDone(f"nothing was changed: {error}") from None
         if not is_right:

@@ -209,15 +209,15 @@ class Handler(http.server.BaseHTTPRequestHandler):
         if rest != "call" or not is_fit or self.headers.get("Origin") is None:
             self.refuse()
             return
-        status, told = self.done(sheet, self.rfile.read(int(length)))
-        self.answer(status, json.dumps(told).encode(), JSON)
+        status, reported = self.done(sheet, self.rfile.read(int(length)))
+        self.answer(status, json.dumps(reported).encode(), JSON)
 
     def done(self, sheet: Optional[str], body: bytes) -> Tuple[int, Dict[str, Any]]:
         """Does a call of a worksheet's page, or, where there is none, of the list's."""
         place = self.server.place
         try:
-            told = json.loads(body)
-            return 200, place.do(told) if sheet is None else calls.do(place.opened(sheet, is_asked=False), told)
+            reported = json.loads(body)
+            return 200, place.do(reported) if sheet is None else calls.do(place.opened(sheet, is_asked=False), reported)
         except NotDone as error:
             return 200, {"refused": "NotDone", "says": str(error)}
         except asked.NotDone as error:

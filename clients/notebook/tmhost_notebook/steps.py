@@ -125,12 +125,12 @@ class Steps:
         fields = {id: book.sheet.cell(id).field for id in (*(one.id for one in step.given), *step.removed)}
         back, places = self._back(step, fields), {id: book.places.place(id) for id in step.removed}
         changes = self._changes(step)
-        told, refused = self._send(changes, fields)
-        ids = [one for one in reversed(told) if one is not None]
-        book.settle(lambda: self._is_heard(changes[: len(told)]))
-        self._bin([fields[change.id] for change in changes[: len(told)] if isinstance(change, Remove)], places)
+        reported, refused = self._send(changes, fields)
+        ids = [one for one in reversed(reported) if one is not None]
+        book.settle(lambda: self._is_heard(changes[: len(reported)]))
+        self._bin([fields[change.id] for change in changes[: len(reported)] if isinstance(change, Remove)], places)
         if refused:
-            self._take_back(step, ids, changes[: len(told)])
+            self._take_back(step, ids, changes[: len(reported)])
             raise NotFit(name_of(refused))
         self._note(step, ids, fields)
         numbers = {one["field"].id: one["number"] for one in book.removed}
@@ -207,15 +207,15 @@ class Steps:
         """Does changes as a whole; what one transaction doesn't hold goes into the next. Gives the numbers of new cells, None for another change, up to where a
         transaction was refused. Where the program ends in the middle, the cells stay in doubt until the worksheet is opened again."""
         self.book.in_doubt = set(doubtful)
-        told: List[Optional[int]] = []
+        reported: List[Optional[int]] = []
         refused = None
-        while len(told) < len(changes) and not refused:
+        while len(reported) < len(changes) and not refused:
             try:
-                told += self.book.sheet.together(*changes[len(told) : len(told) + MOST_CHANGES])
+                reported += self.book.sheet.together(*changes[len(reported) : len(reported) + MOST_CHANGES])
             except Undone as undone:
                 refused = undone
         self.book.in_doubt = set()
-        return told, refused
+        return reported, refused
 
     def _is_heard(self, changes: Sequence[Change]) -> bool:
         """What was done last to the order is known, and so is what was done before it."""

@@ -78,17 +78,17 @@ def message_for(book: "Book", watcher: Watcher) -> Message:
         fields = [field for field in (book.field(id) for id in sorted(watcher.cells)) if field is not None and field.id in book.places]
         message.update(places(book, watcher))
     cells = [cell_facts(book, field) for field in fields]
-    told = {"cells": cells, "marks": marks(book, watcher), "says": watcher.says, "partial": partial(book, watcher)}
-    message.update({name: value for name, value in told.items() if value})
+    reported = {"cells": cells, "marks": marks(book, watcher), "says": watcher.says, "partial": partial(book, watcher)}
+    message.update({name: value for name, value in reported.items() if value})
     watcher.is_new, watcher.says = False, []
     for ids in (watcher.cells, watcher.marked, watcher.placed, watcher.gone):
         ids.clear()
     return {**message, "at": at} if message else message
 
 
-def news(watcher: Watcher, told: Message) -> Message:
-    message = {name: value for name, value in told.items() if watcher.others.get(name, ...) != value}
-    watcher.others = told
+def news(watcher: Watcher, reported: Message) -> Message:
+    message = {name: value for name, value in reported.items() if watcher.others.get(name, ...) != value}
+    watcher.others = reported
     return message
 
 

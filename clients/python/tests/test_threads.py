@@ -38,9 +38,9 @@ class Threads(Case):
         waits = [cell.eval() for cell in cells]
 
         def refused(number: int) -> str:
-            with self.assertRaises(Refused) as told:
+            with self.assertRaises(Refused) as reported:
                 sheet.new("a", f"{number} " + "y" * 60_000)
-            return told.exception.name
+            return reported.exception.name
 
         self.assertEqual(at_once(200, refused), 200 * ["BadInput"])
         self.assertEqual([one.result(SECONDS).text for one in waits], [big(200_000, str(number)) for number in range(40)])
@@ -178,7 +178,7 @@ class Listening(Case):
         self.all_of(sheet, events)
         self.assertEqual((heard, len(events)), ([], 5))
 
-    def test_listening_behind_the_end(self) -> None:
+    def test_listening_after_the_end(self) -> None:
         sheet = self.open()
         events = self.all_of(sheet, self.listened(sheet))
         self.assertEqual(events, [Finished(None)])
@@ -187,7 +187,7 @@ class Listening(Case):
     def test_a_callback_of_an_evaluation(self) -> None:
         """It runs on the thread that reads, so it can't wait for a reply: an error says so, and nothing stands still."""
         sheet = self.sheet("a", "b")
-        told: List[BaseException] = []
+        reported: List[BaseException] = []
         line, never = sheet.new("a", "sleep 60"), sheet.new("b", "sleep 60")
         calls: List[Callable[[], object]] = [sheet.refresh, sheet.close, lambda: sheet.new("a", "x"), lambda: waits.result()]
 
@@ -196,14 +196,14 @@ class Listening(Case):
                 try:
                     call()
                 except RuntimeError as error:
-                    told.append(error)
+                    reported.append(error)
 
         evaluation, waits = line.eval(), never.eval()
         evaluation.add_done_callback(call_all)
         sheet.stop("a")
         self.assertRaises(Lost, evaluation.result, SECONDS)
         sheet.close()
-        self.assertEqual((len(told), len(sheet.cells)), (4, 2))
+        self.assertEqual((len(reported), len(sheet.cells)), (4, 2))
         self.assertIsInstance(sheet.error, Closed)
 
 

@@ -285,10 +285,10 @@ class Worksheet:
     def export(self, format: str) -> Text:
         """The worksheet in a format (docs/use/EXPORT.md): "script", "markdown", "html", "notebook" or "json". Raises NoScript where it has no script,
         and BadLine where there is no such format."""
-        told = self._do(commands.Export(format))
-        if told is None:
+        reported = self._do(commands.Export(format))
+        if reported is None:
             raise NoScript
-        return told
+        return reported
 
     def refresh(self) -> None:
         """Has the program report the whole worksheet again. There is no need for it."""

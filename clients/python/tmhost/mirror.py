@@ -138,14 +138,14 @@ class Mirror:
         """An interpreter is ready, and has the first of its row."""
         self._greeted[session] = life
 
-    def answered(self, told: Answered) -> Item:
-        old = self._old(told.id)
-        item = self._take(told.session, told.life, told.id, False)
-        self._fields[told.id] = Field(told.id, old.session, old.input, "answered", told.answer)
+    def answered(self, reported: Answered) -> Item:
+        old = self._old(reported.id)
+        item = self._take(reported.session, reported.life, reported.id, False)
+        self._fields[reported.id] = Field(reported.id, old.session, old.input, "answered", reported.answer)
         return item
 
-    def completed(self, told: Completed) -> Item:
-        return self._take(told.session, told.life, told.id, True)
+    def completed(self, reported: Completed) -> Item:
+        return self._take(reported.session, reported.life, reported.id, True)
 
     def _take(self, session: str, life: int, id: int, is_request: bool) -> Item:
         row = self._row(session)

@@ -56,5 +56,5 @@ class Together(Command[Results]):
 
     def taken(self, mirror: Mirror, reply: Reply) -> Results:
         """After the reply to its last line."""
-        results = [change.taken(mirror, told) for change, told in zip(self.changes, self.replies[1:])]
+        results = [change.taken(mirror, reported) for change, reported in zip(self.changes, self.replies[1:])]
         return [result if isinstance(result, int) else None for result in results]

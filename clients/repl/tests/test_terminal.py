@@ -205,7 +205,7 @@ class Lines(Case):
         terminal.sees(r"^2\] first again\nfirst again\n3\]\Z")
         terminal.send(f"%session u {' '.join(INTERPRETER)}\r")
         terminal.sees(r"^u>\Z")
-        terminal.send("\x1b[Anew\r")
+        terminal.send("\x1b[A" + "new\r")
         terminal.sees(r"^1\] new\nnew\nu>\Z")
 
     def test_a_lost_answer(self) -> None:
@@ -258,8 +258,8 @@ class Control(Case):
             terminal.sees("Tester" if number == 1 else r"interrupted\n")
             time.sleep(0.7)
             terminal.send("\x03")
-            told = r"1\]\n" if number == 1 else ""  # the second line was typed at its prompt
-            terminal.sees(rf"interrupt: sent.*\n{told}interrupted\n{number + 1}\]\Z")
+            reported = r"1\]\n" if number == 1 else ""  # the second line was typed at its prompt
+            terminal.sees(rf"interrupt: sent.*\n{reported}interrupted\n{number + 1}\]\Z")
         terminal.send("count\r")
         terminal.sees(r"^3\] count\n2\n4\]\Z")
 

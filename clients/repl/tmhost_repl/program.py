@@ -134,12 +134,12 @@ def main(words: List[str]) -> int:
         if signal.getsignal(number) is not signal.SIG_IGN:
             signal.signal(number, end_in_order)
     try:
-        return told(given, console)
+        return reported(given, console)
     finally:
         console.close()
 
 
-def told(given: argparse.Namespace, console: Console) -> int:
+def reported(given: argparse.Namespace, console: Console) -> int:
     """Does the work, and says why where it can't be done; gives the status."""
     try:
         return work(given, console)

@@ -47,8 +47,8 @@ class Example(Case):
         with open(os.path.join(self.folder, "../python.py"), "w", encoding="utf-8") as file:
             file.write(text.replace("repr(value)", "str(value)"))
         ran = self.run_suite("python.md")
-        told = 'differs: python.md:33 "a" + "b"\n  @@ -1 +1 @@\n  -\'ab\'\n  +ab\n10 ok, 1 xfail, 1 skip, 1 differs'
-        self.assertEqual((ran.status, ran.output.partition(" in ")[0]), (1, told))
+        reported = 'differs: python.md:33 "a" + "b"\n  @@ -1 +1 @@\n  -\'ab\'\n  +ab\n10 ok, 1 xfail, 1 skip, 1 differs'
+        self.assertEqual((ran.status, ran.output.partition(" in ")[0]), (1, reported))
 
     def run_nightly(self, command: str, **variables: str) -> str:
         """What a step of a nightly file prints where the suite's folder is `examples/suite`; one case differs."""

@@ -106,7 +106,7 @@ class Systems(Real):
         self.assertNotIn(None, [field.answer for field in fields])
         self.assertIn("42", str(fields[-1].answer))
         errors = {str(field.id) for field in fields if field.answer and field.answer.errors}
-        self.assertEqual({id for id, told in shown.items() if "errput" in told.output}, errors)
+        self.assertEqual({id for id, reported in shown.items() if "errput" in reported.output}, errors)
         self.assertGreater(len(errors), 2)
 
     def test_gp(self) -> None:
@@ -218,7 +218,7 @@ class Documents(Real):
         shown = texmacs.answers()
         texmacs.end()
         self.assertEqual([field.input for field in self.fields()], lines)
-        self.assertEqual([told.output for told in shown.values()], ["'b'", "'c'", "'d'"])
+        self.assertEqual([reported.output for reported in shown.values()], ["'b'", "'c'", "'d'"])
 
     def test_an_exported_document(self) -> None:
         """It is opened and saved by TeXmacs, and read back."""

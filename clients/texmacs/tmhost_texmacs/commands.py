@@ -57,14 +57,14 @@ class Commands:
     def _again(self, asked: Asked, words: List[str]) -> None:
         """Evaluates the fields in their order. Each answer is in the worksheet when the next one is asked."""
         self.sheet.stop(self.talk.name)
-        told = []
+        reported = []
         fields = self.talk.fields
         for field in fields:
             cell = Cell(self.sheet, field.id)
             self.talk.waited(cell.eval())
             if not field.answer or cell.text != field.answer.text:
-                told.append(f"#{field.id} {field.input[:60]}: {'another answer' if cell.state == 'answered' else cell.reason}")
-        self._tell("\n".join(told) or f"{len(fields)} fields have the same answers")
+                reported.append(f"#{field.id} {field.input[:60]}: {'another answer' if cell.state == 'answered' else cell.reason}")
+        self._tell("\n".join(reported) or f"{len(fields)} fields have the same answers")
 
     def _check(self, asked: Asked, words: List[str]) -> None:
         self._tell("\n".join(compared(self.talk.fields, asked.shown or [])) or "this document shows what the worksheet has")

@@ -151,7 +151,7 @@ function signsOf(tex) {
   const signs = [];
   /** @type {string[]} */
   const open = [];
-  let brackets = 0, isBehindTerm = false, isScript = false, isFence = false;
+  let brackets = 0, isAfterTerm = false, isScript = false, isFence = false;
   for (const { 0: token, index } of tex.matchAll(TOKEN)) {
     if (BLANK.has(token)) continue;
     if (token === "%" || (open.length === 0 && OF_THE_WHOLE.has(token))) return null;
@@ -163,11 +163,11 @@ function signsOf(tex) {
     if (open.length === 0 && !isTaken) {
       if (OPENING.has(token)) brackets += 1;
       else if (CLOSING.has(token)) brackets = Math.max(0, brackets - 1);
-      else if ((token === "+" || token === "-") && isBehindTerm) signs.push({ at: (index ?? 0) + 1, brackets });
+      else if ((token === "+" || token === "-") && isAfterTerm) signs.push({ at: (index ?? 0) + 1, brackets });
     }
     isFence = token === "\\left" || token === "\\right" || token === "\\middle";
     isScript = !isTaken && (token === "^" || token === "_");
-    isBehindTerm = isTaken || !(isScript || token === "+" || token === "-" || OPENING.has(token) || OPERATORS.has(token) || ENDS.has(token));
+    isAfterTerm = isTaken || !(isScript || token === "+" || token === "-" || OPENING.has(token) || OPERATORS.has(token) || ENDS.has(token));
   }
   return open.length === 0 ? signs : null;
 }

@@ -123,8 +123,8 @@ function firstOf(nodes, name) {
  * @type {(markup: string, tex: string, display: boolean) => string}
  */
 function mathOf(markup, tex, display) {
-  const told = firstOf(firstOf(read(markup), "span").children, "math");
-  const [formula] = firstOf(told.children, "semantics").children;
+  const reported = firstOf(firstOf(read(markup), "span").children, "math");
+  const [formula] = firstOf(reported.children, "semantics").children;
   if (typeof formula !== "object") throw new Refused("no formula");
   /** @type {[string, string][]} */
   const attributes = display ? [["displaystyle", "true"], ["alttext", tex]] : [["alttext", tex]];

@@ -35,11 +35,11 @@ class NotStarted extends Error {}
 function nextOf(child, milliseconds) {
   return new Promise((resolve) => {
     /** @type {(reported: unknown) => void} */
-    const settle = (told) => {
+    const settle = (reported) => {
       clearTimeout(timer);
       child.removeAllListeners();
       child.on("error", () => {}); // one that comes later says nothing new
-      resolve(told);
+      resolve(reported);
     };
     const timer = setTimeout(() => settle(LATE), milliseconds);
     child.once("message", settle);
@@ -80,11 +80,11 @@ class Helper {
     if (!child) return LATE;
     const next = nextOf(child, milliseconds);
     child.send(/** @type {any} */ (question), () => {});
-    const told = await next;
-    if (told === LATE || told === BROKEN) this.stop();
-    if (told === LATE) return LATE;
-    const reason = told !== BROKEN && typeof told?.reason === "string" ? told.reason : `${this.setter.name} broke off`;
-    return this.setter.answerIn(told) ?? { reason };
+    const reported = await next;
+    if (reported === LATE || reported === BROKEN) this.stop();
+    if (reported === LATE) return LATE;
+    const reason = reported !== BROKEN && typeof reported?.reason === "string" ? reported.reason : `${this.setter.name} broke off`;
+    return this.setter.answerIn(reported) ?? { reason };
   }
 
   notStarted() {

@@ -42,22 +42,22 @@ class Browser {
   }
 
   /** @param {Reported} reported */
-  take(told) {
-    const waiting = this.asked.get(told.id);
-    if (waiting && told.error) waiting.reject(new Error(told.error.message));
-    if (waiting && !told.error) waiting.resolve(told.result);
-    if (told.method === "Network.requestWillBeSent") this.requests.push(told.params.request.url);
-    if (told.method === "Page.javascriptDialogOpening") this.requests.push(`dialog: ${told.params.message}`);
-    if (told.method === "Page.loadEventFired") this.loading.splice(0).forEach(({ resolve }) => resolve());
+  take(reported) {
+    const waiting = this.asked.get(reported.id);
+    if (waiting && reported.error) waiting.reject(new Error(reported.error.message));
+    if (waiting && !reported.error) waiting.resolve(reported.result);
+    if (reported.method === "Network.requestWillBeSent") this.requests.push(reported.params.request.url);
+    if (reported.method === "Page.javascriptDialogOpening") this.requests.push(`dialog: ${reported.params.message}`);
+    if (reported.method === "Page.loadEventFired") this.loading.splice(0).forEach(({ resolve }) => resolve());
   }
 
   /** @type {(method: string, params?: Reported) => Promise<Reported>} */
   ask(method, params = {}) {
     this.count += 1;
     const id = this.count;
-    const told = new Promise((resolve, reject) => this.asked.set(id, { resolve, reject }));
+    const reported = new Promise((resolve, reject) => this.asked.set(id, { resolve, reject }));
     this.toBrowser.write(`${JSON.stringify({ id, method, params, sessionId: this.session })}\0`);
-    return /** @type {Promise<Reported>} */ (told);
+    return /** @type {Promise<Reported>} */ (reported);
   }
 
   /** Begins to look at the one tab. */
@@ -87,9 +87,9 @@ class Browser {
    * @type {(expression: string) => Promise<any>}
    */
   async value(expression) {
-    const told = await this.ask("Runtime.evaluate", { expression, returnByValue: true });
-    if (told.exceptionDetails) throw new Error(told.exceptionDetails.exception?.description ?? told.exceptionDetails.text);
-    return told.result.value;
+    const reported = await this.ask("Runtime.evaluate", { expression, returnByValue: true });
+    if (reported.exceptionDetails) throw new Error(reported.exceptionDetails.exception?.description ?? reported.exceptionDetails.text);
+    return reported.result.value;
   }
 
   /**

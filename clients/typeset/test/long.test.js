@@ -81,7 +81,7 @@ test("a page with long sums", () => {
   const texts = [`$${LONG}$`, `\\magenta\\%1 = $\\blue ${sum(500, (at) => `${at}\\*x^${at}`)}$`, `$${sum(3_500, power).slice(0, 49_000).replace(/ \+ [^+]*$/, "")}$`, huge, `$${LONG} + {$`, `$\\left(${LONG}$`,
     `$${sum(6_000, power)}$`];
   const before = pageOf("long", texts.map((text) => ({ output: span(text) })));
-  const { page, told, status } = run(before, "--report");
+  const { page, reported, status } = run(before, "--report");
   assert.equal(status, 0);
   const contents = contentsOf(before, page);
   const trees = contents.slice(0, 3).map((content) => readContent(content).filter((part) => typeof part !== "string"));
@@ -89,6 +89,6 @@ test("a page with long sums", () => {
   assert.equal(trees[0].map(textOf).join("").replace(/[^\d+x]/g, ""), LONG.replace(/[^\d+x]/g, ""));
   assert.ok(trees[2].length > 2_000, String(trees[2].length));
   for (const [at, text] of texts.slice(3).entries()) assert.equal(contents[at + 3], text);
-  assert.match(told, /more than 20000 characters, and no sign between terms/);
-  assert.match(told, /more than 50000 characters/);
+  assert.match(reported, /more than 20000 characters, and no sign between terms/);
+  assert.match(reported, /more than 50000 characters/);
 });

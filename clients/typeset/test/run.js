@@ -15,7 +15,7 @@ const SPAN = /<span class="tex">([^<]*)<\/span>/g;
 function run(input, ...words) {
   const start = Date.now();
   const { status, stdout, stderr } = spawnSync(process.execPath, [COMMAND, ...words], { input, maxBuffer: 1 << 30 });
-  return { status, page: stdout, told: stderr.toString(), seconds: (Date.now() - start) / 1000 };
+  return { status, page: stdout, reported: stderr.toString(), seconds: (Date.now() - start) / 1000 };
 }
 
 /**

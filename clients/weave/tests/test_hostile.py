@@ -146,7 +146,7 @@ class Formulas(Case):
         self.assertGreater(formulas, 40)
         self.assertEqual(self.weave(woven), woven)
 
-    def test_behind_what_is_printed(self) -> None:
+    def test_after_what_is_printed(self) -> None:
         """A value that is a formula stands as one after what its line has printed; where it is none, the whole is text."""
         lines = ["both a\\x01b\\n|$x$", "both |$x$|\\n|$y$", "both ```\\n<b>|$x^2$| ", "both a|$x<y$", "both a|$x$|b|[c](d)|", "bytes 61026c617465783a2478240562"]
         woven = self.weave(self.front("a") + "".join(f"```a\n{line}\n```\n\n" for line in lines))

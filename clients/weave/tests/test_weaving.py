@@ -205,7 +205,7 @@ class Weaving(Case):
         self.assertEqual(self.run_weave().status, 0)
         self.assertEqual(os.listdir(self.folder), ["text.md"])
 
-    def test_a_text_without_code_of_a_session_is_told(self) -> None:
+    def test_a_text_without_code_of_a_session_is_reported(self) -> None:
         """With what it has, since a session may have another name than its fences."""
         for text, sessions, found in (
             ("```python\nx\n```\n```r\ny\n```\n```python\nz\n```\n", "none, as `sessions: {py: [tmhost-python]}`", "python (2), r (1)"),
@@ -360,8 +360,8 @@ class Failures(Case):
             self.write(text + "More.\n")
             self.write("", self.place("end"))
             assert weave.stderr
-            told = weave.stderr.read()
-        self.assertEqual((weave.returncode, b"changed meanwhile" in told), (1, True))
+            reported = weave.stderr.read()
+        self.assertEqual((weave.returncode, b"changed meanwhile" in reported), (1, True))
         self.assertEqual(self.read(), text + "More.\n")
         self.logged("a")
         self.weave(self.read())

@@ -20,7 +20,7 @@ from .plan import Plan, Wanted
 from .sheets import LARGE, fit, largest_file, make, opened, sheet_path
 from tmhost_fences.troubles import Trouble
 
-MOST_TOLD = 5  # kinds of fences, in a message
+MOST_REPORTED = 5  # kinds of fences, in a message
 LONGEST_INFO = 40  # characters of what stands at one
 CLEAR = "\r\x1b[K"  # takes a line of a terminal away
 LONG_RUN = re.compile("`{255,}")  # cmark counts the backquotes of a fence up to 255, so a line of more would close any
@@ -58,8 +58,8 @@ def first_other_line(old: bytes, new: bytes) -> int:
 def why_nothing(document: Document) -> str:
     """What is said of a text of which no fence is a session's: an author has most likely named a session otherwise than its fences."""
     sessions = ", ".join(document.sessions) or "none, as `sessions: {py: [tmhost-python]}`"
-    told = [f"{ascii(info[:LONGEST_INFO])[1:-1] or 'without a word'} ({count})" for info, count in document.others.most_common(MOST_TOLD + 1)]
-    fences = ", ".join([*told[:MOST_TOLD], *([".."] if len(told) > MOST_TOLD else [])]) or "none"
+    reported = [f"{ascii(info[:LONGEST_INFO])[1:-1] or 'without a word'} ({count})" for info, count in document.others.most_common(MOST_REPORTED + 1)]
+    fences = ", ".join([*reported[:MOST_REPORTED], *([".."] if len(reported) > MOST_REPORTED else [])]) or "none"
     return f"no fence is of a session, so nothing is evaluated. Sessions in the front matter: {sessions}. Fences: {fences}"
 
 
@@ -193,12 +193,12 @@ class Weave:
 
     def early(self, plan: Plan) -> Iterator[int]:
         """The first line of each fence of Python that leaves a figure open, where others come after it: it is shown with that line, as far as it is drawn."""
-        told = set()
+        reported = set()
         for wanted, after in zip(plan.wanted, plan.wanted[1:]):
             field = self.fields.get(wanted.id or 0)
             is_inside = wanted.fence is after.fence and wanted.fence.language == "python" and "show(" not in wanted.input
-            if is_inside and wanted.fence.begin not in told and field and field.answer and any(kind == PICTURE for _, kind in parts_of(field.answer.output) or ()):
-                told.add(wanted.fence.begin)
+            if is_inside and wanted.fence.begin not in reported and field and field.answer and any(kind == PICTURE for _, kind in parts_of(field.answer.output) or ()):
+                reported.add(wanted.fence.begin)
                 yield wanted.line
 
     def test(self, seconds: Optional[float]) -> bool:
@@ -219,9 +219,9 @@ class Weave:
         for name in plan.words:
             stale = plan.stale(name)
             kept = 0 if not stale or stale[0].fence.is_pure else len(plan.of(name)) - len(stale)
-            behind = f", after {kept} that would be replayed" if kept else ""
+            after = f", after {kept} that would be replayed" if kept else ""
             if stale:
-                print(f"{self.name}: {name}: {len(stale)} fields would be evaluated, from line {stale[0].line} on{behind}")
+                print(f"{self.name}: {name}: {len(stale)} fields would be evaluated, from line {stale[0].line} on{after}")
         if plan.is_stale:
             return False
         woven = self.woven(plan)

@@ -64,8 +64,8 @@ def complete(line: str) -> None:
             send(file.read())
         return
     words = [one for one in ("cat", "cave", "call", "beta") if word and one.startswith(word)]
-    told = " ".join(f'"{one[len(word):]}"' for one in words)
-    send(b"\x02scheme:" + f'(tuple "{word if words else ""}" {told})'.encode() + b"\x05")
+    reported = " ".join(f'"{one[len(word):]}"' for one in words)
+    send(b"\x02scheme:" + f'(tuple "{word if words else ""}" {reported})'.encode() + b"\x05")
 
 
 def answer(word: str, text: str) -> None:
