@@ -1,6 +1,9 @@
-// What a block `latex` says, read as LaTeX reads it: words, and formulas between dollars and their like. clients/typeset reads alike.
+// What a block `latex` says, read as LaTeX reads it: words, and formulas between dollars and their like. clients/typeset reads by this file, too.
 
-/** @typedef {{kind: "words", text: string} | {kind: "formula", tex: string, display: boolean}} Part */
+/**
+ * @typedef {{kind: "words", text: string} | {kind: "formula", tex: string, display: boolean}} Part
+ * @typedef {{parts: Part[]} | {reason: string}} Block what is in it, or why it is no text with formulas
+ */
 
 const ENVIRONMENTS = ["equation", "equation*", "align", "align*", "alignat", "alignat*", "gather", "gather*"];
 
@@ -16,7 +19,8 @@ const DELIMITERS = [
 // Words: what has no meaning of its own in LaTeX, such characters after a backslash, and the colours that gp's own mode begins with.
 const WORDS = /(?:[^\\{}$~^_&#%]|\\[%$#&_{}]|\\(?:magenta|blue)(?![A-Za-z])\s*)+/y;
 
-// What no text of a formula needs, and what would be unseen or turn the direction of others.
+// What no text of a formula needs, and what would be unseen or turn the direction of others: control and format characters (but
+// tabs and line feeds), those that are drawn as nothing, unassigned and private ones, halves of pairs.
 const UNSEEN = /[^\P{Cc}\t\n]|[\p{Cf}\p{Cn}\p{Co}\p{Cs}\p{Zl}\p{Zp}\p{Default_Ignorable_Code_Point}]/u;
 
 // Maxima writes a matrix so that TeX and LaTeX take it.
@@ -35,6 +39,11 @@ const DEFINING = new Set([
 
 const WORD = /\\([A-Za-z]+|[^]?)/g;
 
+/** @type {(text: string) => boolean} */
+export function isSeen(text) {
+  return !UNSEEN.test(text);
+}
+
 /**
  * Where the end of a formula stands: outside of braces, and not after a backslash. -1 if nowhere.
  * @type {(text: string, from: number, end: string) => number}
@@ -51,7 +60,10 @@ function endOf(text, from, end) {
   return -1;
 }
 
-/** @type {(text: string, at: number) => {part: Part, end: number} | null} */
+/**
+ * The formula that begins at a place, and where it ends.
+ * @type {(text: string, at: number) => {part: Part, end: number} | null}
+ */
 function formulaAt(text, at) {
   const found = DELIMITERS.find(({ begin }) => text.startsWith(begin, at));
   if (!found) return null;
@@ -63,7 +75,10 @@ function formulaAt(text, at) {
   return { part: { kind: "formula", tex, display: found.display }, end };
 }
 
-/** @type {(text: string, at: number) => {part: Part, end: number} | null} */
+/**
+ * The words that begin at a place, and where they end.
+ * @type {(text: string, at: number) => {part: Part, end: number} | null}
+ */
 function wordsAt(text, at) {
   WORDS.lastIndex = at;
   const found = WORDS.exec(text);
@@ -73,21 +88,30 @@ function wordsAt(text, at) {
 }
 
 /**
- * The words and formulas of a block; null where it is no text with formulas.
- * @type {(text: string) => Part[] | null}
+ * The words and formulas of a block.
+ * @type {(text: string) => Block}
  */
-export function partsOf(text) {
-  if (UNSEEN.test(text)) return null;
+export function blockOf(text) {
+  if (!isSeen(text)) return { reason: "a character that is not seen" };
   /** @type {Part[]} */
   const parts = [];
   let at = 0;
   while (at < text.length) {
     const found = formulaAt(text, at) ?? wordsAt(text, at);
-    if (!found) return null;
+    if (!found) return { reason: `what stands at character ${at + 1} is no word, or a formula without its end` };
     parts.push(found.part);
     at = found.end;
   }
-  return parts.some(({ kind }) => kind === "formula") ? parts : null;
+  return parts.some(({ kind }) => kind === "formula") ? { parts } : { reason: "no formula between dollars" };
+}
+
+/**
+ * The words and formulas of a block; null where it is no text with formulas.
+ * @type {(text: string) => Part[] | null}
+ */
+export function partsOf(text) {
+  const block = blockOf(text);
+  return "parts" in block ? block.parts : null;
 }
 
 /**

@@ -2,7 +2,7 @@
 // A page with its formulas and its prose set, and what is left of them.
 
 const { spansOf, proseOf, proseSection, textOf, escapedText, pageWith, STYLE, PROSE_STYLE } = require("./page.js");
-const { partsOf, wordsOfKatex, piecesOf, isSeen } = require("./latex.js");
+const { load, partsOf, wordsOfKatex, piecesOf, isSeen } = require("./latex.js");
 const { answersTo } = require("./setter.js");
 const { mathOf } = require("./mathml.js");
 const { piecesOf: piecesOfProse } = require("./prose.js");
@@ -180,6 +180,7 @@ function countOf(found) {
  * @type {(page: Buffer, means: Means, deadline: number) => Promise<{page: Buffer, formulas: number, prose: number, left: Left[]}>}
  */
 async function typeset(page, means, deadline) {
+  await load();
   /** @type {Left[]} */
   const left = [];
   const prose = await proseIn(page, means, deadline, left);

@@ -2,8 +2,8 @@
 // Formulas of more than 5,000 characters: a long sum is one formula for each of its terms, between which a browser breaks lines.
 
 const assert = require("node:assert/strict");
-const { test } = require("node:test");
 const { piecesOf, wordsOfKatex } = require("../lib/latex.js");
+const { test } = require("./loaded.js");
 const { pageOf, span } = require("./pages.js");
 const { run, contentsOf } = require("./run.js");
 const { readContent, textOf } = require("./tree.js");
@@ -25,7 +25,7 @@ const joined = (pieces) => pieces.map((piece) => piece.slice(piece.startsWith(WO
 const SUMS = [
   ["powers", LONG, 600],
   ["with both signs", sum(500, (at) => `${at}x^{-${at}} - ${at}y_{a+b}^{c-d}`), 1000],
-  ["of gp", wordsOfKatex(sum(500, (at) => `${at}\\*x^${at}\\*y`, "-")), 500],
+  ["of gp", sum(500, (at) => `${at}\\*x^${at}\\*y`, "-"), 500],
   ["fractions", sum(400, (at) => `\\frac{${at}-x}{${at}+x}`), 400],
   ["in fences", sum(300, (at) => `\\left(${at} + \\left[x - 1\\right]\\right)`), 300],
   ["with a sign of a number", sum(400, (at) => `a \\cdot -${at} = -b, -c`), 400],
@@ -35,8 +35,9 @@ const SUMS = [
   ["brackets that are no fences", sum(400, (at) => `(${at} + 1)x^{${at}}`), 400],
 ];
 
-for (const [name, tex, terms] of SUMS) {
+for (const [name, written, terms] of SUMS) {
   test(`a sum: ${name}`, () => {
+    const tex = wordsOfKatex(written);
     assert.ok(tex.length > 5_000, String(tex.length));
     const pieces = piecesOf(tex, true, 0) ?? [];
     assert.equal(pieces.length, terms);
