@@ -19,7 +19,7 @@ class Names:
                 for line in file:
                     self.take(line)
         except (OSError, UnicodeDecodeError):
-            pass
+            pass  # cells without a known name are found by their texts
 
     def take(self, line: str) -> None:
         """A line of the file. One that was cut by a crash says nothing."""

@@ -88,7 +88,7 @@ def keep(sheet: str, address: Address) -> None:
             json.dump(dataclasses.asdict(address), written)
         os.replace(new, path)
     except OSError:
-        pass
+        pass  # an address is kept for comfort alone: without it the server is as good, and its next address is another one
 
 
 # ---- who is at the other end

@@ -72,7 +72,7 @@ def serve(server: Server, has_browser: bool) -> None:
                 threading.Thread(target=webbrowser.open, args=(place,), daemon=True).start()
             server.serve_forever()
     except KeyboardInterrupt:
-        pass
+        pass  # this is how a user ends it
     finally:
         server.server_close()
 

@@ -90,7 +90,7 @@ def missing(path: str) -> Optional[str]:
     except FileNotFoundError:
         return path
     except OSError:
-        pass
+        pass  # whether something is there can't be seen, so the fault stays the one that the program names
     return None
 
 
