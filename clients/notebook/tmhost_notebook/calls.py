@@ -175,7 +175,7 @@ def call_eval(book: Book, asked: Facts) -> Facts:
         why = book.why_not(field_of(book, id).session)
         if why is not None:
             raise NotDone("NoProgram", f"{why}. Nothing was asked, and no answer is lost")
-        book.evaluate(id)
+        book.feeder.evaluate(id)
         return {"at": book.changes}
 
 
@@ -185,7 +185,7 @@ def evaluate_each(book: Book, fields: Sequence[Field], missing: Dict[str, str], 
     doesn't show it yet, so it would be asked twice."""
     named = {field.session for field in fields} - book.prose
     missing = {**{name: why for name, why in ((name, book.why_not(name)) for name in named) if why}, **missing}
-    count = book.evaluate_each((field for field in fields if field.session in named and field.session not in missing), stops)
+    count = book.feeder.evaluate_each((field for field in fields if field.session in named and field.session not in missing), stops)
     reported = "; ".join(missing[name] for name in sorted(missing))
     return {"count": count, **({"warning": f"{reported}. Nothing was asked there, and no answer is lost"} if missing else {})}
 
@@ -243,7 +243,7 @@ def call_interrupt(book: Book, asked: Facts) -> Facts:
     """Interrupts the line of a session. What waits after it isn't asked any more."""
     session = text(asked, "session")
     with book.order:
-        return {"dropped": book.drop_fed(session), "outcome": book.sheet.interrupt(session)}
+        return {"dropped": book.feeder.drop(session), "outcome": book.sheet.interrupt(session)}
 
 
 def call_session(book: Book, asked: Facts) -> Facts:

@@ -104,7 +104,7 @@ class MaybeLooking(Book):
 
     def _look_on(self) -> None:
         state = None
-        while not self._is_closed and self.is_looking:
+        while not self.is_closed and self.is_looking:
             begin = time.monotonic()
             with contextlib.suppress(NotExported, NoPast, OSError):
                 now = state_of(self.path)
