@@ -314,7 +314,9 @@ class Notebooks(unittest.TestCase):
     def test_the_notebook_is_valid(self) -> None:
         nbformat = importlib.import_module("nbformat")
         made = notebook_with_prose(exported(("prose", "a", False), ("py", "x", True)), prose.is_prose)
-        nbformat.validate(nbformat.reads(made.data.decode(), 4))
+        book = nbformat.reads(made.data.decode(), 4)
+        nbformat.validate(book)
+        self.assertEqual([cell.cell_type for cell in book.cells], ["markdown", "code"])
 
 
 @needs_program
