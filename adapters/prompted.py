@@ -4,7 +4,7 @@
     prompted.py PROFILE [--latex] [--no-pictures]
 
 It starts the interpreter of the profile, sends it each line of its own input, and after each line one that prints a marker. What comes
-before the marker is the answer, on as many lines as it has, messages of errors among it, which are blocks of their own where they can be reported. Each line has a marker of its own, which is made
+before the marker is the answer, on as many lines as it has, messages of errors among it, which are blocks of their own where they can be distinguished. Each line has a marker of its own, which is made
 from random bytes and stands in no command as a whole, so that neither an answer nor an echo of a command has it, and one that comes late
 ends no other line. Where a line has taken its marker for its input, or its own end isn't there, it is answered by an error. With `--latex`
 values are formulas, blocks of the format `latex`, where the profile has a way to write them. What a line draws stands after its text, as blocks of

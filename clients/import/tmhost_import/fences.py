@@ -1,7 +1,7 @@
 """A CommonMark text line by line: what is open after each line, which a parser of whole texts doesn't tell. Prose is cut and closed by it.
 
 The fences of documents are found by tmhost_fences. Blocks are found as CommonMark 0.31.2 says: which containers go on, which begin, and what a
-line is then. What is no fence is reported apart only as far as it decides where one begins. References are paragraphs here: a line of `=` or `-`
+line is then. What is no fence is distinguished only as far as it decides where one begins. References are paragraphs here: a line of `=` or `-`
 after one is taken for a heading.
 """
 import dataclasses

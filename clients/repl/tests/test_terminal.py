@@ -29,7 +29,7 @@ class Lines(Case):
         self.assertEqual(self.pairs(), [("hello", "hello"), ("say a\\nb", "a\nb")])
 
     def test_a_line_at_its_own_prompt(self) -> None:
-        """It isn't written again, so what an answer is reported with is the answer alone."""
+        """It isn't written again, so an answer is shown alone."""
         self.make()
         terminal = self.terminal()
         terminal.sees("t>")
@@ -133,7 +133,7 @@ class Lines(Case):
         self.assertEqual(self.pairs(), [(f"one{LINE_END}two{LINE_END}{LINE_END}  three", "one\ntwo\n\n  three")])
 
     def test_long_lines(self) -> None:
-        """One that takes several rows is written again as well, and of one that just fills its row the prompt alone is reported, where that is another."""
+        """One that takes several rows is written again as well, and of one that just fills its row the prompt alone is shown, where that is another."""
         self.make()
         terminal = self.terminal(columns=20)
         terminal.sees("t>")
