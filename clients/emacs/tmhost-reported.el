@@ -102,7 +102,7 @@ so it is looked at."
    :wrong (tmhost-text-is-error (alist-get 'output reported))))
 
 (defun tmhost-reported--take-over (reported)
-  "The field of which REPORTED is reported again: the one that is there, or REPORTED.
+  "The field that is REPORTED again: the one that is there, or REPORTED.
 Replies that are to come are about the one that is there."
   (let ((field (tmhost-view-field (tmhost-field-id reported))))
     (if (null field)

@@ -141,7 +141,8 @@ Some of Emacs's readers refuse that character."
 
 (defun tmhost-talk-wait (condition seconds)
   "Wait for the function CONDITION to give true, SECONDS at most.
-Where the program ends, wait until that is reported.  Give what CONDITION gave last."
+Where the program ends, wait until that is reported.
+Give what CONDITION gave last."
   (let ((until (+ (float-time) seconds)) (reported (funcall condition)))
     (while (and (not reported) (not tmhost-talk--is-over) (< (float-time) until))
       ;; The end is reported when what stands in the other pipe was read, too.
