@@ -2,6 +2,7 @@
 // What a block `latex` says, as the notebook reads it, whose source this takes: what that can't read is refused here, with the reason.
 
 const { Refused } = require("./refused.js");
+const { NotStarted } = require("./setter.js");
 
 /** @typedef {import("../../notebook/page/latex.js").Part} Part */
 
@@ -15,7 +16,11 @@ let notebook;
  * @type {() => Promise<void>}
  */
 async function load() {
-  notebook = await import("../../notebook/page/latex.js");
+  try {
+    notebook = await import("../../notebook/page/latex.js");
+  } catch (error) {
+    throw new NotStarted(`clients/notebook has to be beside clients/typeset: ${error instanceof Error ? error.message : "its source can't be loaded"}`);
+  }
 }
 
 /** @type {(text: string) => boolean} */

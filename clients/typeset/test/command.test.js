@@ -99,6 +99,14 @@ test("through a link, as it is installed", () => {
   assert.deepEqual(spawnSync(process.execPath, [link], { input: page }).stdout, run(page).page);
 });
 
+test("without the notebook beside it", () => {
+  const alone = path.join(folder, "clients", "typeset");
+  fs.cpSync(path.dirname(COMMAND), alone, { recursive: true });
+  const { status, stdout, stderr } = spawnSync(process.execPath, [path.join(alone, "tmhost-typeset")], { input: page });
+  assert.deepEqual([status, stdout.length], [1, 0]);
+  assert.match(stderr.toString(), /^tmhost-typeset: clients\/notebook has to be beside clients\/typeset: [^\n]+\n$/);
+});
+
 test("a reader that goes away", async () => {
   const large = pageOf("large", [{ output: "x".repeat(1 << 22) }]);
   const child = spawn(process.execPath, [COMMAND], { stdio: ["pipe", "pipe", "pipe"] });
