@@ -1,5 +1,6 @@
 """A run that was cut off goes on where it was, and reports what one in one piece does. TMHOST_KILLS says how many runs are killed."""
 import contextlib
+import json
 import os
 import random
 import signal
@@ -8,8 +9,10 @@ import sys
 import time
 from typing import List, Tuple
 
-from .support import Case, case, environment, heed_interrupts, words
+from .support import PROGRAM, Case, case, environment, heed_interrupts, words  # the module puts the packages on the path
 from .values import expected
+
+from tmhost import Worksheet
 
 # It writes two long texts in turn, as `--accept` writes one.
 WRITER = "import itertools, sys; from tmhost_weave.files import put; print('writes', flush=True); [put(sys.argv[1], letter * 300000) for letter in itertools.cycle([b'a', b'b'])]"
@@ -73,6 +76,14 @@ class Resuming(Case):
         self.assertEqual(self.verdicts(self.path, "--resume"), ["ok"] * 3)
         self.assertEqual(self.log("a"), [])
         self.assertIn("goes on after 3 of 3 cases", self.outcome.output)
+
+    def test_a_run_of_an_earlier_version_goes_on(self) -> None:
+        """What is noted of a case has the names that it always had."""
+        self.write(case("say 1", "1"))
+        self.assertEqual(self.verdicts(self.path), ["ok"])
+        with Worksheet(self.path + ".run", program=PROGRAM) as sheet:
+            note = json.loads(sheet.cells[-1].input)
+        self.assertEqual(set(note) - {"digest"}, {"case", "seconds", "tries", "began_anew", "is_error", "is_lost", "verdict"})
 
     def test_an_interrupt_ends_it_and_it_goes_on(self) -> None:
         self.write(case("say 1", "1"), case("sleep 20"), case("sleep 20", info="b"))

@@ -69,7 +69,7 @@ class Reported:
         parts = [marks.skip or "", marks.xfail or "", (marks.may_fail or "") if self.verdict == "xfail" else "", self.got.split("\n")[0] if was_skipped else ""]
         if self.result and self.result.tries > 1:
             parts.append(f"tried {self.result.tries} times")
-        if self.result and self.result.began_again:
+        if self.result and self.result.began_anew:
             parts.append("in an interpreter that was started again")
         if self.verdict == "differs":
             parts += wrong_patterns(self.case.wanted or "") + wrong_patterns(self.case.errors or "")
@@ -241,7 +241,7 @@ def json_lines(all_reported: List[Reported], troubles: List[Trouble]) -> Iterato
             "isError": reported.is_error,
             "seconds": round(reported.seconds, 6),
             "tries": reported.result.tries if reported.result else 0,
-            "startedAgain": bool(reported.result and reported.result.began_again),
+            "startedAgain": bool(reported.result and reported.result.began_anew),
         }
         yield json.dumps(one, ensure_ascii=True)
     for trouble in troubles:

@@ -139,10 +139,10 @@ class Chain:
     # ---- one case
 
     def _evaluate(self, at: int, case: Case) -> Result:
-        began_again = self.is_fresh and self.has_run
+        began_anew = self.is_fresh and self.has_run
         self._begin_life(at)
         if self.broken and not case.marks.is_teardown:
-            return Result(f"? setting up again went wrong: {self.broken}", 0.0, began_again=began_again, is_lost=True)
+            return Result(f"? setting up again went wrong: {self.broken}", 0.0, began_anew=began_anew, is_lost=True)
         began = time.monotonic()
         until = began + (case.marks.timeout or self.suite.timeout or self.plan.seconds)
         got: List[Shown] = []
@@ -162,7 +162,7 @@ class Chain:
         if at in self.kept.misfits:
             lost.append(Shown(f"? {self.kept.misfits[at]}"))
         shown, taken = joined(got + lost), time.monotonic() - began
-        return Result(shown.text, taken, began_again=began_again, is_error=is_error, is_lost=bool(lost), errors=shown.errors)
+        return Result(shown.text, taken, began_anew=began_anew, is_error=is_error, is_lost=bool(lost), errors=shown.errors)
 
     def _answer(self, cell: Cell, until: float) -> Answer:
         """The answer of a cell. Raises Lost, where its interpreter ended, Over, where the time is, and Refused."""
