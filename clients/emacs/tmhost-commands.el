@@ -69,7 +69,7 @@
    (lambda (reply)
      (if (equal (alist-get 'type reply) "stopped")
          (tmhost-reported-ended (tmhost-sheet-session name) "Stopped"
-                             (alist-get 'lost reply))
+                                (alist-get 'lost reply))
        (message "Stop: %s" (tmhost-sheet-refusal reply))))))
 
 ;;; Fields

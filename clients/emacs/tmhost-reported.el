@@ -38,7 +38,7 @@ An object of another type, and what there isn't, is passed over."
       (tmhost-reported--completed session (alist-get 'told object)))
      ((equal type "ended")
       (tmhost-reported-ended session (alist-get 'reason object)
-                          (alist-get 'lost object))))))
+                             (alist-get 'lost object))))))
 
 (defun tmhost-reported--answered (session field object)
   "Give FIELD of SESSION the answer in OBJECT."

@@ -196,7 +196,7 @@ To send a line may let more text come meanwhile: that waits for its turn."
           (funcall taker object))))
      ((equal (alist-get 'type object) "fault")
       (setq tmhost-talk--reported (format "fault %s %s" (alist-get 'number object)
-                                      (alist-get 'name object))))
+                                          (alist-get 'name object))))
      ((and (equal (alist-get 'type object) "hello")
            (not (equal (alist-get 'protocol object) tmhost-talk-protocol)))
       (error "It speaks protocol %s" (alist-get 'protocol object)))

@@ -130,9 +130,9 @@ It has the session t, which completes."
                     (items . ["<svg>\u0001\u00e9</svg>"])))
          (reported (lambda (shown &rest items)
                      (tmhost-text-shown
-                  `((shown . ,shown)
-                    (output (tag . "verbatim") (kind . "format")
-                            (items . ,(apply #'vector items))))))))
+                      `((shown . ,shown)
+                        (output (tag . "verbatim") (kind . "format")
+                                (items . ,(apply #'vector items))))))))
     (should (equal (funcall reported "a\n{image/svg+xml:<svg>\\x01\u00e9</svg>}b"
                             "a\n" picture "b")
                    "a\n{image/svg+xml: 14 bytes}b"))
