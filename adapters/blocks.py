@@ -20,7 +20,7 @@ LONGEST = 8_000_000  # bytes of an answer; escapes may double them
 ROOM = 16_700_000  # bytes of what is in a block, which may have 16,777,216
 PIECE = 65_536  # bytes that are read at once
 SPARED = 0.1  # seconds of a line in which it isn't interrupted
-GRACE = 5.0  # seconds that an interpreter has for an interrupt at the end of its time; it ends behind two of them
+GRACE = 5.0  # seconds that an interpreter has for an interrupt at the end of its time; it ends after two of them
 NEVER = 1e6  # seconds
 PREVIEWS = os.environ.get("TMHOST_PARTIAL") == "1"  # whether what is said in a line is shown before its block is there
 LONGEST_PREVIEW = 4_000  # bytes that are shown at once, the last ones
@@ -86,7 +86,7 @@ def error(text: bytes) -> bytes:
 
 
 def without_surplus(parts: List[Part], before: bytes) -> List[Part]:
-    """The parts of an answer behind a text, whose pictures have LONGEST bytes at most, and fit into one block. In the place of one that would
+    """The parts of an answer after a text, whose pictures have LONGEST bytes at most, and fit into one block. In the place of one that would
     have more it is said so; none is cut."""
     others = [part.text for part in parts if not part.format.startswith(PICTURE)]
     left = min(LONGEST, ROOM - sum(len(escaped(text)) for text in (before, *others)))
@@ -130,8 +130,8 @@ def completions(root: str, names: Iterable[str]) -> bytes:
     """The block that says which of the names begin with the root, each without it; the first ones where there are many. What has other
     letters than names have is left out, since it could mean something in the block."""
     found = sorted(name[len(root):] for name in set(names) if name.startswith(root) and re.fullmatch(r"[\w.]+", name))[:MOST_COMPLETIONS]
-    told = " ".join(f'"{text}"' for text in [root, *found])
-    return block(b"scheme:", f"(tuple {told})".encode()) if found else NO_COMPLETIONS
+    reported = " ".join(f'"{text}"' for text in [root, *found])
+    return block(b"scheme:", f"(tuple {reported})".encode()) if found else NO_COMPLETIONS
 
 
 def write(data: bytes, descriptor: int = 1) -> None:
@@ -165,9 +165,9 @@ def lines(signals: Signals) -> Iterator[bytes]:
     waiting.register(0, select.POLLIN)
     waiting.register(signals.descriptor, select.POLLIN)
     while True:
-        line, end, behind = rest.partition(b"\n")
+        line, end, after = rest.partition(b"\n")
         if end:
-            rest = behind
+            rest = after
             yield line if line.startswith(REQUEST) else line.replace(LINE_SEPARATOR, b"\n")
         elif any(descriptor == 0 for descriptor, _ in waiting.poll()):
             piece = os.read(0, PIECE)
@@ -186,10 +186,10 @@ def serve(banner: bytes, answer: Answering, signals: Signals, complete: Answerin
     in front of the cursor of a request."""
     write(banner)
     for line in lines(signals):
-        told = complete(front_of(line)) if line.startswith(REQUEST) else answer(line)
-        if told is None:
+        reported = complete(front_of(line)) if line.startswith(REQUEST) else answer(line)
+        if reported is None:
             break
-        write(told)
+        write(reported)
 
 
 def new_name() -> bytes:
@@ -271,7 +271,7 @@ class Child:
 
     @contextlib.contextmanager
     def at_a_line(self, seconds: float = 0.0) -> Iterator[None]:
-        """While a line is evaluated, signals are passed on, and it is interrupted behind these seconds. What comes too late for a line is
+        """While a line is evaluated, signals are passed on, and it is interrupted after these seconds. What comes too late for a line is
         dropped."""
         self.spared_until = time.monotonic() + SPARED
         self.alarms = 0
@@ -306,7 +306,7 @@ class Child:
         waiting = select.poll()
         for descriptor in (self.output, self.its_end, self.signals.descriptor):
             waiting.register(descriptor, select.POLLIN)
-        waiting.register(1, 0)  # the end of its reader is told without being asked for
+        waiting.register(1, 0)  # the end of its reader is reported without being asked for
         until = time.monotonic() + seconds
         found: Set[int] = set()
         while not found:

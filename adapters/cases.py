@@ -1,6 +1,6 @@
 """Lines for each adapter with what their outputs are, as `show` prints them; `try` evaluates them.
 
-Of an output that begins with `..` it is what the output has somewhere. A line with True behind it is interrupted behind a while.
+Of an output that begins with `..` it is what the output has somewhere. A line with True after it is interrupted after a while.
 """
 import dataclasses
 from typing import Dict, List, Optional, Sequence, Tuple
@@ -8,6 +8,7 @@ from typing import Dict, List, Optional, Sequence, Tuple
 import gp_lines
 from completion_cases import COMPLETING, Completing
 from error_cases import ERRORS
+from gp_flag_lines import GP_NO_NUMBERS, GP_SECONDS, GP_TEXT, GP_TEXT_NO_NUMBERS
 import jupyter_lines
 import kernel_lines
 from gp_lines import MESSAGE, NO_INPUT, Line as Case, ones
@@ -24,7 +25,7 @@ def is_wanted(output: str, wanted: str) -> bool:
 class Trial:
     """What is tried of an adapter."""
 
-    words: str  # behind the folder of the adapters
+    words: str  # after the folder of the adapters
     program: str  # that has to be here, or a file
     leaving: str  # a line that ends it; empty where none does
     busy: str  # a line without an end
@@ -120,22 +121,6 @@ GP: List[Case] = [
     ("??sin", "..sin(x):\n\n   Sine of x. Note that"),
 ]
 
-GP_TEXT: List[Case] = [
-    ("1 + 1", "%1 = 2"), ("x^2 / 3 + 1", "%2 = 1/3*x^2 + 1"), ("[1, 2; 3, 4]", "%3 = \n[1 2]\n\n[3 4]"), ("default(output, 0)", ""),
-    ("[1, 2; 3, 4]", "%5 = [1,2;3,4]"), ('"a b"', '%6 = "a b"'), ('print("a"); 8', "a\n%7 = 8"), ("%1", "%8 = 2"), ("y = 5;", ""), ("{1 + 2", "%10 = 3"),
-    (ones(4_095), "%11 = 2048"), ("1/0", "..impossible inverse in gdiv: 0."), ("Strchr([2, 5, 27])", '%12 = "\\x02\\x05\\e"'),
-    ("while (1, )", "..user interrupt", True), ("y", "%13 = 5"), ("input()", "..a line has no input of its own"),
-    ("1 + 1\u20282 + 2;\u20283 + 3", "%14 = 2\n%16 = 6"), ("[1..3000]", "..2999,3000]"),
-    ("default(output, 3)", ""), ("2", "%19 = 2"), ("while (1, )", "..user interrupt", True), ("5", "%20 = 5"), ("default(output, 1)", ""), ("[1,\u2028 2]", "%22 = [1, 2]"),
-    ("1/0", "..impossible inverse in gdiv: 0."), ("6", "%23 = 6"), ("???determinant", '..\n\nSee also:\n  "Finite abelian groups"'),
-]
-
-GP_TEXT_NO_NUMBERS: List[Case] = [
-    ("1 + 1", "2"), ("[1, 2; 3, 4]", "\n[1 2]\n\n[3 4]"), ("default(output, 0)", ""), ("[1, 2; 3, 4]", "[1,2;3,4]"), ('"%5 = a"', '"%5 = a"'), ('print("%6 = 5"); 8', "%6 = 5\n8"),
-    ("%1", "2"), ("f(x) = x^2", "(x)->x^2"), ("1 + 1\u20282 + 2;\u20283 + 3", "2\n6"), ("1/0", "..impossible inverse in gdiv: 0."), ("default(output, 3)", ""),
-    ("2", "2"), ("while (1, )", "..user interrupt", True), ("5", "5"), ("%", "5"),
-]
-
 M2: List[Case] = [
     ("2 + 2", "4"), ("oo + 1", "5"), ("1 / 3 + x", "..no method for binary operator +"), ("oo", "5"), ("R = QQ[x, y]; ideal(x^2, y)", "        2\nideal (x , y)"),
     ("z = 7;", ""), ("z", "7"), ("1 / 0", "..division by zero"), ("(1 +", "..syntax error"), ('"a  b"', "a  b"), ("print 3", "3"), ("null", ""), ("", ""), ("-- a remark", ""),
@@ -171,28 +156,7 @@ MAXIMA_LATEX: List[Case] = [
     ("1 +", "..incorrect syntax"), ("", ""), ("integrate(y^n, y)", "..a line has no input of its own"), ("while true do 0", "..interrupt", True), ("a + 1", "{latex:$6$}"),
 ]
 
-# Values without their numbers, whose `%` and `%1` are gp's own.
-GP_NO_NUMBERS: List[Case] = [
-    ("1 + 1", "{latex:$2$}"),
-    ("% + 1", "{latex:$3$}"),
-    ("%1", "{latex:$2$}"),
-    ("[1, 2; 3, 4]", r"{latex:$\begin{pmatrix}1&2\\ 3&4\end{pmatrix}$}"),
-    ('"a b"', '"a b"'),
-    ('"%1 = 2"', '"%1 = 2"'),
-    ("f(x) = x^2", "(x)->x^2"),
-    ('print("a"); f(3)', "a\n{latex:$9$}"),
-    ("1/0", "  ***   at top-level: 1/0\n  ***                  ^--\n  *** _/_: impossible inverse in gdiv: 0."),
-    ("1 + 1\u20282 + 2", "{latex:$2$}\n{latex:$4$}"),
-    ("while (1, )", "..user interrupt", True),
-    ("f(4)", "{latex:$16$}"),
-    ("default(output, 3)", ""),
-    ("2", "{latex:$2$}"),
-    ("while (1, )", "..user interrupt", True),
-    ("5", "{latex:$5$}"),
-]
-
-# A line that takes longer than the seconds of its session ends by itself.
-GP_SECONDS: List[Case] = [("y = 5", r"{latex:$\%1 = 5$}"), ("while (1, )", "..user interrupt"), ("y + 1", r"{latex:$\%2 = 6$}")]
+# A line that takes longer than the seconds of its session ends by itself, as those of `gp_flag_lines.py`.
 PYTHON_SECONDS: List[Case] = [("y = 5", ""), ("while True: pass", "..KeyboardInterrupt"), ("y + 1", "6")]
 
 PYTHON: List[Case] = [
@@ -281,9 +245,9 @@ TEN_LINES = {
 }
 
 
-def ten_lines(name: str, call: str = "k(10)", said: str = "", told: str = "-5") -> List[Case]:
+def ten_lines(name: str, call: str = "k(10)", said: str = "", reported: str = "-5") -> List[Case]:
     """The function as one field, and its value."""
-    return [(TEN_LINES[name].replace("\n", "\u2028"), said), (call, told)]
+    return [(TEN_LINES[name].replace("\n", "\u2028"), said), (call, reported)]
 
 
 # From the first line to the second one of a pair nothing, or more than its own, is shown of a line.
@@ -388,9 +352,9 @@ TRIALS = {
     "prompted_python": by_prompted("python", "python3", "quit()", "while True: pass", PROMPTED_PYTHON + ten_lines("python")),
     "sh": by_prompted("sh", "bash", "exit", "while :; do :; done", SH + ten_lines("sh", "k 10")),
     "bc": by_prompted("bc", "bc", "quit", "while (1) a = a + 1", BC + ten_lines("bc")),
-    "octave": by_prompted("octave", "octave-cli", "quit", "while true, end", OCTAVE + ten_lines("octave", told="ans = -5")),
+    "octave": by_prompted("octave", "octave-cli", "quit", "while true, end", OCTAVE + ten_lines("octave", reported="ans = -5")),
     "octave_latex": by_prompted("octave --latex", "octave-cli", "quit", "while true, end", OCTAVE_LATEX),
-    "R": by_prompted("R", "R", "q()", "while (TRUE) 0", R + ten_lines("R", told="[1] -5")),
+    "R": by_prompted("R", "R", "q()", "while (TRUE) 0", R + ten_lines("R", reported="[1] -5")),
     "gap": by_prompted("gap", "gap", "quit;", "while true do od;", GAP + ten_lines("gap", said="function( n ) ... end")),
     "maxima": by_prompted("maxima", "maxima", "quit();", "while true do 0;", MAXIMA + ten_lines("maxima")),
     "maxima_latex": by_prompted("maxima --latex", "maxima", "quit();", "while true do 0;", MAXIMA_LATEX),

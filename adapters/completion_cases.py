@@ -11,7 +11,7 @@ NONE = '""'
 
 @dataclasses.dataclass(frozen=True)
 class Completing:
-    """What is asked of an adapter, behind a line."""
+    """What is asked of an adapter, after a line."""
 
     line: str
     cases: List[Case]
@@ -59,7 +59,7 @@ PYTHON: List[Case] = [
     ("Made.vis|", '"vis" "ible"'), ("made.vis|", '"vis" "ible"'), ("slots.|", '"" "left" "right"'), ("slots.left.meth|", '"meth" "od"'), ("slots.right.|", NONE), ("bad.|", NONE), ("Color.RE|", '"RE" "D"'), ("pair.fi|", '"fi" "rst"'),
 ]
 
-# A line makes names of every kind, and gp's own words of the same beginning stay behind them.
+# A line makes names of every kind, and gp's own words of the same beginning stay after them.
 GP_LINE = "\u2028".join([
     "alphabet = 5; alphabetic = [1, 2]; zz_top(t) = t^2; zz_arrow = t -> t; zz_sum += 1; zz_set = 3; x.zz_own = x -> 7",
     "zz_wide = (1 +", "2)", 'zz_text = "zz_inside"; if (zz_compared == 3, 1); zz_less <= 2; print("zz_printed")',
@@ -73,7 +73,7 @@ GP: List[Case] = [
     ("f(3).roo|", '"roo" "ts"'), ("v[1].roo|", '"roo" "ts"'), ("x.codi|", '"codi" "ff"'), ("x.et|", '"et" "a"'), ("x.a|", '"a" "1" "2" "3" "4" "6" "rea"'), ("x.|", '.."zkst"'), ("x.r1|", '"r1" ""'), ("x.ellini|", NONE), ("ellinit(x).dis|", '"dis" "c"'), ("x.no|", '"no" ""'),
 ]
 
-# Of a value behind a dot or a dollar nothing is told, since it would have to be computed.
+# Of a value after a dot or a dollar nothing is reported, since it would have to be computed.
 OCTAVE_LINE = "zz_top = 5; zz_alone = 1; zz_s.field = 1; function zz_made (), error ('run'), end"
 OCTAVE: List[Case] = [
     ("zz_|", '"zz_" "alone" "made" "s" "top"'), ("zz_t|", '"zz_t" "op"'), ("zz_t|op", '"zz_t" "op"'), ("x = zz_t|", '"zz_t" "op"'), ("1 + zz_m|", '"zz_m" "ade"'), ("fclos|", '"fclos" "e"'), ("zeros (fclos|", '"fclos" "e"'), ("1;\u2028fclos|\u20282", '"fclos" "e"'),

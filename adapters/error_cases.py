@@ -1,4 +1,4 @@
-"""Lines for each adapter, one behind the other in one session, and what of their answers is marked as an error; `try` evaluates them.
+"""Lines for each adapter, one after the other in one session, and what of their answers is marked as an error; `try` evaluates them.
 
 Of a text that begins with `..` it is what the error has somewhere. What only looks like an error, as it is printed or caught, is none.
 """

@@ -26,6 +26,6 @@ def pieces(text: bytes, form: bytes) -> Iterator[Part]:
     yield Part(text[end:].strip(b"\n"))
 
 
-def told(text: bytes, form: bytes) -> List[Part]:
+def reported(text: bytes, form: bytes) -> List[Part]:
     """A text, and the errors in it."""
     return list(pieces(text.strip(b"\n"), form))

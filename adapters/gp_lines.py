@@ -1,4 +1,4 @@
-"""Further lines for `adapters/gp`, one behind the other in one session, and what their outputs are.
+"""Further lines for `adapters/gp`, one after the other in one session, and what their outputs are.
 
 They are what `raw_gp` evaluates by gp's own mode, too, each in a session of its own.
 """

@@ -20,8 +20,8 @@ def word_at_end(text: str) -> Tuple[bool, str]:
     return bool(dot), word if not word[:1].isdigit() else ""
 
 
-def as_text(told: bytes) -> str:
-    return told.decode("utf-8", "replace")
+def as_text(reported: bytes) -> str:
+    return reported.decode("utf-8", "replace")
 
 
 class Names:
@@ -38,8 +38,8 @@ class Names:
             if len(names) < MOST:
                 names.add(name.decode())
 
-    def behind(self, front: bytes, functions: bytes, members: bytes, made: bytes) -> Tuple[str, Set[str]]:
-        """The word at the end of a text, and the names that may stand there; what gp has told to the questions comes behind the text."""
+    def after(self, front: bytes, functions: bytes, members: bytes, made: bytes) -> Tuple[str, Set[str]]:
+        """The word at the end of a text, and the names that may stand there; what gp has reported to the questions comes after the text."""
         is_member, word = word_at_end(as_text(front))
         if is_member:
             found = {name for group in MEMBER.findall(as_text(members)) for name in group.replace(" ", "").split(",")}

@@ -44,16 +44,16 @@ class Part(NamedTuple):
 
 def of_value(data: Dict[str, Any], display: str, is_text: bool) -> Part:
     """The richest form of a value that is shown: a formula, a picture, or its text."""
-    told = {name: one if isinstance(one, str) else "".join(one) for name, one in data.items() if isinstance(one, (str, list))}
-    formula = FORMULA.fullmatch(told.get("text/latex", ""))
+    reported = {name: one if isinstance(one, str) else "".join(one) for name, one in data.items() if isinstance(one, (str, list))}
+    formula = FORMULA.fullmatch(reported.get("text/latex", ""))
     if formula and not is_text:
         return Part("$" + " ".join(formula[2].replace("\\displaystyle", "").split()) + "$", "latex", display=display)
-    name = next((name for name in PICTURES if name in told), "")
-    if name and not is_text and len(told[name]) < blocks.LONGEST:
+    name = next((name for name in PICTURES if name in reported), "")
+    if name and not is_text and len(reported[name]) < blocks.LONGEST:
         has_base64 = name != "image/svg+xml"
-        picture = "".join(told[name].split()) if has_base64 else pictures.bare(as_bytes(told[name])).decode()
+        picture = "".join(reported[name].split()) if has_base64 else pictures.bare(as_bytes(reported[name])).decode()
         return Part(picture, name + ";base64" * has_base64, display=display)
-    return Part(folded(next((told[kind] for kind in TEXTS if kind in told), f"[{', '.join(data)}]")), display=display)
+    return Part(folded(next((reported[kind] for kind in TEXTS if kind in reported), f"[{', '.join(data)}]")), display=display)
 
 
 class Output:
@@ -86,13 +86,13 @@ class Output:
 
     def add_error(self, content: Message) -> None:
         """An error. One that was printed already isn't shown twice."""
-        told = folded("\n".join(content.get("traceback", ())) or f"{content.get('ename', 'Error')}: {content.get('evalue', '')}").strip("\n")
-        if self.parts and self.parts[-1].is_printed and (printed := folded(self.parts[-1].text).rstrip("\n")).endswith(told):
-            self.parts[-1] = Part(printed.removesuffix(told), is_printed=True)
-        self.add(Part(told, ERROR))
+        reported = folded("\n".join(content.get("traceback", ())) or f"{content.get('ename', 'Error')}: {content.get('evalue', '')}").strip("\n")
+        if self.parts and self.parts[-1].is_printed and (printed := folded(self.parts[-1].text).rstrip("\n")).endswith(reported):
+            self.parts[-1] = Part(printed.removesuffix(reported), is_printed=True)
+        self.add(Part(reported, ERROR))
 
     def replace(self, display: str, data: Dict[str, Any]) -> None:
-        """Shows another value where a named one is shown. Where it would be too long, all that is shown is cut anew."""
+        """Shows another value where a named one is shown. Where it would be too long, all that is shown is cut again."""
         new = of_value(data, display, self.is_text)
         parts, is_to_be_cleared = self.parts, self.is_to_be_cleared
         self.clear()
@@ -118,7 +118,7 @@ class Output:
                 self.clear()
 
     def take_reply(self, reply: Message) -> bool:
-        """What the reply to a line shows, as its help, and offers as the next input; whether the kernel ends by it. An error that was told by the
+        """What the reply to a line shows, as its help, and offers as the next input; whether the kernel ends by it. An error that was reported by the
         reply alone is shown, too."""
         is_end = False
         if reply.get("status") == "error" and not any(part.format == ERROR for part in self.parts):

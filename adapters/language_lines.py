@@ -1,5 +1,5 @@
 """Lines for the interpreters of languages.py, as those of cases.py and odd_lines.py: with what their outputs are, and what could take what isn't
-theirs. A numbered line stands behind each, and its answer."""
+theirs. A numbered line stands after each, and its answer."""
 from typing import Dict, List, NamedTuple, Tuple
 
 from gp_lines import Line
@@ -17,9 +17,9 @@ class Lines(NamedTuple):
     odd: List[str]
 
 
-def called(text: str, call: str, said: str = "", told: str = "-5") -> List[Line]:
+def called(text: str, call: str, said: str = "", reported: str = "-5") -> List[Line]:
     """A function of several lines as one field, and its value at 10."""
-    return [(text.replace("\n", "\u2028"), said), (call, told)]
+    return [(text.replace("\n", "\u2028"), said), (call, reported)]
 
 
 NODE: List[Line] = [

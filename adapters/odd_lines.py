@@ -1,5 +1,5 @@
 """Lines that could take what isn't theirs, for each adapter: they read, aren't finished, send the output elsewhere, ask for help, or write much
-or no line's end. `try` evaluates each with a numbered line behind it, whose answer must be its number.
+or no line's end. `try` evaluates each with a numbered line after it, whose answer must be its number.
 """
 from typing import Dict, List
 

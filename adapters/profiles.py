@@ -64,13 +64,13 @@ R_LINE = r"""local({
     put("stdin", no_stdin, baseenv())
     put("scan", without_file, baseenv())
     unlockBinding(".Last.value", baseenv())
-    is_own <- function(told) identical(conditionCall(told), quote(eval(one, globalenv())))
-    without_call <- function(told) {
-        told["call"] <- list(NULL)
-        told
+    is_own <- function(reported) identical(conditionCall(reported), quote(eval(one, globalenv())))
+    without_call <- function(reported) {
+        reported["call"] <- list(NULL)
+        reported
     }
-    parsed <- function(text) tryCatch(parse(text = text, keep.source = TRUE), error = function(told) {
-        words <- sub("^<text>:[0-9]+:[0-9]+: ", "", conditionMessage(told))
+    parsed <- function(text) tryCatch(parse(text = text, keep.source = TRUE), error = function(reported) {
+        words <- sub("^<text>:[0-9]+:[0-9]+: ", "", conditionMessage(reported))
         stop(words, call. = FALSE)
     })
     fault <- Sys.getenv("TMHOST_ERROR")
@@ -81,22 +81,22 @@ R_LINE = r"""local({
     }
     line <- function(text) {
         faults <<- 0
-        withCallingHandlers(evaluated(text), error = function(told) tell_fault(1 + faults %% 2))
+        withCallingHandlers(evaluated(text), error = function(reported) tell_fault(1 + faults %% 2))
         if (faults %% 2) tell_fault(1)
         invisible(.Last.value)
     }
     evaluated <- function(text) {
         on.exit(options(echo = FALSE, error = if (is.null(getOption("error"))) expression(NULL) else getOption("error")))
         for (one in parsed(text)) {
-            told <- withCallingHandlers(
+            reported <- withCallingHandlers(
                 withVisible(eval(one, globalenv())),
-                error = function(told) if (is_own(told)) stop(without_call(told)),
-                warning = function(told) if (is_own(told)) {
-                    warning(without_call(told))
+                error = function(reported) if (is_own(reported)) stop(without_call(reported)),
+                warning = function(reported) if (is_own(reported)) {
+                    warning(without_call(reported))
                     invokeRestart("muffleWarning")
                 })
-            assign(".Last.value", told$value, envir = baseenv())
-            if (told$visible) print(told$value)
+            assign(".Last.value", reported$value, envir = baseenv())
+            if (reported$visible) print(reported$value)
         }
     }
     names <- function(word) {
@@ -209,13 +209,13 @@ GAP_LINE = """
         if is_shown then View(value); Print("\\n"); fi;
     end);
     BindGlobal("tmhostLine", function(text)
-        local stream, told, at;
+        local stream, reported, at;
         stream := InputTextString(text);
         repeat
-            told := READ_COMMAND_REAL(stream, false);
+            reported := READ_COMMAND_REAL(stream, false);
             at := PositionStream(stream);
-            if Length(told) > 1 then tmhostShow(told[2], at < 2 or text{[at - 1, at]} <> ";;"); fi;
-        until not told[1] or IsEndOfStream(stream);
+            if Length(reported) > 1 then tmhostShow(reported[2], at < 2 or text{[at - 1, at]} <> ";;"); fi;
+        until not reported[1] or IsEndOfStream(stream);
     end);
     BindGlobal("tmhostNoInput", function(arg) Error("a line has no input of its own"); end);
     BindGlobal("tmhostExec", function(arg)
@@ -245,9 +245,9 @@ class Profile:
     begins: Tuple[str, ...] = ()  # lines that it is sent first
     statement: Callable[[bytes], bytes] = as_it_is  # what it is sent for a line
     noise: bytes = b""  # what of an answer is left out: its own prompts, where they can't be turned off
-    ends: bytes = b"\n"  # what stands behind the marker
+    ends: bytes = b"\n"  # what stands after the marker
     pictures: Tuple[str, ...] = ()  # lines that make it draw to the folder FOLDER
-    before: str = ""  # what it is sent before a line, and behind it, where it does
+    before: str = ""  # what it is sent before a line, and after it, where it does
     after: str = ""
     closing: str = ""  # the same, before the marker in its line, so that a line that takes one for its input takes both
     latex: Tuple[str, ...] = ()  # lines that make it write a value as MARK, its TeX and MARK, a name of random bits
@@ -263,9 +263,9 @@ class Profile:
     def refuses(self, line: bytes) -> bool:
         return bool(re.search(self.input, line))
 
-    def told(self, text: bytes) -> List[Part]:
+    def reported(self, text: bytes) -> List[Part]:
         """A text, and the errors in it."""
-        return errors.told(text, self.errors)
+        return errors.reported(text, self.errors)
 
 
 PROFILES = {

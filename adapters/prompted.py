@@ -3,11 +3,11 @@
 
     prompted.py PROFILE [--latex] [--no-pictures]
 
-It starts the interpreter of the profile, sends it each line of its own input, and behind each line one that prints a marker. What comes
-before the marker is the answer, on as many lines as it has, messages of errors among it, which are blocks of their own where they can be told. Each line has a marker of its own, which is made
+It starts the interpreter of the profile, sends it each line of its own input, and after each line one that prints a marker. What comes
+before the marker is the answer, on as many lines as it has, messages of errors among it, which are blocks of their own where they can be distinguished. Each line has a marker of its own, which is made
 from random bytes and stands in no command as a whole, so that neither an answer nor an echo of a command has it, and one that comes late
 ends no other line. Where a line has taken its marker for its input, or its own end isn't there, it is answered by an error. With `--latex`
-values are formulas, blocks of the format `latex`, where the profile has a way to write them. What a line draws stands behind its text, as blocks of
+values are formulas, blocks of the format `latex`, where the profile has a way to write them. What a line draws stands after its text, as blocks of
 pictures, where the profile knows how, but for `--no-pictures`. `--help` prints the names of the profiles.
 """
 import argparse
@@ -27,9 +27,9 @@ import waiting
 from languages import PROFILES
 from profiles import COMMANDS, Profile
 
-PATIENCE = 0.25  # seconds without a word behind which it is looked whether a line waits for input; they double each time
+PATIENCE = 0.25  # seconds without a word after which it is looked whether a line waits for input; they double each time
 LONGEST_PATIENCE = 2.0
-MARKS = 2  # markers that a line is sent that takes them, before it is interrupted, and behind that
+MARKS = 2  # markers that a line is sent that takes them, before it is interrupted, and after that
 READERS = 20  # programs that wait for input in one line, and are ended
 OLD_MARKS = 100  # markers that were lost, and may come yet
 NO_INPUT = b"a line has no input of its own"
@@ -85,7 +85,7 @@ class Interpreter(blocks.Child):
     def __init__(self, profile: Profile, is_latex: bool, folder: str, signals: Optional[blocks.Signals] = None) -> None:
         self.profile, self.folder = profile, folder
         self.begins = [*profile.begins, *(profile.latex if is_latex else ()), *(profile.pictures if folder else ())]
-        self.mark = blocks.new_name()  # stands before and behind each formula
+        self.mark = blocks.new_name()  # stands before and after each formula
         self.fault = blocks.new_name()  # stands before an error, where the profile makes it
         self.lost: List[bytes] = []  # the markers that were lost
         theirs, self.commands = os.pipe()
@@ -118,7 +118,7 @@ class Interpreter(blocks.Child):
         return [*before, self.profile.statement(line), *after]
 
     def send(self, *lines: bytes) -> Mark:
-        """Sends lines, and behind them one that prints a new marker."""
+        """Sends lines, and after them one that prints a new marker."""
         mark = new_mark()
         closing = self.filled(self.profile.closing) if self.folder else b""
         marks = closing + self.profile.marks.format(mark.first, mark.second).encode()
@@ -150,7 +150,7 @@ class Interpreter(blocks.Child):
 
     def give_no_input(self, found: Set[int], marks: List[Mark], ended: Set[int]) -> bool:
         """Ends the programs that a line has started and that wait for input. Where it is the interpreter that waits, it has taken the marker
-        for the input of the line, and is sent another one, behind some of them an interrupt before it. False where nothing has helped."""
+        for the input of the line, and is sent another one, after some of them an interrupt before it. False where nothing has helped."""
         others = found - {self.process.pid}
         ended |= others
         for process in others:
@@ -190,7 +190,7 @@ class Interpreter(blocks.Child):
         texts = said.split(self.mark)
         if len(texts) % 2 == 0:
             texts[-2:] = [b"".join(texts[-2:])]
-        return [part for at, text in enumerate(texts) for part in ([formula(text)] if at % 2 else self.profile.told(text))]
+        return [part for at, text in enumerate(texts) for part in ([formula(text)] if at % 2 else self.profile.reported(text))]
 
     def answer(self, line: bytes) -> Optional[Parts]:
         """The parts of the answer to a line; None where it has ended."""
@@ -200,7 +200,7 @@ class Interpreter(blocks.Child):
             return self.ask(*self.around(line), preview=blocks.Preview(self.profile.noise)) if self.drop_what_was_said() else None
 
     def complete(self, front: bytes) -> Optional[bytes]:
-        """The block that says what can stand behind a text; None where it has ended."""
+        """The block that says what can stand after a text; None where it has ended."""
         text = front.decode("utf-8", "replace")
         found = re.search(self.profile.word, text, re.ASCII)
         if not found or not self.profile.names or not text[: found.start()][-1:].isascii():  # a letter that isn't asked for belongs to the word
@@ -233,7 +233,7 @@ class Session:
         return None if parts is None else blocks.answer([*parts, *(pictures.drawn(self.folder) if self.folder else ())], self.profile.prompt)
 
     def complete(self, front: bytes) -> Optional[bytes]:
-        """The block that says what can stand behind a text; None where the interpreter has ended."""
+        """The block that says what can stand after a text; None where the interpreter has ended."""
         try:
             return self.interpreter.complete(front)
         except Stuck:

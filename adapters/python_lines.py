@@ -73,7 +73,7 @@ class Lines:
 
     def tried(self, work: Callable[[], Result]) -> Optional[Result]:
         """What some work gives; None where it ends by an error, or by an interrupt."""
-        with contextlib.suppress(KeyboardInterrupt):  # one that comes while an error is told
+        with contextlib.suppress(KeyboardInterrupt):  # one that comes while an error is reported
             try:
                 self.is_at_a_line = True
                 result = work()
@@ -107,19 +107,19 @@ def shown_of(value: Any) -> List[Shown]:
     return [("picture", picture)] if picture else [("text", as_bytes(repr(value)))]
 
 
-def without_own_frames(told: traceback.TracebackException) -> None:
-    """Leaves out the adapter's own frames, of the errors behind an error, too."""
-    told.stack[:] = [frame for frame in told.stack if frame.filename not in (__file__, tmhost_figures.__file__)]
-    for behind in (told.__cause__, told.__context__):
-        if behind:
-            without_own_frames(behind)
+def without_own_frames(reported: traceback.TracebackException) -> None:
+    """Leaves out the adapter's own frames, of the errors after an error, too."""
+    reported.stack[:] = [frame for frame in reported.stack if frame.filename not in (__file__, tmhost_figures.__file__)]
+    for after in (reported.__cause__, reported.__context__):
+        if after:
+            without_own_frames(after)
 
 
 def text_of(error: BaseException) -> str:
     is_of_parser = isinstance(error, SyntaxError) and (error.filename or "").startswith("<line ")
-    told = traceback.TracebackException(type(error), error, None if is_of_parser else error.__traceback__)
-    without_own_frames(told)
-    return "".join(told.format())
+    reported = traceback.TracebackException(type(error), error, None if is_of_parser else error.__traceback__)
+    without_own_frames(reported)
+    return "".join(reported.format())
 
 
 def as_bytes(text: str, longest: int = LONGEST) -> bytes:

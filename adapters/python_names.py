@@ -9,7 +9,7 @@ import re
 import types
 from typing import Any, Iterable, Iterator, List, Mapping, Tuple
 
-CHAIN = re.compile(r"((?:[^\W\d]\w*\s*\.\s*)*)(\w*)\Z")  # names with a dot behind each, and the word behind them
+CHAIN = re.compile(r"((?:[^\W\d]\w*\s*\.\s*)*)(\w*)\Z")  # names with a dot after each, and the word after them
 LONGEST = 200  # letters of a name that is offered
 OF_C = (types.GetSetDescriptorType, types.MemberDescriptorType)  # attributes that C code gives
 DICT_OF_CLASS = vars(type)["__dict__"]
@@ -47,7 +47,7 @@ def attribute(value: Any, name: str) -> Any:
 
 
 def candidates(chain: str, names: Mapping[str, Any]) -> List[Any]:
-    """What may stand behind names with a dot behind each, or where there are none."""
+    """What may stand after names with a dot after each, or where there are none."""
     first, *others = [name.strip() for name in chain.split(".")[:-1]] or [""]
     if not first:
         return [*keyword.kwlist, *list(names), *list(vars(builtins))]
@@ -66,7 +66,7 @@ def offered(names: Iterable[Any], word: str) -> Iterator[str]:
 
 
 def completed(text: str, names: Mapping[str, Any]) -> Tuple[str, str]:
-    """The word at the end of a text, and the names that begin with it; none where there is neither a word nor a dot behind a name."""
+    """The word at the end of a text, and the names that begin with it; none where there is neither a word nor a dot after a name."""
     found = CHAIN.search(text)
     chain, word = (found[1], found[2]) if found else ("", "")
     is_of_unknown = found is not None and text[:found.start()].rstrip().endswith(".")  # as of a call

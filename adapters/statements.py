@@ -22,7 +22,7 @@ CLOSES = {b"(": b")", b"[": b"]", b"{": b"}"}
 
 def closing(text: bytes, strings: bytes, comments: bytes) -> bytes:
     """What closes the string, the comment and the brackets that a text leaves open, by patterns of strings and of comments up to the end of
-    their line, behind which it stands."""
+    their line, after which it stands."""
     token = rb"(?s:%b)|/\*(?s:.*?)\*/|(?:%b)[^\n]*|/\*|[][(){}\"]" % (strings, comments)
     ends = [b""]
     for found in re.findall(token, text):
@@ -44,7 +44,7 @@ def in_sh(line: bytes) -> bytes:
 
 
 def in_bc(line: bytes) -> bytes:
-    """An empty text stands behind it, for what a condition without its statement takes."""
+    """An empty text stands after it, for what a condition without its statement takes."""
     return line and line + (b"\n" if line.endswith(b"\\") else b"") + closing(line, rb'"[^"]*"', b"#") + b'\n""'
 
 

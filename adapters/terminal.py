@@ -22,7 +22,7 @@ BETWEEN_LINES = re.compile(r"\x1b(?:[78M]|\[[\d;]*[ABEFJHdfsu])")
 PLAIN = r"[ -~\u00a0-\u02ff\u2190-\u2319\u2500-\u25fc\u2800-\u28ff]"  # a column each, as in bars
 BAR = re.compile(rf"(?:{PLAIN}|\r|\x1b\[0?K)*")
 LONGEST_BAR = 4_096
-ERASES_BEHIND = re.compile(r"\x1b\[0?K")  # nothing, where the cursor is at the end
+ERASES_AFTER = re.compile(r"\x1b\[0?K")  # nothing, where the cursor is at the end
 
 Cells = List[str]  # what stands in each column of a line; what is wider than one is followed by empty ones
 
@@ -182,7 +182,7 @@ class Screen:
             self.shift(letter, count)
 
     def erase(self, letter: str, what: int) -> None:
-        """Erases the line or all, behind the cursor, before it, or both."""
+        """Erases the line or all, after the cursor, before it, or both."""
         line, column = self.line(), self.at()
         if what == 0 or what >= 2:
             line.put(column, [], max(0, len(line.cells) - column))
@@ -231,16 +231,16 @@ def bar(states: List[str]) -> str:
     """What is seen of a bar, each of whose states is written over the one before it."""
     seen = ""
     for state in states:
-        first, *behind = ERASES_BEHIND.split(state)
-        seen = first + ("" if behind else seen[len(first):])
-        seen += "".join(behind)
+        first, *after = ERASES_AFTER.split(state)
+        seen = first + ("" if after else seen[len(first):])
+        seen += "".join(after)
     return seen.rstrip(" ")
 
 
 def folded_line(line: str) -> str:
     """A line that no other one writes over."""
     if "\r" not in line and "\b" not in line:
-        bare = ERASES_BEHIND.sub("", line)
+        bare = ERASES_AFTER.sub("", line)
         if "\x1b" not in bare:
             return bare
     elif "\b" not in line and BAR.fullmatch(line):

@@ -96,7 +96,7 @@ class Group:
         self._node(parsed(data))
 
     def _bare_prompt(self, data: bytes) -> bytes:
-        """Takes a prompt that stands outside of blocks; what comes behind it."""
+        """Takes a prompt that stands outside of blocks; what comes after it."""
         self.prompt_begun, end, rest = (self.prompt_begun + data).partition(b"\x05")
         if end:
             self.prompt, self.is_prompt_next = plain_prompt(self.prompt_begun), False
@@ -128,7 +128,7 @@ class Group:
         self.parts.append(Part(text))
 
     def answer(self, prompt: bytes, word: bytes = b"") -> bytes:
-        """All that belongs to the line as one block, with a word behind it."""
+        """All that belongs to the line as one block, with a word after it."""
         parts = [part if part.format else Part(part.text.strip(b"\n\x00")) for part in [*self.parts, Part(word)]]
         return blocks.answer([part for part in parts if part.text.strip()], prompt)
 

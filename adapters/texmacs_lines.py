@@ -1,4 +1,4 @@
-"""Lines for the plugins of TeXmacs, with what their outputs are; as those in `cases.py`. Behind each stands a numbered line, too."""
+"""Lines for the plugins of TeXmacs, with what their outputs are; as those in `cases.py`. After each stands a numbered line, too."""
 from typing import Dict, List, NamedTuple
 
 from gp_lines import Line

@@ -13,8 +13,8 @@ PLUGINS = "PLUGINS"  # for that of its plugins
 MARK, SIZE = b"MARK", b"SIZE"  # in a request stand for a name that is nowhere else, and its length
 ASKED_OF_SCILAB = b"mprintf('%sverbatim:MARK%s', ascii(2), ascii(5))\n"
 COMPLETES = b'\x10(complete "MARK" SIZE)\n'
-BEHIND = 0.2  # seconds behind the end of an answer in which more of it may come
-SETTLED = 1.0  # seconds behind its greeting
+AFTER = 0.2  # seconds after the end of an answer in which more of it may come
+SETTLED = 1.0  # seconds after its greeting
 # Where its plugins and programs are, in the order in which they are looked for.
 ROOTS = ("/usr/share/texmacs", "/usr/share/texmacs/TeXmacs", "/usr/local/share/TeXmacs", "/usr/share/TeXmacs")
 BINS = ("/usr/libexec/*/texmacs/bin", "/usr/libexec/*/*/texmacs/bin", "/usr/lib/texmacs/*/bin", "/usr/lib/*/texmacs/bin", "/usr/local/libexec/TeXmacs/bin")
@@ -55,7 +55,7 @@ class Plugin:
     begins: str = "prompt"
     skips: bool = False
     needs: str = ""  # the program that it stands on
-    request: bytes = b""  # what is sent behind an input, whose answer has the MARK
+    request: bytes = b""  # what is sent after an input, whose answer has the MARK
     heeds: bool = True  # an interrupt; one that doesn't ends by it
     ready: bytes = b""  # a pattern of the prompt at which it waits for a new input, and for no answer or rest of one
 
@@ -108,8 +108,8 @@ def words_of(name: str) -> List[str]:
     root = root_folder()
     words = [word.replace(PLUGINS, root + "/plugins").replace(BIN, bin_folder(root)) for word in KNOWN[name].words]
     if name == "maxima":
-        told = subprocess.run(["maxima", "--list-avail"], stdout=subprocess.PIPE, stderr=subprocess.DEVNULL).stdout.decode()
-        found = re.search(r"version ([^,]*), lisp (\S+)", told)
+        reported = subprocess.run(["maxima", "--list-avail"], stdout=subprocess.PIPE, stderr=subprocess.DEVNULL).stdout.decode()
+        found = re.search(r"version ([^,]*), lisp (\S+)", reported)
         words = [words[0], *(found.groups() if found else ())]
     return words
 

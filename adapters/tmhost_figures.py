@@ -88,8 +88,8 @@ def picture_of(value: Any) -> Optional[bytes]:
         close(value)
         return bytes_of(value)
     for name in ("_repr_svg_", "_repr_png_"):
-        told = getattr(value, name, lambda: None)
-        picture = told() if callable(told) else None
+        reported = getattr(value, name, lambda: None)
+        picture = reported() if callable(reported) else None
         if isinstance(picture, str):
             return picture.encode("utf-8", "backslashreplace")
         if isinstance(picture, bytes):

@@ -11,8 +11,8 @@ NONE = b"0x0"
 
 def session_of(process: int) -> int:
     """The session that a process belongs to, or 0 where it has just ended."""
-    with contextlib.suppress(OSError), open(f"/proc/{process}/stat", "rb") as told:
-        return int(told.read().rpartition(b")")[2].split()[3])
+    with contextlib.suppress(OSError), open(f"/proc/{process}/stat", "rb") as reported:
+        return int(reported.read().rpartition(b")")[2].split()[3])
     return 0
 
 
@@ -33,8 +33,8 @@ def file_read(number: bytes, words: List[bytes]) -> Optional[int]:
 def reads(process: int, files: Collection[str]) -> bool:
     """Whether a thread of the process waits for something to read in one of these files, so that there is nothing in it."""
     for thread in os.listdir(f"/proc/{process}/task"):
-        with contextlib.suppress(FileNotFoundError, ProcessLookupError), open(f"/proc/{process}/task/{thread}/syscall", "rb") as told:
-            number, *words = told.read().split()
+        with contextlib.suppress(FileNotFoundError, ProcessLookupError), open(f"/proc/{process}/task/{thread}/syscall", "rb") as reported:
+            number, *words = reported.read().split()
             file = file_read(number, words)
             if file is not None and os.readlink(f"/proc/{process}/fd/{file}") in files:
                 return True

@@ -1,4 +1,4 @@
-"""Runs the unittest tests of a folder: `unit_tests.py FOLDER [TOP]`. Behind what unittest tells stands a line `skipped: ..` for each class of
+"""Runs the unittest tests of a folder: `unit_tests.py FOLDER [TOP]`. After what unittest tells stands a line `skipped: ..` for each class of
 tests that was left out, with the reason, and a line `failed: ..` for each test that failed. `clients/test` gathers these lines."""
 
 import collections

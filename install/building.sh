@@ -62,7 +62,7 @@ fail_by_the_log() {
 # TELL COMMAND ..
 #
 # The command has a process group of its own, all of which ends with this script, however that ends. A watcher in that group reads from a
-# pipe that this script alone holds open, so that it is told even of a kill -9. It then removes the folder `room`, too, where there is one.
+# pipe that this script alone holds open, so that it hears even of a kill -9. It then removes the folder `room`, too, where there is one.
 run_and_tell() {
     local tell=$1 pipe held watched builder status=0
     shift

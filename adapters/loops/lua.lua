@@ -1,4 +1,4 @@
--- Evaluates lines for prompted.py: one in double quotes is a statement, with \n for its line ends, one behind ? a word whose names are printed,
+-- Evaluates lines for prompted.py: one in double quotes is a statement, with \n for its line ends, one after ? a word whose names are printed,
 -- another one the halves of a marker. They come by 3. Lua turns SIGINT into an error in what it runs, once for each of its options -e: so this
 -- returns at an interrupt, and the next option goes on.
 local commands, own, fault = assert(io.open("/dev/fd/3")), io.stdout, os.getenv("TMHOST_ERROR")
@@ -8,11 +8,11 @@ local KEYWORDS = "and break do else elseif end false for function goto if in loc
 own:setvbuf("no")
 arg = nil
 
-local function told(wrong)
+local function plain(wrong)
     if type(wrong) == "string" or type(wrong) == "number" then return tostring(wrong) end
     local meta = getmetatable(wrong)
-    local is_told, text = pcall(tostring, wrong)
-    if type(meta) == "table" and meta.__tostring and is_told then return text end
+    local is_text, text = pcall(tostring, wrong)
+    if type(meta) == "table" and meta.__tostring and is_text then return text end
     return "(error object is a " .. type(wrong) .. " value)"
 end
 
@@ -43,7 +43,7 @@ local function answer(text)
     local is_done = false
     if line then is_done, wrong = pcall(function() show(line()) end) end
     if is_done then return true end
-    local text = gsub(told(wrong), "^[^\n]*/lua%.lua:%d+: ", "")
+    local text = gsub(plain(wrong), "^[^\n]*/lua%.lua:%d+: ", "")
     own:write(fault, text, "\n")
     return not find(text, "interrupted!$")
 end

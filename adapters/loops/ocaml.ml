@@ -10,12 +10,12 @@ let tmhost_loop () =
   let answer text =
     let written = open_out file in
     output_string written (text ^ "\n;;"); close_out written;
-    let told = Buffer.create 80 in
-    let out = Format.formatter_of_buffer told in
+    let said = Buffer.create 80 in
+    let out = Format.formatter_of_buffer said in
     let is_good = try Toploop.use_file out file with Sys.Break -> Format.fprintf out "Interrupted.@."; false in
     Format.pp_print_flush out (); Format.print_flush (); flush_all ();
-    let told = String.trim (Str.global_replace of_file "" (Buffer.contents told)) in
-    if told <> "" then Printf.fprintf own "%s%s\n%!" (if is_good then "" else Sys.getenv "TMHOST_ERROR") told in
+    let said = String.trim (Str.global_replace of_file "" (Buffer.contents said)) in
+    if said <> "" then Printf.fprintf own "%s%s\n%!" (if is_good then "" else Sys.getenv "TMHOST_ERROR") said in
   let unescaped text =
     let plain = Buffer.create 80 in
     let rec loop at = if at < String.length text then

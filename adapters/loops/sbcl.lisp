@@ -16,7 +16,7 @@
                (incf at)))))
 
 ;; What is said of the end of a text, or of the empty input, names a stream by its address.
-(defun told (condition)
+(defun described (condition)
   (typecase condition
     (sb-sys:interactive-interrupt "interrupted")
     (sb-int:simple-reader-error (apply #'format nil (simple-condition-format-control condition) (simple-condition-format-arguments condition)))
@@ -25,7 +25,7 @@
 
 (defun ended-by (condition)
   (fresh-line *own*)
-  (format *own* "~A~S: ~A~%" (sb-ext:posix-getenv "TMHOST_ERROR") (type-of condition) (told condition)))
+  (format *own* "~A~S: ~A~%" (sb-ext:posix-getenv "TMHOST_ERROR") (type-of condition) (described condition)))
 
 ;; What comes to the debugger ends the line; between lines an interrupt is nothing.
 (defun in-place-of-debugger (condition hook)

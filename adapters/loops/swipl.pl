@@ -14,7 +14,7 @@ main :-
 lines(Commands) :-
     catch(read_line_to_string(Commands, Line), _, fail), !,
     (   Line == end_of_file -> halt
-    ;   catch(line(Line), Error, told(Error)), flush_output(user_output), lines(Commands)
+    ;   catch(line(Line), Error, reported(Error)), flush_output(user_output), lines(Commands)
     ).
 lines(Commands) :- lines(Commands).
 
@@ -38,7 +38,7 @@ answer(Text) :-
     ;   true
     ).
 
-% Tells a solution, and fails for the next one; succeeds at the last that is told.
+% Tells a solution, and fails for the next one; succeeds at the last that is reported.
 deterministic_end(Names, Count, Most) :-
     arg(1, Count, Before), Now is Before + 1, nb_setarg(1, Count, Now),
     include(is_bound, Names, Bound), solution(Bound),
@@ -52,8 +52,8 @@ solution(Bound0) :-
     maplist(shown, Bound, Shown), atomic_list_concat(Shown, ', ', Text), format(user_output, "~w.~n", [Text]).
 shown(Name=Value, Text) :- format(atom(Text), "~w = ~W", [Name, Value, [quoted(true), numbervars(true), portray(true), spacing(next_argument)]]).
 
-told(unwind(halt(Status))) :- !, halt(Status).
-told(Error) :-
+reported(unwind(halt(Status))) :- !, halt(Status).
+reported(Error) :-
     getenv('TMHOST_ERROR', Fault), flush_output(user_output),
     message_to_codes_(Error, Text), format(user_output, "~w~w~n", [Fault, Text]).
 message_to_codes_(Error, Text) :- message_to_lines(Error, Text), !.

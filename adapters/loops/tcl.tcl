@@ -1,4 +1,4 @@
-# Evaluates lines for prompted.py: one in double quotes is a statement, with \n for its line ends, one behind ? a word whose names are printed,
+# Evaluates lines for prompted.py: one in double quotes is a statement, with \n for its line ends, one after ? a word whose names are printed,
 # another one the halves of a marker. They come by 3. Users give `puts` another meaning, and `chan puts` stays.
 namespace eval ::tmhost {
     encoding system utf-8

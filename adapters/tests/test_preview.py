@@ -20,22 +20,22 @@ def said(lines: List[bytes], partial: Optional[str]) -> List[bytes]:
     words = [sys.executable, PYTHON, "--no-pictures"]
     with subprocess.Popen(words, stdin=subprocess.PIPE, stdout=subprocess.PIPE, env={**room, **({"TMHOST_PARTIAL": partial} if partial else {})}) as ran:
         assert ran.stdin and ran.stdout
-        told = [block(ran.stdout.fileno())]
+        reported = [block(ran.stdout.fileno())]
         for line in lines:
             ran.stdin.write(line + b"\n")
             ran.stdin.flush()
-            told.append(block(ran.stdout.fileno()))
+            reported.append(block(ran.stdout.fileno()))
         ran.stdin.close()
-    return told
+    return reported
 
 
 def block(descriptor: int) -> bytes:
     """What is read up to the end of an outer block."""
-    told, depth, is_escaped = b"", 0, False
+    reported, depth, is_escaped = b"", 0, False
     while True:
         byte = os.read(descriptor, 1)
-        assert byte, told
-        told += byte
+        assert byte, reported
+        reported += byte
         if is_escaped or byte == b"\x1b":
             is_escaped = not is_escaped
         elif byte == b"\x02":
@@ -43,7 +43,7 @@ def block(descriptor: int) -> bytes:
         elif byte == b"\x05":
             depth -= 1
             if not depth:
-                return told
+                return reported
 
 
 class Previews(unittest.TestCase):
@@ -86,8 +86,8 @@ class Previews(unittest.TestCase):
 class Python(unittest.TestCase):
     def test_an_answer_is_the_same_with_and_without(self) -> None:
         without, with_previews = said(LINES, None), said(LINES, "1")
-        self.assertEqual([told.index(b"\x02") for told in without], [0] * len(without))
-        self.assertEqual([told[told.index(b"\x02"):] for told in with_previews], without)
+        self.assertEqual([reported.index(b"\x02") for reported in without], [0] * len(without))
+        self.assertEqual([reported[reported.index(b"\x02"):] for reported in with_previews], without)
         self.assertEqual(with_previews[2][:with_previews[2].index(b"\x02")], b"0\n1\n2\n")
 
     def test_a_preview_comes_before_the_line_is_done(self) -> None:

@@ -87,8 +87,8 @@ class Reference:
         elif letter in "JK":
             order = [place for place in self.cells if letter == "J" or place[0] == row]
             before = {place for place in order if place <= (row, column)}
-            behind = {place for place in order if place >= (row, column)}
-            self.erase(behind if numbers[0] == 0 else before if numbers[0] == 1 else before | behind)
+            after = {place for place in order if place >= (row, column)}
+            self.erase(after if numbers[0] == 0 else before if numbers[0] == 1 else before | after)
             if letter == "J" and numbers[0] != 1:
                 self.rows = row
         elif letter in "P@X":

@@ -11,19 +11,19 @@ BEGUN = "print(flush=True); "
 WITHIN = 60.0  # seconds in which a program comes to what it waits in
 
 
-def is_told() -> bool:
+def is_reported() -> bool:
     """Whether the kernel tells what a process waits in."""
     try:
-        with open("/proc/self/syscall", "rb") as told:
-            return bool(told.read())
+        with open("/proc/self/syscall", "rb") as reported:
+            return bool(reported.read())
     except OSError:
         return False
 
 
-@unittest.skipUnless(is_told(), "the kernel doesn't tell what a process waits in")
+@unittest.skipUnless(is_reported(), "the kernel doesn't tell what a process waits in")
 class Waiting(unittest.TestCase):
     def reads(self, code: str, wanted: bool) -> None:
-        """Whether a program of Python is told to read its input, when it stands still."""
+        """Whether a program of Python is reported to read its input, when it stands still."""
         ours, kept = os.pipe()
         with subprocess.Popen([sys.executable, "-c", "import os, select, sys, time\n" + BEGUN + code], stdin=ours, stdout=subprocess.PIPE) as process:
             files = [os.readlink(f"/proc/self/fd/{ours}")]

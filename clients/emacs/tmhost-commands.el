@@ -11,7 +11,7 @@
 (require 'tmhost-text)
 (require 'tmhost-view)
 (require 'tmhost-sheet)
-(require 'tmhost-told)
+(require 'tmhost-reported)
 
 (defvar tmhost-patience)
 (defvar tmhost-completion-patience)
@@ -38,7 +38,7 @@
   (tmhost-sheet-evaluate (copy-sequence tmhost-view-order)))
 
 (defun tmhost-evaluate-from-here ()
-  "Evaluate the field at point and those behind it."
+  "Evaluate the field at point and those after it."
   (interactive)
   (tmhost-sheet-evaluate (copy-sequence (memql (tmhost--id)
                                                tmhost-view-order))))
@@ -68,8 +68,8 @@
    (format "stop %s" name)
    (lambda (reply)
      (if (equal (alist-get 'type reply) "stopped")
-         (tmhost-told-ended (tmhost-sheet-session name) "Stopped"
-                             (alist-get 'lost reply))
+         (tmhost-reported-ended (tmhost-sheet-session name) "Stopped"
+                                (alist-get 'lost reply))
        (message "Stop: %s" (tmhost-sheet-refusal reply))))))
 
 ;;; Fields
@@ -80,8 +80,8 @@
     (message "tmhost hasn't replied yet")))
 
 (defun tmhost--insert (after name text)
-  "Make a field with TEXT in the session NAME, behind the number AFTER.
-It is shown when the program has told that it is made, and point goes to it."
+  "Make a field with TEXT in the session NAME, after the number AFTER.
+It is shown when the program has reported that it is made, and point goes to it."
   (let ((input (tmhost-text-input text)))
     (tmhost-talk-send
      (format "new %d %s %s" after name input)
@@ -103,7 +103,7 @@ It is shown when the program has told that it is made, and point goes to it."
     (set-window-point window position)))
 
 (defun tmhost-insert-after (name &optional text)
-  "Make a field behind the one at point, in the session NAME, with TEXT.
+  "Make a field after the one at point, in the session NAME, with TEXT.
 With a prefix argument the session is asked for."
   (interactive (list (tmhost--wanted-session)))
   (let ((field (tmhost-view-field-at (point))))
@@ -143,7 +143,7 @@ With a prefix argument the session is asked for."
       (tmhost--await))))
 
 (defun tmhost--move (field after)
-  "Move FIELD behind the one with the number AFTER."
+  "Move FIELD after the one with the number AFTER."
   (tmhost-talk-send
    (format "move %d %d" (tmhost-field-id field) after)
    (lambda (reply)
@@ -161,7 +161,7 @@ With a prefix argument the session is asked for."
       (tmhost--move (tmhost--field) (tmhost-view-after before)))))
 
 (defun tmhost-move-down ()
-  "Move the field at point behind the one after it."
+  "Move the field at point after the one after it."
   (interactive)
   (let ((next (cadr (memql (tmhost--id) tmhost-view-order))))
     (if next
@@ -249,29 +249,29 @@ It is asked about the text as it stands here, which isn't saved by that."
       (tmhost--completions field (tmhost--ask-completions field)))))
 
 (defun tmhost--ask-completions (field)
-  "What can stand at point in FIELD; nil where that isn't told in time."
+  "What can stand at point in FIELD; nil where that isn't reported in time."
   (let* ((begin (tmhost-view-head-end field))
          (text-to (lambda (end)
                     (tmhost-text-input
                      (buffer-substring-no-properties begin end))))
-         (is-over nil) (told nil))
+         (is-over nil) (reported nil))
     (tmhost-sheet-complete field
                            (funcall text-to (tmhost-view-input-end field))
                            (tmhost-text-bytes (funcall text-to (point)))
                            (lambda (object)
-                             (setq told object is-over t)))
+                             (setq reported object is-over t)))
     (tmhost-talk-wait (lambda () is-over) tmhost-completion-patience)
-    told))
+    reported))
 
-(defun tmhost--completions (field told)
-  "What completion takes of what was TOLD of FIELD, or nil."
-  (let* ((root (and told (tmhost-text-of (alist-get 'root told))))
+(defun tmhost--completions (field reported)
+  "What completion takes of what was REPORTED of FIELD, or nil."
+  (let* ((root (and reported (tmhost-text-of (alist-get 'root reported))))
          (begin (and root (- (point) (length root)))))
-    (when (and told (>= begin (tmhost-view-head-end field))
+    (when (and reported (>= begin (tmhost-view-head-end field))
                (equal root (buffer-substring-no-properties begin (point))))
       (let ((words (mapcar (lambda (rest)
                              (concat root (tmhost-text-of rest)))
-                           (alist-get 'rest told))))
+                           (alist-get 'rest reported))))
         (list begin (point)
               (cl-remove-if-not
                (lambda (word) (equal word (tmhost-text-harmless word)))

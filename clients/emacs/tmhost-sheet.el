@@ -2,13 +2,13 @@
 
 ;;; Commentary:
 
-;; A field is said to be saved where the program has told that it has the text
-;; of the buffer, and an answer is shown where the program has told it: both
+;; A field is said to be saved where the program has reported that it has the text
+;; of the buffer, and an answer is shown where the program has reported it: both
 ;; are on the disk then.  What isn't saved is sent again.
 ;;
 ;; Fields that are to be evaluated wait here, and an interpreter is given one
 ;; at a time.  So one that ends takes the answer of one field alone, and those
-;; behind it, which would miss its variables, keep theirs.
+;; after it, which would miss its variables, keep theirs.
 
 ;;; Code:
 
@@ -42,7 +42,7 @@ the number of the field that it is at."
 ;;; What a field says
 
 (defun tmhost-sheet-is-saved (field)
-  "Whether the program has told that FIELD has the text of the buffer."
+  "Whether the program has reported that FIELD has the text of the buffer."
   (equal (tmhost-view-text field) (tmhost-field-input field)))
 
 (defun tmhost-sheet--status (field)
@@ -97,7 +97,7 @@ the number of the field that it is at."
     (restore-buffer-modified-p (and tmhost-sheet--changed t))))
 
 (defun tmhost-sheet-moved (field after)
-  "FIELD was moved behind the one with the number AFTER."
+  "FIELD was moved after the one with the number AFTER."
   (tmhost-view-move field after)
   (tmhost-sheet--say field))
 
@@ -114,7 +114,7 @@ the number of the field that it is at."
 
 (defun tmhost-sheet-save (field &optional then)
   "Send the text of FIELD where it isn't saved.
-THEN is a function that is told whether the text is on the disk."
+THEN is a function that is called with whether the text is on the disk."
   (let ((text (tmhost-view-text field)) (then (or then #'ignore)))
     (cond
      ((tmhost-field-saving field)
@@ -129,7 +129,7 @@ THEN is a function that is told whether the text is on the disk."
       (tmhost-sheet--say field)))))
 
 (defun tmhost-sheet--saved (field text reply then)
-  "Take REPLY to the line that gave FIELD the text TEXT; THEN is told of it.
+  "Take REPLY to the line that gave FIELD the text TEXT; THEN is called with it.
 Whoever wanted it saved meanwhile means the text that stands there now."
   (let ((is-done (equal (alist-get 'type reply) "done"))
         (after (nreverse (tmhost-field-after field))))
@@ -153,7 +153,7 @@ Whoever wanted it saved meanwhile means the text that stands there now."
     (alist-get 'type reply)))
 
 (defun tmhost-sheet-unsaved ()
-  "The fields whose text isn't told as saved, in no order."
+  "The fields whose text isn't reported as saved, in no order."
   (delq nil (mapcar #'tmhost-view-field tmhost-sheet--changed)))
 
 (defun tmhost-sheet-save-all ()
@@ -240,8 +240,8 @@ One that was removed meanwhile doesn't keep the others from it."
              (if left (format "; not evaluated: %d more" (length left)) ""))))
 
 (defun tmhost-sheet-complete (field text cursor taker)
-  "Ask what can stand in TEXT, in FIELD's place, behind CURSOR bytes.
-TAKER is given what is told, nil for nothing."
+  "Ask what can stand in TEXT, in FIELD's place, after CURSOR bytes.
+TAKER is given what is reported, nil for nothing."
   (let ((request (cons (tmhost-field-session field) taker)))
     (tmhost-talk-send
      (format "complete %d %d %s" (tmhost-field-id field) cursor text)

@@ -3,7 +3,7 @@
 ;;; Commentary:
 
 ;; The program takes lines and writes objects, a line each (docs/use/JSON.md).  An
-;; object with a `line' is about the line with this number; others are told of
+;; object with a `line' is about the line with this number; others are reported of
 ;; interpreters.  A talk belongs to the buffer in which it was started.
 
 ;;; Code:
@@ -43,14 +43,14 @@
   "Lines that came and aren't taken yet.")
 (defvar-local tmhost-talk--is-taking nil
   "Whether lines are being taken.")
-(defvar-local tmhost-talk--told nil
-  "What was told of the end of the program: a string.")
+(defvar-local tmhost-talk--reported nil
+  "What was reported of the end of the program: a string.")
 (defvar-local tmhost-talk--is-over t
-  "Whether there is no program, or its end was told.")
+  "Whether there is no program, or its end was reported.")
 (defvar-local tmhost-talk-handler #'ignore
   "A function that is given each object that ends no line.")
 (defvar-local tmhost-talk-ended #'ignore
-  "A function that is told, as a string, how the program ended.")
+  "A function that is called with a string, how the program ended.")
 
 (defun tmhost-talk--without-nul (line)
   "LINE, a JSON text, with `\\x00' in place of the character 0.
@@ -95,7 +95,7 @@ Some of Emacs's readers refuse that character."
         tmhost-talk--awaited (make-hash-table)
         tmhost-talk--pieces nil
         tmhost-talk--lines nil
-        tmhost-talk--told nil
+        tmhost-talk--reported nil
         tmhost-talk--is-over nil)
   (let* ((buffer (current-buffer))
          (errors (generate-new-buffer " *tmhost errors*"))
@@ -141,14 +141,15 @@ Some of Emacs's readers refuse that character."
 
 (defun tmhost-talk-wait (condition seconds)
   "Wait for the function CONDITION to give true, SECONDS at most.
-Where the program ends, wait until that is told.  Give what CONDITION gave last."
-  (let ((until (+ (float-time) seconds)) (told (funcall condition)))
-    (while (and (not told) (not tmhost-talk--is-over) (< (float-time) until))
-      ;; The end is told when what stands in the other pipe was read, too.
+Where the program ends, wait until that is reported.
+Give what CONDITION gave last."
+  (let ((until (+ (float-time) seconds)) (reported (funcall condition)))
+    (while (and (not reported) (not tmhost-talk--is-over) (< (float-time) until))
+      ;; The end is reported when what stands in the other pipe was read, too.
       (accept-process-output (and (tmhost-talk-is-live) tmhost-talk--process)
                              0.05)
-      (setq told (funcall condition)))
-    told))
+      (setq reported (funcall condition)))
+    reported))
 
 (defun tmhost-talk--filter (buffer process text)
   "Take TEXT, which PROCESS wrote, in BUFFER.
@@ -179,7 +180,7 @@ To send a line may let more text come meanwhile: that waits for its turn."
       (tmhost-talk--dispatch (tmhost-talk-parse line))
     (error
      (setq tmhost-talk--lines nil
-           tmhost-talk--told
+           tmhost-talk--reported
            (format "what it wrote could not be taken: %s"
                    (error-message-string problem)))
      (delete-process tmhost-talk--process))))
@@ -194,8 +195,8 @@ To send a line may let more text come meanwhile: that waits for its turn."
         (when taker
           (funcall taker object))))
      ((equal (alist-get 'type object) "fault")
-      (setq tmhost-talk--told (format "fault %s %s" (alist-get 'number object)
-                                      (alist-get 'name object))))
+      (setq tmhost-talk--reported (format "fault %s %s" (alist-get 'number object)
+                                          (alist-get 'name object))))
      ((and (equal (alist-get 'type object) "hello")
            (not (equal (alist-get 'protocol object) tmhost-talk-protocol)))
       (error "It speaks protocol %s" (alist-get 'protocol object)))
@@ -203,7 +204,7 @@ To send a line may let more text come meanwhile: that waits for its turn."
 
 (defun tmhost-talk--sentinel (buffer process errors)
   "Tell BUFFER that PROCESS has ended, with what stands in the buffer ERRORS.
-It may be called once more, when that was told."
+It may be called once more, when that was reported."
   (unless (or (process-live-p process) (not (buffer-live-p errors)))
     (let ((text (with-current-buffer errors (string-trim (buffer-string)))))
       (kill-buffer errors)
@@ -215,7 +216,7 @@ It may be called once more, when that was told."
             (save-restriction
               (widen)
               (funcall tmhost-talk-ended
-                       (or tmhost-talk--told
+                       (or tmhost-talk--reported
                            (and (not (string-empty-p text)) text)
                            (format "%s %s" (process-status process)
                                    (process-exit-status process)))))))))))

@@ -79,10 +79,10 @@ That is a block of the channel `error', or of `output' in another of these."
         (replace-match brief t t)))
     (buffer-string)))
 
-(defun tmhost-text-shown (told)
-  "The output in TOLD as the program prints it, pictures in a few words."
-  (let ((text (tmhost-text-of (alist-get 'shown told))))
-    (dolist (picture (tmhost-text--pictures (alist-get 'output told)) text)
+(defun tmhost-text-shown (reported)
+  "The output in REPORTED as the program prints it, pictures in a few words."
+  (let ((text (tmhost-text-of (alist-get 'shown reported))))
+    (dolist (picture (tmhost-text--pictures (alist-get 'output reported)) text)
       (setq text (tmhost-text--replaced
                   (format "{%s:%s}" (car picture)
                           (replace-regexp-in-string

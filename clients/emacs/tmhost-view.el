@@ -2,7 +2,7 @@
 
 ;;; Commentary:
 
-;; A field is, one behind the other: its head (a line with its number and
+;; A field is, one after the other: its head (a line with its number and
 ;; session, and the prompt), its input, and its tail (the output).  The input
 ;; alone can be changed.  The characters of heads and tails have the property
 ;; `tmhost-part', so an input is what stands between a head and a tail.
@@ -35,8 +35,8 @@
 (cl-defstruct (tmhost-field (:constructor tmhost-field-make) (:copier nil))
   "A field.
 ID, SESSION, INPUT, STATE (empty, waiting, answered or lost), PROMPT, SHOWN,
-REASON, and whether the output is an error (WRONG) are what the program has told.  SAVING is the text that was sent and
-isn't told as done, AFTER who waits for that, and REFUSED why one wasn't;
+REASON, and whether the output is an error (WRONG) are what the program has reported.  SAVING is the text that was sent and
+isn't reported as done, AFTER who waits for that, and REFUSED why one wasn't;
 QUEUED is true where the field is to be evaluated, and PLACE is where it
 begins in the buffer."
   id session input state prompt shown wrong reason saving after refused queued place)
@@ -117,7 +117,7 @@ begins in the buffer."
 
 (defun tmhost-view--replace (begin end text)
   "Put TEXT in place of what stands from BEGIN to END.
-The new text is put in front of the old one, so that a point behind the old
+The new text is put in front of the old one, so that a point after the old
 one stays there."
   (let ((delta (- (length text) (- end begin))))
     (with-silent-modifications
@@ -135,7 +135,7 @@ one stays there."
               'font-lock-face face))
 
 (defun tmhost-view--head (field)
-  "The head of FIELD.  Text can be put behind it, but not in or before it."
+  "The head of FIELD.  Text can be put after it, but not in or before it."
   (let ((id (tmhost-field-id field)) (prompt (tmhost-field-prompt field)))
     (propertize
      (concat (tmhost-view--fixed (format "#%d %s \n" id
@@ -166,7 +166,7 @@ one stays there."
      (if (tmhost-field-wrong field) 'tmhost-error 'tmhost-output))))
 
 (defun tmhost-view-draw (field)
-  "Draw the head and the tail of FIELD anew, and leave its input."
+  "Draw the head and the tail of FIELD again, and leave its input."
   (tmhost-view--replace (tmhost-view-input-end field) (tmhost-view-end field)
                         (tmhost-view--tail field))
   (let ((begin (marker-position (tmhost-field-place field))))
@@ -198,18 +198,18 @@ one stays there."
     (setf (tmhost-field-place field) (copy-marker position t))))
 
 (defun tmhost-view--place-after (id)
-  "Where a field behind the one with number ID begins; 0 is the front."
+  "Where a field after the one with number ID begins; 0 is the front."
   (if (eql id 0) (point-min) (tmhost-view-end (tmhost-view-field id))))
 
 (defun tmhost-view--put (id after)
-  "Put ID into the order behind the number AFTER."
+  "Put ID into the order after the number AFTER."
   (if (eql after 0)
       (push id tmhost-view-order)
     (let ((rest (memql after tmhost-view-order)))
       (setcdr rest (cons id (cdr rest))))))
 
 (defun tmhost-view-add (field after)
-  "Add FIELD behind the one with the number AFTER, which is 0 for none."
+  "Add FIELD after the one with the number AFTER, which is 0 for none."
   (puthash (tmhost-field-id field) field tmhost-view-fields)
   (tmhost-view--insert field (tmhost-view--place-after after)
                        (tmhost-field-input field))
@@ -228,7 +228,7 @@ one stays there."
   (remhash (tmhost-field-id field) tmhost-view-fields))
 
 (defun tmhost-view-move (field after)
-  "Move FIELD behind the one with the number AFTER, with point in it."
+  "Move FIELD after the one with the number AFTER, with point in it."
   (let ((text (tmhost-view-text field))
         (offset (- (point) (tmhost-field-place field)))
         (is-here (eq field (tmhost-view-field-at (point)))))

@@ -18,10 +18,10 @@
 (require 'tmhost-text)
 (require 'tmhost-view)
 (require 'tmhost-sheet)
-(require 'tmhost-told)
+(require 'tmhost-reported)
 
 (defcustom tmhost-save-delay 1.0
-  "Seconds of rest behind which changed inputs are saved; nil for never."
+  "Seconds of rest after which changed inputs are saved; nil for never."
   :type '(choice number (const nil))
   :group 'tmhost)
 
@@ -38,7 +38,7 @@
 (defvar-local tmhost--path nil
   "The file of the worksheet.")
 (defvar-local tmhost--is-shown nil
-  "Whether the worksheet was told.")
+  "Whether the worksheet was reported.")
 (defvar-local tmhost--end nil
   "How the program has ended: a string, nil while it runs.")
 (defvar-local tmhost--timer nil
@@ -77,7 +77,7 @@ be changed, and may have several lines.
 
 \\{tmhost-mode-map}"
   (setq-local tmhost-view-fields (make-hash-table)
-              tmhost-talk-handler #'tmhost-told-take
+              tmhost-talk-handler #'tmhost-reported-take
               tmhost-talk-ended #'tmhost--ended
               header-line-format '(:eval (tmhost--header))
               bidi-paragraph-direction 'left-to-right
@@ -157,18 +157,18 @@ Interpreters run in its folder."
     (message "tmhost: %s" (or tmhost--end "it says nothing yet"))))
 
 (defun tmhost-refresh ()
-  "Show the worksheet anew, with the inputs that aren't saved."
+  "Show the worksheet again, with the inputs that aren't saved."
   (interactive)
   (setq tmhost--is-shown nil)
   (tmhost-talk-send "print" #'tmhost--show))
 
 (defun tmhost--show (sheet)
-  "Show the worksheet whose fields were told before SHEET."
+  "Show the worksheet whose fields were reported before SHEET."
   (when (equal (alist-get 'type sheet) "sheet")
     (let* ((field (tmhost-view-field-at (point)))
            (id (and field (tmhost-field-id field)))
            (offset (and field (- (point) (tmhost-field-place field)))))
-      (tmhost-told-show sheet (tmhost-sheet-drafts))
+      (tmhost-reported-show sheet (tmhost-sheet-drafts))
       (setq tmhost--is-shown t
             field (tmhost-view-field id))
       (goto-char (if field
@@ -191,7 +191,7 @@ Interpreters run in its folder."
 (defun tmhost--ended (how)
   "The program has ended; HOW is a string."
   (setq tmhost--end how)
-  (tmhost-told-cut-off)
+  (tmhost-reported-cut-off)
   (force-mode-line-update)
   (message "tmhost has ended: %s.  What was saved or answered is kept" how))
 
@@ -231,7 +231,7 @@ Interpreters run in its folder."
         (tmhost-sheet-save-all)))))
 
 (defun tmhost-save ()
-  "Save all inputs, and wait until that is told.  True, so it can be a hook."
+  "Save all inputs, and wait until that is reported.  True, so it can be a hook."
   (interactive)
   (dolist (field (tmhost-sheet-unsaved))
     (setf (tmhost-field-refused field) nil))

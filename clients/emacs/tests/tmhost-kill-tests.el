@@ -16,7 +16,7 @@
 
 (defconst tmhost-tests-rest
   (default-value 'tmhost-save-delay)
-  "Seconds behind which what was typed is saved.")
+  "Seconds after which what was typed is saved.")
 
 (defun tmhost-tests-disk (path)
   "The fields of the worksheet at PATH, in order, as they are on the disk.
@@ -104,7 +104,7 @@ What it didn't is saved when the program was started again."
 
 (defun tmhost-tests-victim ()
   "Work on the worksheet of the first word, until this Emacs is killed.
-The file of the second word is told what the buffer claims, and what of that is
+The file of the second word gets what the buffer claims, and what of that is
 about to be changed."
   (let ((log (cadr command-line-args-left)) (said nil) (tmhost-save-delay nil)
         (inhibit-message t))

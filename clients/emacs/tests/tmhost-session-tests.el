@@ -34,7 +34,7 @@
     (should (equal (tmhost-tests-shown) '("0" "3" "4")))))
 
 (ert-deftest tmhost-tests-ended ()
-  "An interpreter that ends takes one answer; fields behind it keep theirs."
+  "An interpreter that ends takes one answer; fields after it keep theirs."
   (tmhost-tests-with-sheet path
     (tmhost-tests-new "one" "two" "three")
     (tmhost-evaluate-all)
@@ -99,7 +99,7 @@
     (tmhost-tests-all-say "lost: Stopped" "saved, answered")))
 
 (ert-deftest tmhost-tests-no-program ()
-  "An interpreter that isn't there is told."
+  "An interpreter that isn't there is reported."
   (tmhost-tests-with-sheet path
     (tmhost-new-session "none" "/nonexistent/program" nil)
     (tmhost-tests-until (lambda () (tmhost-sheet-session "none")) "session")

@@ -100,7 +100,7 @@ It has the session t, which completes."
           tmhost-view-order))
 
 (defun tmhost-tests-kept-at (id offset)
-  "Whether point is OFFSET behind the head of the field with number ID."
+  "Whether point is OFFSET after the head of the field with number ID."
   (= (point) (+ (tmhost-view-head-end (tmhost-view-field id)) offset)))
 
 (defun tmhost-tests-text ()
@@ -121,24 +121,24 @@ It has the session t, which completes."
   (should (equal (tmhost-text-harmless (propertize "a" 'invisible t)) "a"))
   (should (equal (tmhost-text-input "a\nb") "a\u2028b"))
   (should (equal (tmhost-text-lines "a\u2028b") "a\nb"))
-  (should (equal (tmhost-field-input (tmhost-told--read '((id . 1) (session . "a") (input . "a\nb\n") (state . "empty"))))
+  (should (equal (tmhost-field-input (tmhost-reported--read '((id . 1) (session . "a") (input . "a\nb\n") (state . "empty"))))
                  "a\u2028b\u2028"))
   (should (= (tmhost-text-bytes "a\u00e9\u2028") 6)))
 
-(ert-deftest tmhost-pictures-are-told-in-a-few-words ()
+(ert-deftest tmhost-pictures-are-reported-in-a-few-words ()
   (let* ((picture '((tag . "image/svg+xml") (kind . "format")
                     (items . ["<svg>\u0001\u00e9</svg>"])))
-         (told (lambda (shown &rest items)
-                 (tmhost-text-shown
-                  `((shown . ,shown)
-                    (output (tag . "verbatim") (kind . "format")
-                            (items . ,(apply #'vector items))))))))
-    (should (equal (funcall told "a\n{image/svg+xml:<svg>\\x01\u00e9</svg>}b"
+         (reported (lambda (shown &rest items)
+                     (tmhost-text-shown
+                      `((shown . ,shown)
+                        (output (tag . "verbatim") (kind . "format")
+                                (items . ,(apply #'vector items))))))))
+    (should (equal (funcall reported "a\n{image/svg+xml:<svg>\\x01\u00e9</svg>}b"
                             "a\n" picture "b")
                    "a\n{image/svg+xml: 14 bytes}b"))
-    (should (equal (funcall told "{image/svg+xml:x}" "{image/svg+xml:x}")
+    (should (equal (funcall reported "{image/svg+xml:x}" "{image/svg+xml:x}")
                    "{image/svg+xml:x}"))
-    (should (equal (funcall told "none" picture) "none"))))
+    (should (equal (funcall reported "none" picture) "none"))))
 
 (ert-deftest tmhost-tests-json ()
   "Both readers of JSON give the same."
@@ -208,7 +208,7 @@ It has the session t, which completes."
     (should (equal (tmhost-tests-inputs) '("x")))))
 
 (ert-deftest tmhost-tests-rest ()
-  "A moment behind the last change it is saved."
+  "A moment after the last change it is saved."
   (tmhost-tests-with-sheet path
     (tmhost-tests-new "one")
     (insert "!")
@@ -342,7 +342,7 @@ It has the session t, which completes."
     (should (equal (tmhost-field-shown (tmhost-view-field 3)) "three"))))
 
 (ert-deftest tmhost-tests-typed-meanwhile ()
-  "What is typed while the worksheet is told anew isn't lost."
+  "What is typed while the worksheet is reported again isn't lost."
   (tmhost-tests-with-sheet path
     (tmhost-tests-new "one" "two")
     (tmhost-refresh)

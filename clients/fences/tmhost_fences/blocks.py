@@ -18,7 +18,7 @@ def cut(line: str) -> Tuple[str, str]:
 
 @dataclasses.dataclass(frozen=True)
 class Block:
-    """A fence. `begin` and `end` are lines of the text, from 0: that of its mark, and the one behind it."""
+    """A fence. `begin` and `end` are lines of the text, from 0: that of its mark, and the one after it."""
 
     begin: int
     end: int

@@ -1,4 +1,4 @@
-"""What the info string of a fence says: its name, the words behind it, and whether its code is to be evaluated."""
+"""What the info string of a fence says: its name, the words after it, and whether its code is to be evaluated."""
 import dataclasses
 import re
 from typing import Dict, FrozenSet, List, Sequence, Tuple
@@ -17,7 +17,7 @@ class Info:
     """`name` is the first word or class (`py`, `{.py .hide}`), or the language of a chunk (`{r, echo=FALSE}`)."""
 
     name: str
-    words: Tuple[str, ...]  # those in braces behind it
+    words: Tuple[str, ...]  # those in braces after it
     options: Dict[str, str]
     is_chunk: bool
 

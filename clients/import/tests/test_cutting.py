@@ -111,7 +111,7 @@ class Cells(Case):
         self.assertEqual(inputs[2].split(LINE_END)[-1], "f3()[:2]")
 
     def test_a_long_block_of_markdown(self) -> None:
-        """Of a block with a statement that no field can hold nothing is taken, since what stands behind it may need it."""
+        """Of a block with a statement that no field can hold nothing is taken, since what stands after it may need it."""
         long = "f() = {\n" + f"{FILL};\n" * 3 + "}"
         document = f"a\n\n```gp\nx = 1\n{long}\n2\n```\n\n```gp\n3\n```\n"
         self.assertEqual(self.inputs(document, form="markdown"), [("prose", "a"), ("gp", "3")])
@@ -128,7 +128,7 @@ class Cells(Case):
         self.assertIn("len(v0 + v8)\n1800\n", shown)
         self.assertTrue(shown.endswith("math.floor(2.5)\n2\n"), shown[-300:])
 
-    def test_what_is_told_of_magics(self) -> None:
+    def test_what_is_reported_of_magics(self) -> None:
         cells = [code("%matplotlib inline"), code("%matplotlib inline\nx"), code("!ls"), code("%%bash\nls")]
         done = self.do("--script", data=notebook(*cells))
         self.assertIn("left out: lines %matplotlib: 2; lines !ls: 1\n", done.errors)

@@ -39,8 +39,8 @@ class Making(Case):
 
     def states(self) -> dict[str, tuple[int, int, int]]:
         """What the system tells of each name in the folder, which changes with what it names."""
-        told = {name: os.lstat(self.place(name)) for name in os.listdir(self.folder)}
-        return {name: (state.st_ino, state.st_mtime_ns, state.st_ctime_ns) for name, state in told.items()}
+        reported = {name: os.lstat(self.place(name)) for name in os.listdir(self.folder)}
+        return {name: (state.st_ino, state.st_mtime_ns, state.st_ctime_ns) for name, state in reported.items()}
 
     def not_made(self, said: str, **environment: str) -> None:
         """Nothing is made of a good notebook, and nothing is left of it."""
@@ -95,7 +95,7 @@ class Making(Case):
         self.not_made("tmhost run ended with status 3: stopped at line 3 (cell 2)", **self.before(STOPS))
 
     def test_a_run_that_tells_nothing(self) -> None:
-        self.not_made("told something else", **self.before(SILENT))
+        self.not_made("reported something else", **self.before(SILENT))
 
     def test_programs_that_are_none(self) -> None:
         self.not_made("can't be started", TMHOST="/nowhere/tmhost")

@@ -91,7 +91,7 @@ class Notebooks(Case):
         for about in (dict[str, object](), PYTHON):
             self.assertEqual(self.inputs(notebook(code("x"), metadata=about), "--kernel", "octave"), [("octave", "x")])
 
-    def test_names_that_no_session_may_have_are_changed_and_told(self) -> None:
+    def test_names_that_no_session_may_have_are_changed_and_reported(self) -> None:
         for kernel, name in (("julia-1.9", "julia-1-9"), ("my env", "my-env"), ("日本", "session"), ("k" * 4000, "k" * 32), ("*R*", "R")):
             about = {"kernelspec": {"name": kernel, "display_name": "x"}}
             done = self.do("--script", "--session", f"{kernel}=sh x", data=notebook(code("x"), metadata=about))
@@ -127,7 +127,7 @@ class Notebooks(Case):
             with self.subTest(name):
                 self.refused(text, said, *(ALL_SESSIONS if name == "65 sessions" else []))
 
-    def test_troubles_are_told_together(self) -> None:
+    def test_troubles_are_reported_together(self) -> None:
         done = self.do("new", data=notebook(*[code("\1"), code("x")] * 12))
         self.assertEqual((done.status, done.errors.count("\n"), done.errors.count("U+0001")), (1, 11, 10))
         self.assertIn("cell 19:", done.errors)

@@ -108,7 +108,7 @@ class Imports(Case):
         self.assertEqual(done.out, f"session prose plain true\nnew 0 prose {LINE_END.join(['# Title', '', '```julia', '1', '```'])}\n")
         self.assertIn("no fence is of a language or a session that is known, so all of it is prose. Fences: julia\n", done.errors)
 
-    def test_fences_that_are_taken_for_answers_are_told(self) -> None:
+    def test_fences_that_are_taken_for_answers_are_reported(self) -> None:
         """A text of an author's own may have such fences, too, which are gone then."""
         one, two = "```sh\na\nb\n```\n\n```\nx\n```\n", "\ntext\n\n```sh\nc\n```\n\n```\ny\n```\n"
         after = ", and the code before each is one field. A fence with a word, as ```text, isn't taken\n"
@@ -149,7 +149,7 @@ class Imports(Case):
     def test_prose_is_not_split(self) -> None:
         self.assertEqual(self.fields(notebook(text("a\nb"), code("x\ny")), "--split"), [("prose", "a|b"), ("python3", "x"), ("python3", "y")])
 
-    def test_what_is_told(self) -> None:
+    def test_what_is_reported(self) -> None:
         attached = text("![a](attachment:a.png)", attachments={"a.png": {"image/png": "AAAA"}})
         self.assertIn("left out: attachments of markdown cells: 1\n", self.do("--script", "--prose", data=notebook(attached)).errors)
         self.assertIn("a reference like [1]", self.do("--script", "--prose", "--format", "markdown", data="[a][1]\n\n```sh\nx\n```\n\n[1]: b\n").errors)
@@ -314,7 +314,9 @@ class Notebooks(unittest.TestCase):
     def test_the_notebook_is_valid(self) -> None:
         nbformat = importlib.import_module("nbformat")
         made = notebook_with_prose(exported(("prose", "a", False), ("py", "x", True)), prose.is_prose)
-        nbformat.validate(nbformat.reads(made.data.decode(), 4))
+        book = nbformat.reads(made.data.decode(), 4)
+        nbformat.validate(book)
+        self.assertEqual([cell.cell_type for cell in book.cells], ["markdown", "code"])
 
 
 @needs_program
@@ -403,7 +405,7 @@ class Words(Case):
         done = subprocess.run([PROSE, "--prose", "mine", self.place("x.md")], capture_output=True)
         self.assertEqual((done.returncode, done.stdout, done.stderr), (0, b"*a*\n", b""))
 
-    def test_what_stays_is_told(self) -> None:
+    def test_what_stays_is_reported(self) -> None:
         done = subprocess.run([PROSE], input=export(GP, field("prose", "~~~", NONE)).encode(), capture_output=True)
         self.assertEqual((done.returncode, done.stderr), (0, b"tmhost-prose: the field in line 7 stays in its fence: a fence or HTML in it has no end\n"))
         with open("/dev/full", "wb") as full:

@@ -79,8 +79,8 @@ class References(Case):
         subprocess.run(["emacs", "-Q", "--batch", "--eval", EMACS, *files], check=True, capture_output=True)
         count = refused = 0
         for text, file in zip(texts, files):
-            with open(f"{file}.json", encoding="utf-8") as told:
-                theirs = json.load(told)
+            with open(f"{file}.json", encoding="utf-8") as reported:
+                theirs = json.load(reported)
             try:
                 ours = [(cell.place, cell.hints[0], cell.session, cell.text) for cell in org.read(text).cells]
             except Trouble as trouble:  # to Emacs this is text

@@ -47,7 +47,7 @@ def prose_cell(place: str, text: str, session: str | None = None) -> Cell:
 
 
 def code_text(text: str) -> str:
-    """The lines of a cell, without line ends behind the last."""
+    """The lines of a cell, without line ends after the last."""
     return text.replace("\r\n", "\n").rstrip("\n")
 
 

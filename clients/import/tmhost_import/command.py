@@ -8,7 +8,7 @@ from tmhost_fences.troubles import Trouble
 
 from . import markdown, notebook, org, texmacs
 from .cells import Document
-from .fields import Sheet, told
+from .fields import Sheet, reported
 from .making import make, refuse_taken
 from .sessions import LANGUAGES, given_session
 
@@ -26,7 +26,7 @@ session `prose` whose only word is `true`, but with --no-prose. What is not to b
 `active="md"`) is text.
 Languages with an interpreter: {", ".join(LANGUAGES)}.
 The program is the one that TMHOST names, tmhost on PATH, or the one that was built or installed with this. The status
-is 0 where the worksheet is made, 1 where it isn't, which is told, and 2 where the words are refused.
+is 0 where the worksheet is made, 1 where it isn't, which is reported, and 2 where the words are refused.
 """
 
 
@@ -119,7 +119,7 @@ def tell(document: Document, sheet: Sheet) -> None:
     more = [f"{len(kinds) - MOST_KINDS} kinds more"] if len(kinds) > MOST_KINDS else []
     if kinds:
         say("left out: " + "; ".join(kinds[:MOST_KINDS] + more))
-    say(*document.notes, *sheet.sessions.renamed(), *told(sheet.long))
+    say(*document.notes, *sheet.sessions.renamed(), *reported(sheet.long))
     if sheet.cuts:
         say(f"texts that are several fields of prose, cut at empty lines: {sheet.cuts}")
     if count := sheet.count_of_many_lines():
@@ -155,7 +155,7 @@ def do(given: argparse.Namespace) -> None:
 
 
 def end_by(number: int, _: object) -> None:
-    """A signal ends the program as an error does, so that nothing is left behind."""
+    """A signal ends the program as an error does, so that nothing is left."""
     sys.exit(128 + number)
 
 

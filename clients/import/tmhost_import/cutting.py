@@ -16,7 +16,7 @@ TEXTS_OF = {
     **TEXTS,
     "julia": re.compile(r'"""(?:\\.|[^\\])*?"""|"(?:\\.|[^"\\])*"|#=.*?=#|#[^\n]*', re.DOTALL),
     "maxima": re.compile(r'"(?:\\.|[^"\\])*"|/\*.*?(?:\*/|\Z)', re.DOTALL),
-    # A ' behind a name, a bracket or another ' transposes.
+    # A ' after a name, a bracket or another ' transposes.
     "octave": re.compile(
         r"^[ \t]*[%#]\{[ \t]*\n.*?^[ \t]*[%#]\}[ \t]*$|\"(?:\\.|[^\"\\\n])*\"|(?<![\w)\]}'.])'(?:''|[^'\n])*'|[%#][^\n]*", re.DOTALL | re.MULTILINE
     ),
@@ -118,7 +118,7 @@ def edges(code: str, language: str) -> Iterator[int]:
 
 
 def parts_of_lines(code: str, language: str) -> Iterator[str]:
-    """The code, cut at the edges behind empty lines, and what no field can hold of that at other ones."""
+    """The code, cut at the edges after empty lines, and what no field can hold of that at other ones."""
     lines, found = code.split("\n"), [*edges(code, language), len(code.split("\n"))]
     begin = 0
     for last in [at for at in found if at == len(lines) or not lines[at - 1].strip()]:

@@ -1,8 +1,8 @@
-"""A CommonMark text line by line: what is open behind each line, which a parser of whole texts doesn't tell. Prose is cut and closed by it.
+"""A CommonMark text line by line: what is open after each line, which a parser of whole texts doesn't tell. Prose is cut and closed by it.
 
 The fences of documents are found by tmhost_fences. Blocks are found as CommonMark 0.31.2 says: which containers go on, which begin, and what a
-line is then. What is no fence is told apart only as far as it decides where one begins. References are paragraphs here: a line of `=` or `-`
-behind one is taken for a heading.
+line is then. What is no fence is distinguished only as far as it decides where one begins. References are paragraphs here: a line of `=` or `-`
+after one is taken for a heading.
 """
 import dataclasses
 import re
@@ -29,7 +29,7 @@ HTML = [
     (re.compile(r"<!\[CDATA\["), re.compile(r"\]\]>")),
     (re.compile(rf"</?(?:{ELEMENTS})(?:\s|/?>|$)", re.IGNORECASE), BLANK),
 ]
-# One that can't stand directly behind a line of a paragraph.
+# One that can't stand directly after a line of a paragraph.
 TAG = re.compile(rf"(?:<[A-Za-z][A-Za-z0-9-]*(?:{ATTRIBUTE})*\s*/?>|</[A-Za-z][A-Za-z0-9-]*\s*>)[ \t]*")
 
 
@@ -46,7 +46,7 @@ class Line:
         return " " * self.spare + self.text[self.at :]
 
     def body(self) -> str:
-        """What is left behind the blanks."""
+        """What is left after the blanks."""
         return self.text[self.at :].lstrip(" \t")
 
     def indent(self) -> int:
@@ -65,7 +65,7 @@ class Line:
             self.spare, self.column, columns = self.spare - taken, self.column + taken, columns - taken
 
     def take(self, length: int) -> None:
-        """Takes a mark of so many characters behind the blanks."""
+        """Takes a mark of so many characters after the blanks."""
         self.skip(self.indent())
         self.at, self.column = self.at + length, self.column + length
 
@@ -122,7 +122,7 @@ def quote_begins(line: Line) -> bool:
 
 
 def item_begins(line: Line, interrupts: bool) -> Container | None:
-    """Takes the mark of an item, where one comes next. Few can stand directly behind a line of a paragraph."""
+    """Takes the mark of an item, where one comes next. Few can stand directly after a line of a paragraph."""
     indent, body = line.indent(), line.body()
     found = MARKER.match(body)
     if not found or indent > 3 or is_break(body):
@@ -150,7 +150,7 @@ def goes_on(container: Container, line: Line) -> bool:
 
 
 class Reader:
-    """What is open behind the lines so far, and the fences that were found."""
+    """What is open after the lines so far, and the fences that were found."""
 
     def __init__(self) -> None:
         self.containers: list[Container] = []
@@ -229,7 +229,7 @@ class Reader:
         return None if is_underline or HEADING.fullmatch(body) or is_break(body) else Paragraph()
 
     def close(self, going: int) -> None:
-        """Closes the containers behind the first ones, and what is open in them."""
+        """Closes the containers after the first ones, and what is open in them."""
         if going < len(self.containers):
             del self.containers[going:]
             self.leaf = None

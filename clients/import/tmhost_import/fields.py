@@ -13,7 +13,7 @@ from .prose import WORDS, parts_of, size_of
 from .sessions import COMMAND, Sessions, language_of
 
 MOST_FIELDS = 10_000
-MOST_TOLD = 10  # troubles, and cells that were too long
+MOST_REPORTED = 10  # troubles, and cells that were too long
 PYTHON = "python"
 
 
@@ -47,9 +47,9 @@ def misfit(lines: list[str]) -> str | None:
     return None
 
 
-def told(lines: list[str]) -> list[str]:
-    more = len(lines) - MOST_TOLD
-    return [*lines[:MOST_TOLD], *([f"and {more} more like these"] if more > 0 else [])]
+def reported(lines: list[str]) -> list[str]:
+    more = len(lines) - MOST_REPORTED
+    return [*lines[:MOST_REPORTED], *([f"and {more} more like these"] if more > 0 else [])]
 
 
 class Sheet:
@@ -60,14 +60,14 @@ class Sheet:
         self.sessions, self.is_split, self.has_prose = Sessions(given, has_prose), is_split, has_prose
         self.fields: list[Field] = []
         self.cuts = 0  # texts of prose that became several fields
-        self.long: list[str] = []  # what is told of cells that no field could hold
+        self.long: list[str] = []  # what is reported of cells that no field could hold
         self.troubles: list[str] = []
         self.unknown: set[str] = set()  # sessions for which there is no interpreter
         self.left_out = document.left_out.copy()
         for cell in document.cells:
             self.add(cell)
         if self.troubles:
-            raise Trouble(*told(self.troubles))
+            raise Trouble(*reported(self.troubles))
 
     def add(self, cell: Cell) -> None:
         """Adds the fields of a cell, or says why there is none."""
@@ -133,7 +133,7 @@ class Sheet:
         pieces = list(self.pieces_of(cell, session))
         self.cuts += cell.is_prose and len(pieces) > 1
         parts = [(piece.place, self.parts_of(cell, piece, session)) for piece in pieces]
-        # Of code all or nothing: what stands behind a statement may need it.
+        # Of code all or nothing: what stands after a statement may need it.
         if cell.is_prose or all(found for _, found in parts):
             for place, found in parts:
                 for part in found:

@@ -10,7 +10,7 @@ OF_PYTHON = ("capture", "memit", "prun", "time", "timeit")
 LINE = re.compile(r"(?P<indent>[ \t]*)(?P<what>%[A-Za-z_]\w*|!+\s*[\w./~-]*|\?{1,2}[\w.*]+|(?P<asked>[A-Za-z_][\w.]*)(?P<mark>\?{1,2}))(?P<rest>.*)")
 TOKEN = re.compile(TEXTS["python"].pattern + r"|\\\n|[()\[\]{}\n]", re.DOTALL)
 OPENS, CLOSES = "([{", ")]}"
-TIME = "%time"  # what stands behind it is a statement, which later cells may need
+TIME = "%time"  # what stands after it is a statement, which later cells may need
 QUESTION = "?"
 
 

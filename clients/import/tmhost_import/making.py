@@ -76,13 +76,13 @@ def fill(made: str, sheet: Sheet) -> None:
     do([host, "create", made], b"", "tmhost create ended")
     script = "".join(line + "\n" for line in sheet.script()).encode("utf-8")
     try:
-        told = do([host, "run", "--strict", made], script, "tmhost run ended")
+        reported = do([host, "run", "--strict", made], script, "tmhost run ended")
     except Trouble as trouble:
         stopped = re.search(r"stopped at line (\d+)", str(trouble))
         place = f" ({sheet.place_of_line(int(stopped[1]))})" if stopped else ""
         raise Trouble(f"{trouble}{place}") from trouble
-    if told.split("\n")[:-1] != sheet.replies():
-        raise Trouble("tmhost run told something else than that all was made")
+    if reported.split("\n")[:-1] != sheet.replies():
+        raise Trouble("tmhost run reported something else than that all was made")
 
 
 def make(new: str, sheet: Sheet) -> None:

@@ -38,8 +38,8 @@ def without_answers(lines: list[str], first: int) -> list[str]:
     return kept
 
 
-def told_of(lines: list[int]) -> list[str]:
-    """What is told of fences that stand in these lines, from 1, and look like answers of an export: a text of an author's own may have such, too."""
+def reported_of(lines: list[int]) -> list[str]:
+    """What is reported of fences that stand in these lines, from 1, and look like answers of an export: a text of an author's own may have such, too."""
     if not lines:
         return []
     are = "fence was taken for an answer" if len(lines) == 1 else "fences were taken for answers"
@@ -109,7 +109,7 @@ class Reader:
         if len(found) < len(ends) or not ends:
             return {}
         self.document.left_out["answers"] += len(found)
-        self.document.notes += told_of([block.end + 2 for block in self.blocks if block.end + 1 < found.get(block.begin, 0) and block.end + 1 in by_line])
+        self.document.notes += reported_of([block.end + 2 for block in self.blocks if block.end + 1 < found.get(block.begin, 0) and block.end + 1 in by_line])
         return found
 
     # ---- cells

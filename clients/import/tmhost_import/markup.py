@@ -1,6 +1,6 @@
 """What stands in a tree of GNU TeXmacs: as Markdown, with its formulas as LaTeX, and as the code that an input in mathematics is.
 
-All is told as the strings of a document are, a backslash before what has a meaning: `texmacs.py` takes these away.
+All is written as the strings of a document are, a backslash before what has a meaning: `texmacs.py` takes these away.
 """
 import re
 from collections.abc import Iterator
@@ -40,7 +40,7 @@ OF_PYTHON = ("python", "sympy")
 
 
 class NoCode(Exception):
-    """An input in mathematics has what no interpreter is told here."""
+    """An input in mathematics has what no interpreter is given here."""
 
 
 def is_named(tree: Tree, names: "set[str]") -> bool:
@@ -90,32 +90,32 @@ class Formulas:
 
     def word(self, name: str, parts: "list[Tree]") -> str:
         """A tree of a formula that has a name."""
-        told = [self.latex(part) for part in parts]
-        if name in FRACTIONS and len(told) == 2:
-            return rf"\\{FRACTIONS[name]}{{{told[0]}}}{{{told[1]}}}"
-        if name == "sqrt" and told:
-            return rf"\\sqrt[{told[1]}]{{{told[0]}}}" if len(told) > 1 else rf"\\sqrt{{{told[0]}}}"
-        if name in SCRIPTS and told:
-            return SCRIPTS[name].format(told[0])
-        if name == "rprime" and told:
-            return "^{" + told[0].replace("'", r"\\prime ").replace(r"\<dag\>", r"\\dag ") + "}"
-        if name in FACES and told:
-            return rf"\\{FACES[name]}{{{told[0] if FACES[name] != 'text' else without_marks(parts[0])}}}"
-        if name in ("around", "around*") and len(told) == 3:
-            return rf"\\left{bracket(parts[0])}{told[1]}\\right{bracket(parts[2])}"
-        if name in ("left", "right", "mid", "left*", "right*") and told:
+        reported = [self.latex(part) for part in parts]
+        if name in FRACTIONS and len(reported) == 2:
+            return rf"\\{FRACTIONS[name]}{{{reported[0]}}}{{{reported[1]}}}"
+        if name == "sqrt" and reported:
+            return rf"\\sqrt[{reported[1]}]{{{reported[0]}}}" if len(reported) > 1 else rf"\\sqrt{{{reported[0]}}}"
+        if name in SCRIPTS and reported:
+            return SCRIPTS[name].format(reported[0])
+        if name == "rprime" and reported:
+            return "^{" + reported[0].replace("'", r"\\prime ").replace(r"\<dag\>", r"\\dag ") + "}"
+        if name in FACES and reported:
+            return rf"\\{FACES[name]}{{{reported[0] if FACES[name] != 'text' else without_marks(parts[0])}}}"
+        if name in ("around", "around*") and len(reported) == 3:
+            return rf"\\left{bracket(parts[0])}{reported[1]}\\right{bracket(parts[2])}"
+        if name in ("left", "right", "mid", "left*", "right*") and reported:
             found = bracket(parts[0])
             return "" if found == "." else found
-        if name in ("big", "big-around") and told:
+        if name in ("big", "big-around") and reported:
             sign = flat(parts[0]).removeprefix(r"\<").removesuffix(r"\>").removeprefix("big")
-            return (rf"\\{sign} " if re.fullmatch("[A-Za-z]+", sign) else "") + "".join(told[1:])
-        if name in ("wide", "wide*") and len(told) == 2:
+            return (rf"\\{sign} " if re.fullmatch("[A-Za-z]+", sign) else "") + "".join(reported[1:])
+        if name in ("wide", "wide*") and len(reported) == 2:
             hat = HATS.get(flat(parts[1]), "overline")
-            return rf"\\{hat if name == 'wide' else 'underline'}{{{told[0]}}}"
-        if name in ("above", "below") and len(told) == 2:
-            return rf"\\{'overset' if name == 'above' else 'underset'}{{{told[1]}}}{{{told[0]}}}"
+            return rf"\\{hat if name == 'wide' else 'underline'}{{{reported[0]}}}"
+        if name in ("above", "below") and len(reported) == 2:
+            return rf"\\{'overset' if name == 'above' else 'underset'}{{{reported[1]}}}{{{reported[0]}}}"
         self.unknown += 1
-        return rf"\\mathrm{{{name}}}({', '.join(told)})"
+        return rf"\\mathrm{{{name}}}({', '.join(reported)})"
 
     def matrix(self, name: str, tree: Tree) -> str:
         lines = r" \\\\ ".join(" & ".join(map(self.latex, row)) for row in rows(tree))
@@ -129,8 +129,8 @@ class Formulas:
     def display(self, tree: "list[Tree]") -> str:
         """One with a paragraph for itself; several lines of it stand one below the other."""
         lines = [[self.latex(cell).strip() for cell in row] for row in rows(tree)] if not any(is_named(part, set(MATRICES)) for part in tree[1:]) and is_aligned(tree) else []
-        told = r" \\\\ ".join(row[0] + " & " + " ".join(row[1:]) for row in lines)
-        text = rf"\\begin{{aligned}}{told}\\end{{aligned}}" if lines else self.latex(["document", *tree[1:]])
+        reported = r" \\\\ ".join(row[0] + " & " + " ".join(row[1:]) for row in lines)
+        text = rf"\\begin{{aligned}}{reported}\\end{{aligned}}" if lines else self.latex(["document", *tree[1:]])
         text = " ".join(text.split())
         return f"$${text}$$" if text else ""
 
@@ -157,8 +157,8 @@ def letter(found: "re.Match[str]") -> str:
 
 
 def bracket(tree: Tree) -> str:
-    told = flat(tree)
-    return BRACKETS.get(told, told)
+    reported = flat(tree)
+    return BRACKETS.get(reported, reported)
 
 
 def without_marks(tree: Tree) -> str:
@@ -182,15 +182,15 @@ def code(tree: Tree, language: str, is_mathematics: bool) -> str:
         return "".join(code(part, language, is_mathematics) for part in parts)
     if name in ("with", "math", "math-up", "op") and parts:
         return code(parts[-1], language, is_mathematics or name == "math")
-    told = [code(part, language, True) for part in parts]
-    if name == "frac" and len(told) == 2:
-        return f"({told[0]})/({told[1]})"
-    if name == "sqrt" and len(told) == 1:
-        return f"sqrt({told[0]})"
-    if name == "rsup" and len(told) == 1:
-        return f"{'**' if language in OF_PYTHON else '^'}({told[0]})"
-    if name in ("around", "around*") and len(told) == 3:
-        return "".join(told)
+    reported = [code(part, language, True) for part in parts]
+    if name == "frac" and len(reported) == 2:
+        return f"({reported[0]})/({reported[1]})"
+    if name == "sqrt" and len(reported) == 1:
+        return f"sqrt({reported[0]})"
+    if name == "rsup" and len(reported) == 1:
+        return f"{'**' if language in OF_PYTHON else '^'}({reported[0]})"
+    if name in ("around", "around*") and len(reported) == 3:
+        return "".join(reported)
     raise NoCode(name)
 
 
@@ -232,9 +232,9 @@ class Prose:
         if name == "item":
             return "- "
         if name == "with":
-            told = dict(zip(map(flat, parts[:-1:2]), map(flat, parts[1:-1:2])))
+            reported = dict(zip(map(flat, parts[:-1:2]), map(flat, parts[1:-1:2])))
             inner = parts[-1] if parts else ""
-            return self.formulas.inline(inner) if told.get("mode") == "math" else marked(self.words(inner), "**" if told.get("font-series") == "bold" else "")
+            return self.formulas.inline(inner) if reported.get("mode") == "math" else marked(self.words(inner), "**" if reported.get("font-series") == "bold" else "")
         if name == "item*":
             return "- " + marked("".join(map(self.words, parts)), "**") + " "
         if name in ("hlink", "href") and len(parts) in (1, 2):

@@ -111,7 +111,7 @@ def refuse_invalid(notebook: Object) -> None:
 
 
 def text_at(value: object, *path: str) -> str | None:
-    """The text behind these keys, where there is one."""
+    """The text after these keys, where there is one."""
     for key in path:
         value = value.get(key) if isinstance(value, dict) else None
     return value if isinstance(value, str) and value else None

@@ -22,7 +22,7 @@ ELSEWHERE = re.compile(r"[ \t]*(?:#\+headers?:|#\+property:[ \t]*header-args|:he
 
 
 def arguments(header: str) -> dict[str, str]:
-    """The header arguments behind a block's language: of one that stands twice the last."""
+    """The header arguments after a block's language: of one that stands twice the last."""
     return {key.lower(): value.strip(" \t").strip('"') for key, value in ARGUMENT.findall(header)}
 
 
@@ -66,20 +66,20 @@ class Reader:
     def read(self) -> Document:
         at = 0
         while at < len(self.lines):
-            at = self.behind(at)
+            at = self.after(at)
         if self.elsewhere:
             self.document.notes.append(f"header arguments beside those of #+begin_src are not read: {self.elsewhere} lines have some")
         return self.document
 
-    def behind(self, at: int) -> int:
-        """Takes what begins in this line, and gives the place behind it."""
+    def after(self, at: int) -> int:
+        """Takes what begins in this line, and gives the place after it."""
         line = self.lines[at]
         if found := BEGIN.fullmatch(line):
             end = self.end_of_block(at)
             self.add_block(at, end, found[1], found[2] or "")
             return end + 1
         if found := VERBATIM.fullmatch(line):
-            return self.behind_verbatim(at, found[1].lower())
+            return self.after_verbatim(at, found[1].lower())
         self.elsewhere += bool(ELSEWHERE.fullmatch(line))
         return at + 1
 
@@ -93,8 +93,8 @@ class Reader:
                 raise Trouble(f"line {begin + 1}: the block that begins here has no end{reason}")
         raise Trouble(f"line {begin + 1}: the block that begins here has no end")
 
-    def behind_verbatim(self, begin: int, kind: str) -> int:
-        """The place behind the verbatim block that begins here, or behind its first line where it has no end."""
+    def after_verbatim(self, begin: int, kind: str) -> int:
+        """The place after the verbatim block that begins here, or after its first line where it has no end."""
         at = max(begin + 1, self.endless.get(kind, 0))
         while at < len(self.lines) and not HEADLINE.fullmatch(self.lines[at]) and begin >= self.endless.get(kind, 0):
             if self.lines[at].strip(" \t").lower() == f"#+end_{kind}":

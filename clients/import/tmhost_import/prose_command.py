@@ -12,8 +12,8 @@ NAME = "tmhost-prose"
 ABOUT = "Makes prose of the fields of prose in a notebook or a Markdown text that tmhost export wrote. All else stays byte for byte, but for --png."
 NOTES = """
 A field of prose has the session prose, or prose-2 and so on, and no answer: a cell of Markdown in a notebook, and
-text without its fence in Markdown. What could take in what stands after it stays in its fence, which is told.
-The status is 0, 1 where nothing is written, which is told, and 2 where the words are refused.
+text without its fence in Markdown. What could take in what stands after it stays in its fence, which is reported.
+The status is 0, 1 where nothing is written, which is reported, and 2 where the words are refused.
 """
 
 

@@ -127,7 +127,7 @@ class Sessions:
         return free
 
     def renamed(self) -> list[str]:
-        """What is to be told of sessions that have another name than in the document."""
+        """What is to be reported of sessions that have another name than in the document."""
         return [f"the session {shown(wanted)} is named {name}" for (wanted, _), name in self.names.items() if wanted != name]
 
 

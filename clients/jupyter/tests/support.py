@@ -26,7 +26,7 @@ INTERPRETER = [sys.executable, "-S", "-E", os.path.join(HERE, "interpreter.py")]
 LESSON = os.path.abspath(os.environ.get("TMHOST_LESSON", os.path.join(HERE, "lesson.ipynb")))
 SECONDS = 300.0  # in which everything comes, on a slow machine too
 
-Told = Dict[str, Any]
+Reported = Dict[str, Any]
 
 needs_program = unittest.skipUnless(os.path.isfile(PROGRAM), "there is no tmhost: TMHOST names none, and none is on PATH or built")
 
@@ -112,26 +112,26 @@ class Front:
         self.client.shell_channel.send(message)
         return str(message["header"]["msg_id"])
 
-    def received(self, asked: str) -> Tuple[Told, List[Told]]:
+    def received(self, asked: str) -> Tuple[Reported, List[Reported]]:
         """The reply to a cell, and what was put out for it."""
-        outputs: List[Told] = []
+        outputs: List[Reported] = []
         while True:
-            told = self.client.get_iopub_msg(timeout=SECONDS)
-            if told["parent_header"].get("msg_id") != asked:
+            reported = self.client.get_iopub_msg(timeout=SECONDS)
+            if reported["parent_header"].get("msg_id") != asked:
                 continue
-            if told["msg_type"] == "status" and told["content"]["execution_state"] == "idle":
+            if reported["msg_type"] == "status" and reported["content"]["execution_state"] == "idle":
                 return self.reply(asked), outputs
-            if told["msg_type"] not in ("status", "execute_input"):
-                outputs.append({"type": told["msg_type"], **told["content"]})
+            if reported["msg_type"] not in ("status", "execute_input"):
+                outputs.append({"type": reported["msg_type"], **reported["content"]})
 
-    def reply(self, asked: str) -> Told:
+    def reply(self, asked: str) -> Reported:
         while True:
-            told = self.client.get_shell_msg(timeout=SECONDS)
-            if told["parent_header"].get("msg_id") == asked:
-                content: Told = told["content"]
+            reported = self.client.get_shell_msg(timeout=SECONDS)
+            if reported["parent_header"].get("msg_id") == asked:
+                content: Reported = reported["content"]
                 return content
 
-    def execute(self, code: str, cell: str = "", **more: bool) -> Tuple[Told, List[Told]]:
+    def execute(self, code: str, cell: str = "", **more: bool) -> Tuple[Reported, List[Reported]]:
         return self.received(self.send(code, cell, **more))
 
     def text(self, code: str, cell: str = "", **more: bool) -> str:

@@ -29,7 +29,7 @@ class Fields(Case):
         cells = self.opened()
         ids = [cells.field(text, name, False).id for text, name in (("one", "x"), ("two", "y"), ("three", "z"))]
         self.assertEqual(cells.field("other", "x", False).id, ids[0])
-        self.assertEqual(cells.field("new", "w", False).id, 4)  # behind the cell that was run before it
+        self.assertEqual(cells.field("new", "w", False).id, 4)  # after the cell that was run before it
         self.assertEqual(self.inputs(cells), ["other", "new", "two", "three"])
         cells.worksheet.close()
         cells = self.opened()

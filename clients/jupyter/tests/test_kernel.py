@@ -35,7 +35,7 @@ class Answers(Case):
 
     def test_an_error_stops_what_waits(self) -> None:
         with Front(self.folder) as front:
-            asked = [front.send(code) for code in ("first", "error", "behind")]
+            asked = [front.send(code) for code in ("first", "error", "after")]
             self.assertEqual(front.received(asked[0])[0]["status"], "ok")
             reply, outputs = front.received(asked[1])
             self.assertEqual((reply["status"], reply["ename"], reply["evalue"]), ("error", "ValueError", "no: never"))
@@ -47,7 +47,7 @@ class Answers(Case):
 
     def test_interrupts(self) -> None:
         with Front(self.folder) as front:
-            asked = [front.send("sleep 100"), front.send("behind")]
+            asked = [front.send("sleep 100"), front.send("after")]
             time.sleep(3)
             front.manager.interrupt_kernel()
             reply, outputs = front.received(asked[0])
@@ -60,8 +60,8 @@ class Answers(Case):
         with Front(self.folder) as front:
             for code, at in (("one\nhe + 1", 6), ("he", 2)):
                 asked = front.client.complete(code, at)
-                told = front.reply(asked)
-                self.assertEqual((told["matches"], told["cursor_start"], told["cursor_end"]), (["hello", "heap"], at - 2, at))
+                reported = front.reply(asked)
+                self.assertEqual((reported["matches"], reported["cursor_start"], reported["cursor_end"]), (["hello", "heap"], at - 2, at))
             front.execute("first")
         self.assertEqual([field.input for field in fields_of(self.place("kernel.tmhost"))], ["first"])  # and none for the request
 

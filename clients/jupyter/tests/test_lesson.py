@@ -21,7 +21,7 @@ except ImportError as error:
 
 KILLS = int(os.environ.get("TMHOST_KILLS", "3"))
 MODULES = subprocess.run(["python3", "-c", "import sympy, numpy, matplotlib"], stderr=subprocess.DEVNULL).returncode == 0
-Told = Dict[str, Any]
+Reported = Dict[str, Any]
 Forks = multiprocessing.get_context("fork")
 
 
@@ -33,26 +33,26 @@ def codes() -> List[str]:
     return [cell.source for cell in lesson().cells if cell.cell_type == "code"]
 
 
-def plain(outputs: List[Any]) -> List[Tuple[str, Told]]:
+def plain(outputs: List[Any]) -> List[Tuple[str, Reported]]:
     """Outputs without what counts them."""
     return [(one["output_type"], {name: one[name] for name in ("data", "name", "text", "ename") if name in one}) for one in outputs]
 
 
-def execute(folder: str, told: Any) -> None:
+def execute(folder: str, reported: Any) -> None:
     """Runs the lesson as nbconvert does, and tells what came of each cell as soon as a front end has it."""
     notebook = lesson()
     numbers = [at for at, cell in enumerate(notebook.cells) if cell.cell_type == "code"]
     client: Any = NotebookClient(notebook, kernel_name="kernel", timeout=None, startup_timeout=int(SECONDS), resources={"metadata": {"path": folder}})
 
     def executed(cell: Any, cell_index: int, execute_reply: Any) -> None:
-        told.send((numbers.index(cell_index), plain(cell.outputs), execute_reply["content"]["status"]))
+        reported.send((numbers.index(cell_index), plain(cell.outputs), execute_reply["content"]["status"]))
 
     client.on_cell_executed = executed
     try:
         client.execute()
-        told.send("end")
+        reported.send("end")
     except Exception as error:
-        told.send(f"{type(error).__name__}: {error}")
+        reported.send(f"{type(error).__name__}: {error}")
 
 
 def parents() -> Dict[int, int]:
@@ -79,29 +79,29 @@ def words(pid: int) -> str:
 
 
 class Run:
-    """A run of the lesson by a process of its own. `cells` has what it was told so far: outputs by their cells."""
+    """A run of the lesson by a process of its own. `cells` has what it was sent so far: outputs by their cells."""
 
     def __init__(self, folder: str) -> None:
         self.ours, theirs = Forks.Pipe(duplex=False)
         self.process = Forks.Process(target=execute, args=(folder, theirs))
         self.process.start()
         theirs.close()
-        self.cells: Dict[int, List[Tuple[str, Told]]] = {}
+        self.cells: Dict[int, List[Tuple[str, Reported]]] = {}
         self.end = ""
 
     def hear(self, until: float) -> bool:
-        """The next that is told; false where nothing comes in time, or any more."""
+        """The next that is reported; false where nothing comes in time, or any more."""
         if self.end or not self.ours.poll(max(0.0, until - time.monotonic())):
             return False
         try:
-            told = self.ours.recv()
+            reported = self.ours.recv()
         except EOFError:
             self.end = "killed"
             return False
-        if isinstance(told, str):
-            self.end = told
-        elif told[2] == "ok":
-            self.cells[told[0]] = told[1]
+        if isinstance(reported, str):
+            self.end = reported
+        elif reported[2] == "ok":
+            self.cells[reported[0]] = reported[1]
         return True
 
     def hear_to_cell(self, count: int) -> None:
@@ -117,7 +117,7 @@ class Run:
         """Ends some of what runs, at once."""
         found = {pid: words(pid) for pid in below(self.process.pid or 0)}
         marks = {"kernel": "tmhost-jupyter-kernel start", "host": "live --json", "interpreter": "adapters/python"}
-        chosen = [pid for pid, told in found.items() if kind in marks and marks[kind] in told]
+        chosen = [pid for pid, reported in found.items() if kind in marks and marks[kind] in reported]
         if kind == "all":
             chosen = list(found)
         elif kind == "front end" or not chosen:
@@ -139,14 +139,14 @@ class Lessons(Case):
         self.sheet = self.place("lesson.tmhost")
         self.set_environment(TMHOST_SHEET=self.sheet, PYTHONHASHSEED="0")  # the order of sympy's sets is part of answers
 
-    def answers(self) -> Dict[int, List[Tuple[str, Told]]]:
+    def answers(self) -> Dict[int, List[Tuple[str, Reported]]]:
         """What the worksheet has for the cells, which are its fields in their order."""
         fields = fields_of(self.sheet)
         self.assertEqual(["\n".join(field.lines) for field in fields], codes()[: len(fields)])
         shown = {at: Shown(field.answer, 1) for at, field in enumerate(fields) if field.answer}
         return {at: plain([{"output_type": message.kind, **message.content} for message in one.messages]) for at, one in shown.items()}
 
-    def whole(self) -> Dict[int, List[Tuple[str, Told]]]:
+    def whole(self) -> Dict[int, List[Tuple[str, Reported]]]:
         run = Run(self.folder)
         run.hear_all()
         self.assertEqual((run.end, len(run.cells)), ("end", len(codes())))
@@ -162,7 +162,7 @@ class Lessons(Case):
         os.unlink(self.sheet + ".alt")
         seed = int(os.environ.get("TMHOST_SEED", str(random.randrange(1 << 30))))
         chance, acknowledged = random.Random(seed), 0
-        held: Dict[int, List[Tuple[str, Told]]] = {}
+        held: Dict[int, List[Tuple[str, Reported]]] = {}
         for number in range(KILLS):
             kind = KINDS[number % len(KINDS)]
             with self.subTest(kind=kind, number=number, seed=seed):
@@ -173,7 +173,7 @@ class Lessons(Case):
                 run.hear_all()
                 acknowledged += len(run.cells)
                 held.update(run.cells)
-                asked = len(run.cells)  # the cell whose answer may be gone, or there and not told
+                asked = len(run.cells)  # the cell whose answer may be gone, or there and not reported
                 held.pop(asked, None)
                 found = self.answers()
                 self.assertEqual({at: found.get(at) for at in held}, held)
@@ -198,8 +198,8 @@ class Lessons(Case):
 
     def exported(self) -> None:
         """The notebook that comes back."""
-        told = subprocess.run([PROGRAM, "export", "notebook", self.sheet], stdout=subprocess.PIPE, check=True).stdout
-        notebook = nbformat.reads(told.decode(), 4)  # type: ignore[no-untyped-call]
+        reported = subprocess.run([PROGRAM, "export", "notebook", self.sheet], stdout=subprocess.PIPE, check=True).stdout
+        notebook = nbformat.reads(reported.decode(), 4)  # type: ignore[no-untyped-call]
         nbformat.validate(notebook)
         self.assertEqual([cell.source for cell in notebook.cells], codes())
         self.assertTrue(all(cell.metadata.tmhost.session == "py" for cell in notebook.cells))

@@ -19,28 +19,28 @@ class Outputs(unittest.TestCase):
         self.assertEqual(shown(b"a\xff").messages[0].content["data"], {"text/plain": "a\\xff"})
 
     def test_other_blocks_have_their_tags(self) -> None:
-        told = shown("a", Block("html", "format", ("<b>", Block("latex", "format", ("x",)), "</b>")), Block("output", "channel", ("c",)))
-        self.assertEqual([message.kind for message in told.messages], ["stream", "display_data", "execute_result"])
-        self.assertEqual([message.content.get("text") or message.content["data"]["text/plain"] for message in told.messages], ["a{html:<b>\n", "x", "</b>}c"])
+        reported = shown("a", Block("html", "format", ("<b>", Block("latex", "format", ("x",)), "</b>")), Block("output", "channel", ("c",)))
+        self.assertEqual([message.kind for message in reported.messages], ["stream", "display_data", "execute_result"])
+        self.assertEqual([message.content.get("text") or message.content["data"]["text/plain"] for message in reported.messages], ["a{html:<b>\n", "x", "</b>}c"])
 
-    def test_what_stands_behind_an_error(self) -> None:
-        told = shown("before\n", Block("error", "channel", ("E: x",)), "after", Block("image/png;base64", "format", ("iV\nBO",)))
-        self.assertEqual([message.kind for message in told.messages], ["stream", "error", "stream", "display_data"])
-        self.assertEqual(told.messages[3].content["data"], {"image/png": "iVBO", "text/plain": "<image/png>"})
+    def test_what_stands_after_an_error(self) -> None:
+        reported = shown("before\n", Block("error", "channel", ("E: x",)), "after", Block("image/png;base64", "format", ("iV\nBO",)))
+        self.assertEqual([message.kind for message in reported.messages], ["stream", "error", "stream", "display_data"])
+        self.assertEqual(reported.messages[3].content["data"], {"image/png": "iVBO", "text/plain": "<image/png>"})
         self.assertEqual([message.kind for message in shown(Block("error", "channel", ("E: x",)), "after").messages], ["error", "stream"])
 
     def test_an_error_alone(self) -> None:
-        told = shown("KeyboardInterrupt", tag="error", kind="channel")
-        self.assertEqual([message.kind for message in told.messages], ["error"])
-        self.assertEqual(told.error and told.error.content, {"ename": "Error", "evalue": "KeyboardInterrupt", "traceback": ["KeyboardInterrupt"]})
+        reported = shown("KeyboardInterrupt", tag="error", kind="channel")
+        self.assertEqual([message.kind for message in reported.messages], ["error"])
+        self.assertEqual(reported.error and reported.error.content, {"ename": "Error", "evalue": "KeyboardInterrupt", "traceback": ["KeyboardInterrupt"]})
 
     def test_an_output_in_an_output_is_an_error(self) -> None:
         inner = Block("output", "channel", ("NameError: name 'x' is not defined\n",))
-        told = shown("before\n", Block("output", "channel", (inner,)))
-        self.assertEqual([message.kind for message in told.messages], ["stream", "error"])
-        self.assertEqual(told.error and told.error[:2], ("NameError", "name 'x' is not defined"))
-        told = shown("before\n", Block("output", "channel", (Block("verbatim", "format", (inner,)),)))
-        self.assertIsNone(told.error)
+        reported = shown("before\n", Block("output", "channel", (inner,)))
+        self.assertEqual([message.kind for message in reported.messages], ["stream", "error"])
+        self.assertEqual(reported.error and reported.error[:2], ("NameError", "name 'x' is not defined"))
+        reported = shown("before\n", Block("output", "channel", (Block("verbatim", "format", (inner,)),)))
+        self.assertIsNone(reported.error)
 
     def test_a_format_error_is_no_error(self) -> None:
         self.assertIsNone(shown("x", tag="error", kind="format").error)

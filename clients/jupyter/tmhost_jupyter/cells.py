@@ -19,7 +19,7 @@ class Names:
                 for line in file:
                     self.take(line)
         except (OSError, UnicodeDecodeError):
-            pass
+            pass  # cells without a known name are found by their texts
 
     def take(self, line: str) -> None:
         """A line of the file. One that was cut by a crash says nothing."""
@@ -44,9 +44,9 @@ class Names:
 class Cells:
     """The cells that a kernel has run. `last` is the field of the one before.
 
-    A cell is the field of its name. One without a known name is the field that has its text and nobody's name, the next one behind the cell
+    A cell is the field of its name. One without a known name is the field that has its text and nobody's name, the next one after the cell
     before it, or else the nearest in front of it. Where a whole notebook is run into a worksheet of its own, by a front end that
-    names no cells, each is the field behind that of the cell before it. Any other is a new field there.
+    names no cells, each is the field after that of the cell before it. Any other is a new field there.
     """
 
     def __init__(self, worksheet: Worksheet, session: str, names: Names) -> None:
@@ -72,11 +72,11 @@ class Cells:
             if named:
                 return named
         at = next((at for at, field in enumerate(mine, 1) if field.id == self.last), 0)
-        before, behind = mine[:at], mine[at:]
+        before, after = mine[:at], mine[at:]
         if is_in_order and not name:
-            return behind[0] if behind else None
+            return after[0] if after else None
         taken = set(self.names.fields.values())
-        free = [field for field in [*behind, *reversed(before)] if field.id not in taken]
+        free = [field for field in [*after, *reversed(before)] if field.id not in taken]
         spare = [field for field in free[:1] if field is mine[-1] and self.is_unused(field)]
         return next((field for field in free if field.input == input), spare[0] if spare else None)
 

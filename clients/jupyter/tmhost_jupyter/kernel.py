@@ -9,11 +9,11 @@ from tmhost import BadLine, Completions, Evaluation, Lost, Refused, TimedOut, Tm
 from tmhost.commands import length_of
 from tmhost.values import LINE_END
 
-from .languages import language_of, told_of
+from .languages import language_of, reported_of
 from .outputs import Error, Message, Shown
 from .sheet import Given, Sheet, Unusable
 
-Told = Dict[str, Any]
+Reported = Dict[str, Any]
 
 VERSION = "0.1.0"
 LOOKS = 0.05  # seconds after which it is looked whether an interrupt has come
@@ -46,7 +46,7 @@ class WorksheetKernel(Kernel):
         super().__init__(**kwargs)  # type: ignore[no-untyped-call]
         self.sheet = Sheet(self.given)
         self.banner = f"{self.given.session}, kept in the worksheet {self.sheet.path}"
-        self.language_info = told_of(language_of(self.given.words) or self.given.session)
+        self.language_info = reported_of(language_of(self.given.words) or self.given.session)
         self.is_interrupted = threading.Event()
 
     # ---- signals
@@ -62,14 +62,14 @@ class WorksheetKernel(Kernel):
 
     def do_execute(
         self, code: str, silent: bool, store_history: bool = True, user_expressions: Any = None, allow_stdin: bool = False, *, cell_id: Optional[str] = None
-    ) -> Told:
+    ) -> Reported:
         if not code.strip():
             return self.done()
         if silent:
             return self.failed(failure("Silent", "a worksheet has no line that isn't kept"), silent)
         self.is_interrupted.clear()
         try:
-            evaluation = self.sheet.opened().field(code, cell_id or self.told_name(), self.sheet.is_own and not allow_stdin).eval()
+            evaluation = self.sheet.opened().field(code, cell_id or self.given_name(), self.sheet.is_own and not allow_stdin).eval()
             return self.shown(evaluation)
         except Unusable as unusable:
             return self.failed(failure("Worksheet", str(unusable)), silent)
@@ -83,12 +83,12 @@ class WorksheetKernel(Kernel):
                 self.sheet.close()
             return self.failed(failure(type(error).__name__, f"{error}: the variables are gone, and the next cell opens the worksheet again"), silent)
 
-    def told_name(self) -> str:
+    def given_name(self) -> str:
         """The front end's name for the cell, of which an ipykernel before 6.18 doesn't tell us."""
         parent = self.get_parent("shell")  # type: ignore[no-untyped-call]
         return str((parent.get("metadata") or {}).get("cellId") or "")
 
-    def shown(self, evaluation: Evaluation) -> Told:
+    def shown(self, evaluation: Evaluation) -> Reported:
         """Waits for an answer, and sends what it has."""
         was_interrupted = False
         while True:
@@ -107,13 +107,13 @@ class WorksheetKernel(Kernel):
             return self.ended(shown.error)
         return self.failed(INTERRUPTED, False) if was_interrupted else self.done()
 
-    def done(self) -> Told:
+    def done(self) -> Reported:
         return {"status": "ok", "execution_count": self.execution_count, "payload": [], "user_expressions": {}}
 
-    def ended(self, error: Error) -> Told:
+    def ended(self, error: Error) -> Reported:
         return {"status": "error", "execution_count": self.execution_count, **error.content}
 
-    def failed(self, error: Error, silent: bool) -> Told:
+    def failed(self, error: Error, silent: bool) -> Reported:
         if not silent:
             self.send(Message("error", error.content))
         return self.ended(error)
@@ -123,7 +123,7 @@ class WorksheetKernel(Kernel):
 
     # ---- the rest
 
-    def do_complete(self, code: str, cursor_pos: int) -> Told:
+    def do_complete(self, code: str, cursor_pos: int) -> Reported:
         none = {"status": "ok", "matches": [], "cursor_start": cursor_pos, "cursor_end": cursor_pos, "metadata": {}}
         found = self.completions(code, cursor_pos)
         if found is None:
@@ -135,7 +135,7 @@ class WorksheetKernel(Kernel):
         """What the interpreter says that can stand there; None where it doesn't say, or there is no worksheet."""
         text = code.replace("\n", LINE_END)
         if self.sheet.has_lost_variables or self.sheet.ended():
-            return None  # the next cell is told
+            return None  # the next cell says so
         try:
             cells = self.sheet.opened()
             if not self.sheet.answers_completions:
@@ -144,7 +144,7 @@ class WorksheetKernel(Kernel):
         except (TmhostError, Unusable):
             return None
 
-    def do_shutdown(self, restart: bool) -> Told:
+    def do_shutdown(self, restart: bool) -> Reported:
         """Ends the program with its interpreter, and a cell that waits."""
         self.sheet.close()
         return {"status": "ok", "restart": restart}

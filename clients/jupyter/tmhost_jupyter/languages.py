@@ -1,4 +1,4 @@
-"""The adapters that a kernel is installed for by one word, and what front ends are told of their languages."""
+"""The adapters that a kernel is installed for by one word, and what front ends get to know of their languages."""
 import os
 from typing import Any, Dict, NamedTuple, Sequence, Tuple
 
@@ -58,8 +58,8 @@ def language_of(words: Sequence[str]) -> str:
     return names[0] if names else ""
 
 
-def told_of(name: str) -> Dict[str, Any]:
-    """What a front end is told of a language."""
+def reported_of(name: str) -> Dict[str, Any]:
+    """What a front end gets to know of a language."""
     known = LANGUAGES.get(name, Language(name, ()))
     colours = {"codemirror_mode": known.code, "pygments_lexer": known.code} if known.code else {}
     return {"name": name or "text", "mimetype": known.mime, "file_extension": known.ending, **colours}

@@ -92,10 +92,10 @@ class Shown:
     """An answer as messages, and its first error."""
 
     def __init__(self, answer: Answer, count: int) -> None:
-        told = [part for part in parts(answer.output) if part.text.strip("\n")]
-        errors = [error_of(part.text) for part in told if part.kind == "error"]
+        reported = [part for part in parts(answer.output) if part.text.strip("\n")]
+        errors = [error_of(part.text) for part in reported if part.kind == "error"]
         self.error = errors[0] if errors else None
-        self.messages = [self.message(part, part is told[-1] and not errors, count) for part in told]
+        self.messages = [self.message(part, part is reported[-1] and not errors, count) for part in reported]
 
     def message(self, part: Part, is_value: bool, count: int) -> Message:
         """What was written before the value of a line is a stream."""

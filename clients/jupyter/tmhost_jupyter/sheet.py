@@ -11,7 +11,7 @@ NOTEBOOK, SHEET, CELLS = ".ipynb", ".tmhost", ".cells"  # ends of names
 # Programs that run a whole notebook, which their words name.
 RUNNERS = ("jupyter-nbconvert", "jupyter-execute", "jupyter-run", "papermill")
 MODULES = ("nbconvert", "papermill")  # which python3 -m runs
-IN_USE = 5.0  # seconds in which it is tried again: behind a crash the program before may still be ending
+IN_USE = 5.0  # seconds in which it is tried again: after a crash the program before may still be ending
 PAUSE = 0.1
 
 
@@ -77,7 +77,7 @@ class Sheet:
         self.path, self.is_own = place(given)
         self.worksheet: Optional[Worksheet] = None
         self.cells: Optional[Cells] = None
-        self.has_lost_variables = False  # while nothing was evaluated, so that nobody was told
+        self.has_lost_variables = False  # while nothing was evaluated, so that nobody knows
 
     def opened(self) -> Cells:
         """Raises Unusable, also once where its program has ended since: nobody shall take an empty interpreter for the one before."""
@@ -106,7 +106,7 @@ class Sheet:
         return self.cells
 
     def note(self, event: Event) -> None:
-        """An event of the worksheet. The cell that waits is told itself."""
+        """An event of the worksheet. The cell that waits gets it itself."""
         if isinstance(event, Ended) and event.session == self.given.session and not event.lost:
             self.has_lost_variables = True
 

@@ -34,9 +34,9 @@ export class Actions {
    * @type {(call: string, members: Record<string, unknown>) => Promise<Reply>}
    */
   async ask(call, members) {
-    const told = await ask(call, members);
-    this.note(told.refused ? told.says ?? told.refused : told.warning ?? "");
-    return told;
+    const reported = await ask(call, members);
+    this.note(reported.refused ? reported.says ?? reported.refused : reported.warning ?? "");
+    return reported;
   }
 
   // ---- evaluations
@@ -44,8 +44,8 @@ export class Actions {
   /** @type {(view: CellView) => Promise<boolean>} */
   async evaluate(view) {
     if (view.isProse) return this.isSaved(view);
-    const told = await view.risk(EVALUATED, async () => ((await this.isSaved(view)) ? this.ask("eval", { id: view.id }) : NOT_SAVED));
-    return !told.refused;
+    const reported = await view.risk(EVALUATED, async () => ((await this.isSaved(view)) ? this.ask("eval", { id: view.id }) : NOT_SAVED));
+    return !reported.refused;
   }
 
   /**
@@ -53,10 +53,10 @@ export class Actions {
    * @type {(views: CellView[], call: string, members: Record<string, unknown>) => Promise<Reply>}
    */
   evaluateEach(views, call, members) {
-    const told = this.evaluating.then(() => this.ask(call, { ...members, stops: stopsAtErrors() }));
-    this.evaluating = told.catch(() => undefined);
-    for (const view of views) if (!view.isProse) view.risk(EVALUATED, () => told);
-    return told;
+    const reported = this.evaluating.then(() => this.ask(call, { ...members, stops: stopsAtErrors() }));
+    this.evaluating = reported.catch(() => undefined);
+    for (const view of views) if (!view.isProse) view.risk(EVALUATED, () => reported);
+    return reported;
   }
 
   /**
@@ -86,8 +86,8 @@ export class Actions {
   /** Evaluates what has no answer, or a stale one. */
   async evaluateStale() {
     if (!(await this.saveAll())) return;
-    const told = await this.ask("eval_stale", {});
-    if (told.count === 0 && !told.warning) this.note("nothing is stale");
+    const reported = await this.ask("eval_stale", {});
+    if (reported.count === 0 && !reported.warning) this.note("nothing is stale");
   }
 
   async evaluateAll() {
@@ -123,10 +123,10 @@ export class Actions {
 
   /** @param {string} session */
   async interruptSession(session) {
-    const told = await this.ask("interrupt", { session });
-    if (told.outcome === "idle") this.note(`${session} is at nothing`);
-    if (told.outcome === "failed") this.note(`${session} could not be interrupted`);
-    if (told.dropped) this.note(`${told.dropped} of ${session} that waited ${told.dropped === 1 ? "was" : "were"} not asked`);
+    const reported = await this.ask("interrupt", { session });
+    if (reported.outcome === "idle") this.note(`${session} is at nothing`);
+    if (reported.outcome === "failed") this.note(`${session} could not be interrupted`);
+    if (reported.dropped) this.note(`${reported.dropped} of ${session} that waited ${reported.dropped === 1 ? "was" : "were"} not asked`);
   }
 
   /** @param {string} session */
@@ -157,8 +157,8 @@ export class Actions {
    */
   make(after, session, isEdited = false) {
     return this.held.during(async () => {
-      const told = await this.ask("new", { after, session, text: "" });
-      const view = await this.cells.whenThere(told.id);
+      const reported = await this.ask("new", { after, session, text: "" });
+      const view = await this.cells.whenThere(reported.id);
       if (isEdited || session === null) this.cells.edit(view);
       else this.cells.select(view);
       return view !== undefined;
@@ -209,8 +209,8 @@ export class Actions {
   /** @param {number | null} number */
   restore(number) {
     return this.held.during(async () => {
-      const told = await this.ask("restore", { number });
-      const made = await this.cells.whenThere(told.id);
+      const reported = await this.ask("restore", { number });
+      const made = await this.cells.whenThere(reported.id);
       this.cells.select(made);
       return made !== undefined;
     });
@@ -224,11 +224,11 @@ export class Actions {
     if ((session === null && view.isProse) || session === view.cell.session) return;
     await this.held.during(async () => {
       if (!(await this.isSaved(view))) return false;
-      const told = await this.ask("change", { id: view.id, session });
-      const made = await this.cells.whenThere(told.id ?? view.id);
+      const reported = await this.ask("change", { id: view.id, session });
+      const made = await this.cells.whenThere(reported.id ?? view.id);
       if (made !== this.cells.selected) this.cells.select(made); // who is in its text already stays there
       if (made) this.cells.toolbar.show(made);
-      return !told.refused;
+      return !reported.refused;
     });
   }
 

@@ -103,8 +103,8 @@ export function showTrouble(ended, isLooking) {
   const place = byId("trouble", HTMLElement);
   place.hidden = ended === null;
   const rest = isLooking ? "" : " What is shown as saved is in the file; what was evaluated has no answer.";
-  const told = ended === null ? "" : `${visible(ended)}.${rest}`;
-  place.querySelector("span")?.replaceChildren(told);
+  const reported = ended === null ? "" : `${visible(ended)}.${rest}`;
+  place.querySelector("span")?.replaceChildren(reported);
   place.querySelector("button")?.toggleAttribute("hidden", ended === null);
 }
 
@@ -131,6 +131,6 @@ export async function openRemoved() {
   const says = byId("removed-says", HTMLElement);
   byId("removed-dialog", HTMLDialogElement).showModal();
   says.textContent = "What was removed before is looked for.";
-  const told = await ask("past_removed");
-  says.textContent = told.refused ? `What was removed before isn't here: ${visible(told.says ?? told.refused)}` : told.warning ?? "";
+  const reported = await ask("past_removed");
+  says.textContent = reported.refused ? `What was removed before isn't here: ${visible(reported.says ?? reported.refused)}` : reported.warning ?? "";
 }

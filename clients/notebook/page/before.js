@@ -25,7 +25,7 @@ export class Before {
     this.opening = "";
     /** @type {[number, string][]} */
     this.left = []; // versions that aren't shown yet
-    this.newer = ""; // the text behind those that are left
+    this.newer = ""; // the text after those that are left
     this.turn = 0; // of which one the list is: another one may be opened while its parts come
     this.list = byId("before-list", HTMLElement);
     byId("before-close", HTMLButtonElement).addEventListener("click", () => dialog().close());
@@ -49,15 +49,15 @@ export class Before {
     dialog().showModal();
     this.say("its changes are read");
     while (view.saving) await view.saving; // so that the text that it has now isn't one of before
-    const told = await ask("past_cell", { id: view.id });
+    const reported = await ask("past_cell", { id: view.id });
     if (turn !== this.turn) return;
-    this.say(told.refused ? told.says ?? told.refused : "");
-    if (!told.versions) return;
+    this.say(reported.refused ? reported.says ?? reported.refused : "");
+    if (!reported.versions) return;
     this.id = view.id;
-    this.opening = told.opening ?? "";
-    this.left = told.versions;
+    this.opening = reported.opening ?? "";
+    this.left = reported.versions;
     this.newer = view.base;
-    const many = (told.count ?? 0) > this.left.length ? ` Of ${told.count} texts and answers the newest ${this.left.length} are looked at.` : "";
+    const many = (reported.count ?? 0) > this.left.length ? ` Of ${reported.count} texts and answers the newest ${this.left.length} are looked at.` : "";
     byId("before-mark", HTMLElement).replaceChildren(make("strong", "", "The past"),
       `: what this ${of} had, the newest first; of a text that was typed on, its end.${many} Nothing here can be changed.`);
     await this.more();
@@ -70,13 +70,13 @@ export class Before {
     more().hidden = true;
     for (let asked = 0, shown = 0; shown < AT_ONCE && asked < ASKED_AT_ONCE && this.left.length > 0; asked += 1) {
       const [[at, what]] = this.left.splice(0, 1);
-      const told = await ask("past_field", { opening, at, id });
+      const reported = await ask("past_field", { opening, at, id });
       if (turn !== this.turn) return;
-      const [cell] = told.then ?? [];
+      const [cell] = reported.then ?? [];
       const isTypedOn = cell && cell.state === "empty" && this.newer.startsWith(cell.input);
       this.newer = cell?.input ?? "";
       if (isTypedOn) continue;
-      const box = this.versionOf(at, what, told);
+      const box = this.versionOf(at, what, reported);
       this.list.append(box);
       if (shown === 0 && hadFocus) /** @type {HTMLElement | null} */ (box.querySelector("button"))?.focus();
       shown += 1;
@@ -84,11 +84,11 @@ export class Before {
     more().hidden = this.left.length === 0;
   }
 
-  /** @type {(at: number, what: string, told: import("./types").Reply) => HTMLElement} */
-  versionOf(at, what, told) {
+  /** @type {(at: number, what: string, reported: import("./types").Reply) => HTMLElement} */
+  versionOf(at, what, reported) {
     const { opening } = this, part = make("section");
     const head = make("h3", "then-when", `After change ${at}: ${WORDS[what] ?? what}`);
-    const [cell] = told.then ?? [];
+    const [cell] = reported.then ?? [];
     const look = button("lookThen", "The worksheet of then", `Show the worksheet after change ${at}`);
     look.addEventListener("click", () => {
       dialog().close();
@@ -96,7 +96,7 @@ export class Before {
     });
     part.append(head);
     if (!cell) {
-      part.append(make("p", "", told.says ?? told.refused ?? "it can't be shown"));
+      part.append(make("p", "", reported.says ?? reported.refused ?? "it can't be shown"));
       return part;
     }
     const view = new ThenView(cell, { at, opening }, { say: (text) => this.say(text), takeBack: this.takeBack });

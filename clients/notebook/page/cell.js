@@ -18,9 +18,9 @@ import { AT_FIRST, conflictOf, describe, emptyShape, fitRows, isOther, partsOf, 
  * @typedef {{isThere: boolean, isLooking: boolean, sessions: Map<string, Session>, note: (text: string) => void, news: import("./news").News}} Page
  */
 
-const SAVED_BEHIND = 1_000; // milliseconds without a key
+const SAVED_AFTER = 1_000; // milliseconds without a key
 const SAVED_WITHIN = 2_500; // milliseconds of the first key that isn't saved: half a second is for the disk, so that it is saved within three
-const UNKNOWN = ["Ended", "TimedOut", "Unreached"]; // refusals behind which a text may be saved or not
+const UNKNOWN = ["Ended", "TimedOut", "Unreached"]; // refusals after which a text may be saved or not
 
 export class CellView {
   /**
@@ -37,7 +37,7 @@ export class CellView {
     /** @type {string | null} */
     this.kept = null;
     this.changedAt = 0; // number of this page's last change of it
-    this.toldAt = 0; // up to which change it was told last
+    this.reportedAt = 0; // up to which change it was reported last
     this.asked = 0; // calls without a reply by which the answer may go
     this.askedFor = ""; // what the last one is to do
     this.isElsewhere = false;
@@ -134,34 +134,34 @@ export class CellView {
   }
 
   /**
-   * What was asked and may have taken the answer away, until it is told what came of it.
+   * What was asked and may have taken the answer away, until the server says what came of it.
    * @returns {string | undefined}
    */
   get unsettled() {
-    const isBehind = this.cell.state === "answered" && this.toldAt < this.changedAt;
-    return !this.waits && (this.asked > 0 || isBehind) ? this.askedFor : undefined;
+    const isLate = this.cell.state === "answered" && this.reportedAt < this.changedAt;
+    return !this.waits && (this.asked > 0 || isLate) ? this.askedFor : undefined;
   }
 
   // ---- what the server tells
 
   /**
-   * All is told anew. Another server counts changes from its start on.
+   * All is reported again. Another server counts changes from its start on.
    * @param {boolean} isOther
    */
   begin(isOther) {
     this.mark = [false, false];
-    if (isOther) this.changedAt = this.toldAt = 0;
+    if (isOther) this.changedAt = this.reportedAt = 0;
   }
 
   /**
-   * Takes what the cell is now. What was told before this page changed it last is older than what the page knows.
+   * Takes what the cell is now. What was reported before this page changed it last is older than what the page knows.
    * @type {(cell: Cell, at: number) => void}
    */
   update(cell, at) {
     if (at < this.changedAt) return;
     const waited = this.waits;
     this.cell = cell;
-    this.toldAt = at;
+    this.reportedAt = at;
     this.takeText(cell);
     const name = this.isProse ? `Prose ${this.id}` : `Cell ${this.id}, ${cell.session}`;
     if (this.box.ariaLabel !== name) {
@@ -282,7 +282,7 @@ export class CellView {
     clearTimeout(this.timer);
     this.typedAt ??= performance.now();
     const left = this.typedAt + SAVED_WITHIN - performance.now();
-    this.timer = setTimeout(() => this.saveIfFit(), Math.max(0, Math.min(SAVED_BEHIND, left)));
+    this.timer = setTimeout(() => this.saveIfFit(), Math.max(0, Math.min(SAVED_AFTER, left)));
   }
 
   /** Saves where nobody has to be asked. */
@@ -313,14 +313,14 @@ export class CellView {
   /** @param {string} text */
   async send(text) {
     this.tried.add(text); // an event may tell of it before the reply
-    const told = await ask("set", { id: this.id, text, base: this.base, draft: this.kept });
-    this.trouble = told.refused ? told.says ?? "" : "";
-    const mayBeKept = this.kept !== null || UNKNOWN.includes(told.refused ?? "");
-    if (told.refused && !mayBeKept) this.tried.delete(text);
-    if (told.refused) return false;
-    const at = told.at ?? 0;
-    if (at <= this.toldAt) return true; // an event was quicker, and may tell of more
-    if (told.isDraft) this.isKeptNow(text, at);
+    const reported = await ask("set", { id: this.id, text, base: this.base, draft: this.kept });
+    this.trouble = reported.refused ? reported.says ?? "" : "";
+    const mayBeKept = this.kept !== null || UNKNOWN.includes(reported.refused ?? "");
+    if (reported.refused && !mayBeKept) this.tried.delete(text);
+    if (reported.refused) return false;
+    const at = reported.at ?? 0;
+    if (at <= this.reportedAt) return true; // an event was quicker, and may tell of more
+    if (reported.isDraft) this.isKeptNow(text, at);
     else this.isSavedNow(text, at);
     this.showProse();
     return true;
@@ -360,19 +360,19 @@ export class CellView {
   // ---- evaluations
 
   /**
-   * Does a call by which the answer may go. From now on until it is told what came of that, the answer isn't shown as one of the file.
+   * Does a call by which the answer may go. From now on until the server says what came of that, the answer isn't shown as one of the file.
    * @type {(words: string, call: () => Promise<Reply>) => Promise<Reply>}
    */
   async risk(words, call) {
     this.asked += 1;
     this.askedFor = words;
     this.say();
-    const told = await call();
+    const reported = await call();
     this.asked -= 1;
-    if (told.at !== undefined) this.changedAt = Math.max(this.changedAt, told.at);
-    if (UNKNOWN.includes(told.refused ?? "") && this.cell.state === "answered") this.cell = { ...this.cell, state: /** @type {const} */ ("doubtful") };
+    if (reported.at !== undefined) this.changedAt = Math.max(this.changedAt, reported.at);
+    if (UNKNOWN.includes(reported.refused ?? "") && this.cell.state === "answered") this.cell = { ...this.cell, state: /** @type {const} */ ("doubtful") };
     this.say();
-    return told;
+    return reported;
   }
 
   // ---- two pages

@@ -10,15 +10,15 @@ import { toolbarOf } from "./toolbar.js";
 /** @typedef {import("./types").Message} Message */
 
 const AT_ONCE = 200; // new cells that get their parts before they are in the page
-const TOLD_WITHIN = 5_000; // milliseconds until the page is told of what was done
+const REPORTED_WITHIN = 5_000; // milliseconds until the server reports what was done
 
 /**
  * Waits until a cell has come or gone.
  * @type {(waiting: Map<number, (() => void)[]>, id: number) => Promise<void>}
  */
-const told = (waiting, id) => new Promise((done) => {
+const reported = (waiting, id) => new Promise((done) => {
   waiting.set(id, [...(waiting.get(id) ?? []), done]);
-  setTimeout(done, TOLD_WITHIN);
+  setTimeout(done, REPORTED_WITHIN);
 });
 
 export class Cells {
@@ -60,7 +60,7 @@ export class Cells {
     for (const view of made) this.views.set(view.id, view);
     this.grow(made);
     this.showPartials(message);
-    const order = message.order ?? this.orderBehind(message);
+    const order = message.order ?? this.orderAfter(message);
     if (order) this.arrange(order);
     for (const [id, mark] of Object.entries(message.marks ?? {})) this.views.get(Number(id))?.takeMark(mark);
     if (this.selected) this.toolbar.show(this.selected);
@@ -97,14 +97,14 @@ export class Cells {
   showPartials({ cells = [], partial = {}, isWhole }) {
     if (isWhole) for (const view of this.views.values()) showPartial(view, null);
     for (const { id } of cells) if (this.views.get(id)?.cell.state !== "running") showPartial(this.views.get(id), null);
-    for (const [id, told] of Object.entries(partial)) showPartial(this.views.get(Number(id)), told);
+    for (const [id, reported] of Object.entries(partial)) showPartial(this.views.get(Number(id)), reported);
   }
 
   /**
-   * The order of the cells behind some changes of it, if there are any.
+   * The order of the cells after some changes of it, if there are any.
    * @type {(message: Message) => number[] | undefined}
    */
-  orderBehind({ placed = [], gone = [] }) {
+  orderAfter({ placed = [], gone = [] }) {
     if (placed.length + gone.length === 0) return undefined;
     const moved = new Set([...gone, ...placed.map(([id]) => id)]);
     const order = this.order.filter((id) => !moved.has(id));
@@ -219,7 +219,7 @@ export class Cells {
    */
   async whenThere(id) {
     if (id === undefined) return undefined;
-    if (!this.views.has(id)) await told(this.awaited, id);
+    if (!this.views.has(id)) await reported(this.awaited, id);
     return this.views.get(id);
   }
 
@@ -228,7 +228,7 @@ export class Cells {
    * @param {number[]} ids
    */
   async whenGone(ids) {
-    await Promise.all(ids.filter((id) => this.views.has(id)).map((id) => told(this.leaving, id)));
+    await Promise.all(ids.filter((id) => this.views.has(id)).map((id) => reported(this.leaving, id)));
   }
 
   /** @type {() => CellView[]} */

@@ -15,7 +15,7 @@ const WORDS = {
   eval: ([id]) => `cell ${id} was asked, or cleared`,
   answered: ([id]) => `cell ${id} got an answer`,
   lost: ([id, reason]) => `cell ${id} got no answer: ${REASONS[reason] ?? reason}`,
-  move: ([id, after]) => (after === "0" ? `cell ${id} was moved to the front` : `cell ${id} was moved behind cell ${after}`),
+  move: ([id, after]) => (after === "0" ? `cell ${id} was moved to the front` : `cell ${id} was moved after cell ${after}`),
   remove: ([id]) => `cell ${id} was removed`,
   ids: ([next]) => `the next new cell is number ${next}`,
 };

@@ -19,8 +19,8 @@ const isInText = ({ target }) => target instanceof Element && target.closest("te
  */
 function cellsIn(text) {
   try {
-    const told = JSON.parse(text);
-    const cells = Array.isArray(told) ? told : told?.cells;
+    const reported = JSON.parse(text);
+    const cells = Array.isArray(reported) ? reported : reported?.cells;
     return Array.isArray(cells) && cells.length > 0 ? cells.map(copiedOf) : undefined;
   } catch {
     return undefined;

@@ -33,13 +33,13 @@ export class Completions {
     const { selectionStart: cursor, value: text } = view.text;
     const isThere = () => view.text.value === text && view.text.selectionStart === cursor;
     view.page.note("asking for completions");
-    const told = await ask("complete", { id: view.id, text, cursor });
-    view.page.note(told.refused ? `no completions: ${told.says}` : "");
-    if (told.refused || !isThere()) return;
-    const rest = (told.rest ?? []).filter((one) => one !== "");
+    const reported = await ask("complete", { id: view.id, text, cursor });
+    view.page.note(reported.refused ? `no completions: ${reported.says}` : "");
+    if (reported.refused || !isThere()) return;
+    const rest = (reported.rest ?? []).filter((one) => one !== "");
     if (rest.length === 0) view.page.note("no completions");
     else if (rest.length === 1) insert(view, rest[0]);
-    else this.show(view, visible(told.root ?? ""), rest);
+    else this.show(view, visible(reported.root ?? ""), rest);
   }
 
   /** @type {(view: CellView, root: string, rest: string[]) => void} */

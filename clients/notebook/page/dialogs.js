@@ -14,7 +14,7 @@ const later = (milliseconds) => new Promise((done) => setTimeout(done, milliseco
 const field = (/** @type {string} */ id) => byId(id, HTMLInputElement);
 
 /**
- * A name that no session has: the one that is wanted, or with a number behind it.
+ * A name that no session has: the one that is wanted, or with a number after it.
  * @type {(wanted: string, isTaken: (name: string) => boolean) => string}
  */
 function freeName(wanted, isTaken) {

@@ -40,7 +40,7 @@ export class Earlier {
     press("earlier-newer", () => this.page(this.listed[0].at + 200));
     press("earlier-older", () => this.page(this.listed[this.listed.length - 1].first - 1));
     press("earlier-before", () => this.look(this.goal - 1));
-    press("earlier-behind", () => this.look(this.goal + 1));
+    press("earlier-after", () => this.look(this.goal + 1));
     press("earlier-above", () => this.look(this.at, this.start - 1));
     press("earlier-below", () => this.look(this.at, this.start + this.cells.childElementCount));
     press("earlier-restore", () => this.restore());
@@ -64,9 +64,9 @@ export class Earlier {
    * @type {(call: string, members: Record<string, unknown>) => Promise<Reply>}
    */
   async ask(call, members) {
-    const told = await ask(call, { opening: this.opening, ...members });
-    this.say(told.refused ? told.says ?? told.refused : "");
-    return told;
+    const reported = await ask(call, { opening: this.opening, ...members });
+    this.say(reported.refused ? reported.says ?? reported.refused : "");
+    return reported;
   }
 
   /**
@@ -87,12 +87,12 @@ export class Earlier {
 
   // ---- the list
 
-  /** @type {(told: Reply) => boolean} */
-  take(told) {
-    if (!told.changes) return false;
-    this.opening = told.opening ?? "";
-    this.count = told.count ?? 0;
-    this.listed = grouped(told.changes.map(changeOf)).reverse();
+  /** @type {(reported: Reply) => boolean} */
+  take(reported) {
+    if (!reported.changes) return false;
+    this.opening = reported.opening ?? "";
+    this.count = reported.count ?? 0;
+    this.listed = grouped(reported.changes.map(changeOf)).reverse();
     this.list.replaceChildren(...this.listed.map(({ first, at, words }) => {
       const item = make("li");
       item.id = `change-${at}`;
@@ -127,7 +127,7 @@ export class Earlier {
   }
 
   /**
-   * The change that stands so many lines below that which is looked at, or behind the end of the list.
+   * The change that stands so many lines below that which is looked at, or after the end of the list.
    * @type {(by: number) => number}
    */
   beside(by) {
@@ -172,23 +172,23 @@ export class Earlier {
     this.wanted = undefined;
     if (at > 0 && !this.listed.some((one) => this.has(one, at))) await this.page(at + 100);
     const about = place < 0 ? this.listed.find((one) => this.has(one, at))?.id ?? 0 : 0;
-    const told = await this.ask("past_sheet", { at, about, place: Math.max(0, place) });
-    if (told.then && !this.wanted && dialog().open) this.show(at, told, about);
+    const reported = await this.ask("past_sheet", { at, about, place: Math.max(0, place) });
+    if (reported.then && !this.wanted && dialog().open) this.show(at, reported, about);
   }
 
-  /** @type {(at: number, told: Reply, about: number) => void} */
-  show(at, told, about) {
+  /** @type {(at: number, reported: Reply, about: number) => void} */
+  show(at, reported, about) {
     const does = { say: (/** @type {string} */ text) => this.say(text), takeBack: this.takeBack };
     this.at = at;
-    this.start = told.start ?? 0;
-    const views = (told.then ?? []).map((cell) => new ThenView(cell, { at, opening: this.opening }, does));
+    this.start = reported.start ?? 0;
+    const views = (reported.then ?? []).map((cell) => new ThenView(cell, { at, opening: this.opening }, does));
     this.cells.replaceChildren(...views.map((view) => view.box));
     const changed = this.cells.querySelector(`[data-of="${about}"]`);
     changed?.classList.add("changed");
     changed?.querySelector("header")?.append(make("strong", "", "this change"));
     this.cells.scrollTop = 0;
     changed?.scrollIntoView({ block: "nearest" });
-    this.mark(views.length, told.count ?? 0);
+    this.mark(views.length, reported.count ?? 0);
     this.choose();
   }
 
@@ -206,7 +206,7 @@ export class Earlier {
     parts.querySelector("span")?.replaceChildren(`cells ${start + 1} to ${start + shown} of ${count} are shown`);
     if (count === 0) this.cells.replaceChildren(make("p", "", "There was no cell."));
     enable("earlier-before", at > 0);
-    enable("earlier-behind", !isNow);
+    enable("earlier-after", !isNow);
     enable("earlier-above", start > 0);
     enable("earlier-below", start + shown < count);
   }
@@ -228,11 +228,11 @@ export class Earlier {
 
   async restore() {
     const made = byId("earlier-made", HTMLElement), name = byId("earlier-name", HTMLInputElement).value;
-    const { at } = this, told = await this.ask("past_restore", { at, name });
-    if (told.name === undefined) return;
-    this.say(`${told.name} was made: it is the worksheet after change ${at}`);
-    const link = make("a", "", `Open ${visible(told.name)}`);
-    link.href = `../${encodeURIComponent(told.name)}/`;
-    made.replaceChildren(byId("list", HTMLAnchorElement).hidden ? `open it by tmhost-notebook ${visible(told.name)}` : link);
+    const { at } = this, reported = await this.ask("past_restore", { at, name });
+    if (reported.name === undefined) return;
+    this.say(`${reported.name} was made: it is the worksheet after change ${at}`);
+    const link = make("a", "", `Open ${visible(reported.name)}`);
+    link.href = `../${encodeURIComponent(reported.name)}/`;
+    made.replaceChildren(byId("list", HTMLAnchorElement).hidden ? `open it by tmhost-notebook ${visible(reported.name)}` : link);
   }
 }

@@ -9,11 +9,11 @@
  * @property {() => void} end the worksheet was closed, and isn't looked for any more
  */
 
-const AGAIN_BEHIND = 1_000; // milliseconds; a browser gives up by itself where a server refuses once
+const AGAIN_AFTER = 1_000; // milliseconds; a browser gives up by itself where a server refuses once
 
 /**
  * Listens, as long as the page is seen: a browser has six connections to a server, and each page that listens has one. A page that is seen
- * again is told all anew, and so is one whose server was started again: it is looked for until it answers.
+ * again gets all again, and so does one whose server was started again: it is looked for until it answers.
  * @type {(hearer: Hearer) => void}
  */
 export function listen(hearer) {
@@ -32,7 +32,7 @@ export function listen(hearer) {
       source?.close();
       hearer.connect(false);
       clearTimeout(again);
-      again = setTimeout(open, AGAIN_BEHIND);
+      again = setTimeout(open, AGAIN_AFTER);
     });
     source.addEventListener("over", () => {
       source?.close();

@@ -6,7 +6,7 @@ import { ask } from "./talk.js";
 /** @typedef {import("./types").Sheet} Sheet */
 /** @typedef {import("./types").Reply} Reply */
 
-const AGAIN_BEHIND = 2_000; // milliseconds
+const AGAIN_AFTER = 2_000; // milliseconds
 
 /** @type {Record<Sheet["state"], string>} */
 const STATES = { open: "open", ended: "its program has ended", inUse: "in use by another program", closed: "" };
@@ -48,29 +48,29 @@ function rowOf(sheet) {
   return row;
 }
 
-/** @type {(told: Reply) => void} */
-function show(told) {
-  const isThere = told.sheets !== undefined;
+/** @type {(reported: Reply) => void} */
+function show(reported) {
+  const isThere = reported.sheets !== undefined;
   const place = byId("connection", HTMLElement);
-  if (told.refused !== "NotDone") place.textContent = isThere ? "connected" : "no connection: start the server again, and this page finds it";
-  place.classList.toggle("bad", told.refused !== undefined && told.refused !== "NotDone");
-  if (!told.sheets || JSON.stringify(told) === shown) return;
-  shown = JSON.stringify(told);
-  byId("path", HTMLElement).textContent = document.title = visible(told.folder ?? "");
+  if (reported.refused !== "NotDone") place.textContent = isThere ? "connected" : "no connection: start the server again, and this page finds it";
+  place.classList.toggle("bad", reported.refused !== undefined && reported.refused !== "NotDone");
+  if (!reported.sheets || JSON.stringify(reported) === shown) return;
+  shown = JSON.stringify(reported);
+  byId("path", HTMLElement).textContent = document.title = visible(reported.folder ?? "");
   const focused = document.activeElement instanceof HTMLElement ? document.activeElement : null;
   const [name, what] = [focused?.closest("tr")?.dataset.name, focused?.dataset.do];
-  body.replaceChildren(...told.sheets.map(rowOf));
-  byId("none", HTMLElement).hidden = told.sheets.length > 0;
+  body.replaceChildren(...reported.sheets.map(rowOf));
+  byId("none", HTMLElement).hidden = reported.sheets.length > 0;
   const row = name === undefined ? undefined : [...body.children].find((one) => one instanceof HTMLElement && one.dataset.name === name);
   /** @type {HTMLElement | null | undefined} */ (row?.querySelector(what ? `[data-do=${what}]` : "a"))?.focus();
 }
 
 /** @type {(call: string, name?: string, to?: string) => Promise<boolean>} */
 async function does(call, name = "", to = "") {
-  const told = await ask(call, { name, to });
-  show(told);
-  if (call !== "list" || told.refused) byId("note", HTMLElement).textContent = visible(told.says ?? "");
-  return told.refused === undefined;
+  const reported = await ask(call, { name, to });
+  show(reported);
+  if (call !== "list" || reported.refused) byId("note", HTMLElement).textContent = visible(reported.says ?? "");
+  return reported.refused === undefined;
 }
 
 /**
@@ -114,7 +114,7 @@ document.addEventListener("click", (event) => {
 async function look() {
   if (!document.hidden) await does("list");
   document.documentElement.dataset.ready = "true";
-  setTimeout(look, AGAIN_BEHIND);
+  setTimeout(look, AGAIN_AFTER);
 }
 
 document.addEventListener("visibilitychange", () => document.hidden || does("list"));

@@ -32,8 +32,8 @@ export class Folds {
 
   read() {
     try {
-      const told = JSON.parse(localStorage.getItem(this.name) ?? "{}");
-      for (const kind of KINDS) this.of[kind] = new Set(told[kind] ?? []);
+      const reported = JSON.parse(localStorage.getItem(this.name) ?? "{}");
+      for (const kind of KINDS) this.of[kind] = new Set(reported[kind] ?? []);
     } catch {
       // Nothing is kept.
     }

@@ -37,10 +37,10 @@ export class Help {
     const word = wordAt(view.text.value, view.text.selectionStart);
     this.close();
     this.show(view, `asking for help on ${word}`);
-    const told = await ask("help", { id: view.id, language: view.language, word });
+    const reported = await ask("help", { id: view.id, language: view.language, word });
     if (this.view !== view) return;
-    if (told.refused || !told.output) this.show(view, `no help on ${word}: ${told.says ?? told.refused}`);
-    else this.fill(told.output);
+    if (reported.refused || !reported.output) this.show(view, `no help on ${word}: ${reported.says ?? reported.refused}`);
+    else this.fill(reported.output);
   }
 
   /** @type {(view: CellView, says: string) => void} */

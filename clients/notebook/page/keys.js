@@ -118,7 +118,7 @@ export class Keys {
   /** @param {KeyboardEvent} event */
   press(event) {
     if (this.isUndo(event)) return;
-    // Where nothing has the focus the selected cell takes keys, but not behind a dialog.
+    // Where nothing has the focus the selected cell takes keys, but not after a dialog.
     const isNowhere = event.target === document.body && !document.querySelector("dialog[open]");
     const view = isNowhere ? this.cells.selected : this.cells.of(event.target);
     if (!view || event.isComposing) return;
@@ -195,10 +195,10 @@ export class Keys {
   /** @type {(view: CellView, isBack: boolean) => boolean} */
   tab(view, isBack) {
     const { selectionStart: at, selectionEnd, value } = view.text;
-    const isBehindWord = /\S/.test(value[at - 1] ?? "");
+    const isAfterWord = /\S/.test(value[at - 1] ?? "");
     if (isBack && at === selectionEnd && !view.isProse && wordAt(value, at)) this.help.open(view);
     else if (isBack || at !== selectionEnd) indent(view, isBack);
-    else if (isBehindWord && view.page.sessions.get(view.cell.session)?.tab) this.completions.open(view);
+    else if (isAfterWord && view.page.sessions.get(view.cell.session)?.tab) this.completions.open(view);
     else insert(view, INDENT);
     return true;
   }

@@ -10,7 +10,7 @@ const BRACKET = String.raw`(?<bracket>[()[\]{}])`;
 const DOUBLE = String.raw`"(?:[^"\\]|\\[^])*"?`;
 
 /**
- * A language by the forms of its comments and strings. `comment` is what makes a comment of a line, and behind `opens` the next line stands deeper.
+ * A language by the forms of its comments and strings. `comment` is what makes a comment of a line, and after `opens` the next line stands deeper.
  * @type {(comments: string, strings: string, keywords: string, comment: string, opens?: RegExp, name?: string) => Language}
  */
 function language(comments, strings, keywords, comment, opens = /[([{]\s*$/, name = NAME) {

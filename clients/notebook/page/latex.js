@@ -1,6 +1,9 @@
-// What a block `latex` says, read as LaTeX reads it: words, and formulas between dollars and their like. clients/typeset reads alike.
+// What a block `latex` says, read as LaTeX reads it: words, and formulas between dollars and their like. clients/typeset reads by this file, too.
 
-/** @typedef {{kind: "words", text: string} | {kind: "formula", tex: string, display: boolean}} Part */
+/**
+ * @typedef {{kind: "words", text: string} | {kind: "formula", tex: string, display: boolean}} Part
+ * @typedef {{parts: Part[]} | {reason: string}} Block what is in it, or why it is no text with formulas
+ */
 
 const ENVIRONMENTS = ["equation", "equation*", "align", "align*", "alignat", "alignat*", "gather", "gather*"];
 
@@ -13,10 +16,11 @@ const DELIMITERS = [
   ...ENVIRONMENTS.map((name) => ({ begin: `\\begin{${name}}`, end: `\\end{${name}}`, display: true, keep: true })),
 ];
 
-// Words: what has no meaning of its own in LaTeX, such characters behind a backslash, and the colours that gp's own mode begins with.
+// Words: what has no meaning of its own in LaTeX, such characters after a backslash, and the colours that gp's own mode begins with.
 const WORDS = /(?:[^\\{}$~^_&#%]|\\[%$#&_{}]|\\(?:magenta|blue)(?![A-Za-z])\s*)+/y;
 
-// What no text of a formula needs, and what would be unseen or turn the direction of others.
+// What no text of a formula needs, and what would be unseen or turn the direction of others: control and format characters (but
+// tabs and line feeds), those that are drawn as nothing, unassigned and private ones, halves of pairs.
 const UNSEEN = /[^\P{Cc}\t\n]|[\p{Cf}\p{Cn}\p{Co}\p{Cs}\p{Zl}\p{Zp}\p{Default_Ignorable_Code_Point}]/u;
 
 // Maxima writes a matrix so that TeX and LaTeX take it.
@@ -35,8 +39,13 @@ const DEFINING = new Set([
 
 const WORD = /\\([A-Za-z]+|[^]?)/g;
 
+/** @type {(text: string) => boolean} */
+export function isSeen(text) {
+  return !UNSEEN.test(text);
+}
+
 /**
- * Where the end of a formula stands: outside of braces, and not behind a backslash. -1 if nowhere.
+ * Where the end of a formula stands: outside of braces, and not after a backslash. -1 if nowhere.
  * @type {(text: string, from: number, end: string) => number}
  */
 function endOf(text, from, end) {
@@ -51,7 +60,10 @@ function endOf(text, from, end) {
   return -1;
 }
 
-/** @type {(text: string, at: number) => {part: Part, end: number} | null} */
+/**
+ * The formula that begins at a place, and where it ends.
+ * @type {(text: string, at: number) => {part: Part, end: number} | null}
+ */
 function formulaAt(text, at) {
   const found = DELIMITERS.find(({ begin }) => text.startsWith(begin, at));
   if (!found) return null;
@@ -63,7 +75,10 @@ function formulaAt(text, at) {
   return { part: { kind: "formula", tex, display: found.display }, end };
 }
 
-/** @type {(text: string, at: number) => {part: Part, end: number} | null} */
+/**
+ * The words that begin at a place, and where they end.
+ * @type {(text: string, at: number) => {part: Part, end: number} | null}
+ */
 function wordsAt(text, at) {
   WORDS.lastIndex = at;
   const found = WORDS.exec(text);
@@ -73,21 +88,30 @@ function wordsAt(text, at) {
 }
 
 /**
- * The words and formulas of a block; null where it is no text with formulas.
- * @type {(text: string) => Part[] | null}
+ * The words and formulas of a block.
+ * @type {(text: string) => Block}
  */
-export function partsOf(text) {
-  if (UNSEEN.test(text)) return null;
+export function blockOf(text) {
+  if (!isSeen(text)) return { reason: "a character that is not seen" };
   /** @type {Part[]} */
   const parts = [];
   let at = 0;
   while (at < text.length) {
     const found = formulaAt(text, at) ?? wordsAt(text, at);
-    if (!found) return null;
+    if (!found) return { reason: `what stands at character ${at + 1} is no word, or a formula without its end` };
     parts.push(found.part);
     at = found.end;
   }
-  return parts.some(({ kind }) => kind === "formula") ? parts : null;
+  return parts.some(({ kind }) => kind === "formula") ? { parts } : { reason: "no formula between dollars" };
+}
+
+/**
+ * The words and formulas of a block; null where it is no text with formulas.
+ * @type {(text: string) => Part[] | null}
+ */
+export function partsOf(text) {
+  const block = blockOf(text);
+  return "parts" in block ? block.parts : null;
 }
 
 /**
@@ -110,12 +134,12 @@ const BLANK = new Set([" ", "\t", "\n", "~", "\\,", "\\:", "\\;", "\\>", "\\!", 
 const OPENING = new Set(["(", "[", "\\{"]);
 const CLOSING = new Set([")", "]", "\\}"]);
 
-// A sign behind one of these is that of a number.
+// A sign after one of these is that of a number.
 const OPERATORS = new Set([..."=<>*/,:;", ...("cdot times div pm mp ast star circ bullet wedge vee cap cup oplus otimes le leq ge geq ne neq lt gt in ni notin subset supset to "
   + "rightarrow leftarrow Rightarrow mapsto equiv sim simeq approx cong propto mid ll gg sum prod int oint lim max min sup inf det gcd sin cos tan cot sec csc sinh cosh tanh coth "
   + "arcsin arccos arctan exp log ln lg arg deg dim hom ker Pr kern mkern hskip mskip limits nolimits not").split(" ").map((name) => `\\${name}`)]);
 
-// These are about all that stands before or behind them.
+// These are about all that stands before or after them.
 const OF_THE_WHOLE = new Set(["&", "\\\\", ...("over atop above choose brace brack color tag label verb char cr newline rm bf it sf tt cal mit textstyle scriptstyle scriptscriptstyle tiny small "
   + "normalsize large Large LARGE huge Huge").split(" ").map((name) => `\\${name}`)]);
 
@@ -125,7 +149,7 @@ const ENDS = new Map(PAIRS);
 const BEGINS = new Map(PAIRS.map(([begin, end]) => [end, begin]));
 
 /**
- * The places behind the signs between terms, outside of braces, fences and environments, and in how many brackets each is. null where one of those has
+ * The places after the signs between terms, outside of braces, fences and environments, and in how many brackets each is. null where one of those has
  * no end, or no beginning, and where a word is about the whole.
  * @type {(tex: string) => {at: number, brackets: number}[] | null}
  */
@@ -134,7 +158,7 @@ function signsOf(tex) {
   const signs = [];
   /** @type {string[]} */
   const open = [];
-  let brackets = 0, isBehindTerm = false, isScript = false, isFence = false;
+  let brackets = 0, isAfterTerm = false, isScript = false, isFence = false;
   for (const { 0: token, index } of tex.matchAll(TOKEN)) {
     if (BLANK.has(token)) continue;
     if (token === "%" || (open.length === 0 && OF_THE_WHOLE.has(token))) return null;
@@ -146,18 +170,18 @@ function signsOf(tex) {
     if (open.length === 0 && !isTaken) {
       if (OPENING.has(token)) brackets += 1;
       else if (CLOSING.has(token)) brackets = Math.max(0, brackets - 1);
-      else if ((token === "+" || token === "-") && isBehindTerm) signs.push({ at: (index ?? 0) + 1, brackets });
+      else if ((token === "+" || token === "-") && isAfterTerm) signs.push({ at: (index ?? 0) + 1, brackets });
     }
     isFence = token === "\\left" || token === "\\right" || token === "\\middle";
     isScript = !isTaken && (token === "^" || token === "_");
-    isBehindTerm = isTaken || !(isScript || token === "+" || token === "-" || OPENING.has(token) || OPERATORS.has(token) || ENDS.has(token));
+    isAfterTerm = isTaken || !(isScript || token === "+" || token === "-" || OPENING.has(token) || OPERATORS.has(token) || ENDS.has(token));
   }
   return open.length === 0 ? signs : null;
 }
 
 /**
- * A formula in pieces that are set one behind the other, each but the last with the sign at its end: so a line ends where it would end anyway, between
- * two terms. A piece ends at the first sign behind so many characters, `least`. One piece where it is no long formula; null where there is no sign for that.
+ * A formula in pieces that are set one after the other, each but the last with the sign at its end: so a line ends where it would end anyway, between
+ * two terms. A piece ends at the first sign after so many characters, `least`. One piece where it is no long formula; null where there is no sign for that.
  * @type {(tex: string, isDisplay: boolean, least: number) => string[] | null}
  */
 export function piecesOf(tex, isDisplay, least) {

@@ -44,9 +44,9 @@ const earlier = new Earlier(takeBack, () => document.title);
 const before = new Before(takeBack, (at) => earlier.open(at));
 let isForCell = false; // whether a session is made for a new cell
 const askSession = sessionDialog(async (name, words, tab) => {
-  const told = await actions.ask("session", { name, words, tab });
-  if (!told.refused) bars.offerSession(name);
-  if (!told.refused && isForCell) await actions.make(cells.order.at(-1) ?? 0, name, true);
+  const reported = await actions.ask("session", { name, words, tab });
+  if (!reported.refused) bars.offerSession(name);
+  if (!reported.refused && isForCell) await actions.make(cells.order.at(-1) ?? 0, name, true);
 }, (name) => page.sessions.has(name));
 const askWords = wordsDialog((session, words) => actions.ask("words", { session, words }));
 new Keys(cells, actions, { several, completions, help, find, folds, earlier, before }, showKeys);
@@ -58,7 +58,7 @@ document.body.insertBefore(emptyLine(), cells.place.nextSibling);
 
 /** @type {(message: Message, isFirst: boolean) => void} */
 function hear(message, isFirst) {
-  if (isFirst) page.isThere = true; // it is said behind what is told
+  if (isFirst) page.isThere = true; // it is said after what is reported
   if (message.sessions) page.sessions = new Map(message.sessions.map((session) => [session.name, session]));
   if (message.path !== undefined) bars.showPath(message.path);
   if (message.isOfFolder) byId("list", HTMLAnchorElement).hidden = false;
@@ -94,7 +94,7 @@ function connect(isThere) {
   bars.showSessions(page.sessions, isThere);
   if (isThere && hasBeenThere) saveAll();
   hasBeenThere ||= isThere;
-  if (!isThere) for (const view of cells.views.values()) view.say(); // else all have been told anew
+  if (!isThere) for (const view of cells.views.values()) view.say(); // else all were reported again
 }
 
 function saveAll() {
@@ -205,7 +205,7 @@ document.addEventListener("mousedown", (event) => {
   const node = event.target instanceof Element ? event.target.closest("button") : null;
   isPressedBeside = node !== null && node.closest("#cells, dialog") === null;
 });
-document.addEventListener("mouseup", () => setTimeout(() => { // behind the click
+document.addEventListener("mouseup", () => setTimeout(() => { // after the click
   isPressedBeside = false;
   if (left && document.activeElement !== left.text) leave(left);
   left = undefined;

@@ -16,7 +16,7 @@ const LOWEST = 6; // heading of HTML
 
 const FORMULAS = [
   /^(\$\$)((?:[^$\\]|\\[^])+?)\$\$/, // as in notebooks: also on lines of its own
-  /^(\$)(?!\s)((?:[^$\\]|\\[^])+?)(?<!\s)\$(?!\d)/, // no blank within beside the dollars, and no digit behind
+  /^(\$)(?!\s)((?:[^$\\]|\\[^])+?)(?<!\s)\$(?!\d)/, // no blank within beside the dollars, and no digit after
 ];
 const WHOLE = /^\$\$((?:[^$\\]|\\[^])+)\$\$$/;
 const LONGEST_FORMULA = 2_000; // characters
@@ -37,7 +37,7 @@ function dollars(state, silent) {
 }
 
 /**
- * The formula that begins in a line with two dollars, and the line behind it. No line of it is a list or a heading, whatever it begins with.
+ * The formula that begins in a line with two dollars, and the line after it. No line of it is a list or a heading, whatever it begins with.
  * @type {(state: any, start: number, end: number) => {content: string, line: number} | null}
  */
 function displayed(state, start, end) {

@@ -4,7 +4,7 @@ import { byId, visible } from "./dom.js";
 
 /** @typedef {import("./types").Cell} Cell */
 
-const TOLD_BEHIND = 400; // milliseconds: what comes within it is told together
+const REPORTED_AFTER = 400; // milliseconds: what comes within it is reported together
 const LONGEST = 300; // characters of an answer
 
 export class News {
@@ -26,16 +26,16 @@ export class News {
     else if (waited && cell.state === "answered") this.answered.set(cell.id, `has its answer: ${answerOf(cell)}`);
     else if (waited && cell.state === "lost") this.answered.set(cell.id, `is lost: ${cell.reason}`);
     else return;
-    this.timer ??= setTimeout(() => this.tell(), TOLD_BEHIND);
+    this.timer ??= setTimeout(() => this.tell(), REPORTED_AFTER);
   }
 
   tell() {
     this.timer = undefined;
-    const told = [...this.answered];
+    const reported = [...this.answered];
     this.answered.clear();
-    const lost = told.filter(([, says]) => says.startsWith("is lost")).length;
-    const over = told.filter(([, says]) => !says.startsWith("is evaluated")).length;
-    if (told.length <= 2) this.place.textContent = told.map(([id, says]) => `Cell ${id} ${says}`).join(". ");
+    const lost = reported.filter(([, says]) => says.startsWith("is lost")).length;
+    const over = reported.filter(([, says]) => !says.startsWith("is evaluated")).length;
+    if (reported.length <= 2) this.place.textContent = reported.map(([id, says]) => `Cell ${id} ${says}`).join(". ");
     else this.place.textContent = `${over - lost} answers${lost ? `, ${lost} lost` : ""}`;
   }
 }

@@ -16,7 +16,7 @@ const MOST_LONG = 1_000_000; // characters of all long formulas that are set in 
 const grouped = (number) => number.toLocaleString("en");
 
 /**
- * A formula, as its source until it is set; of a long one it is told why it isn't.
+ * A formula, as its source until it is set; of a long one the page says why it isn't.
  * @type {(tex: string, tell: (why: string) => void) => HTMLElement}
  */
 function formulaOf(tex, tell) {
@@ -225,12 +225,12 @@ export class OutputView {
   /** Fetches a further piece of a long answer. */
   async showMore() {
     const { shown } = this;
-    const told = await this.piece(this.end);
-    if (told.refused || shown !== this.shown || told.text === undefined) return;
-    this.body.append(visible(told.text));
-    this.end += [...told.text].length;
+    const reported = await this.piece(this.end);
+    if (reported.refused || shown !== this.shown || reported.text === undefined) return;
+    this.body.append(visible(reported.text));
+    this.end += [...reported.text].length;
     this.more?.remove();
-    if (told.text && this.end < (told.length ?? 0)) this.offerMore();
+    if (reported.text && this.end < (reported.length ?? 0)) this.offerMore();
   }
 
   get hasFormulas() {

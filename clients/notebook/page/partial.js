@@ -10,18 +10,18 @@ const NEAR = 20; // dots from the end at which the end is followed
 /** @type {WeakMap<CellView, {box: HTMLElement, mark: HTMLElement, text: HTMLElement}>} */
 const places = new WeakMap();
 
-/** @type {(view: CellView | undefined, told: Partial | null) => void} */
-export function showPartial(view, told) {
+/** @type {(view: CellView | undefined, reported: Partial | null) => void} */
+export function showPartial(view, reported) {
   if (!view) return;
-  if (!told || view.cell.state !== "running") {
+  if (!reported || view.cell.state !== "running") {
     places.get(view)?.box.remove();
     places.delete(view);
     return;
   }
   const { mark, text } = places.get(view) ?? begin(view);
   const isAtEnd = text.scrollHeight - text.scrollTop - text.clientHeight < NEAR;
-  mark.textContent = `not yet an answer, and kept nowhere${told.isCut ? "; its end" : ""}:`;
-  text.textContent = visible(told.text);
+  mark.textContent = `not yet an answer, and kept nowhere${reported.isCut ? "; its end" : ""}:`;
+  text.textContent = visible(reported.text);
   if (isAtEnd) text.scrollTop = text.scrollHeight;
 }
 

@@ -35,12 +35,12 @@ export async function fillPictures(place) {
   const places = /** @type {HTMLElement[]} */ ([...place.querySelectorAll("[data-picture]")]);
   await Promise.all(places.map(async (node) => {
     const { picture, text } = node.dataset;
-    const told = await ask("picture", { address: picture });
-    if (!told.part) {
-      node.replaceChildren(visible(`[${text}: ${told.says ?? "no picture"}]`));
+    const reported = await ask("picture", { address: picture });
+    if (!reported.part) {
+      node.replaceChildren(visible(`[${text}: ${reported.says ?? "no picture"}]`));
       return;
     }
-    const shown = pictureOf(told.part), image = shown.querySelector("img");
+    const shown = pictureOf(reported.part), image = shown.querySelector("img");
     if (image && text) image.alt = visible(text);
     node.replaceChildren(shown);
   }));

@@ -73,7 +73,7 @@ function formula(tex, displayMode) {
   const isLong = words.length > LONG;
   const options = { ...OPTIONS, displayMode: displayMode && !isLong, output: isLong ? "html" : "htmlAndMathml" };
   return pieces.flatMap((piece) => {
-    const macros = { "\\pmatrix": "\\begin{pmatrix}#1\\end{pmatrix}" }; // as gp writes it; anew each time, since KaTeX may change it
+    const macros = { "\\pmatrix": "\\begin{pmatrix}#1\\end{pmatrix}" }; // as gp writes it; again each time, since KaTeX may change it
     return treesOf(here.katex.__renderToDomTree(piece, { ...options, macros }));
   });
 }

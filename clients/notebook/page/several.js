@@ -32,16 +32,16 @@ export class Several {
     const { actions, cells } = this;
     return actions.held.during(async () => {
       for (const view of views) if (!(await actions.isSaved(view))) return false;
-      const told = await actions.ask("step", { what, new: [], set: [], move: [], remove: [], ...change() });
-      if (told.refused) return false;
-      await this.follow(told);
+      const reported = await actions.ask("step", { what, new: [], set: [], move: [], remove: [], ...change() });
+      if (reported.refused) return false;
+      await this.follow(reported);
       return cells.selected !== undefined;
     });
   }
 
   /**
    * Waits until the page shows what came of a step, so that the next key finds it, and selects that.
-   * @param {import("./types").Reply} told
+   * @param {import("./types").Reply} reported
    */
   async follow({ ids = [], gone = [] }) {
     await this.cells.whenGone(gone);
@@ -203,10 +203,10 @@ export class Several {
   /** @param {boolean} isBack */
   go(isBack) {
     return this.actions.held.during(async () => {
-      const told = await this.actions.ask("undo", { isBack });
-      if (told.refused) return false;
-      await this.follow(told);
-      this.actions.note(told.says ?? "");
+      const reported = await this.actions.ask("undo", { isBack });
+      if (reported.refused) return false;
+      await this.follow(reported);
+      this.actions.note(reported.says ?? "");
       return this.cells.selected !== undefined;
     });
   }

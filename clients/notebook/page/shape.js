@@ -58,8 +58,8 @@ export function partsOf(box, id, isReadOnly) {
  * @type {(box: HTMLElement, words: string[]) => void}
  */
 export function describe(box, words) {
-  const told = words.filter(Boolean).join(", ");
-  if (box.getAttribute("aria-description") !== told) box.setAttribute("aria-description", told);
+  const reported = words.filter(Boolean).join(", ");
+  if (box.getAttribute("aria-description") !== reported) box.setAttribute("aria-description", reported);
 }
 
 /** What is said of a text that was changed elsewhere. */

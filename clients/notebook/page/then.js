@@ -107,9 +107,9 @@ export class ThenView {
     const { output } = this.cell;
     let letters = [...output?.text ?? ""];
     while (output && letters.length < output.length) {
-      const told = await this.piece(letters.length);
-      if (!told.text) return undefined;
-      letters = letters.concat([...told.text]);
+      const reported = await this.piece(letters.length);
+      if (!reported.text) return undefined;
+      letters = letters.concat([...reported.text]);
     }
     return letters.join("");
   }

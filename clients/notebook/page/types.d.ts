@@ -62,16 +62,16 @@ export interface Then {
   prompt: string | null;
   output: Output | null;
   isThere: boolean; // whether the worksheet has it yet
-  after: number; // the cell of today behind which it stood, 0 at the front
+  after: number; // the cell of today after which it stood, 0 at the front
 }
 
 export interface Removed { number: number; session: string; input: string }
 
 export interface Message {
   at: number;
-  isWhole?: boolean; // all is told: what isn't in it isn't there
-  server?: string; // another one begins to count changes anew
-  placed?: [number, number][]; // cells that were put behind others, 0 for the first place
+  isWhole?: boolean; // all is reported: what isn't in it isn't there
+  server?: string; // another one begins to count changes again
+  placed?: [number, number][]; // cells that were put after others, 0 for the first place
   gone?: number[];
   says?: string[];
   cells?: Cell[];
@@ -88,7 +88,7 @@ export interface Message {
 
 export interface Suggestion { name: string; words: string; tab: boolean }
 
-/** What a call told: `refused` is the name of a refusal, `says` the same for people. */
+/** What a call reported: `refused` is the name of a refusal, `says` the same for people. */
 export interface Reply {
   refused?: string;
   says?: string;

@@ -37,7 +37,7 @@ export function newLine(view) {
  */
 function changeLines(view, change) {
   const { value, selectionStart: start, selectionEnd: end, selectionDirection } = view.text;
-  const last = end > start && value[end - 1] === "\n" ? end - 1 : end; // of the line behind that nothing is chosen
+  const last = end > start && value[end - 1] === "\n" ? end - 1 : end; // of the line after that nothing is chosen
   const from = value.slice(0, start).lastIndexOf("\n") + 1;
   const to = last + value.slice(last).split("\n", 1)[0].length;
   const lines = value.slice(from, to).split("\n");

@@ -1,5 +1,5 @@
 """`armed.py MARK PROGRAM WORD ..`: the program. Where the file MARK is there it is killed at the end of the next transaction: in front of the line `end`,
-or behind it where the file has the word "behind"."""
+or after it where the file has the word "after"."""
 
 import os
 import signal
@@ -24,7 +24,7 @@ def hold(mark: str, words: "list[str]") -> None:
         assert program.stdin
         for line in sys.stdin.buffer:
             is_last = line == b"end\n" and mark_at(mark) != ""
-            if not is_last or mark_at(mark) == "behind":
+            if not is_last or mark_at(mark) == "after":
                 program.stdin.write(line)
             if is_last:
                 time.sleep(READ_WITHIN)

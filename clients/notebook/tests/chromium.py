@@ -14,7 +14,7 @@ import threading
 import time
 from typing import Any, Callable, Dict, List, Optional, Union
 
-Told = Dict[str, Any]
+Reported = Dict[str, Any]
 
 WORDS = [
     "--headless", "--no-sandbox", "--disable-gpu", "--no-first-run", "--disable-background-networking", "--disable-component-update",
@@ -57,7 +57,7 @@ class Browser:
         self.trouble: List[str] = []
         self.requests: List[str] = []
         self._numbers = itertools.count(1)
-        self._replies: Dict[int, "queue.Queue[Told]"] = {}
+        self._replies: Dict[int, "queue.Queue[Reported]"] = {}
         self._lock = threading.Lock()
         theirs_in, self._to = os.pipe()
         self._from, theirs_out = os.pipe()
@@ -80,17 +80,17 @@ class Browser:
             for replies in self._replies.values():
                 replies.put({"error": {"message": "the browser has ended"}})
 
-    def _take(self, told: Told) -> None:
-        replies = self._replies.get(told.get("id", 0))
+    def _take(self, reported: Reported) -> None:
+        replies = self._replies.get(reported.get("id", 0))
         if replies:
-            replies.put(told)
+            replies.put(reported)
             return
-        method, params = told.get("method"), told.get("params", {})
+        method, params = reported.get("method"), reported.get("params", {})
         if method == "Network.requestWillBeSent":
             self.requests.append(params["request"]["url"])
         elif method == "Page.javascriptDialogOpening":
             self.trouble.append(f"dialog: {params['message']}")
-            threading.Thread(target=self._dismiss, args=(told.get("sessionId"),), daemon=True).start()
+            threading.Thread(target=self._dismiss, args=(reported.get("sessionId"),), daemon=True).start()
         elif method == "Runtime.exceptionThrown":
             details = params["exceptionDetails"]
             self.trouble.append(f"error: {details.get('exception', {}).get('description', details['text'])}")
@@ -100,27 +100,27 @@ class Browser:
     def _dismiss(self, session: Optional[str]) -> None:
         self.ask("Page.handleJavaScriptDialog", {"accept": True}, session)
 
-    def ask(self, method: str, params: Optional[Told] = None, session: Optional[str] = None) -> Told:
+    def ask(self, method: str, params: Optional[Reported] = None, session: Optional[str] = None) -> Reported:
         number = next(self._numbers)
-        replies: "queue.Queue[Told]" = queue.Queue()
+        replies: "queue.Queue[Reported]" = queue.Queue()
         with self._lock:
             self._replies[number] = replies
-        message: Told = {"id": number, "method": method, "params": params or {}}
+        message: Reported = {"id": number, "method": method, "params": params or {}}
         if session:
             message["sessionId"] = session
         data = json.dumps(message).encode() + b"\0"
         while data:
             data = data[os.write(self._to, data) :]
         try:
-            told = replies.get(timeout=WITHIN)
+            reported = replies.get(timeout=WITHIN)
         except queue.Empty:
             raise Failed(f"{method}: no reply") from None
         finally:
             with self._lock:
                 del self._replies[number]
-        if "error" in told:
-            raise Failed(f"{method}: {told['error']['message']}")
-        result: Told = told["result"]
+        if "error" in reported:
+            raise Failed(f"{method}: {reported['error']['message']}")
+        result: Reported = reported["result"]
         return result
 
     def open(self, address: str, in_window: bool = False) -> "Tab":
@@ -149,7 +149,7 @@ class Tab:
         self.size(1000, 800)
         self.ask("Page.navigate", {"url": address})
 
-    def ask(self, method: str, params: Optional[Told] = None) -> Told:
+    def ask(self, method: str, params: Optional[Reported] = None) -> Reported:
         return self.browser.ask(method, params, self.session)
 
     def size(self, width: int, height: int) -> None:
@@ -157,12 +157,12 @@ class Tab:
 
     def value(self, expression: str) -> Any:
         """What a JavaScript expression has for value in the page; of a promise what it comes to."""
-        told = self.ask("Runtime.evaluate",
+        reported = self.ask("Runtime.evaluate",
             {"expression": expression, "returnByValue": True, "awaitPromise": True, "allowUnsafeEvalBlockedByCSP": False})
-        if "exceptionDetails" in told:
-            details = told["exceptionDetails"]
+        if "exceptionDetails" in reported:
+            details = reported["exceptionDetails"]
             raise Failed(f"{expression}: {details.get('exception', {}).get('description', details['text'])}")
-        return told["result"].get("value")
+        return reported["result"].get("value")
 
     def until(self, expression: str, wanted: Union[Any, Callable[[Any], bool]] = True, seconds: float = SLOW) -> Any:
         """Waits until an expression has a value. One that fails has none yet: the page may be on its way."""
@@ -179,7 +179,7 @@ class Tab:
             time.sleep(0.03)
 
     def reload(self) -> None:
-        """Loads the page anew; what is asked behind it is asked of the new one."""
+        """Loads the page again; what is asked after it is asked of the new one."""
         self.value("window.isOld = true")
         self.ask("Page.reload")
         self.until("window.isOld ?? false", False)
@@ -188,7 +188,7 @@ class Tab:
         """Presses a key as a user does, now or at a time."""
         bits = sum(MODIFIERS[one] for one in modifiers)
         code = CODES.get(key, ord(key.upper()) if len(key) == 1 else 0)
-        event: Told = {"key": key, "modifiers": bits, "windowsVirtualKeyCode": code, "code": key if len(key) > 1 else ""}
+        event: Reported = {"key": key, "modifiers": bits, "windowsVirtualKeyCode": code, "code": key if len(key) > 1 else ""}
         text = "\r" if key == "Enter" else key if len(key) == 1 else ""
         if text and not {"Control", "Alt", "Meta"} & set(modifiers):
             event["text"] = text

@@ -31,8 +31,8 @@ def find_program() -> Tuple[Optional[str], str]:
     with tempfile.TemporaryDirectory() as folder:
         sheet = os.path.join(folder, "sheet")
         subprocess.run([program, "create", sheet], stdin=subprocess.DEVNULL, capture_output=True)
-        told = subprocess.run([program, "live", "--json", sheet], stdin=subprocess.DEVNULL, capture_output=True)
-    if not told.stdout.startswith(b'{"format"'):
+        reported = subprocess.run([program, "live", "--json", sheet], stdin=subprocess.DEVNULL, capture_output=True)
+    if not reported.stdout.startswith(b'{"format"'):
         return None, f"{program} has no live --json"
     return os.path.abspath(program), ""
 
@@ -125,25 +125,25 @@ class Page:
         connection = http.client.HTTPConnection(self.host, timeout=240)
         connection.request(method, path, body, headers)
         reply = connection.getresponse()
-        told = reply.status, {name.lower(): value for name, value in reply.getheaders()}, reply.read()
+        reported = reply.status, {name.lower(): value for name, value in reply.getheaders()}, reply.read()
         connection.close()
-        return told
+        return reported
 
     def headers(self) -> Dict[str, str]:
         return {"Cookie": self.cookie, "Origin": self.origin, "Content-Type": "application/json"}
 
     def call(self, call: str, **members: Any) -> Dict[str, Any]:
-        told: Dict[str, Any] = json.loads(self.request("POST", self.path + "call", self.headers(), json.dumps({"call": call, **members}).encode())[2])
-        return told
+        reported: Dict[str, Any] = json.loads(self.request("POST", self.path + "call", self.headers(), json.dumps({"call": call, **members}).encode())[2])
+        return reported
 
     def snapshot(self) -> Dict[str, Any]:
-        """The first message that a page is told."""
+        """The first message that a page gets."""
         connection = http.client.HTTPConnection(self.host, timeout=240)
         connection.request("GET", self.path + "events", headers={"Cookie": self.cookie})
         reply = connection.getresponse()
-        told: Dict[str, Any] = json.loads(reply.readline()[len(b"data: ") :])
+        reported: Dict[str, Any] = json.loads(reply.readline()[len(b"data: ") :])
         connection.close()
-        return told
+        return reported
 
     def cells(self) -> Dict[int, Dict[str, Any]]:
         return {cell["id"]: cell for cell in self.snapshot().get("cells", [])}
@@ -241,7 +241,7 @@ class SharedCase(PageCase):
         return kind.shared
 
     def open(self, server: Optional[Server] = None) -> "chromium.Tab":
-        """A page in a tab of its own, which is closed behind the test."""
+        """A page in a tab of its own, which is closed after the test."""
         tab = opened(self.browser, server or self.server)
         self.addCleanup(tab.close)
         return tab

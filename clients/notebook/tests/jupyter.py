@@ -108,4 +108,4 @@ def times_of(browser: chromium.Browser, address: str, count: int, times: int) ->
     keys: List[float] = tab.value(KEYS)
     tab.until(IS_READY)
     answers = [tab.value(ANSWER % (101 + 40 * number, f"new {number}", f"new {number}")) for number in range(times)]
-    return [("it opens in", [opens]), ("a key is seen in", keys), ("an answer is seen, behind its key, in", answers)]
+    return [("it opens in", [opens]), ("a key is seen in", keys), ("an answer is seen, after its key, in", answers)]

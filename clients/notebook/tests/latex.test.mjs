@@ -1,5 +1,4 @@
-// The page reads a block `latex` as clients/typeset does, whose source can't be loaded by a browser; and what KaTeX makes of formulas is made
-// of the page's list alone.
+// How the page reads a block `latex`: clients/typeset, which reads by the same source, refuses what the page leaves as text, and gives the same of all else.
 
 import assert from "node:assert/strict";
 import { createRequire } from "node:module";
@@ -12,6 +11,7 @@ import { partsOf, piecesOf, wordsOfKatex } from "../page/latex.js";
 const require = createRequire(import.meta.url);
 const typeset = path.join(path.dirname(fileURLToPath(import.meta.url)), "..", "..", "typeset");
 const theirs = require(path.join(typeset, "lib", "latex.js"));
+await theirs.load();
 const written = Object.values(require(path.join(typeset, "test", "formulas.js"))).flat(2).flatMap((one) => (typeof one?.tex === "string" ? [one.tex] : []));
 
 /** What typeset tells, null where it refuses. */

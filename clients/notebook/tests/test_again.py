@@ -22,18 +22,18 @@ TEXT = "document.querySelector('#cell-%d textarea').value"
 OUTPUT = "document.querySelector('#cell-%d .output pre').textContent"
 IS_BAD = "document.querySelector('#connection').classList.contains('bad')"
 NOBODY = 65534
-# What another user's process is told: the status of the page's address, and of a call with the right cookie.
+# What another user's process gets: the status of the page's address, and of a call with the right cookie.
 ASKS = """
 import http.client, json, os, sys
 user, host, token, path, cookie = sys.argv[1:]
 host.encode("idna")  # so that it is loaded: another user may not read this user's Python
 os.setuid(int(user))
-told = []
+reported = []
 for method, place, body in (("GET", "/?token=" + token, None), ("POST", path + "call", '{"call":"reopen"}')):
     connection = http.client.HTTPConnection(host, timeout=60)
     connection.request(method, place, body, {"Cookie": cookie, "Origin": "http://" + host, "Content-Type": "application/json"})
-    told.append(connection.getresponse().status)
-print(json.dumps(told))
+    reported.append(connection.getresponse().status)
+print(json.dumps(reported))
 """
 
 
@@ -115,7 +115,7 @@ class Again(PageCase):
         self.tab.until(states, ["empty", "answered", "answered"])
         self.assertEqual([self.tab.value(OUTPUT % id) for id in (2, 3)], ["2", "3"])
 
-    def test_a_reload_behind_it(self) -> None:
+    def test_a_reload_after_it(self) -> None:
         """The page's own address stays right, too."""
         self.begin()
         self.kill()
@@ -214,7 +214,7 @@ class Kept(Case):
             self.begun()
 
     def test_a_port_that_is_taken_meanwhile(self) -> None:
-        """Another program has it: the server takes another one, and its secrets are new. What that one was told is right nowhere."""
+        """Another program has it: the server takes another one, and its secrets are new. What that one was given is right nowhere."""
         first = self.begun()
         token = self.token()
         with socket.create_server(("127.0.0.1", int(first.host.partition(":")[2]))):
@@ -236,9 +236,9 @@ class Kept(Case):
         """Also one who knows the token and the cookie, as from a page that looked for its server where theirs listened."""
         server = self.serve()
         page = Page(server)
-        for user, told in ((os.geteuid(), [200, 200]), (NOBODY, [403, 403])):
+        for user, reported in ((os.geteuid(), [200, 200]), (NOBODY, [403, 403])):
             words = [sys.executable, "-c", ASKS, str(user), server.host, server.address.partition("token=")[2], page.path, page.cookie]
-            self.assertEqual(json.loads(subprocess.run(words, stdout=subprocess.PIPE, check=True).stdout), told)
+            self.assertEqual(json.loads(subprocess.run(words, stdout=subprocess.PIPE, check=True).stdout), reported)
 
 
 class Users(unittest.TestCase):

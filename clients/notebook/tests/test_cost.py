@@ -74,17 +74,17 @@ class Changes(Costs):
         self.addCleanup(connection.close)
         connection.request("GET", page.path + "events", headers={"Cookie": page.cookie})
         reply = connection.getresponse()
-        is_told = threading.Event()
+        is_reported = threading.Event()
 
         def read() -> None:
             try:
                 while reply.readline():
-                    is_told.set()
+                    is_reported.set()
             except (OSError, ValueError, AttributeError):
                 pass
 
         threading.Thread(target=read, daemon=True).start()
-        self.assertTrue(is_told.wait(240))
+        self.assertTrue(is_reported.wait(240))
 
     def spent(self, count: int) -> Dict[str, float]:
         """Milliseconds that changes of each kind take, at the first cell, in the middle and at the end."""
@@ -97,8 +97,8 @@ class Changes(Costs):
 
         def edit(number: int) -> None:
             id = places[number % 3]
-            told = page.call("set", id=id, text=f"say {number}", base=texts[id])
-            self.assertNotIn("refused", told)
+            reported = page.call("set", id=id, text=f"say {number}", base=texts[id])
+            self.assertNotIn("refused", reported)
             texts[id] = f"say {number}"
 
         def evaluate(number: int) -> None:
@@ -157,12 +157,12 @@ class Opening(Costs):
         before = self.settled(browser.process.pid)
         tab.ask("Page.addScriptToEvaluateOnNewDocument", {"source": SEEN})
         tab.ask("Page.navigate", {"url": server.address})
-        while not self.is_ready(tab):  # behind it cells that aren't seen get their parts; who asks more often spends the browser's time
+        while not self.is_ready(tab):  # then cells that aren't seen get their parts; who asks more often spends the browser's time
             time.sleep(0.1)
         after = times_of(browser.process.pid)
         page = sum(spent - before.get(pid, 0.0) for pid, spent in after.items())
         own = time_of(server.process.pid)
-        print(f" {MANY} cells open in {page:.1f} s of the browser's processor time and {own:.1f} of the server's, and are seen behind "
+        print(f" {MANY} cells open in {page:.1f} s of the browser's processor time and {own:.1f} of the server's, and are seen after "
             f"{tab.value('window.seen') / 1000:.1f} s", end="")
         self.assertEqual(tab.value("document.querySelectorAll('.cell').length"), MANY)
         states: List[str] = tab.value("[...new Set([...document.querySelectorAll('.cell')].map((cell) => cell.dataset.state))]")

@@ -1,5 +1,5 @@
-"""What was cut or removed isn't gone: keys that come before the page shows what the one before did, a cut that is refused, cuts one behind the other, and
-kills of the server, the program and the browser behind each of them, find its text in the worksheet, in the clipboard, or in the list "Removed"."""
+"""What was cut or removed isn't gone: keys that come before the page shows what the one before did, a cut that is refused, cuts one after the other, and
+kills of the server, the program and the browser after each of them, find its text in the worksheet, in the clipboard, or in the list "Removed"."""
 
 import os
 import signal
@@ -31,7 +31,7 @@ REMOVED = "[...document.querySelectorAll('#removed-list code')].map((node) => no
 
 class Removals(unittest.TestCase):
     def test_moments(self) -> None:
-        """Each cell is seen after a change behind which it is as it was last, and no look more than needed is made."""
+        """Each cell is seen after a change after which it is as it was last, and no look more than needed is made."""
         lines = ["1 session 7", "2 new 1 7", "3 new 2 7", "4 set 1", "5 remove 1", "6 new 3 7", "7 remove 3", "8 move 2 0", "9 remove 2", "10 ids 7"]
         found = past.removals_in(lines)
         self.assertEqual(found, [past.Removal(1, 4, 5), past.Removal(3, 6, 7), past.Removal(2, 8, 9)])
@@ -80,8 +80,8 @@ class Server(Case):
         cells = page.cells()
         return [cells[id]["input"] for id in page.snapshot()["order"]]
 
-    def test_cuts_one_behind_the_other(self) -> None:
-        """All of them are there behind a kill, the last one at the end, with their answers; what was pasted, and what is blank, isn't."""
+    def test_cuts_one_after_the_other(self) -> None:
+        """All of them are there after a kill, the last one at the end, with their answers; what was pasted, and what is blank, isn't."""
         page = self.begin("say 1", "say 2", "", "say 3", "say 4")
         page.call("eval_from", id=None)
         page.until_idle()
@@ -100,7 +100,7 @@ class Server(Case):
         self.assertEqual(self.removed(self.again()), ["say 3", "say 2"])
 
     def test_a_program_that_ends(self) -> None:
-        """What was removed when the program was killed is in the list behind the reopening, once, and so is what was removed by the server before."""
+        """What was removed when the program was killed is in the list after the reopening, once, and so is what was removed by the server before."""
         page = self.begin("a", "b", "c")
         self.step(page, remove=[{"id": page.snapshot()["order"][0]}])
         program = self.server.program
@@ -154,8 +154,8 @@ class Keys(SharedCase):
             self.tab.key(key, *(["Shift"] if key.isupper() else []))
             self.tab.until(IS_IDLE, "false")
 
-    def test_a_paste_behind_a_cut(self) -> None:
-        """The page isn't told yet that the cell is gone: the paste is for the cell that is selected then, and both are done again."""
+    def test_a_paste_after_a_cut(self) -> None:
+        """The page doesn't know yet that the cell is gone: the paste is for the cell that is selected then, and both are done again."""
         self.begin_page("a", "b", "c")
         self.press("x", "v")
         self.tab.until(TEXTS, ["b", "a", "c"])
@@ -186,7 +186,7 @@ class Keys(SharedCase):
         self.press("v")
         self.tab.until(TEXTS, ["sleep 60", "a", "c"])
 
-    def test_the_list_behind_a_restart(self) -> None:
+    def test_the_list_after_a_restart(self) -> None:
         """It is looked for when the list is opened."""
         self.begin_page("a", "b", "c")
         self.press("x", "x")

@@ -101,7 +101,7 @@ class DraftsOfThePage(PageCase):
         self.assertEqual(self.browser.trouble, [])
 
     def test_until_the_answer(self) -> None:
-        """A draft becomes the text behind the answer; no page need be open before."""
+        """A draft becomes the text after the answer; no page need be open before."""
         tab = self.start("sleep 15", "sleep 60")
         self.write(tab, 1, "say 1 ")
         self.write(tab, 2, "say 2 ")
@@ -171,7 +171,7 @@ class DraftsOfThePage(PageCase):
         self.assertEqual((tab.value(OTHER % 1), self.page.cells()[1]["input"], self.kept()), (None, "mine sleep 60", {}))
 
     def test_the_other_text(self) -> None:
-        """.. and here the cell's text, also behind a further key."""
+        """.. and here the cell's text, also after a further key."""
         tab = self.changed_elsewhere()
         self.write(tab, 1, "x")
         tab.until(SAYS % 1, "not saved: it was changed elsewhere")
@@ -310,8 +310,8 @@ class DraftsOnTheDisk(unittest.TestCase):
                             pass
                     self.assertIn(self.opened().of, [{1: old}, {1: new}])
 
-    def test_synced_before_it_is_told(self) -> None:
-        """The bytes before the file gets its name, and its folder behind that."""
+    def test_synced_before_it_is_reported(self) -> None:
+        """The bytes before the file gets its name, and its folder after that."""
         steps: List[str] = []
         sync, replace = os.fsync, os.replace
 

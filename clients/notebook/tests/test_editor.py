@@ -105,7 +105,7 @@ class Colours(Written):
         self.assertEqual(self.browser.trouble, [])
 
     def test_comments_and_lines(self) -> None:
-        """Control-/ makes comments and takes them back; Enter goes deeper behind what opens; L shows numbers of lines, over a reload too."""
+        """Control-/ makes comments and takes them back; Enter goes deeper after what opens; L shows numbers of lines, over a reload too."""
         tab = self.start("a\n  b\n\nc")
         self.edit(tab, 1, 0, 8)
         tab.key("/", "Control")
@@ -131,7 +131,7 @@ class Colours(Written):
         tab.until(numbers, "none")
 
     def test_cells_that_are_not_seen(self) -> None:
-        """They have no parts till they are wanted; what is told of them, found, copied and read out is theirs all the same."""
+        """They have no parts till they are wanted; what is reported of them, found, copied and read out is theirs all the same."""
         self.begin()
         self.server.stop()
         lines = [f"session s tab {SPOKEN}", *(f"new {number} s say {number}{' needle' if number == 950 else ''}" for number in range(1_000))]
@@ -147,11 +147,11 @@ class Colours(Written):
         tab.until(READY, "true")
         empty = "document.querySelectorAll('.cell:empty').length"
         self.assertEqual(tab.value(empty), 800)
-        told = "((cell) => [cell.ariaLabel, cell.getAttribute('aria-description'), cell.dataset.text, cell.dataset.state])(document.querySelector('#cell-900'))"
-        self.assertEqual(tab.value(told), ["Cell 900, s", "saved", "saved", "empty"])
+        reported = "((cell) => [cell.ariaLabel, cell.getAttribute('aria-description'), cell.dataset.text, cell.dataset.state])(document.querySelector('#cell-900'))"
+        self.assertEqual(tab.value(reported), ["Cell 900, s", "saved", "saved", "empty"])
         self.page.call("set", id=900, text="say other", base="say 899")
         self.page.call("eval", id=900)
-        tab.until(told, ["Cell 900, s", "saved", "saved", "answered"])
+        tab.until(reported, ["Cell 900, s", "saved", "saved", "answered"])
         self.assertEqual(tab.value(empty), 800)
         tab.value("document.querySelector('#cell-900').scrollIntoView()")
         tab.until("['textarea', '.output pre'].map((name) => document.querySelector(`#cell-900 ${name}`)?.[name === 'textarea' ? 'value' : 'textContent'])", ["say other", "other"])
@@ -171,7 +171,7 @@ class Colours(Written):
         self.assertEqual(self.browser.trouble, [])
 
     def fold_unseen(self, tab: chromium.Tab) -> None:
-        """What is folded of a cell that isn't seen stands behind its parts, when it has them."""
+        """What is folded of a cell that isn't seen stands after its parts, when it has them."""
         tab.click("#cell-900 .number")
         tab.key("O", "Shift")
         tab.until("document.querySelector('#cell-900 > .unfold')?.textContent", "1 line folded")
@@ -301,9 +301,9 @@ class Said(Written):
             self.page.call("eval", id=id)
         tab.until(NEWS, lambda found: "answers" in str(found) or "Cell 7 has its answer" in str(found))
         tree = tab.ask("Accessibility.getFullAXTree")["nodes"]
-        told = {node.get("name", {}).get("value"): node.get("description", {}).get("value", "") for node in tree}
-        self.assertIn("saved", told["Cell 2, s"])
-        self.assertIn("lost: Ended", told["Cell 2, s"])
+        reported = {node.get("name", {}).get("value"): node.get("description", {}).get("value", "") for node in tree}
+        self.assertIn("saved", reported["Cell 2, s"])
+        self.assertIn("lost: Ended", reported["Cell 2, s"])
 
     def test_formulas_on_paper(self) -> None:
         """One that is wider than a page is set smaller; what is too wide for that says that it is cut."""
@@ -353,8 +353,8 @@ class Said(Written):
             with self.subTest(name=name):
                 self.page.call("session", name=name, words=f"{sys.executable} {os.path.join(REPOSITORY, 'adapters')}/{words}", tab=False)
                 id = self.page.call("new", session=name, text="", after=0)["id"]
-                told = self.page.call("help", id=id, language=language, word=word)
-                self.assertIn(wanted, told["output"]["text"] if "output" in told else told)
+                reported = self.page.call("help", id=id, language=language, word=word)
+                self.assertIn(wanted, reported["output"]["text"] if "output" in reported else reported)
                 self.assertEqual(self.page.call("help", id=id, language=language, word="a); 1")["refused"], "NoHelp")
 
 

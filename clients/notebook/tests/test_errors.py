@@ -32,9 +32,9 @@ def facts(*items: Any) -> Dict[str, Any]:
 class Parts(unittest.TestCase):
     def test_parts(self) -> None:
         error = channel("output", channel("output", "no", Block("latex", "format", ("$x$",))))
-        told = facts("so\n", error, "and", channel("error", "b"), channel("output", "c"))
-        self.assertEqual(told["parts"], [{"text": "so\n"}, {"error": "no"}, {"tex": "$x$"}, {"text": "and"}, {"error": "b"}, {"text": "c"}])
-        self.assertEqual(told["isError"], True)
+        reported = facts("so\n", error, "and", channel("error", "b"), channel("output", "c"))
+        self.assertEqual(reported["parts"], [{"text": "so\n"}, {"error": "no"}, {"tex": "$x$"}, {"text": "and"}, {"error": "b"}, {"text": "c"}])
+        self.assertEqual(reported["isError"], True)
         self.assertEqual((facts("so", channel("output", "b"))["isError"], facts("x" * 30_000, error)["isError"]), (False, True))
 
 
@@ -74,7 +74,7 @@ class Errors(Case):
         self.assertEqual(self.tab.browser.trouble, [])
 
     def test_all_stops(self) -> None:
-        """Where the box asks for that, what comes behind the error isn't asked, and keeps its answers. The box is so after a reload, too."""
+        """Where the box asks for that, what comes after the error isn't asked, and keeps its answers. The box is so after a reload, too."""
         self.begin()
         self.tab.click("#stop-at-errors")
         self.tab.click("[data-do=evaluateAll]")
@@ -94,7 +94,7 @@ class Errors(Case):
         self.tab.click("[data-do=evaluateFrom]")
         self.tab.until(NOTE, "stopped at an error, of cell 3: 2 cells that waited were not asked")
         self.assertEqual(self.answered(), [2, 3, 5])
-        self.tab.click("#cell-4 .number")  # the error is behind that
+        self.tab.click("#cell-4 .number")  # the error is after that
         self.tab.click("[data-do=evaluateFrom]")
         self.tab.until(f"[4, 5, 6].every((id) => {STATES}[id] === 'answered')")
 

@@ -40,9 +40,9 @@ class Exported(Case):
 
     def test_each_format_is_the_program_s(self) -> None:
         self.fill()
-        told = {name: self.export(name) for name in FORMATS}
+        reported = {name: self.export(name) for name in FORMATS}
         self.server.stop()
-        for name, (status, headers, body) in told.items():
+        for name, (status, headers, body) in reported.items():
             with self.subTest(name):
                 self.assertEqual((status, body), (200, self.by_program(name)))
                 file = urllib.parse.quote(os.path.basename(self.sheet) + FORMATS[name], safe="")
@@ -87,7 +87,7 @@ class Exported(Case):
         os.rename(self.sheet + ".away", self.sheet + ".alt")
 
     def test_while_it_is_changed(self) -> None:
-        """Each export has what had been told before it was asked for, and each of its answers is whole and of its line."""
+        """Each export has what had been reported before it was asked for, and each of its answers is whole and of its line."""
         for number in range(4):
             self.page.call("new", session="s", text="long 0", after=number)
         self.saved: Dict[int, int] = {}
@@ -107,8 +107,8 @@ class Exported(Case):
         number = 0
         while not self.is_over:
             number += 1
-            told = self.page.call("set", id=id, text=f"long {number}", base=f"long {number - 1}")
-            if told.get("isDraft") is False:  # one that waits for its answer has a draft till then
+            reported = self.page.call("set", id=id, text=f"long {number}", base=f"long {number - 1}")
+            if reported.get("isDraft") is False:  # one that waits for its answer has a draft till then
                 self.saved[id] = number
                 self.page.call("eval", id=id)
             else:

@@ -51,8 +51,8 @@ class Lesson(Case):
     def fields(self) -> List[Dict[str, Any]]:
         """The fields in the file, of a copy: a server may have it."""
         self.show()
-        told = subprocess.run([PROGRAM or "", "show", "--json", os.path.join(self.folder, "copy")], capture_output=True, check=True)
-        return [one["field"] for one in map(json.loads, told.stdout.splitlines()) if one["type"] == "field"]
+        reported = subprocess.run([PROGRAM or "", "show", "--json", os.path.join(self.folder, "copy")], capture_output=True, check=True)
+        return [one["field"] for one in map(json.loads, reported.stdout.splitlines()) if one["type"] == "field"]
 
     def answers(self) -> Dict[int, str]:
         return {field["id"]: field["shown"] for field in self.fields() if field["state"] == "answered"}
@@ -67,7 +67,7 @@ class Lesson(Case):
 @needs_chromium
 class Kills(Lesson):
     def test_kills(self) -> None:
-        """At random moments behind "Evaluate all" and "from here": all but one answer of each session are in the file."""
+        """At random moments after "Evaluate all" and "from here": all but one answer of each session are in the file."""
         seed = int(os.environ.get("TMHOST_SEED", str(random.randrange(10**6))))
         rng = random.Random(seed)
         browser, lost = self.browse(), 0
@@ -102,7 +102,7 @@ class Kills(Lesson):
 
 @needs_program
 class Asked(Lesson):
-    def test_a_cell_that_waits_is_never_told_as_an_empty_one(self) -> None:
+    def test_a_cell_that_waits_is_never_reported_as_an_empty_one(self) -> None:
         """Also between its turn and the reply to its evaluation."""
         subprocess.run([PROGRAM or "", "create", self.sheet], check=True, stdin=subprocess.DEVNULL, stdout=subprocess.DEVNULL)
         made = [f"session {SESSIONS[0]} plain {self.words}", *(f"new {number} {SESSIONS[0]} say {number}" for number in range(CELLS))]
@@ -140,8 +140,8 @@ class Stops(Lesson):
         self.assertEqual(self.without(), {"s": 1, "t": 1})
         self.assertEqual(self.tab.value("[...document.querySelectorAll('#sessions span')].map((node) => node.textContent)"), ["18 to answer"] * 2)
         for call in ("remove", "clear", "change"):
-            told = self.page.call(call, id=40, text="other", base="say 40", session="t")
-            self.assertEqual(told.get("refused"), "InFlight", call)
+            reported = self.page.call(call, id=40, text="other", base="say 40", session="t")
+            self.assertEqual(reported.get("refused"), "InFlight", call)
 
     def test_an_interrupt_and_a_stop(self) -> None:
         self.begin()
@@ -156,7 +156,7 @@ class Stops(Lesson):
         self.assertEqual(self.without(), {"s": 1, "t": 0})
         self.assertEqual(self.answers()[5], "interrupted")
         self.tab.click("#cell-8 .number")
-        self.tab.key("Enter", "Control")  # what was stopped begins anew
+        self.tab.key("Enter", "Control")  # what was stopped begins again
         self.tab.until("document.querySelector('#cell-8 .prompt').textContent", "1> ")
 
     def test_an_end(self) -> None:
@@ -220,7 +220,7 @@ class NoProgram(Lesson):
         self.browser = self.browse()
         self.tab = opened(self.browser, self.server)
 
-    def told(self) -> None:
+    def reported(self) -> None:
         self.tab.until(NOTE, lambda found: f"session s can't be started: there is no program {self.gone}. Its words are: {self.gone}" in str(found))
 
     def each_way(self) -> None:
@@ -233,7 +233,7 @@ class NoProgram(Lesson):
             self.tab.value("document.querySelector('#note').textContent = ''")
             self.tab.click("#cell-2 .number")
             press()
-            self.told()
+            self.reported()
             self.page.until_idle()
             self.assertEqual(self.answers(), self.before)
             self.assertEqual(self.tab.value(SHOWN)[-CELLS:], list(self.before.values()))
@@ -255,7 +255,7 @@ class NoProgram(Lesson):
         os.remove(self.gone)
         self.tab.click("[data-do=evaluateAll]")
         self.tab.until(f"{SHOWN}[0]", "fresh")
-        self.told()
+        self.reported()
         self.page.until_idle()
         self.assertEqual({id: text for id, text in self.answers().items() if id <= CELLS}, self.before)
 
@@ -269,7 +269,7 @@ class NoProgram(Lesson):
         self.tab.key("Enter", "Control")
         self.tab.until("document.querySelector('#cell-2 .prompt').textContent", f"{CELLS // 2 + 1}> ")
         self.tab.click("[data-session=s] [data-do=restartSession]")
-        self.told()
+        self.reported()
         self.assertEqual([one["runs"] for one in self.page.snapshot()["sessions"]], [True, True])
 
 

@@ -45,8 +45,8 @@ class FolderCase(Case):
     def make(self, name: str) -> None:
         subprocess.run([PROGRAM or "", "create", os.path.join(self.place, name)], check=True, stdin=subprocess.DEVNULL, capture_output=True)
 
-    def states(self, told: Dict[str, Any]) -> List[List[str]]:
-        return [[one["name"], one["state"]] for one in told["sheets"]]
+    def states(self, reported: Dict[str, Any]) -> List[List[str]]:
+        return [[one["name"], one["state"]] for one in reported["sheets"]]
 
     def fill(self, page: Page, line: str) -> int:
         page.call("session", name="s", words=SPOKEN, tab=False)
@@ -77,7 +77,7 @@ class Requests(FolderCase):
         self.assertEqual(children_of(self.server.process.pid), [])
 
     def test_what_was_closed_stays_so(self) -> None:
-        """A page that looks for it doesn't open it again, but asking for the page does; behind a restart of the server a page that looks for it does."""
+        """A page that looks for it doesn't open it again, but asking for the page does; after a restart of the server a page that looks for it does."""
         listed = self.begin("one")
         one = SheetPage(listed, "one")
         one.get()
@@ -96,8 +96,8 @@ class Requests(FolderCase):
 
     def test_make_rename_duplicate(self) -> None:
         listed = self.begin("one")
-        told = listed.call("make", name="a b % \u00e9")
-        self.assertEqual(self.states(told), [["a b % \u00e9", "open"], ["one", "closed"]])
+        reported = listed.call("make", name="a b % \u00e9")
+        self.assertEqual(self.states(reported), [["a b % \u00e9", "open"], ["one", "closed"]])
         other = SheetPage(listed, "a%20b%20%25%20%C3%A9")
         self.fill(other, "say 7")
         copied = listed.call("duplicate", name="a b % \u00e9", to="copy")
@@ -190,8 +190,8 @@ class Renames(unittest.TestCase):
             kept = os.path.join(place, "kept")
             os.mkdir(os.path.join(place, "lessons"))
             for note in ([kept, "x"], ["../kept", "x"], {"kept": "x"}, [1, 2], "x"):
-                with open(kept, "w", encoding="utf-8") as file, open(os.path.join(place, "lessons", folder.NOTE), "w", encoding="utf-8") as told:
-                    json.dump(note, told)
+                with open(kept, "w", encoding="utf-8") as file, open(os.path.join(place, "lessons", folder.NOTE), "w", encoding="utf-8") as reported:
+                    json.dump(note, reported)
                 folder.finish_rename(os.path.join(place, "lessons"))
                 self.assertEqual((sorted(os.listdir(place)), os.listdir(os.path.join(place, "lessons"))), (["kept", "lessons"], []))
 

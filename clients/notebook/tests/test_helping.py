@@ -1,4 +1,4 @@
-"""What help leaves behind: nothing, whatever ends the server."""
+"""What help leaves: nothing, whatever ends the server."""
 
 import os
 import unittest
@@ -21,8 +21,8 @@ class Left(Case):
         if not page.snapshot()["order"]:
             page.call("session", name="p", words=ADAPTER, tab=False)
             page.call("new", session="p", text="len", after=0)
-        told = page.call("help", id=1, language="python", word="len")
-        self.assertIn("Return the number of items", told["output"]["text"])
+        reported = page.call("help", id=1, language="python", word="len")
+        self.assertIn("Return the number of items", reported["output"]["text"])
         return server
 
     def helping(self) -> "list[str]":

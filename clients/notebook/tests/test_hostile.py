@@ -78,7 +78,7 @@ WITHIN = """
 
 
 def outputs() -> List[bytes]:
-    """What the interpreter is told to write, a line each: a hundred and more."""
+    """What the interpreter is asked to write, a line each: a hundred and more."""
     said = [(b"verbatim", text.replace(b"%s", SCRIPT)) for text in ESCAPES] + [(b"verbatim",
         text.encode("utf-8", "surrogatepass")) for text in CHARACTERS]
     said += [(b"latex", tex.encode()) for tex in TEX] + [(b"html", ESCAPES[0] % SCRIPT), (b"command", b"(exec-delayed)"),
@@ -101,9 +101,9 @@ class Hostile(Case):
         self.page.call("session", name="evil", words=SPOKEN, tab=False)
 
     def add(self, line: str, session: str = "evil", after: int = 0) -> int:
-        told = self.page.call("new", session=session, text=line, after=after)
-        self.assertIn("id", told, (line[:50], told))
-        id: int = told["id"]
+        reported = self.page.call("new", session=session, text=line, after=after)
+        self.assertIn("id", reported, (line[:50], reported))
+        id: int = reported["id"]
         return id
 
     def short_and_long(self) -> Tuple[List[str], List[bytes]]:

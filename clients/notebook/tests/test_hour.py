@@ -217,13 +217,13 @@ class Hour(PageCase):
     def listen(self) -> None:
         """Each cell has its name and its state in the accessibility tree, and errors say so."""
         tree = self.tab.ask("Accessibility.getFullAXTree")["nodes"]
-        told: Dict[str, str] = {node.get("name", {}).get("value", ""): node.get("description", {}).get("value", "") for node in tree if node.get("role", {}).get("value") == "group"}
+        reported: Dict[str, str] = {node.get("name", {}).get("value", ""): node.get("description", {}).get("value", "") for node in tree if node.get("role", {}).get("value") == "group"}
         names = [f"Prose {id}" if session is None else f"Cell {id}, {session}" for id, (session, _, _) in enumerate(LESSON, 1)]
-        cells: List[str] = [name for name in told if re.match(r"(Prose|Cell) \d", name)]
+        cells: List[str] = [name for name in reported if re.match(r"(Prose|Cell) \d", name)]
         self.assertEqual(sorted(name for name in names if name.split(",")[0] not in ("Cell 3", "Cell 4")), sorted(name for name in cells if name in names))
-        self.assertTrue(all("saved" in told[name] for name in cells), told)
+        self.assertTrue(all("saved" in reported[name] for name in cells), reported)
         errors = [f"Cell {id}, {session}" for id, (session, _, wanted) in enumerate(LESSON, 1) if wanted in (ERROR, "ZeroDivisionError")]
-        self.assertEqual([name for name in cells if "Error" in told[name]], errors)
+        self.assertEqual([name for name in cells if "Error" in reported[name]], errors)
 
     def test_an_hour(self) -> None:
         begin = time.monotonic()

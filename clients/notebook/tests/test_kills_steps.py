@@ -1,6 +1,6 @@
 """Kills of the server, the program and the browser while a user types, evaluates, cuts, pastes, takes back, brings back, takes earlier texts back and restores
 earlier worksheets. Each word is in a cell yet, or in what was cut last, or in the list "Removed", which has what was removed since the last checkpoint; each text
-that was shown as saved stands in the journal; each answer is whole; and each worksheet that was told as restored opens. TMHOST_KILLS says how many (20)."""
+that was shown as saved stands in the journal; each answer is whole; and each worksheet that was reported as restored opens. TMHOST_KILLS says how many (20)."""
 
 import json
 import os
@@ -18,7 +18,7 @@ KILLS = int(os.environ.get("TMHOST_KILLS", "20"))
 WORDS = [f"word{number}." for number in range(12)]
 MOST_CELLS = 24
 
-# What is cut is mostly pasted then, or both are taken back; else its word is in the list alone, as soon as another cell is cut. Who is told that nothing is done
+# What is cut is mostly pasted then, or both are taken back; else its word is in the list alone, as soon as another cell is cut. Who hears that nothing is done
 # any more does nothing.
 WORK = """
 (() => {
@@ -161,8 +161,8 @@ class Steps(test_kills.Kills):
                 journal += file.read()
         self.assertEqual([text for text in self.texts if text.encode() not in journal], [])
         for name in self.made:
-            told = subprocess.run([PROGRAM or "", "show", os.path.join(self.folder, name)], stdin=subprocess.DEVNULL, capture_output=True)
-            self.assertEqual(told.returncode, 0, (name, told.stderr))
+            reported = subprocess.run([PROGRAM or "", "show", os.path.join(self.folder, name)], stdin=subprocess.DEVNULL, capture_output=True)
+            self.assertEqual(reported.returncode, 0, (name, reported.stderr))
 
     def test_kills(self) -> None:
         seed = int(os.environ.get("TMHOST_SEED", str(random.randrange(10**6))))

@@ -1,5 +1,5 @@
-"""A worksheet of 1,000 cells: how long its page takes to open, a key to be seen, and an answer to be seen behind the moment at which the program
-told it, so when it was on the disk. What is measured is printed. Where TMHOST_LIMITS=1 says so it is held to the limits, and Jupyter is measured
+"""A worksheet of 1,000 cells: how long its page takes to open, a key to be seen, and an answer to be seen after the moment at which the program
+reported it, so when it was on the disk. What is measured is printed. Where TMHOST_LIMITS=1 says so it is held to the limits, and Jupyter is measured
 beside it; else not, since tests run beside other work."""
 
 import math
@@ -35,7 +35,7 @@ new Promise((done) => {
   next();
 })
 """
-# Evaluates a cell with a new text, and gives the moment at which a picture of the page has its answer, and how long that is behind the key.
+# Evaluates a cell with a new text, and gives the moment at which a picture of the page has its answer, and how long that is after the key.
 ANSWER = """
 new Promise((done) => {
   const start = performance.now(), cell = document.querySelector("#cell-%d"), text = cell.querySelector("textarea"), shown = cell.querySelector(".output pre");
@@ -53,7 +53,7 @@ new Promise((done) => {
 """
 
 
-def told(name: str, times: List[float], limit: Optional[float]) -> str:
+def reported(name: str, times: List[float], limit: Optional[float]) -> str:
     middle = sorted(times)[len(times) // 2]
     wanted = [] if limit is None else [f"{limit:.0f} wanted"]
     beside = wanted + [f"{max(times):.0f} at most"] * (len(times) > 1)
@@ -79,20 +79,20 @@ class Large(Case):
         page.until_idle()
 
     def stamp_of(self, id: int) -> float:
-        """When the last answer of a cell was told."""
+        """When the last answer of a cell was reported."""
         with open(self.stamps, encoding="utf-8") as file:
             stamps: Dict[int, float] = {int(line.split()[0]): float(line.split()[1]) for line in file}
         return stamps[id]
 
     def answers(self, tab: chromium.Tab) -> Tuple[List[float], List[float]]:
-        """How long they come behind the disk, and behind the key."""
-        behind_disk, behind_key = [], []
+        """How long they come after the disk, and after the key."""
+        after_disk, after_key = [], []
         for number in range(TIMES):
             id = 101 + 40 * number
             moment, took = tab.value(ANSWER % (id, f"new {number}", f"new {number}"))
-            behind_disk.append(moment - self.stamp_of(id))
-            behind_key.append(took)
-        return behind_disk, behind_key
+            after_disk.append(moment - self.stamp_of(id))
+            after_key.append(took)
+        return after_disk, after_key
 
     def move(self, tab: chromium.Tab) -> None:
         tab.until("document.querySelector('#cell-500 .text-state').textContent", "saved")
@@ -115,17 +115,17 @@ class Large(Case):
         tab.until("document.activeElement.closest('.cell')?.id", "cell-500")
         keys = tab.value(KEYS)
         self.move(tab)
-        behind_disk, behind_key = self.answers(tab)
+        after_disk, after_key = self.answers(tab)
         self.assertEqual(self.show().count("\n#"), CELLS - 1)
         self.assertEqual(browser.trouble, [])
         server.stop()
         self.tell([("it opens in", [opens], OPENS_WITHIN), ("a key is seen in", keys, KEY_WITHIN),
-                   ("an answer is seen, behind being on the disk, in", behind_disk, ANSWER_WITHIN),
-                   ("an answer is seen, behind its key, in", behind_key, None)])
+                   ("an answer is seen, after being on the disk, in", after_disk, ANSWER_WITHIN),
+                   ("an answer is seen, after its key, in", after_key, None)])
         self.tell_beside(browser)
 
     def tell(self, measured: List[Tuple[str, List[float], Optional[float]]]) -> None:
-        print(f" {CELLS} cells: {'; '.join(told(*one) for one in measured)}.", end=" ")
+        print(f" {CELLS} cells: {'; '.join(reported(*one) for one in measured)}.", end=" ")
         for name, times, limit in measured if ARE_HELD else []:
             self.assertLess(sorted(times)[len(times) // 2], limit or math.inf, name)
 
@@ -135,7 +135,7 @@ class Large(Case):
         if beside is None:
             print("Jupyter isn't installed (Debian's package jupyter-notebook), so it wasn't measured", end=" ")
         elif beside:
-            print(f"Jupyter Notebook: {'; '.join(told(*one, None) for one in beside)}", end=" ")
+            print(f"Jupyter Notebook: {'; '.join(reported(*one, None) for one in beside)}", end=" ")
 
 
 if __name__ == "__main__":

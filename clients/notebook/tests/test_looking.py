@@ -35,10 +35,10 @@ class Looking(Case):
     def until(self, page: Page, member: str, wanted: Any) -> Dict[str, Any]:
         end = time.monotonic() + 60
         while True:
-            told = page.snapshot()
-            if told[member] == wanted:
-                return told
-            self.assertLess(time.monotonic(), end, told)
+            reported = page.snapshot()
+            if reported[member] == wanted:
+                return reported
+            self.assertLess(time.monotonic(), end, reported)
             time.sleep(0.1)
 
 
@@ -48,9 +48,9 @@ class Requests(Looking):
         self.begin()
         page = Page(self.looker)
         self.assertIsNone(self.looker.program)
-        told = page.snapshot()
-        self.assertEqual((told["isLooking"], [cell["input"] for cell in told["cells"]], told.get("marks")), (True, ["say one", "say two", "# three"], None))
-        self.assertEqual([cell["output"] and cell["output"]["text"] for cell in told["cells"]], ["one", None, None])
+        reported = page.snapshot()
+        self.assertEqual((reported["isLooking"], [cell["input"] for cell in reported["cells"]], reported.get("marks")), (True, ["say one", "say two", "# three"], None))
+        self.assertEqual([cell["output"] and cell["output"]["text"] for cell in reported["cells"]], ["one", None, None])
         before = self.both_files()
         calls: List[Tuple[str, Dict[str, Any]]] = [
             ("set", {"id": 1, "text": "x", "base": "say one", "draft": None}), ("new", {"session": "s", "text": "x", "after": 0}), ("remove", {"id": 1}), ("eval", {"id": 2}),
@@ -89,8 +89,8 @@ class Requests(Looking):
         with open(self.sheet, "r+b") as file:
             file.truncate(5)
         command = [os.path.join(NOTEBOOK, "tmhost-notebook"), "--no-browser", "--look", self.sheet]
-        told = subprocess.run(command, capture_output=True, text=True, timeout=120, env=harness.environment())
-        self.assertEqual((told.returncode, told.stdout), (1, ""))
+        reported = subprocess.run(command, capture_output=True, text=True, timeout=120, env=harness.environment())
+        self.assertEqual((reported.returncode, reported.stdout), (1, ""))
 
 
 @needs_program

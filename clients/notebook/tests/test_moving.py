@@ -27,15 +27,15 @@ class Moved(Case):
         subprocess.run([PROGRAM or "", "create", self.sheet], check=True, stdin=subprocess.DEVNULL, capture_output=True)
         lines = [f"session s tab {self.adapter}", f"session other plain {SPOKEN}", "new 0 s say 1", "new 1 other say 2", "new 2 s say gone", "new 3 s file",
                  "eval 1", "wait", "eval 2", "wait", "eval 4", "wait", "remove 3", "set 4 say \u2028 \u00e9"]
-        told = subprocess.run([PROGRAM or "", "run", self.sheet], input="\n".join(lines).encode(), capture_output=True)
-        self.assertEqual(told.stdout.splitlines().count(b"asked"), 3, told.stdout + told.stderr)  # the last one ends its interpreter
+        reported = subprocess.run([PROGRAM or "", "run", self.sheet], input="\n".join(lines).encode(), capture_output=True)
+        self.assertEqual(reported.stdout.splitlines().count(b"asked"), 3, reported.stdout + reported.stderr)  # the last one ends its interpreter
         os.remove(self.adapter)
 
-    def told(self) -> List[Dict[str, Any]]:
-        return rewording.told(self.sheet, PROGRAM)
+    def reported(self) -> List[Dict[str, Any]]:
+        return rewording.reported(self.sheet, PROGRAM)
 
     def words(self) -> Dict[str, List[str]]:
-        return {one["name"]: one["words"] for line in self.told() for one in line.get("sessions", ())}
+        return {one["name"]: one["words"] for line in self.reported() for one in line.get("sessions", ())}
 
 
 class Words(Moved):
@@ -47,15 +47,15 @@ class Words(Moved):
         self.assertEqual(self.show(), shown)
         rewording.reword(self.sheet, "s", old["s"], PROGRAM)
         self.assertEqual((self.words(), self.show()), (old, shown))
-        told = subprocess.run([PROGRAM or "", "run", "--strict", self.sheet], input=b"checkpoint\nset 1 x\ncheckpoint\n", capture_output=True)
-        self.assertEqual(told.returncode, 0, told.stderr)
+        reported = subprocess.run([PROGRAM or "", "run", "--strict", self.sheet], input=b"checkpoint\nset 1 x\ncheckpoint\n", capture_output=True)
+        self.assertEqual(reported.returncode, 0, reported.stderr)
 
     def test_other_words(self) -> None:
         self.begin()
         self.keeps_the_rest()
 
-    def test_behind_checkpoints(self) -> None:
-        """The journal lies in the second file, and in the first one behind another checkpoint."""
+    def test_after_checkpoints(self) -> None:
+        """The journal lies in the second file, and in the first one after another checkpoint."""
         self.begin()
         for _ in range(2):
             subprocess.run([PROGRAM or "", "run", "--strict", self.sheet], input=b"checkpoint\n", check=True, capture_output=True)
@@ -84,7 +84,7 @@ class Words(Moved):
         self.assertEqual(sorted(os.listdir(self.folder)), ["sheet", "sheet.alt"])
 
     def test_what_stands_first_isnt_changed(self) -> None:
-        """The kill of a moment: behind the rename all is in the first file, whatever the second one has."""
+        """The kill of a moment: after the rename all is in the first file, whatever the second one has."""
         self.begin()
         rewording.reword(self.sheet, "s", ["x"], PROGRAM)
         words, shown = self.words(), self.show()

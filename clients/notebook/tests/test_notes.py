@@ -117,7 +117,7 @@ class Model:
 
 
 class ManyPlaces(unittest.TestCase):
-    """Random changes of worksheets of some blocks: order and stale answers are those of the model, and who became stale or fresh is told."""
+    """Random changes of worksheets of some blocks: order and stale answers are those of the model, and who became stale or fresh is reported."""
 
     def setUp(self) -> None:
         self.seed = int(os.environ.get("TMHOST_SEED", str(random.randrange(10**6))))
@@ -147,7 +147,7 @@ class ManyPlaces(unittest.TestCase):
                 known = now
 
     def change(self) -> Tuple[int, Set[int]]:
-        """A random change of one cell. Gives its number, and what was told of it."""
+        """A random change of one cell. Gives its number, and what was reported of it."""
         does = self.random.choice([self.put, self.edit, self.evaluate, self.evaluate, self.move, self.drop])
         return does() if self.model.fields else self.put()
 
@@ -245,8 +245,8 @@ class Shown(unittest.TestCase):
         def facts(*lengths: int, text: str = "so") -> Tuple[List[Any], bool, int]:
             items = [Block("latex", "format", (formula(length),)) for length in lengths]
             block = Block("verbatim", "format", (text, *items))
-            told = shown.facts_of(Answer("> ", block, shown.text_of(block, {})))
-            return [*(len(part["tex"]) if "tex" in part else "text" for part in told["parts"])], told["isCut"], told["unset"]
+            reported = shown.facts_of(Answer("> ", block, shown.text_of(block, {})))
+            return [*(len(part["tex"]) if "tex" in part else "text" for part in reported["parts"])], reported["isCut"], reported["unset"]
 
         most, one = shown.LONGEST_FORMULAS, shown.LONG_FORMULA
         self.assertEqual(facts(3), (["text", 3], False, 0))
@@ -258,8 +258,8 @@ class Shown(unittest.TestCase):
         self.assertEqual(facts(most, text="x" * (shown.LONGEST + 1)), (["text"], True, 0))
         self.assertEqual(facts(*[one] * 5), (["text", one, one, one, "text"], True, one))
         tex = formula(one + 1)
-        told = shown.facts_of(Answer("> ", Block("latex", "format", (tex,)), "{latex:" + tex + "}"))
-        self.assertEqual((told["text"], told["length"]), ("{latex:" + tex + "}", one + 9))
+        reported = shown.facts_of(Answer("> ", Block("latex", "format", (tex,)), "{latex:" + tex + "}"))
+        self.assertEqual((reported["text"], reported["length"]), ("{latex:" + tex + "}", one + 9))
 
 
 class Prose(unittest.TestCase):

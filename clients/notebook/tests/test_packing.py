@@ -14,7 +14,7 @@ from test_pictures import DRAWN, png
 sys.path[:0] = [NOTEBOOK, f"{NOTEBOOK}/../python"]
 from tmhost_notebook import packing  # noqa: E402
 from tmhost_notebook.folder import NotDone  # noqa: E402
-from tmhost_notebook.rewording import told  # noqa: E402
+from tmhost_notebook.rewording import reported  # noqa: E402
 
 PROSE = "![p](figures/p.svg) ![q](q%20r.png) ![no](../secret.png) ![none](none.png) ![far](https://evil.example/x.png)"
 
@@ -38,7 +38,7 @@ class Packing(Case):
         return done.returncode, done.stdout + done.stderr
 
     def words(self, sheet: str) -> Dict[str, List[str]]:
-        return {one["name"]: one["words"] for line in told(sheet, PROGRAM) for one in line.get("sessions", ())}
+        return {one["name"]: one["words"] for line in reported(sheet, PROGRAM) for one in line.get("sessions", ())}
 
     def fill(self) -> Server:
         server = self.serve()

@@ -12,16 +12,16 @@ from typing import Any, List
 
 from harness import IN_TEXT, PROSE, READY, REPOSITORY, Page, PageCase, needs_chromium, needs_program, opened
 
-# Each text that is seen, with its contrast to what lies behind it. Formulas and texts of disabled buttons don't count.
+# Each text that is seen, with its contrast to what lies under it. Formulas and texts of disabled buttons don't count.
 CONTRAST = """
 (() => {
   const channel = (value) => { const part = value / 255; return part <= .04045 ? part / 12.92 : ((part + .055) / 1.055) ** 2.4 };
   const numbers = (colour) => colour.match(/[\\d.]+/g).map(Number);
   const light = (colour) => { const [red, green, blue] = numbers(colour).map(channel); return .2126 * red + .7152 * green + .0722 * blue };
-  const behind = (node) => {
+  const under = (node) => {
     if (!node) return "rgb(255, 255, 255)";
     const colour = getComputedStyle(node).backgroundColor;
-    return (numbers(colour)[3] ?? 1) === 1 ? colour : behind(node.parentElement);
+    return (numbers(colour)[3] ?? 1) === 1 ? colour : under(node.parentElement);
   };
   const found = [];
   for (const node of document.querySelectorAll("body *")) {
@@ -29,7 +29,7 @@ CONTRAST = """
     const isField = node.localName === "textarea" || node.localName === "input";
     const hasText = isField || [...node.childNodes].some((child) => child.nodeType === 3 && child.data.trim());
     if (!hasText || !box.width || !box.height || node.disabled || node.closest(".katex")) continue;
-    const [one, other] = [light(getComputedStyle(node).color), light(behind(node))].sort((a, b) => b - a);
+    const [one, other] = [light(getComputedStyle(node).color), light(under(node))].sort((a, b) => b - a);
     const ratio = (one + .05) / (other + .05);
     found.push([node.localName + "." + node.className + " " + (node.textContent ?? "").slice(0, 30), Math.round(ratio * 100) / 100]);
   }
@@ -56,7 +56,7 @@ ASKS = """
 LISTENS = """
 new Promise((done) => {
   const source = new EventSource(PLACE + "events", { withCredentials: true });
-  source.onmessage = () => done("told");
+  source.onmessage = () => done("reported");
   source.onerror = () => done("refused");
 })
 """
@@ -184,7 +184,7 @@ class ThePage(PageCase):
         return f"document.querySelector('#{tab.value(SELECTED)} .reading')"
 
     def test_a_draft_waits(self) -> None:
-        """What is typed while a cell is evaluated is saved behind its answer; what is too long isn't saved, and stays."""
+        """What is typed while a cell is evaluated is saved after its answer; what is too long isn't saved, and stays."""
         self.begin()
         self.page.call("new", session="s", text="sleep 5", after=0)
         tab = opened(self.browser, self.server)
@@ -250,7 +250,7 @@ class ThePage(PageCase):
 
     def test_a_conflict(self) -> None:
         """A text that another page has changed is never shown as saved, also where it becomes again what it was; and what is removed elsewhere
-        is told."""
+        is reported."""
         self.begin()
         self.page.call("new", session="s", text="say 1", after=0)
         tab = opened(self.browser, self.server)
@@ -271,7 +271,7 @@ class ThePage(PageCase):
         tab.until("document.querySelector('#note').textContent", lambda found: "removed in another page" in str(found) and "draft" in str(found))
 
     def test_many_pages(self) -> None:
-        """A page that isn't seen gives its connection up, so the seventh page works as the first one does; seen again, it is told all."""
+        """A page that isn't seen gives its connection up, so the seventh page works as the first one does; seen again, it gets all."""
         self.begin()
         self.page.call("new", session="s", text="say 1", after=0)
         tabs = [opened(self.browser, self.server)]

@@ -60,8 +60,8 @@ UNREAD, NONE = "no completions: the interpreter's completions can't be read", "n
 SCRIPT = b"<script>window.harmed=1</script><img src=x onerror=window.harmed=1>"
 # What an interpreter answers, and the first lines of the list, or the note and what goes into the text.
 HOSTILE: List[Tuple[bytes, Union[List[str], Tuple[str, str]]]] = [
-    (b'\x02scheme:(tuple "told" "' + SCRIPT + b'" "<b>")\x05', ["told" + SCRIPT.decode(), "told<b>"]),
-    ("\x02scheme:(tuple \"\u202etold\" \"\u2066a\" \"\0b\")\x05".encode(), ["\\u202etold\\u2066a", "\\u202etold\\x00b"]),
+    (b'\x02scheme:(tuple "said" "' + SCRIPT + b'" "<b>")\x05', ["said" + SCRIPT.decode(), "said<b>"]),
+    ("\x02scheme:(tuple \"\u202esaid\" \"\u2066a\" \"\0b\")\x05".encode(), ["\\u202esaid\\u2066a", "\\u202esaid\\x00b"]),
     (b'\x02scheme:(tuple "t"' + b"".join(b' "%d"' % one for one in range(20_000)) + b")\x05", ["t0", "t1", "t2"]),
     (b'\x02scheme:(tuple "t" "' + b"x" * 1_000_000 + b'" "y")\x05', ["t" + "x" * 1_000_000, "ty"]),
     (b'\x02scheme:(tuple "t" "' + SCRIPT + b'")\x05', ("", SCRIPT.decode())), (b"\x02scheme:(tuple \"t\" \"\")\x05", (NONE, "")), (b"\x02scheme:\x05", (NONE, "")),
@@ -179,8 +179,8 @@ class KeysOfThePage(PageCase):
 
     def test_hostile_completions(self) -> None:
         """Whatever is answered is a text or nothing: it adds no markup, no more lines than are shown, and the next request is answered."""
-        os.environ["TOLD"] = self.folder
-        self.addCleanup(os.environ.pop, "TOLD")
+        os.environ["SAID"] = self.folder
+        self.addCleanup(os.environ.pop, "SAID")
         self.begin()
         self.page.call("new", session="s", text="", after=0)
         tab = opened(self.browser, self.server)
@@ -190,7 +190,7 @@ class KeysOfThePage(PageCase):
             with self.subTest(answer=answer[:60]), open(os.path.join(self.folder, str(number)), "wb") as file:
                 file.write(answer)
             tab.ask("Input.dispatchKeyEvent", {"type": "keyDown", "commands": ["selectAll"]})
-            tab.type(f"say told_{number}")
+            tab.type(f"say said_{number}")
             tab.key("Tab")
             if isinstance(wanted, list):
                 tab.until(f"{SHOWN}.length > 0")
@@ -198,7 +198,7 @@ class KeysOfThePage(PageCase):
                 self.assertLessEqual(tab.value(f"{SHOWN}.length"), 100)
                 tab.key("Escape")
             else:
-                tab.until("[document.querySelector('#note').textContent, document.activeElement.value]", [wanted[0], f"say told_{number}{wanted[1]}"])
+                tab.until("[document.querySelector('#note').textContent, document.activeElement.value]", [wanted[0], f"say said_{number}{wanted[1]}"])
         self.assertEqual(tab.value("[window.harmed ?? 0, document.querySelectorAll('#cells script, #cells img, #cells b').length]"), [0, 0])
         tab.ask("Input.dispatchKeyEvent", {"type": "keyDown", "commands": ["selectAll"]})
         tab.type("say be")
@@ -222,11 +222,11 @@ class KeysOfThePage(PageCase):
         text = f"document.querySelector('#cell-{id} textarea').value"
         tab.click(f"#cell-{id} .number")
         tab.key("Enter")
-        for typed, told, wanted in ((one, text, f"{line}\n{whole}"), (several, SHOWN, shown)):
+        for typed, reported, wanted in ((one, text, f"{line}\n{whole}"), (several, SHOWN, shown)):
             tab.key("Enter")
             tab.type(typed)
             tab.key("Tab")
-            tab.until(told, wanted)
+            tab.until(reported, wanted)
         self.assertEqual(tab.value("document.querySelector('#completions').getAttribute('role')"), "listbox")
         tab.key("ArrowDown")
         tab.key("Enter")

@@ -27,7 +27,7 @@ Words with a formula $\\frac13$, which go on so long that a line of them has its
 | a name that takes much room | 123456789012345678901234567890123456789 | a remark that is long, long, long, long, long, long |
 
 ```
-code in prose that is one line, and goes on behind the right side of the page, with more words, to its END_OF_CODE
+code in prose that is one line, and goes on after the right side of the page, with more words, to its END_OF_CODE
 for i in 1 2 3; do echo "this is a long line of a program"; echo "which is broken on paper, where a line is shorter than on a screen"; done
 ```
 
@@ -120,10 +120,10 @@ class Paper(PageCase):
         tab.value("Promise.all([...document.images].map((one) => one.decode()))")
         for paper, (width, height) in PAPERS.items():
             with self.subTest(paper=paper):
-                told = tab.ask("Page.printToPDF", {"printBackground": True, "paperWidth": width, "paperHeight": height})
+                reported = tab.ask("Page.printToPDF", {"printBackground": True, "paperWidth": width, "paperHeight": height})
                 path = os.path.join(PICTURES or self.folder, f"{paper}.pdf")
                 with open(path, "wb") as file:
-                    file.write(base64.b64decode(told["data"]))
+                    file.write(base64.b64decode(reported["data"]))
                 self.look(path, wanted)
                 self.assertEqual(tab.value(LEFT_OVER), 0)
 

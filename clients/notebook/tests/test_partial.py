@@ -1,4 +1,4 @@
-"""What is shown of an answer before it is whole: how it is read, how often pages are told, and how it looks. The program's part is played by `telling`,
+"""What is shown of an answer before it is whole: how it is read, how often pages get it, and how it looks. The program's part is played by `telling`,
 but in the last test."""
 
 import base64
@@ -103,10 +103,10 @@ class Telling(Case):
 
     def tell(self, data: bytes, session: str = "s", life: int = 1) -> None:
         try:
-            told: Any = data.decode()
+            reported: Any = data.decode()
         except UnicodeDecodeError:
-            told = {"base64": base64.b64encode(data).decode()}
-        line = json.dumps({"bytes": told, "life": life, "session": session, "type": "partial"}).encode() + b"\n"
+            reported = {"base64": base64.b64encode(data).decode()}
+        line = json.dumps({"bytes": reported, "life": life, "session": session, "type": "partial"}).encode() + b"\n"
         while line:
             line = line[os.write(self.pipe, line) :]
 
@@ -124,13 +124,13 @@ class Telling(Case):
         return id
 
     def ready(self) -> List[str]:
-        """The sessions whose interpreters have told their banner: a piece of one that came before is dropped by that."""
+        """The sessions whose interpreters have reported their banner: a piece of one that came before is dropped by that."""
         time.sleep(0.3)
         return [session["name"] for session in self.page.snapshot()["sessions"] if session["runs"]]
 
 
 @needs_program
-class Told(Telling):
+class Reported(Telling):
     def messages(self) -> Iterator[Dict[str, Any]]:
         connection = http.client.HTTPConnection(self.page.host, timeout=60)
         self.addCleanup(connection.close)
@@ -140,7 +140,7 @@ class Told(Telling):
             if line.startswith(b"data: "):
                 yield json.loads(line[len(b"data: ") :])
 
-    def test_pages_are_told_now_and_then(self) -> None:
+    def test_pages_are_reported_now_and_then(self) -> None:
         self.begin_telling()
         id = self.run_cell("sleep 60")
         messages = self.messages()
@@ -151,8 +151,8 @@ class Told(Telling):
         writer.start()
         found: List[Dict[str, Any]] = []
         while not found or not found[-1]["text"].endswith("line 3999\n"):
-            told = next(messages).get("partial", {})
-            found += [told[str(id)]] if str(id) in told else []
+            reported = next(messages).get("partial", {})
+            found += [reported[str(id)]] if str(id) in reported else []
         writer.join()
         self.assertLessEqual(len(found), (time.monotonic() - begin) / 0.2 + 2)
         self.assertEqual((len(found[-1]["text"]), found[-1]["isCut"]), (LONGEST, True))
@@ -293,8 +293,8 @@ class ByAnAdapter(Case):
         id = page.call("new", session="p", text=text, after=0)["id"]
         page.call("eval", id=id)
         end = time.monotonic() + 60
-        while not (told := page.snapshot().get("partial", {}).get(str(id), {}).get("text", "")).startswith("0\n1\n2\n"):
-            self.assertLess(time.monotonic(), end, told)
+        while not (reported := page.snapshot().get("partial", {}).get(str(id), {}).get("text", "")).startswith("0\n1\n2\n"):
+            self.assertLess(time.monotonic(), end, reported)
             time.sleep(0.1)
         page.call("interrupt", session="p")
         page.until_idle()

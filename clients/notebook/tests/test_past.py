@@ -17,9 +17,9 @@ from tmhost_notebook import past  # noqa: E402
 CHANGES = 150
 
 
-def seen(told: Dict[str, Any]) -> List[Tuple[Any, ...]]:
+def seen(reported: Dict[str, Any]) -> List[Tuple[Any, ...]]:
     """The cells of a message or of a look, in their order."""
-    cells = told["then"] if "then" in told else [next(cell for cell in told["cells"] if cell["id"] == id) for id in told["order"]]
+    cells = reported["then"] if "then" in reported else [next(cell for cell in reported["cells"] if cell["id"] == id) for id in reported["order"]]
     return [(one["id"], one["session"], one["input"], answer_of(one), one["reason"]) for one in cells]
 
 
@@ -70,9 +70,9 @@ class Bounded(Case):
         return past.Past(self.sheet, program)
 
     def refused(self, what: past.Past) -> str:
-        with self.assertRaises(past.NoPast) as told:
+        with self.assertRaises(past.NoPast) as reported:
             what.changes(is_new=True)
-        return str(told.exception)
+        return str(reported.exception)
 
     def test_a_program_that_takes_long(self) -> None:
         past.WITHIN = 0.3
@@ -100,8 +100,8 @@ class Looks(Case):
         return page
 
     def by_program(self, *words: str) -> str:
-        told = subprocess.run([PROGRAM or "", *words], stdin=subprocess.DEVNULL, capture_output=True, check=True)
-        return told.stdout.decode()
+        reported = subprocess.run([PROGRAM or "", *words], stdin=subprocess.DEVNULL, capture_output=True, check=True)
+        return reported.stdout.decode()
 
     def change(self, page: Page, chance: random.Random) -> None:
         """One random change by a call, whose answer has come."""
@@ -118,30 +118,30 @@ class Looks(Case):
             page.call(kind, id=id)
         page.until_idle()
 
-    def test_each_look_is_what_was_told(self) -> None:
-        """After each of 150 random changes the look has the cells that pages were told at that time, and nothing was written by looking."""
-        page, chance, told = self.begin(), random.Random(int(os.environ.get("TMHOST_SEED", "3"))), {}
+    def test_each_look_is_what_was_reported(self) -> None:
+        """After each of 150 random changes the look has the cells that pages were sent at that time, and nothing was written by looking."""
+        page, chance, reported = self.begin(), random.Random(int(os.environ.get("TMHOST_SEED", "3"))), {}
         for _ in range(CHANGES):
             self.change(page, chance)
-            told[page.call("past")["count"]] = seen(page.snapshot())
+            reported[page.call("past")["count"]] = seen(page.snapshot())
         before, opening = self.both_files(), page.call("past")["opening"]
-        for at, cells in told.items():
+        for at, cells in reported.items():
             self.assertEqual(seen(page.call("past_sheet", opening=opening, at=at, about=0, place=0)), cells[:50], at)
-        self.versions(page, opening, told)
+        self.versions(page, opening, reported)
         self.assertEqual(self.both_files(), before)
-        print(f" {len(told)} looks", end="")
+        print(f" {len(reported)} looks", end="")
 
-    def versions(self, page: Page, opening: str, told: Dict[int, List[Tuple[Any, ...]]]) -> None:
-        """What a cell had before is what pages were told then, and each answer that they were told and that is no more is in it."""
+    def versions(self, page: Page, opening: str, reported: Dict[int, List[Tuple[Any, ...]]]) -> None:
+        """What a cell had before is what pages were sent then, and each answer that they were sent and that is no more is in it."""
         now = {cell[0]: cell for cell in seen(page.snapshot())}
         for id in now:
             found = []
             for at, what in page.call("past_cell", id=id)["versions"]:
                 [cell] = page.call("past_field", opening=opening, at=at, id=id)["then"]
                 found.append((cell["input"], answer_of(cell)))
-                known = [one for cells in (told.get(at, []),) for one in cells if one[0] == id]
+                known = [one for cells in (reported.get(at, []),) for one in cells if one[0] == id]
                 self.assertEqual(known, seen({"then": [cell]}) if known else [], (at, what))
-            had = {(cell[2], cell[3]) for cells in told.values() for cell in cells if cell[0] == id and cell[3] is not None}
+            had = {(cell[2], cell[3]) for cells in reported.values() for cell in cells if cell[0] == id and cell[3] is not None}
             self.assertLessEqual(had - {(now[id][2], now[id][3])}, set(found))
 
     def test_while_interpreters_work(self) -> None:
@@ -149,26 +149,26 @@ class Looks(Case):
         page.call("new", session="s", text="sleep 60", after=0)
         page.call("eval", id=1)
         begun = time.monotonic()
-        told = page.call("past")
-        self.assertEqual(told["changes"], ["1 session s", "2 new 1 s", "3 eval 1"])
-        look = page.call("past_sheet", opening=told["opening"], at=3, about=0, place=0)
+        reported = page.call("past")
+        self.assertEqual(reported["changes"], ["1 session s", "2 new 1 s", "3 eval 1"])
+        look = page.call("past_sheet", opening=reported["opening"], at=3, about=0, place=0)
         self.assertEqual(seen(look), [(1, "s", "sleep 60", None, None)])
         self.assertLess(time.monotonic() - begun, 20)
         self.assertEqual(page.cells()[1]["state"], "running")
 
     def test_many_changes_and_cells(self) -> None:
-        """They are told in parts."""
+        """They are reported in parts."""
         page = self.begin()
         page.call("step", what="x", set=[], move=[], remove=[], new=[{"after": 0, "session": "s", "text": f"say {n}"} for n in range(450)])
-        told = page.call("past")
-        self.assertEqual((told["count"], len(told["changes"]), told["changes"][-1]), (451, 200, "451 new 450 s"))
-        part = page.call("past", opening=told["opening"], upTo=10)
+        reported = page.call("past")
+        self.assertEqual((reported["count"], len(reported["changes"]), reported["changes"][-1]), (451, 200, "451 new 450 s"))
+        part = page.call("past", opening=reported["opening"], upTo=10)
         self.assertEqual(part["changes"], ["1 session s", *(f"{n + 1} new {n} s" for n in range(1, 10))])
-        look = page.call("past_sheet", opening=told["opening"], at=451, about=77, place=0)
+        look = page.call("past_sheet", opening=reported["opening"], at=451, about=77, place=0)
         order = page.snapshot()["order"]
         self.assertEqual((look["count"], look["start"]), (450, order.index(77) // 50 * 50))
         self.assertEqual([cell["id"] for cell in look["then"]], order[look["start"] : look["start"] + 50])
-        self.assertEqual(page.call("past_sheet", opening=told["opening"], at=451, about=0, place=10**9)["start"], 400)
+        self.assertEqual(page.call("past_sheet", opening=reported["opening"], at=451, about=0, place=10**9)["start"], 400)
 
     def test_restored_beside_it(self) -> None:
         page = self.begin()
@@ -232,9 +232,9 @@ class Looks(Case):
                 page.call("new", session="s", text=text, after=0)
             page.call("eval", id=1)
             page.until_idle()
-        told = page.call("past_cell", id=1)
-        [(at, what)] = told["versions"]
-        page.call("past_field", opening=told["opening"], at=at, id=1)
+        reported = page.call("past_cell", id=1)
+        [(at, what)] = reported["versions"]
+        page.call("past_field", opening=reported["opening"], at=at, id=1)
         page.call("step", what="x", new=[], move=[], remove=[], set=[{"id": 1, "base": "say 2", "text": "say 1", "then": {"at": at, "id": 1}}])
         cell = page.cells()[1]
         self.assertEqual((what, cell["input"], cell["state"], cell["isOld"], cell["output"]["text"]), ("answered", "say 1", "empty", True, "1"))

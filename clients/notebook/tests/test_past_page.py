@@ -1,5 +1,5 @@
 """The page of what a worksheet was: the list of changes, looks, what a cell had before, what is taken back and restored. It works by keys alone, what was typed
-stays text, and no key is for the worksheet behind."""
+stays text, and no key is for the worksheet below."""
 
 import unittest
 
@@ -40,7 +40,7 @@ class InThePage(PageCase):
         tab.until(MARK, lambda found: f"after change {at} of" in str(found))
 
     def test_by_keys(self) -> None:
-        """From the list to a look, to a worksheet of its own, and back; no key is for the worksheet behind."""
+        """From the list to a look, to a worksheet of its own, and back; no key is for the worksheet below."""
         tab = self.fill()
         tab.key("e", "Shift")
         self.look(tab, 11)
@@ -80,11 +80,11 @@ class InThePage(PageCase):
         tab.value("(() => { const at = document.querySelector('#earlier-at'); at.value = '0'; at.dispatchEvent(new Event('change')) })()")
         self.look(tab, 0)
         self.assertEqual(tab.value("document.querySelector('#earlier-cells').textContent"), "There was no cell.")
-        tab.click("#earlier-behind")
+        tab.click("#earlier-after")
         self.look(tab, 1)
 
     def test_what_a_cell_had(self) -> None:
-        """It is copied, and taken back; Z takes that back. What is typed behind is no part of it."""
+        """It is copied, and taken back; Z takes that back. What is typed after is no part of it."""
         tab = self.fill()
         self.browser.ask("Browser.grantPermissions", {"permissions": ["clipboardReadWrite", "clipboardSanitizedWrite"]})
         tab.key("e")

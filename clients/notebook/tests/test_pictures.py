@@ -188,9 +188,9 @@ class Drawn(Case):
         return self.add_line(f"file {tag} {path}")
 
     def add_line(self, line: str) -> int:
-        told = self.page.call("new", session="s", text=line, after=(self.page.snapshot()["order"] or [0])[-1])
-        self.assertIn("id", told, told)
-        id: int = told["id"]
+        reported = self.page.call("new", session="s", text=line, after=(self.page.snapshot()["order"] or [0])[-1])
+        self.assertIn("id", reported, reported)
+        id: int = reported["id"]
         return id
 
     def evaluated(self) -> chromium.Tab:

@@ -97,7 +97,7 @@ class Reading(PageCase):
         self.assertEqual(tab.value(WIDTHS)[:2], [False, True])
 
     def test_an_answer_without_output(self) -> None:
-        """It is told from none."""
+        """It is distinguished from none."""
         self.begin()
         for after, text in enumerate(("say ", "say 1", "say 2")):
             self.page.call("new", session="s", text=text, after=after)

@@ -97,7 +97,7 @@ class Requests(Case):
         for length in ("-1", "x", "67108865", "99999999999999999999", "\u00b2"):
             self.assertEqual(self.post({"Content-Length": length}), 403, length)
 
-    def test_nonsense_is_told_as_such(self) -> None:
+    def test_nonsense_is_reported_as_such(self) -> None:
         deep = b"[" * 60_000
         for body in (b"", b"{", b"\xff", deep, b"nan"):
             self.assertEqual(self.post({}, body), 400, body[:10])
@@ -112,8 +112,8 @@ class Requests(Case):
         ]
         for asked in nonsense:
             with self.subTest(asked=asked):
-                _, _, told = self.page.request("POST", self.page.path + "call", self.page.headers(), json.dumps(asked).encode())
-                self.assertIn("refused", json.loads(told))
+                _, _, reported = self.page.request("POST", self.page.path + "call", self.page.headers(), json.dumps(asked).encode())
+                self.assertIn("refused", json.loads(reported))
         self.assertEqual(self.page.snapshot()["order"], [])
 
     def test_methods_and_paths_beside(self) -> None:
@@ -177,24 +177,24 @@ class Starting(Case):
 
     def test_a_second_server_says_in_use(self) -> None:
         self.serve()
-        told = self.run_server(self.sheet)
-        self.assertEqual((told.returncode, told.stdout), (1, ""))
-        self.assertIn("is in use: another program", told.stderr)
+        reported = self.run_server(self.sheet)
+        self.assertEqual((reported.returncode, reported.stdout), (1, ""))
+        self.assertIn("is in use: another program", reported.stderr)
 
     def test_what_is_no_worksheet(self) -> None:
         with open(self.sheet, "wb") as file:
             file.write(b"this is a letter to somebody, and no worksheet\n" * 3)
-        told = self.run_server(self.sheet)
-        self.assertEqual(told.returncode, 1)
-        self.assertIn("can't be opened", told.stderr)
+        reported = self.run_server(self.sheet)
+        self.assertEqual(reported.returncode, 1)
+        self.assertIn("can't be opened", reported.stderr)
         with open(self.sheet, "rb") as file:
             self.assertTrue(file.read().startswith(b"this is a letter"))
 
     def test_a_port_that_is_taken(self) -> None:
         server = self.serve()
-        told = self.run_server("--port", server.host.partition(":")[2], self.sheet + "2")
-        self.assertEqual(told.returncode, 1)
-        self.assertIn("can't be taken", told.stderr)
+        reported = self.run_server("--port", server.host.partition(":")[2], self.sheet + "2")
+        self.assertEqual(reported.returncode, 1)
+        self.assertIn("can't be taken", reported.stderr)
 
     def test_its_end_ends_the_program(self) -> None:
         server = self.serve()

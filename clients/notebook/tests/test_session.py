@@ -1,4 +1,4 @@
-"""A session of a user, as a script in a real browser. Behind each action the page must show what is expected of it, and the worksheet's file
+"""A session of a user, as a script in a real browser. After each action the page must show what is expected of it, and the worksheet's file
 must be what the page shows, in the words of `tmhost show`."""
 
 import time
@@ -60,7 +60,7 @@ class Session(Case):
             self.fail(f"action {len(self.actions)}, {name}: {error}\n{self.browser.trouble}\n{self.tab.value(PAGE)}")
 
     def compare(self) -> None:
-        """The page may be behind the file, or the file behind what is typed, for a moment."""
+        """The page may be later than the file, or the file later than what is typed, for a moment."""
         end = time.monotonic() + 120
         while True:
             page, file = self.tab.value(AS_SHOWN), self.show()
@@ -116,7 +116,7 @@ class Session(Case):
         self.go_on()
         print(f" {len(self.actions)} actions", end="")
         self.assertGreaterEqual(len(self.actions), 60)
-        # Behind a kill the browser tells of connections that were refused.
+        # After a kill the browser tells of connections that were refused.
         self.assertEqual([one for one in self.browser.trouble if "ERR_CONNECTION" not in one and "ERR_INCOMPLETE" not in one], [])
 
     def begin(self) -> None:
@@ -162,7 +162,7 @@ class Session(Case):
                 SAYS % 3, "stale: a cell above it was changed since")
         self.do("evaluate from here on", lambda: self.tab.click("[data-do=evaluateFrom]"), OUTPUT % 2, "kept", OUTPUT % 3, "8", SAYS % 3, "")
         self.do("a long line", lambda: self.replace("sleep 60", "Control+Enter"), SAYS % 2, begins("running since "))
-        self.do("one behind it", lambda: self.at(3, "Control+Enter"), SAYS % 3, "waits for its turn")
+        self.do("one after it", lambda: self.at(3, "Control+Enter"), SAYS % 3, "waits for its turn")
         self.do("interrupt", lambda: self.interrupt(lambda: self.at(2, "i", "i")), OUTPUT % 2, "interrupted", OUTPUT % 3, "8")
         self.do("a loop again", lambda: self.keys("Control+Enter"), STATE % 2, "running")
         self.do("stop it", lambda: self.tab.click("[data-do=stop]"), SAYS % 2, "lost: Stopped (its interpreter was stopped)",

@@ -20,8 +20,8 @@ class Startable(unittest.TestCase):
         self.addCleanup(startable._missed.cache_clear)
         session = Session("g", ("tmhost-gap", "--x"), False)
         with mock.patch.object(starting, "is_found", lambda word: word == "tmhost-gap"):
-            told = "session g can't be started: there is no program gap, which tmhost-gap starts (Debian's package gap-core). Its words are: tmhost-gap --x"
-            self.assertEqual((startable.why_not(session), startable.missing(session)), (told, "gap"))
+            reported = "session g can't be started: there is no program gap, which tmhost-gap starts (Debian's package gap-core). Its words are: tmhost-gap --x"
+            self.assertEqual((startable.why_not(session), startable.missing(session)), (reported, "gap"))
         startable._missed.cache_clear()
         with mock.patch.object(starting, "is_found", lambda word: True):
             self.assertEqual((startable.why_not(session), startable.missing(session)), (None, None))

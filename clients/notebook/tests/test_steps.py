@@ -35,9 +35,9 @@ class Steps(Case):
         return page.call("step", **{"what": "step", "new": [], "set": [], "move": [], "remove": [], **members})
 
     def texts(self, page: Page) -> List[str]:
-        told = page.snapshot()
-        by_id = {cell["id"]: cell["input"] for cell in told.get("cells", [])}
-        return [by_id[id] for id in told["order"]]
+        reported = page.snapshot()
+        by_id = {cell["id"]: cell["input"] for cell in reported.get("cells", [])}
+        return [by_id[id] for id in reported["order"]]
 
     def fill(self, page: Page, *texts: str) -> None:
         self.step(page, new=[{"after": 0, "session": "s", "text": text} for text in texts])
@@ -49,8 +49,8 @@ class Steps(Case):
         self.fill(page, *"abcdefgh")
         past = [self.texts(page)]
         for number in range(40):
-            told = page.snapshot()
-            order, by_id = told["order"], {cell["id"]: cell["input"] for cell in told["cells"]}
+            reported = page.snapshot()
+            order, by_id = reported["order"], {cell["id"]: cell["input"] for cell in reported["cells"]}
             some = chance.sample(order, min(3, len(order)))
             kinds: List[Dict[str, Any]] = [{"new": [{"after": id, "session": "s", "text": f"n{number}"} for id in [*some, 0]]}, {"remove": [{"id": id} for id in some[:2]]},
                 {"set": [{"id": id, "base": by_id[id], "text": f"{by_id[id]}{number}"} for id in some]},
@@ -126,10 +126,10 @@ class Steps(Case):
         book.sheet.session("s", "cat")
         book.steps.do(Step("x", [Made(0, "s", str(number)) for number in range(1_500)]))
         first, *others = book.places.ids
-        told: List[Any] = [book.sheet.together, self.refuse, book.sheet.together]
-        with mock.patch.object(book.sheet, "together", lambda *changes: told.pop(0)(*changes)), self.assertRaises(NotFit) as refused:
+        reported: List[Any] = [book.sheet.together, self.refuse, book.sheet.together]
+        with mock.patch.object(book.sheet, "together", lambda *changes: reported.pop(0)(*changes)), self.assertRaises(NotFit) as refused:
             book.steps.do(Step("merge", [Made(0, "s", "new")], [Given(first, "0", "other")], removed=others))
-        self.assertEqual((refused.exception.name, len(told)), ("JournalFull", 0))
+        self.assertEqual((refused.exception.name, len(reported)), ("JournalFull", 0))
         self.assertEqual([field.input for field in book.sheet.fields], ["0", *(str(number) for number in range(1_023, 1_500))])
         self.assertEqual([one["field"].input for one in book.removed], [str(number) for number in range(823, 1_023)])
         book.settle(lambda: len(book.places) == len(book.sheet.fields))
@@ -166,8 +166,8 @@ class Steps(Case):
 
     def carry(self, page: Page, chance: random.Random) -> Dict[str, Any]:
         """Moves cells elsewhere by making them again, makes one of two, or one into two."""
-        told = page.snapshot()
-        order, by_id = told["order"], {cell["id"]: cell["input"] for cell in told["cells"]}
+        reported = page.snapshot()
+        order, by_id = reported["order"], {cell["id"]: cell["input"] for cell in reported["cells"]}
         one, other = chance.sample(order, 2) if len(order) > 1 else (order[0], order[0])
         words = by_id[one].split("\n")
         if chance.random() < 0.3 and one != other:

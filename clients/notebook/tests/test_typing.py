@@ -89,7 +89,7 @@ class Typing(PageCase):
             tab.close()
 
     def test_a_rest_saves_at_once(self) -> None:
-        """A second behind the last key, as ever."""
+        """A second after the last key, as ever."""
         self.begin()
         self.page.call("new", session="s", text="", after=0)
         tab = opened(self.browser, self.server)
@@ -127,7 +127,7 @@ class Undo(PageCase):
         tab.type(text)
 
     def test_in_command_mode(self) -> None:
-        """It brings the removed cell back, changes no other one, and the keys behind it are typed into no text."""
+        """It brings the removed cell back, changes no other one, and the keys after it are typed into no text."""
         tab = self.start()
         tab.key("z", "Control")
         tab.until(ORDER, [*range(1, 11), 13, 12])
@@ -366,7 +366,7 @@ class Kills(Case):
                 if kind in ("server", "program"):
                     self.tab.value("clearInterval(window.typing)")
                 self.begin_again(kind)
-                if kind != "program":  # there the page has what was typed behind the kill
+                if kind != "program":  # there the page has what was typed after the kill
                     self.kept({id: number_of(text) for id, _, text, _ in self.tab.value(SEEN)[1]})
             if (round + 1) % 50 == 0:
                 print(f" {round + 1}", end="", flush=True)

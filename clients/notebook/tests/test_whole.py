@@ -1,4 +1,4 @@
-"""What a user does by one key is in the worksheet whole, or not at all, where the program is killed in the middle: behind the last of its lines, in front of
+"""What a user does by one key is in the worksheet whole, or not at all, where the program is killed in the middle: after the last of its lines, in front of
 that which ends them, and as soon as it has that, too."""
 
 import os
@@ -98,9 +98,9 @@ class Acts(SharedCase):
 
     def cells(self) -> List[str]:
         """The texts of the cells, and which of them are prose."""
-        told = self.page.snapshot()
-        by_id = {cell["id"]: PROSE * (cell["session"] != "s") + cell["input"] for cell in told.get("cells", [])}
-        return [by_id[id] for id in told["order"]]
+        reported = self.page.snapshot()
+        by_id = {cell["id"]: PROSE * (cell["session"] != "s") + cell["input"] for cell in reported.get("cells", [])}
+        return [by_id[id] for id in reported["order"]]
 
     def test_kills_in_front_of_the_end(self) -> None:
         """Nothing of it is in the file."""
@@ -117,7 +117,7 @@ class Acts(SharedCase):
                 self.assertEqual(self.opened_again(tab), cells)
                 self.end_page(tab)
 
-    def test_kills_behind_the_end(self) -> None:
+    def test_kills_after_the_end(self) -> None:
         """All of it is in the file, or nothing."""
         done = 0
         for name, (before, act, wanted) in ACTS.items():
@@ -126,7 +126,7 @@ class Acts(SharedCase):
                 before(tab)
                 tab.until(IS_BUSY, False)
                 cells = self.cells()
-                self.arm("behind")
+                self.arm("after")
                 act(tab)
                 self.until_killed()
                 there = self.opened_again(tab)

@@ -1,7 +1,7 @@
 """The address of a worksheet's page: its port and its secrets. They are kept in a file of this user alone, so that a page finds its server when that is
 started again, and an address that was noted stays right.
 
-Where they are kept, another user's program may take the port while no server has it, and be told the secrets by a page that looks for its server.
+Where they are kept, another user's program may take the port while no server has it, and get the secrets from a page that looks for its server.
 So they count for processes of this user alone, which the server looks at (`is_of_this_user`); where it can't, as on another system than Linux,
 nothing is kept.
 """
@@ -88,7 +88,7 @@ def keep(sheet: str, address: Address) -> None:
             json.dump(dataclasses.asdict(address), written)
         os.replace(new, path)
     except OSError:
-        pass
+        pass  # an address is kept for comfort alone: without it the server is as good, and its next address is another one
 
 
 # ---- who is at the other end
@@ -103,12 +103,12 @@ def user_of(ours: Tuple[str, int], theirs: Tuple[str, int]) -> Optional[int]:
         with socket.socket(socket.AF_NETLINK, socket.SOCK_DGRAM, SOCK_DIAG) as kernel:
             kernel.settimeout(1)
             kernel.send(struct.pack("=IHHII", HEAD + len(asked), BY_FAMILY, IS_REQUEST, 1, 0) + asked)
-            told = kernel.recv(LONGEST)
+            reported = kernel.recv(LONGEST)
     except (OSError, AttributeError):
         return None
-    if len(told) < USER_AT + 4 or struct.unpack_from("=H", told, 4)[0] != BY_FAMILY or told[HEAD + 1] != ESTABLISHED:
+    if len(reported) < USER_AT + 4 or struct.unpack_from("=H", reported, 4)[0] != BY_FAMILY or reported[HEAD + 1] != ESTABLISHED:
         return None
-    user: int = struct.unpack_from("=I", told, USER_AT)[0]
+    user: int = struct.unpack_from("=I", reported, USER_AT)[0]
     return user
 
 

@@ -1,24 +1,24 @@
-"""The worksheet as pages see it: the client's mirror with the notes, the cells that wait to be asked, and who has to be told of what."""
+"""The worksheet as pages see it: the client's mirror with the notes, the cells that wait to be asked, and which pages have to hear of what."""
 
 import contextlib
 import secrets
 import threading
-from typing import Any, Callable, Dict, Iterable, Iterator, List, Optional, Set
+from typing import Any, Callable, Dict, Iterator, List, Optional, Set
 
-from tmhost import Answer, Answered, BadLine, Closed, Died, Done, Ended, Event, Field, Finished, Gone, Partial, ProtocolError, Refused, Stopped, TimedOut, Worksheet
+from tmhost import Answer, Answered, BadLine, Done, Ended, Event, Field, Finished, Gone, Partial, Refused, Stopped, Worksheet
 
 from tmhost.commands import New, input_of
 
 from . import prose, rewording, startable, telling
 from .drafts import Draft, Drafts, NotKept
 from .feed import Feed
+from .feeder import Feeder
 from .helping import Helper
 from .notes import Notes
 from .opening import opened
 from .partial import Partials
 from .past import Past, removals_in
 from .places import Places
-from .sayings import SAYINGS
 from .steps import Steps
 from .telling import Message, Watcher, text_of
 
@@ -46,10 +46,10 @@ class Book:
         self._were_removed: Set[int] = set()  # cells that have been in that list, or were left out of it
         self._has_older = False  # whether the list has those that were removed before the worksheet was opened
         self.steps, self.helper = Steps(self), Helper(program)
-        self._is_closed = False
-        self._can_feed = threading.Event()
+        self.feeder = Feeder(self)
+        self.is_closed = False
         self._open(create=True)
-        threading.Thread(target=self._feed_on, name="feeder", daemon=True).start()
+        self.feeder.start()
 
     def _open(self, create: bool) -> None:
         sheet = opened(self.path, self.program, create)
@@ -77,7 +77,7 @@ class Book:
                     self.drafts.keep(id, None)
 
     def reopen(self) -> None:
-        """Opens the worksheet again behind a death of the program."""
+        """Opens the worksheet again after a death of the program."""
         with self.order:
             if self.ended is None:
                 return
@@ -94,14 +94,14 @@ class Book:
             self._tell_all()
 
     def _tell_all(self) -> None:
-        """Has each page told all cells again."""
+        """Has each page get all cells again."""
         with self.lock:
             for watcher in self.watchers:
                 watcher.begin()
 
     def close(self) -> None:
-        self._is_closed = True
-        self._can_feed.set()
+        self.is_closed = True
+        self.feeder.go_on()
         self.helper.close()
         self.sheet.close()
         with self.lock:
@@ -145,7 +145,7 @@ class Book:
             self.heard.wait_for(lambda: self.ended is not None or is_so(), HEARD_WITHIN)
 
     def touch(self, *ids: int) -> None:
-        """Has pages told these cells again."""
+        """Has pages get these cells again."""
         with self.lock:
             for id in ids:
                 self._look(id)
@@ -158,7 +158,7 @@ class Book:
         self.touch(id)
 
     def new(self, session: Optional[str], text: str, after: int) -> int:
-        """A new cell behind another one; without a session it is prose."""
+        """A new cell after another one; without a session it is prose."""
         sessions = self.sheet.sessions
         new = New(after, prose.name_in(sessions) if session is None else session, input_of(text))
         id = self.sheet.together(*(prose.missing_in(sessions) if session is None else []), new)[-1] or 0
@@ -222,43 +222,9 @@ class Book:
 
     # ---- evaluations
 
-    def evaluate(self, id: int) -> None:
-        """Has a cell evaluated, with `order`: now, or behind those of its session that wait. Not one of prose, nor one that waits already."""
-        field = self.sheet.cell(id).field
-        with self.lock:
-            is_asked = field.session in self.prose or self.waits(field)
-            is_free = not is_asked and self.feed.is_free(field.session) and not self.feed.count(field.session)
-            if not is_asked and not is_free:
-                self.feed.add(id, field.session)
-                self.changes += 1
-        if is_free:
-            self._ask(field)
-        else:
-            self.touch(id)
-
-    def evaluate_each(self, fields: Iterable[Field], stops: bool = False) -> int:
-        """Has these cells evaluated, one of each session at a time; `stops` says that the rest isn't asked where one is an error."""
-        with self.lock:
-            fed = {field.id: field.session for field in fields if not self.waits(field)}
-            for id, session in fed.items():
-                self.feed.add(id, session, stops)
-            telling.touch(self.watchers, set(fed))
-        self._can_feed.set()
-        return len(fed)
-
-    def drop_fed(self, session: str, says: str = "") -> int:
-        """What waits to be asked of a session isn't asked any more, and keeps its answers."""
-        with self.lock:
-            dropped = self.feed.drop(session)
-            telling.touch(self.watchers, set(dropped))
-            for watcher in self.watchers if says and dropped else ():
-                watcher.says.append(f"{says}: {cells(len(dropped))} of session {session} {'was' if len(dropped) == 1 else 'were'} not asked")
-        self.wake()
-        return len(dropped)
-
     def stop(self, session: str) -> int:
         """Stops an interpreter, with `order`. Gives how many lines it had."""
-        self.drop_fed(session)
+        self.feeder.drop(session)
         lost = len(self.sheet.stop(session))
         with self.lock:
             self.feed.forget(session)
@@ -268,65 +234,6 @@ class Book:
         """Why nothing can be asked of a session: it doesn't run, and can't be started."""
         found = self.sheet.sessions.get(session)
         return startable.why_not(found) if found and found.life is None else None
-
-    def _stop_at_errors(self) -> None:
-        """What is to stop at the error of a cell isn't asked any more, with the book's lock."""
-        failed = self.feed.failed()
-        dropped = self.feed.drop_stopping() if failed else []
-        telling.touch(self.watchers, set(dropped))
-        for watcher in self.watchers if dropped else ():
-            watcher.says.append(f"stopped at an error, of cell {failed[0]}: {cells(len(dropped))} {'was' if len(dropped) == 1 else 'were'} not asked")
-
-    def _ask(self, field: Field, stops: bool = False) -> None:
-        with self.lock:
-            self.notes.keep(field)
-            self.notes.ask(field.id, self.places.chain(field.id))
-        with self.changing(field.id):
-            evaluation = self.sheet.eval(field.id)
-        with self.lock:
-            self.feed.asked(field.id, field.session, evaluation, stops)
-        evaluation.add_done_callback(lambda _: self._can_feed.set())
-
-    def _feed_on(self) -> None:
-        """Asks the next cell of each session when the one before has its answer."""
-        while not self._is_closed:
-            self._can_feed.wait()
-            self._can_feed.clear()
-            with self.lock:
-                lost = self.feed.lost()
-            for session in lost:
-                self.drop_fed(session, "its interpreter ended")
-            while self._feed_one():
-                pass
-            self.wake()
-
-    def _feed_one(self) -> bool:
-        """Asks one cell, if one can be asked."""
-        with self.order:
-            with self.lock:
-                self._stop_at_errors()
-                id = self.feed.next() if self.ended is None else None
-                field = None if id is None else self.field(id)
-                stops = id is not None and self.feed.stops(id)
-                if id is not None:
-                    self.feed.take(id)
-                    self.feed.being_asked = None if field is None else id
-            if field is None:
-                return id is not None
-            try:
-                why = self.why_not(field.session)
-                if why is None:
-                    self._ask(field, stops)
-            except Refused as refused:
-                why = SAYINGS.get(refused.name, str(refused))
-            except (BadLine, Gone, TimedOut, Died, Closed, ProtocolError, OSError) as error:
-                why = str(error)
-        if why is not None:
-            with self.lock:
-                self.feed.being_asked = None
-            self.touch(field.id)
-            self.drop_fed(field.session, why)
-        return True
 
     # ---- what happens
 
@@ -343,7 +250,7 @@ class Book:
             else:
                 self._take(event)
             self.heard.notify_all()
-        if not isinstance(event, Partial):  # of that pages are told now and then
+        if not isinstance(event, Partial):  # that goes to pages now and then
             self.wake()
 
     def _take(self, event: Event) -> None:
@@ -378,7 +285,7 @@ class Book:
         return found
 
     def _place(self, done: Done, id: int) -> Set[int]:
-        """The order of the cells behind a command."""
+        """The order of the cells after a command."""
         if done.command == "new" and done.session is not None:
             for watcher in self.watchers:
                 watcher.put(id)
@@ -394,7 +301,7 @@ class Book:
         return set()
 
     def _look(self, id: int) -> Set[int]:
-        """What a cell has now. Gives the cells that are stale by it, or are so no more, and has pages told their marks."""
+        """What a cell has now. Gives the cells that are stale by it, or are so no more, and has pages get their marks."""
         field = self.field(id)
         if field is None or id not in self.places:
             return set()
@@ -430,7 +337,3 @@ class Book:
                 message = telling.message_for(self, watcher)
             if message or not watcher.partial:
                 return message
-
-
-def cells(count: int) -> str:
-    return "one cell that waited" if count == 1 else f"{count:,} cells that waited"

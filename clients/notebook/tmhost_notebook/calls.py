@@ -143,7 +143,7 @@ def call_change(book: Book, asked: Facts) -> Facts:
 
 
 def call_move(book: Book, asked: Facts) -> Facts:
-    """Moves a cell by so many places. A key that is held down asks faster than pages are told, so places are counted here."""
+    """Moves a cell by so many places. A key that is held down asks faster than pages hear of it, so places are counted here."""
     by = member(asked, "by", int, int)
     with book.order:
         id = number(asked, "id")
@@ -175,7 +175,7 @@ def call_eval(book: Book, asked: Facts) -> Facts:
         why = book.why_not(field_of(book, id).session)
         if why is not None:
             raise NotDone("NoProgram", f"{why}. Nothing was asked, and no answer is lost")
-        book.evaluate(id)
+        book.feeder.evaluate(id)
         return {"at": book.changes}
 
 
@@ -185,9 +185,9 @@ def evaluate_each(book: Book, fields: Sequence[Field], missing: Dict[str, str], 
     doesn't show it yet, so it would be asked twice."""
     named = {field.session for field in fields} - book.prose
     missing = {**{name: why for name, why in ((name, book.why_not(name)) for name in named) if why}, **missing}
-    count = book.evaluate_each((field for field in fields if field.session in named and field.session not in missing), stops)
-    told = "; ".join(missing[name] for name in sorted(missing))
-    return {"count": count, **({"warning": f"{told}. Nothing was asked there, and no answer is lost"} if missing else {})}
+    count = book.feeder.evaluate_each((field for field in fields if field.session in named and field.session not in missing), stops)
+    reported = "; ".join(missing[name] for name in sorted(missing))
+    return {"count": count, **({"warning": f"{reported}. Nothing was asked there, and no answer is lost"} if missing else {})}
 
 
 def call_eval_from(book: Book, asked: Facts) -> Facts:
@@ -240,10 +240,10 @@ def call_stop(book: Book, asked: Facts) -> Facts:
 
 
 def call_interrupt(book: Book, asked: Facts) -> Facts:
-    """Interrupts the line of a session. What waits behind it isn't asked any more."""
+    """Interrupts the line of a session. What waits after it isn't asked any more."""
     session = text(asked, "session")
     with book.order:
-        return {"dropped": book.drop_fed(session), "outcome": book.sheet.interrupt(session)}
+        return {"dropped": book.feeder.drop(session), "outcome": book.sheet.interrupt(session)}
 
 
 def call_session(book: Book, asked: Facts) -> Facts:

@@ -38,7 +38,7 @@ def may_have_dashes(text: str) -> bool:
 
 
 def period_in(value: str) -> float:
-    """The length after which dashes begin again; without an end where there are none, and below 0 where it can't be told."""
+    """The length after which dashes begin again; without an end where there are none, and below 0 where it isn't known."""
     if "(" in value:
         return -1.0
     return sum(abs(one) for one in numbers(value)) or math.inf
@@ -55,13 +55,13 @@ class Dashes:
         self.font = FONT
 
     def begin(self, element: int, name: str, attributes: Dict[str, str]) -> bool:
-        """Takes an element; false where it can't be told what it means."""
+        """Takes an element; false where it isn't known what it means."""
         self.opened.append(self.opened[-1])
-        is_told = all([self.attribute(element, *one) for one in attributes.items()])
+        is_reported = all([self.attribute(element, *one) for one in attributes.items()])
         self.periods[element] = self.opened[-1]
         if name == "use":
             self.everywhere = min(self.everywhere, self.opened[-1])
-        return is_told
+        return is_reported
 
     def end(self) -> None:
         self.opened.pop()
@@ -80,7 +80,7 @@ class Dashes:
         return name != "vector-effect"
 
     def style(self, text: str) -> float:
-        """The shortest period in a style; none below 0 where it can't be told."""
+        """The shortest period in a style; none below 0 where it isn't known."""
         for found in SIZES.findall(text):
             self.take_font(found)
         return -1.0 if "vector-effect" in text.lower() else min(map(period_in, IN_STYLE.findall(text)), default=math.inf)

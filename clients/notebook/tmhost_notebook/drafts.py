@@ -11,7 +11,7 @@ import stat
 from typing import Any, Dict, List, Optional
 
 END = ".drafts.json"
-NEW = ".new"  # behind the name of a file that takes the place of another when it is whole
+NEW = ".new"  # after the name of a file that takes the place of another when it is whole
 
 
 @dataclasses.dataclass(frozen=True)
@@ -24,7 +24,7 @@ class Draft:
 
 
 class NotKept(Exception):
-    """A draft is not on the disk, or it is still there; for a reason that is told to people."""
+    """A draft is not on the disk, or it is still there; for a reason that is reported to people."""
 
 
 def places_of(sheet: str) -> List[str]:
@@ -68,10 +68,10 @@ class Drafts:
         if self.trouble:
             raise NotKept(self.trouble)
         place, *others = self.places
-        told = {"drafts": {str(id): dataclasses.asdict(draft) for id, draft in of.items()}}
+        reported = {"drafts": {str(id): dataclasses.asdict(draft) for id, draft in of.items()}}
         try:
             if of:
-                replace(place, json.dumps(told).encode(), stat.S_IMODE(os.stat(self.sheet).st_mode) & 0o666)
+                replace(place, json.dumps(reported).encode(), stat.S_IMODE(os.stat(self.sheet).st_mode) & 0o666)
             else:
                 remove(place)
         except OSError as error:
@@ -83,9 +83,9 @@ class Drafts:
 
 
 def drafts_in(data: bytes) -> Dict[int, Draft]:
-    told: Any = json.loads(data)
+    reported: Any = json.loads(data)
     try:
-        return {int(id): Draft(*(text_of(one[name]) for name in ("session", "base", "text"))) for id, one in told["drafts"].items()}
+        return {int(id): Draft(*(text_of(one[name]) for name in ("session", "base", "text"))) for id, one in reported["drafts"].items()}
     except (AttributeError, KeyError, TypeError):
         raise ValueError("it has no drafts") from None
 
@@ -105,7 +105,7 @@ def read(place: str, owners: "tuple[int, int]") -> bytes:
 
 
 def replace(place: str, data: bytes, mode: int) -> None:
-    """Gives a file these bytes: whenever the machine stops it has them, or those that it had. They are on the disk behind this."""
+    """Gives a file these bytes: whenever the machine stops it has them, or those that it had. They are on the disk after this."""
     os.makedirs(os.path.dirname(place), 0o700, exist_ok=True)
     with contextlib.suppress(FileNotFoundError):
         os.unlink(place + NEW)  # of a server that was killed

@@ -1,6 +1,6 @@
 """The worksheet as `tmhost export` writes it, while the notebook has it open.
 
-The program locks a worksheet, so what is exported is a copy. Its two files must be those of one moment: they are read twice, the one behind the
+The program locks a worksheet, so what is exported is a copy. Its two files must be those of one moment: they are read twice, the one after the
 other. Where both have the same bytes again, both had them at the moment between. Any moment of a worksheet opens to all that was saved by then.
 """
 
@@ -13,7 +13,7 @@ from typing import Dict, List, Optional, Set, Tuple
 
 from tmhost.program import path_word, words_of_program
 
-# Of each format the end of a file's name, and the kind that a browser is told.
+# Of each format the end of a file's name, and the kind that a browser gets.
 FORMATS: Dict[str, Tuple[str, str]] = {
     "html": (".html", "text/html; charset=utf-8"),
     "markdown": (".md", "text/markdown; charset=utf-8"),
@@ -36,7 +36,7 @@ WITHIN = 300.0  # seconds that the program may take
 
 
 class NotExported(Exception):
-    """There is no export, for a reason that is told to people."""
+    """There is no export, for a reason that is reported to people."""
 
 
 def read(path: str, copy: str) -> bytes:

@@ -28,7 +28,7 @@ def first_there(paths: Iterable[str]) -> Optional[str]:
 
 
 def page_files() -> Dict[str, str]:
-    """What is in the page's folder, by its name behind the page's address."""
+    """What is in the page's folder, by its name after the page's address."""
     names = [name for name in os.listdir(PAGE) if os.path.splitext(name)[1] in KINDS]
     files = {name: os.path.join(PAGE, name) for name in names}
     return {**files, "": files["index.html"]}

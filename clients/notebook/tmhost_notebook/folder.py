@@ -20,7 +20,7 @@ LOCKS = "/proc/locks"
 
 
 class NotDone(Exception):
-    """Nothing was done, for a reason that is told to people."""
+    """Nothing was done, for a reason that is reported to people."""
 
 
 def is_name(name: str) -> bool:
@@ -58,9 +58,9 @@ def locked() -> Set[Tuple[int, int, int]]:
 
 def facts_of(path: str) -> Dict[str, int]:
     """When a worksheet was changed last, in milliseconds, how many bytes its files have, and its own number with its device's."""
-    told = [os.stat(path + end) for end in FILES if os.path.exists(path + end)]
-    first = told[0]
-    return {"changed": int(max(one.st_mtime for one in told) * 1000), "size": sum(one.st_size for one in told),
+    reported = [os.stat(path + end) for end in FILES if os.path.exists(path + end)]
+    first = reported[0]
+    return {"changed": int(max(one.st_mtime for one in reported) * 1000), "size": sum(one.st_size for one in reported),
             "major": os.major(first.st_dev), "minor": os.minor(first.st_dev), "inode": first.st_ino}
 
 
@@ -107,7 +107,7 @@ def free_path(folder: str, name: str) -> str:
 
 
 def rename(folder: str, old: str, new: str) -> None:
-    """Gives a worksheet another name, with its drafts. What is to be done is noted first, so that it is done to its end behind a crash."""
+    """Gives a worksheet another name, with its drafts. What is to be done is noted first, so that it is done to its end after a crash."""
     was = os.path.join(folder, old)
     free_path(folder, new)
     with held(was):
@@ -129,13 +129,13 @@ def finish_rename(folder: str) -> None:
     note = os.path.join(folder, NOTE)
     try:
         with open(note, encoding="utf-8") as file:
-            told = json.load(file)
+            reported = json.load(file)
     except FileNotFoundError:
         return
     except ValueError:
-        told = None
-    if isinstance(told, list) and len(told) == 2 and all(isinstance(name, str) and is_name(name) for name in told):
-        was, will = (os.path.join(folder, name) for name in told)
+        reported = None
+    if isinstance(reported, list) and len(reported) == 2 and all(isinstance(name, str) and is_name(name) for name in reported):
+        was, will = (os.path.join(folder, name) for name in reported)
         for one, other in [(was + end, will + end) for end in FILES] + list(zip(places_of(was), places_of(will))):
             if os.path.lexists(one) and not os.path.lexists(other):
                 os.rename(one, other)

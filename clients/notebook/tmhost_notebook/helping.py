@@ -19,7 +19,7 @@ MOST_IMPORTS = 50
 
 
 class NoHelp(Exception):
-    """There is none, for a reason that is told to people."""
+    """There is none, for a reason that is reported to people."""
 
 
 class Helper:

@@ -15,7 +15,7 @@ SCHEME = re.compile(r"[A-Za-z][A-Za-z0-9+.-]*:")
 
 
 class NoPicture(Exception):
-    """There is none, for a reason that is told to people."""
+    """There is none, for a reason that is reported to people."""
 
 
 def part_at(folder: str, address: str) -> Part:

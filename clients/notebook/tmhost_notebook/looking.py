@@ -56,8 +56,8 @@ class Seen:
 
 def state_of(path: str) -> List[Tuple[int, int, int]]:
     """What changes of the files when they are written."""
-    told = [os.stat(path + end) for end in FILES]
-    return [(one.st_ino, one.st_size, one.st_mtime_ns) for one in told]
+    reported = [os.stat(path + end) for end in FILES]
+    return [(one.st_ino, one.st_size, one.st_mtime_ns) for one in reported]
 
 
 def seen(path: str, program: Optional[str]) -> Seen:
@@ -104,7 +104,7 @@ class MaybeLooking(Book):
 
     def _look_on(self) -> None:
         state = None
-        while not self._is_closed and self.is_looking:
+        while not self.is_closed and self.is_looking:
             begin = time.monotonic()
             with contextlib.suppress(NotExported, NoPast, OSError):
                 now = state_of(self.path)

@@ -72,7 +72,7 @@ def serve(server: Server, has_browser: bool) -> None:
                 threading.Thread(target=webbrowser.open, args=(place,), daemon=True).start()
             server.serve_forever()
     except KeyboardInterrupt:
-        pass
+        pass  # this is how a user ends it
     finally:
         server.server_close()
 
@@ -95,12 +95,12 @@ def pack_or_unpack(given: List[str]) -> int:
     """Does `pack SHEET FILE` or `unpack FILE FOLDER`."""
     try:
         if given[0] == "pack":
-            told = ["packed " + name for name in packing.pack(given[1], given[2], None)]
+            reported = ["packed " + name for name in packing.pack(given[1], given[2], None)]
         else:
-            told = packing.unpack(given[1], given[2], None)
+            reported = packing.unpack(given[1], given[2], None)
     except (NotDone, OSError) as error:
         return tell(str(error))
-    print("\n".join(told))
+    print("\n".join(reported))
     return 0
 
 

@@ -22,7 +22,7 @@ class Note:
 
 
 class Notes:
-    """To be used with the book's lock. What is done to a cell gives the cells of which pages have to be told."""
+    """To be used with the book's lock. What is done to a cell gives the cells of which pages have to hear."""
 
     def __init__(self) -> None:
         self.of: Dict[int, Note] = collections.defaultdict(Note)

@@ -19,7 +19,7 @@ from . import in_prose
 from .drafts import END, places_of
 from .exported import FILES, NotExported, copy_of
 from .folder import NotDone, free_path, is_name, sync_folder
-from .rewording import reword, told
+from .rewording import reword, reported
 
 FORMAT = 1
 MANIFEST = "manifest.json"
@@ -91,7 +91,7 @@ def pack(sheet: str, target: str, program: Optional[str]) -> List[str]:
     with tempfile.TemporaryDirectory(prefix=".tmhost-notebook-", dir=os.path.dirname(os.path.abspath(target))) as place:
         try:
             copy = copy_of(sheet, place)
-            lines = told(copy, program)
+            lines = reported(copy, program)
         except NotExported as error:
             raise NotDone(str(error)) from None
         for line in lines:
@@ -116,10 +116,10 @@ def pack(sheet: str, target: str, program: Optional[str]) -> List[str]:
 def read(file: zipfile.ZipFile) -> Tuple[str, Words, List[str]]:
     """The name of the worksheet, words of sessions, and the pictures. Raises NotDone where the file isn't one that was packed."""
     try:
-        told: Any = json.loads(file.read(MANIFEST))
-        name, words, pictures = str(told["name"]), told["words"], told["pictures"]
+        reported: Any = json.loads(file.read(MANIFEST))
+        name, words, pictures = str(reported["name"]), reported["words"], reported["pictures"]
         are_words = all(isinstance(one, list) and all(isinstance(word, str) for word in one) for one in words.values())
-        is_fit = told["format"] == FORMAT and is_name(name) and are_words and all(isinstance(one, str) for one in pictures)
+        is_fit = reported["format"] == FORMAT and is_name(name) and are_words and all(isinstance(one, str) for one in pictures)
     except (KeyError, ValueError, TypeError, AttributeError):
         is_fit = False
     if not is_fit or sum(one.file_size for one in file.infolist()) > LARGEST:
@@ -163,7 +163,7 @@ def unpacked(file: zipfile.ZipFile, folder: str, program: Optional[str]) -> List
             write(file, "sheet" + end, new + end)
         for session, given in words.items():
             reword(new, session, [word_of(file, files, os.path.join(folder, own), word) for word in given], program)
-        sessions = [one for line in told(new, program) for one in line.get("sessions", ())]
+        sessions = [one for line in reported(new, program) for one in line.get("sessions", ())]
         for picture in pictures:
             if is_below(folder, picture) and not os.path.lexists(os.path.join(folder, picture)):
                 write(file, "pictures/" + picture, os.path.join(folder, picture))

@@ -119,7 +119,7 @@ class Text:
 
 
 class Partials:
-    """Of each session what its interpreter has written since the last thing that was told of it."""
+    """Of each session what its interpreter has written since the last thing that was reported of it."""
 
     def __init__(self) -> None:
         self._of: Dict[str, Tuple[int, Text]] = {}

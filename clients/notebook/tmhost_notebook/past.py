@@ -24,13 +24,13 @@ from .folder import NotDone, free_path
 WITHIN = 30.0  # seconds that a command may take, and that one waits for another
 LARGEST = 500_000_000  # bytes of a worksheet of which a copy is made for a look
 MOST_KEPT = 100  # answers that a page has looked at, of each worksheet
-LOOKED_WITHIN = 20.0  # seconds behind which no further worksheet of then is looked at for what was removed
+LOOKED_WITHIN = 20.0  # seconds after which no further worksheet of then is looked at for what was removed
 
 NEW_TEXT = ("new", "set")  # what gives a cell a text, and takes its answer away
 
 
 class NoPast(Exception):
-    """There is nothing to be shown, for a reason that is told to people."""
+    """There is nothing to be shown, for a reason that is reported to people."""
 
 
 class Sheet(NamedTuple):
@@ -59,16 +59,16 @@ class Past:
         self._answers: "collections.OrderedDict[Tuple[int, int], Optional[Answer]]" = collections.OrderedDict()
 
     def changes(self, is_new: bool) -> List[str]:
-        """The changes, one line for each; `is_new` says that those that were told last won't do."""
+        """The changes, one line for each; `is_new` says that those that were reported last won't do."""
         if is_new or not self._changes:
-            self._changes = self._told("history").decode().splitlines()
+            self._changes = self._reported("history").decode().splitlines()
         return self._changes
 
     def sheet(self, at: int) -> Sheet:
         """The worksheet after so many changes."""
         sheet = self._sheet
         if sheet is None or sheet.at != at:
-            self._sheet = sheet = sheet_in(at, self._told("export", "json", "--at", str(at)).splitlines())
+            self._sheet = sheet = sheet_in(at, self._reported("export", "json", "--at", str(at)).splitlines())
         return sheet
 
     def field(self, at: int, id: int) -> Field:
@@ -98,11 +98,11 @@ class Past:
     def restore(self, at: int, name: str) -> str:
         """Makes a new worksheet beside this one, of what this one was, and gives its path. Raises NotDone where there is a file with this name."""
         path = free_path(os.path.dirname(os.path.abspath(self.path)), name)
-        self._told("restore", str(at), behind=(path_word(path),))
+        self._reported("restore", str(at), after=(path_word(path),))
         return path
 
-    def _told(self, *words: str, behind: Tuple[str, ...] = ()) -> bytes:
-        """What a command of the program writes of a copy of the worksheet. The path comes behind the words of a flag, and in front of `restore`'s."""
+    def _reported(self, *words: str, after: Tuple[str, ...] = ()) -> bytes:
+        """What a command of the program writes of a copy of the worksheet. The path comes after the words of a flag, and in front of `restore`'s."""
         command, *rest = words
         front, back = ([], rest) if command == "restore" else (rest, [])
         if not self.lock.acquire(timeout=WITHIN):
@@ -112,7 +112,7 @@ class Past:
                 raise NoPast(f"the worksheet has more than {LARGEST:,} bytes: ask `tmhost {command}` at a terminal")
             with tempfile.TemporaryDirectory(prefix="tmhost-notebook-") as folder:
                 copy = path_word(copy_of(self.path, folder))
-                return written_by([*words_of_program(self.program), command, *front, copy, *back, *behind], within=WITHIN)
+                return written_by([*words_of_program(self.program), command, *front, copy, *back, *after], within=WITHIN)
         except NotExported as error:
             raise NoPast(str(error)) from None
         except OSError as error:
@@ -130,11 +130,11 @@ def sheet_in(at: int, lines: Iterable[bytes]) -> Sheet:
         if line.startswith(b'{"field":'):
             fields[len(fields)] = line
         elif line.startswith(b'{"fields":'):
-            told = json.loads(line)
-            order = told["fields"]
-            sessions = {one.name: one for one in map(session_of, told["sessions"])}
+            reported = json.loads(line)
+            order = reported["fields"]
+            sessions = {one.name: one for one in map(session_of, reported["sessions"])}
     if len(order) != len(fields):
-        raise NoPast("the program told another worksheet than it listed")
+        raise NoPast("the program reported another worksheet than it listed")
     return Sheet(at, order, {id: fields[place] for place, id in enumerate(order)}, sessions)
 
 
@@ -159,16 +159,16 @@ def changes_of(changes: Iterable[str], id: int) -> Iterator[Tuple[int, str]]:
 
 def versions_of(changes: Iterable[str], id: int) -> List[Version]:
     """What a cell had before, the newest first: each answer to a text, or where it had none the text alone. What it has now isn't in it."""
-    told = [(at, what) for at, what in changes_of(changes, id) if what != "move"]
+    reported = [(at, what) for at, what in changes_of(changes, id) if what != "move"]
     found: List[Version] = []
-    for place, (at, what) in enumerate(told):
+    for place, (at, what) in enumerate(reported):
         if what in NEW_TEXT:
             found.append(Version(at, what))
         elif what in ("answered", "lost") and found[-1].what != "answered":
             found[-1] = Version(at, what)  # the text is seen with it
         elif what == "answered":
             found.append(Version(at, what))
-    if found and told[-1][1] != "remove" and (found[-1].what != "answered" or told[-1][1] == "answered"):
+    if found and reported[-1][1] != "remove" and (found[-1].what != "answered" or reported[-1][1] == "answered"):
         found.pop()  # the cell has it
     return found[::-1]
 
@@ -198,7 +198,7 @@ def removals_in(changes: Iterable[str]) -> List[Removal]:
 
 
 def moments(removals: Iterable[Removal]) -> List[int]:
-    """Behind which changes the worksheet is to be looked at, so that each of these cells is seen as it was last; as few as can be, the last one first."""
+    """After which changes the worksheet is to be looked at, so that each of these cells is seen as it was last; as few as can be, the last one first."""
     found: List[int] = []
     for one in sorted(removals, key=lambda one: -one.since):
         if not found or not one.since <= found[-1] < one.at:

@@ -12,7 +12,7 @@ from .book import Book
 from .past import NoPast, Past, Sheet, versions_of
 from .telling import text_of
 
-MOST_CHANGES = 200  # that are told at once, the newest first
+MOST_CHANGES = 200  # that are reported at once, the newest first
 MOST_CELLS = 50
 MOST_VERSIONS = 1_000
 
@@ -84,7 +84,7 @@ def call_past_output(book: Book, asked: Facts) -> Facts:
 
 
 def call_past_removed(book: Book, asked: Facts) -> Facts:
-    """Has what was removed before in the list of removed cells, of which pages are told."""
+    """Has what was removed before in the list of removed cells, which pages get."""
     with refused():
         return {} if book.find_removed() else {"warning": "Not all that was removed before is here yet: open the list again."}
 
@@ -97,7 +97,7 @@ def call_past_restore(book: Book, asked: Facts) -> Facts:
 
 
 def then_facts(book: Book, sheet: Sheet, field: Field) -> Facts:
-    """A cell of then as the page shows it. `isThere` says whether it is in the worksheet yet, and `after` behind which cell of today it stood."""
+    """A cell of then as the page shows it. `isThere` says whether it is in the worksheet yet, and `after` after which cell of today it stood."""
     session = sheet.sessions.get(field.session) or Session(field.session, (), False)
     before = sheet.order[: sheet.order.index(field.id)]
     return {

@@ -40,7 +40,7 @@ ELEMENTS = frozenset(
     "filter feFlood feComposite".split()  # gnuplot defines one; none is used, since nothing may refer to it by `filter`
 )
 SVG, XLINK = "http://www.w3.org/2000/svg", "http://www.w3.org/1999/xlink"
-UNTOLD = ("title", "desc", "metadata")  # what stands in these isn't drawn
+UNDRAWN = ("title", "desc", "metadata")  # what stands in these isn't drawn
 REFERENCE = re.compile(r"url\s*\(\s*[\"']?#([^)\"'\s]+)[\"']?\s*\)", re.IGNORECASE)
 UNWANTED = re.compile(r"[\\@]|url\s*\(|filter|animation|transition|image-set|element\s*\(", re.IGNORECASE)  # in a style
 IMAGE = re.compile(r"data:image/(?:png|jpe?g);base64,(.*)", re.DOTALL)
@@ -64,7 +64,7 @@ def dots_of_png(data: bytes) -> Tuple[int, int]:
 
 
 def dots_of_jpeg(data: bytes) -> Tuple[int, int]:
-    """By its frame's head, which comes behind others."""
+    """By its frame's head, which comes after others."""
     if data[:3] != b"\xff\xd8\xff":
         raise NotDrawn
     at = 2
@@ -95,7 +95,7 @@ class Drawing:
     """An SVG as it is read: its elements in their order, the places of those with a name, and who refers to which name."""
 
     def __init__(self, text: str) -> None:
-        self.count = self.images = self.untold = 0
+        self.count = self.images = self.undrawn = 0
         self.opened: List[Tuple[str, str, int]] = []  # the elements that are open: what each is, its name, and its number
         self.named: Dict[str, List[Tuple[int, int]]] = {}  # the numbers of an element and of the one after all that is in it
         self.references: List[Tuple[int, str]] = []
@@ -119,16 +119,16 @@ class Drawing:
     def begin(self, name: str, attributes: Dict[str, str]) -> None:
         place, _, local = name.rpartition(" ")
         self.count += 1
-        is_fine = place != SVG if self.untold else place == SVG and local in ELEMENTS
+        is_fine = place != SVG if self.undrawn else place == SVG and local in ELEMENTS
         if not is_fine or len(self.opened) >= DEEPEST or self.count > MOST_ELEMENTS or (not self.opened and local != "svg"):
             raise NotDrawn
         self.opened.append((name, attributes.get("id", ""), self.count))
-        if not self.untold:
+        if not self.undrawn:
             for key, value in attributes.items():
                 self.attribute(local, key, value)
-        if self.dashes and not self.dashes.begin(self.count, local, {} if self.untold else attributes):
+        if self.dashes and not self.dashes.begin(self.count, local, {} if self.undrawn else attributes):
             raise NotDrawn
-        self.untold += bool(self.untold) or local in UNTOLD
+        self.undrawn += bool(self.undrawn) or local in UNDRAWN
 
     def attribute(self, element: str, name: str, value: str) -> None:
         if name in ("href", f"{XLINK} href"):
@@ -157,14 +157,14 @@ class Drawing:
         _, own, number = self.opened.pop()
         if self.dashes:
             self.dashes.end()
-        self.untold -= bool(self.untold)
+        self.undrawn -= bool(self.undrawn)
         if own:
             self.named.setdefault(own, []).append((number, self.count + 1))
 
     def characters(self, text: str) -> None:
         if self.opened[-1][0] == f"{SVG} style":
             self.style += text
-        elif self.dashes and not self.untold and text.strip():
+        elif self.dashes and not self.undrawn and text.strip():
             self.dashes.letters(self.opened[-1][2], len(text))
 
     def look_at_style(self, style: str) -> None:
@@ -199,7 +199,7 @@ class Drawing:
         return drawn
 
 
-def refuse(*told: object) -> None:
+def refuse(*reported: object) -> None:
     raise NotDrawn
 
 
@@ -241,7 +241,7 @@ def picture_of(block: Block) -> Optional[Picture]:
 
 
 def pictures_in(block: Block) -> Dict[int, Picture]:
-    """The pictures in a block, by the identity of theirs. Those behind what is drawn at once are heavy."""
+    """The pictures in a block, by the identity of theirs. Those after what is drawn at once are heavy."""
     found: Dict[int, Picture] = {}
     left, at_once, open_blocks = LONGEST, 1.0, [block]
     while open_blocks:

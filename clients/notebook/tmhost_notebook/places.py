@@ -47,7 +47,7 @@ class Part:
 
     @property
     def end(self) -> Chain:
-        """The chain behind the block."""
+        """The chain after the block."""
         return (self.before * self.power + self.number) % PRIME
 
     def fresh(self, before: Chain) -> Set[int]:
@@ -148,13 +148,13 @@ class Places:
     # ---- what is changed
 
     def put(self, field: Field, after: int) -> Set[int]:
-        """A new cell, behind another one or first."""
+        """A new cell, after another one or first."""
         place = self._of[field.id] = Place(field, None)
         return self._put(place, after)
 
     def _put(self, place: Place, after: int) -> Set[int]:
-        block = self._block_behind(after)
-        block.places.insert(self._number_behind(block, after), place)
+        block = self._block_after(after)
+        block.places.insert(self._number_after(block, after), place)
         self._block_of[place.id] = block
         touched = self._renew(block, place.session)
         if len(block.places) > LONGEST:
@@ -168,19 +168,19 @@ class Places:
 
     def move(self, id: int, after: int) -> Set[int]:
         place, block = self._of[id], self._block_of[id]
-        if block is self._block_behind(after):  # what lies below has the same in front of it
+        if block is self._block_after(after):  # what lies below has the same in front of it
             block.places.remove(place)
-            block.places.insert(self._number_behind(block, after), place)
+            block.places.insert(self._number_after(block, after), place)
             return self._renew(block, place.session)
         was_stale = self.is_stale(id)
         touched = self._take_out(place) ^ self._put(place, after)
         touched.discard(id)
         return touched | {id} if self.is_stale(id) != was_stale else touched
 
-    def _block_behind(self, after: int) -> Block:
+    def _block_after(self, after: int) -> Block:
         return self._block_of[after] if after in self._of else self._blocks[0]
 
-    def _number_behind(self, block: Block, after: int) -> int:
+    def _number_after(self, block: Block, after: int) -> int:
         return block.places.index(self._of[after]) + 1 if after in self._of else 0
 
     def _take_out(self, place: Place) -> Set[int]:

@@ -1,5 +1,5 @@
 """A session gets other words, as where its worksheet comes from a machine on which its interpreter lies elsewhere. The program has no command for that, so
-the journal (docs/trust/FORMAT.md) is written anew with these words in place of the old ones: each answer, number and text stays.
+the journal (docs/trust/FORMAT.md) is written again with these words in place of the old ones: each answer, number and text stays.
 
 What was written is opened by the program and compared with the worksheet as it was. Then it takes the place of the first file, in one step: all of it
 is in that one, whose selector says so, and the second file means nothing until it is written again. So a crash leaves the one or the other.
@@ -61,7 +61,7 @@ def journal_of(path: str, session: str, words: Sequence[str]) -> bytes:
     return MAGIC + VERSION + b"A" + records + CLOSED
 
 
-def told(path: str, program: Optional[str]) -> List[Dict[str, Any]]:
+def reported(path: str, program: Optional[str]) -> List[Dict[str, Any]]:
     """What the program says of a worksheet."""
     lines = written_by([*words_of_program(program), "export", "json", path_word(path)]).splitlines()
     return [json.loads(line) for line in lines]
@@ -90,7 +90,7 @@ def reword(path: str, session: str, words: Sequence[str], program: Optional[str]
             os.fsync(file.fileno())
         open(new + ".alt", "wb").close()
         try:
-            is_right = has_other_words(told(old, program), told(new, program), session, words)
+            is_right = has_other_words(reported(old, program), reported(new, program), session, words)
         except NotExported as error:
             raise NotDone(f"nothing was changed: {error}") from None
         if not is_right:

@@ -128,7 +128,7 @@ class Handler(http.server.BaseHTTPRequestHandler):
         return f"http://{self.server.host}"
 
     def name_asked(self) -> Optional[str]:
-        """What stands behind the page's path; None where the request isn't from a page of ours."""
+        """What stands after the page's path; None where the request isn't from a page of ours."""
         path = urllib.parse.unquote(urllib.parse.urlsplit(self.path).path)
         own = f"/{self.server.path}/"
         if not (self.is_for_us() and self.has_cookie() and self.is_from_our_page() and path.startswith(own)):
@@ -209,15 +209,15 @@ class Handler(http.server.BaseHTTPRequestHandler):
         if rest != "call" or not is_fit or self.headers.get("Origin") is None:
             self.refuse()
             return
-        status, told = self.done(sheet, self.rfile.read(int(length)))
-        self.answer(status, json.dumps(told).encode(), JSON)
+        status, reported = self.done(sheet, self.rfile.read(int(length)))
+        self.answer(status, json.dumps(reported).encode(), JSON)
 
     def done(self, sheet: Optional[str], body: bytes) -> Tuple[int, Dict[str, Any]]:
         """Does a call of a worksheet's page, or, where there is none, of the list's."""
         place = self.server.place
         try:
-            told = json.loads(body)
-            return 200, place.do(told) if sheet is None else calls.do(place.opened(sheet, is_asked=False), told)
+            reported = json.loads(body)
+            return 200, place.do(reported) if sheet is None else calls.do(place.opened(sheet, is_asked=False), reported)
         except NotDone as error:
             return 200, {"refused": "NotDone", "says": str(error)}
         except asked.NotDone as error:

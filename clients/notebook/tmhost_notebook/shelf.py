@@ -25,7 +25,7 @@ class Alone:
         self.path = book.path + (LOOK if book.is_looking else "")  # by which its address is kept: the other server has its own
 
     def split(self, asked: str) -> Tuple[Optional[str], str]:
-        """The worksheet that an address behind the secret path is of, None for the list, and what is asked of it."""
+        """The worksheet that an address after the secret path is of, None for the list, and what is asked of it."""
         return self.name, asked
 
     def opened(self, name: str, is_asked: bool) -> Book:

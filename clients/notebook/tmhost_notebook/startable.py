@@ -9,7 +9,7 @@ from tmhost import Session
 from tmhost.starting import missing_program
 
 
-LOOKED_AGAIN_BEHIND = 2.0  # seconds
+LOOKED_AGAIN_AFTER = 2.0  # seconds
 
 
 def why_not(session: Session) -> Optional[str]:
@@ -21,8 +21,8 @@ def why_not(session: Session) -> Optional[str]:
 
 
 def missing(session: Session) -> Optional[str]:
-    """The program for which a session can't be started, as far as was looked a moment ago: pages are told it often."""
-    return _missed(session.words[:1], int(time.monotonic() / LOOKED_AGAIN_BEHIND))
+    """The program for which a session can't be started, as far as was looked a moment ago: pages get it often."""
+    return _missed(session.words[:1], int(time.monotonic() / LOOKED_AGAIN_AFTER))
 
 
 @functools.lru_cache(maxsize=256)

@@ -33,7 +33,7 @@ class NotFit(NotDone):
 
 @dataclasses.dataclass(frozen=True)
 class Made:
-    """A cell to be made behind another one, or at a place where that isn't there any more. `was` is the cell that it was before, `number` its number among
+    """A cell to be made after another one, or at a place where that isn't there any more. `was` is the cell that it was before, `number` its number among
     those that are removed, and `old` is shown as its earlier answer."""
 
     after: int
@@ -57,10 +57,10 @@ class Given:
 
 @dataclasses.dataclass(frozen=True)
 class Step:
-    what: str  # as it is told to people
+    what: str  # as it is reported to people
     made: Sequence[Made] = ()
     given: Sequence[Given] = ()
-    moved: Sequence[Tuple[int, int]] = ()  # cells, and behind which one each is put
+    moved: Sequence[Tuple[int, int]] = ()  # cells, and after which one each is put
     removed: Sequence[int] = ()
 
 
@@ -125,12 +125,12 @@ class Steps:
         fields = {id: book.sheet.cell(id).field for id in (*(one.id for one in step.given), *step.removed)}
         back, places = self._back(step, fields), {id: book.places.place(id) for id in step.removed}
         changes = self._changes(step)
-        told, refused = self._send(changes, fields)
-        ids = [one for one in reversed(told) if one is not None]
-        book.settle(lambda: self._is_heard(changes[: len(told)]))
-        self._bin([fields[change.id] for change in changes[: len(told)] if isinstance(change, Remove)], places)
+        reported, refused = self._send(changes, fields)
+        ids = [one for one in reversed(reported) if one is not None]
+        book.settle(lambda: self._is_heard(changes[: len(reported)]))
+        self._bin([fields[change.id] for change in changes[: len(reported)] if isinstance(change, Remove)], places)
         if refused:
-            self._take_back(step, ids, changes[: len(told)])
+            self._take_back(step, ids, changes[: len(reported)])
             raise NotFit(name_of(refused))
         self._note(step, ids, fields)
         numbers = {one["field"].id: one["number"] for one in book.removed}
@@ -181,7 +181,7 @@ class Steps:
     # ---- its changes
 
     def _changes(self, step: Step) -> List[Change]:
-        """New cells, the last one first: of those that stand behind the same one each is put in front of the one before. Then texts, places, removals."""
+        """New cells, the last one first: of those that stand after the same one each is put in front of the one before. Then texts, places, removals."""
         book = self.book
         afters = [one.after if one.after in book.places else 0 if one.after == 0 else book.places.at(min(one.place, len(book.places)) - 1) for one in step.made]
         named = prose.name_in(book.sheet.sessions)
@@ -191,7 +191,7 @@ class Steps:
         return [*sessions, *made, *given, *self._moves(step.moved, made), *(Remove(id) for id in step.removed)]
 
     def _moves(self, moved: Sequence[Tuple[int, int]], made: Sequence[New]) -> List[Move]:
-        """Those of cells that don't stand there already, behind these new ones: such a move would be refused."""
+        """Those of cells that don't stand there already, after these new ones: such a move would be refused."""
         order, moves = self.book.places.ids if moved else [], []
         for number, one in enumerate(made if moved else ()):
             order.insert(order.index(one.after) + 1 if one.after else 0, self.book.sheet.next_id + number)
@@ -207,15 +207,15 @@ class Steps:
         """Does changes as a whole; what one transaction doesn't hold goes into the next. Gives the numbers of new cells, None for another change, up to where a
         transaction was refused. Where the program ends in the middle, the cells stay in doubt until the worksheet is opened again."""
         self.book.in_doubt = set(doubtful)
-        told: List[Optional[int]] = []
+        reported: List[Optional[int]] = []
         refused = None
-        while len(told) < len(changes) and not refused:
+        while len(reported) < len(changes) and not refused:
             try:
-                told += self.book.sheet.together(*changes[len(told) : len(told) + MOST_CHANGES])
+                reported += self.book.sheet.together(*changes[len(reported) : len(reported) + MOST_CHANGES])
             except Undone as undone:
                 refused = undone
         self.book.in_doubt = set()
-        return told, refused
+        return reported, refused
 
     def _is_heard(self, changes: Sequence[Change]) -> bool:
         """What was done last to the order is known, and so is what was done before it."""

@@ -16,9 +16,9 @@ if TYPE_CHECKING:
 
 Message = Dict[str, Any]
 
-SILENCE = 15.0  # seconds behind which a page is told that the server is there
+SILENCE = 15.0  # seconds after which a page hears that the server is there
 PARTIAL_EVERY = 0.2  # seconds between two messages of what isn't an answer yet
-MOST_PLACED = 50  # cells whose new places are told one by one; of more the whole order is told
+MOST_PLACED = 50  # cells whose new places are reported one by one; of more the whole order is reported
 NO_MARK = [False, False]
 
 
@@ -28,17 +28,17 @@ def text_of(field: Field) -> str:
 
 
 class Watcher:
-    """A page that is open, and what it has to be told."""
+    """A page that is open, and what it has to get."""
 
     def __init__(self) -> None:
         self.wake = threading.Event()
         self.says: List[str] = []
         self.is_over = False
-        self.partial_at = 0.0  # when it can be told again what isn't an answer yet
+        self.partial_at = 0.0  # when it can get again what isn't an answer yet
         self.begin()
 
     def begin(self) -> None:
-        """It is told all."""
+        """It gets all."""
         self.is_new = True
         self.cells: Set[int] = set()
         self.marked: Set[int] = set()
@@ -50,7 +50,7 @@ class Watcher:
         self.wake.set()
 
     def wait(self) -> None:
-        """Waits until something has to be told, or for a while."""
+        """Waits until something has to be reported, or for a while."""
         self.wake.wait(SILENCE if not self.partial else max(0.0, self.partial_at - time.monotonic()))
         self.wake.clear()
 
@@ -66,8 +66,8 @@ class Watcher:
 
 
 def message_for(book: "Book", watcher: Watcher) -> Message:
-    """To be used with the book's lock. `at` says how many changes it has seen: a page drops what was told of a cell before it changed that itself.
-    A cell may have a later change in it than is said, but only if that one isn't counted yet: it is told again then."""
+    """To be used with the book's lock. `at` says how many changes it has seen: a page drops what was reported of a cell before it changed that itself.
+    A cell may have a later change in it than is said, but only if that one isn't counted yet: it is reported again then."""
     at = book.changes
     message = news(watcher, others(book))
     if watcher.is_new:
@@ -78,17 +78,17 @@ def message_for(book: "Book", watcher: Watcher) -> Message:
         fields = [field for field in (book.field(id) for id in sorted(watcher.cells)) if field is not None and field.id in book.places]
         message.update(places(book, watcher))
     cells = [cell_facts(book, field) for field in fields]
-    told = {"cells": cells, "marks": marks(book, watcher), "says": watcher.says, "partial": partial(book, watcher)}
-    message.update({name: value for name, value in told.items() if value})
+    reported = {"cells": cells, "marks": marks(book, watcher), "says": watcher.says, "partial": partial(book, watcher)}
+    message.update({name: value for name, value in reported.items() if value})
     watcher.is_new, watcher.says = False, []
     for ids in (watcher.cells, watcher.marked, watcher.placed, watcher.gone):
         ids.clear()
     return {**message, "at": at} if message else message
 
 
-def news(watcher: Watcher, told: Message) -> Message:
-    message = {name: value for name, value in told.items() if watcher.others.get(name, ...) != value}
-    watcher.others = told
+def news(watcher: Watcher, reported: Message) -> Message:
+    message = {name: value for name, value in reported.items() if watcher.others.get(name, ...) != value}
+    watcher.others = reported
     return message
 
 
@@ -107,7 +107,7 @@ def others(book: "Book") -> Message:
 
 
 def places(book: "Book", watcher: Watcher) -> Message:
-    """The cells that are gone, and behind which ones others were put, from the first one on. Of many the whole order."""
+    """The cells that are gone, and after which ones others were put, from the first one on. Of many the whole order."""
     if len(watcher.placed) + len(watcher.gone) > MOST_PLACED:
         return {"order": book.places.ids}
     placed = [[id, book.places.before(id)] for id in book.places.in_order(watcher.placed)]
@@ -125,7 +125,7 @@ def marks(book: "Book", watcher: Watcher) -> Dict[int, List[bool]]:
 
 
 def partial(book: "Book", watcher: Watcher) -> Dict[int, Optional[Message]]:
-    """Of cells that are evaluated what was written of their answers, null where there is nothing. Each page is told that now and then."""
+    """Of cells that are evaluated what was written of their answers, null where there is nothing. Each page gets that now and then."""
     if watcher.is_new:
         watcher.partial = {id for id in map(book.notes.running, book.sheet.sessions) if id is not None}
     if not watcher.partial or (not watcher.is_new and time.monotonic() < watcher.partial_at):

@@ -67,7 +67,7 @@ def answer(line: bytes, count: int) -> bytes:
         b"prompted": b"\x02verbatim:%b\x02prompt#In %d] \x05\x05" % (rest, count),
         b"cut": b"\x02verbatim:\x02prompt#%b\x05\x05" % ("é" * 600).encode()[1:],
         b"error": b"\x02verbatim:so\n\x02output#\x02output#%b\x05\x05\x05" % escaped(rest),
-        b"told": b"\x02verbatim:\x02error#%b\x05\x02output#and more\x05\x05" % escaped(rest),
+        b"reported": b"\x02verbatim:\x02error#%b\x05\x02output#and more\x05\x05" % escaped(rest),
         b"offer": b"\x02verbatim:%b\x02input#next\x05\x05" % rest,
         b"tag": b"\x02bad\x02tag:\x05",
         b"both": VERBATIM % b"whole" + b"\x02bad\x02tag:\x05",

@@ -30,7 +30,7 @@ def big(size: int, seed: str) -> str:
 
 
 def eventually(opened: Any) -> Any:
-    """What a call gives, which is done again while the worksheet is in use: behind a kill it may be so for some milliseconds."""
+    """What a call gives, which is done again while the worksheet is in use: after a kill it may be so for some milliseconds."""
     until = time.monotonic() + SECONDS
     while True:
         try:
@@ -57,7 +57,7 @@ class Case(unittest.TestCase):
         self.path = os.path.join(self.folder, "sheet")
 
     def open(self, **more: Any) -> Worksheet:
-        """The worksheet, which is closed behind the test."""
+        """The worksheet, which is closed after the test."""
         words: Any = {"create": True, "program": PROGRAM, "timeout": SECONDS, **more}
         sheet: Worksheet = eventually(lambda: Worksheet(self.path, **words))
         self.addCleanup(sheet.close)
@@ -92,7 +92,7 @@ class Case(unittest.TestCase):
     def assert_exact(self, sheet: Worksheet) -> None:
         """What the worksheet shows is what the program prints. Nothing may come of an interpreter meanwhile."""
         with contextlib.suppress(Refused):
-            sheet.interrupt("nobody")  # behind its reply are those of the looks at lost lines
+            sheet.interrupt("nobody")  # after its reply are those of the looks at lost lines
         held = self.shown(sheet)
         sheet.refresh()
         self.assertEqual(self.shown(sheet), held)

@@ -81,9 +81,9 @@ class Calls(AsyncCase):
             with self.assertRaises(Refused):
                 await call
         self.assertEqual(await sheet.stop("a"), tuple(self.lost(cell)))
-        with self.assertRaises(Lost) as told:
+        with self.assertRaises(Lost) as reported:
             await evaluation
-        self.assertEqual((told.exception.reason, cell.reason), ("Stopped", "Stopped"))
+        self.assertEqual((reported.exception.reason, cell.reason), ("Stopped", "Stopped"))
         await self.assert_exact_now(sheet)
 
     async def test_completions(self) -> None:
@@ -119,8 +119,8 @@ class Calls(AsyncCase):
         async def refused(number: int) -> str:
             try:
                 await sheet.set(1, f"{number} " + "y" * 60_000)
-            except Refused as told:
-                return told.name
+            except Refused as reported:
+                return reported.name
             return ""
 
         first = await sheet.new("b", "x")
@@ -136,7 +136,7 @@ class Calls(AsyncCase):
         cell = await sheet.new("a", "sleep 2")
         with self.assertRaises(TimedOut):
             await cell.evaluate(timeout=0.1)
-        await sheet.refresh()  # behind its reply the line is asked, however slow that was
+        await sheet.refresh()  # after its reply the line is asked, however slow that was
         waits = cell.evaluation
         assert waits
         task = asyncio.ensure_future(waits.result())
@@ -146,7 +146,7 @@ class Calls(AsyncCase):
         for one in (task, late):
             one.cancel()
             self.assertTrue(isinstance((await asyncio.gather(one, return_exceptions=True))[0], asyncio.CancelledError))
-        last = await sheet.new("a", "last")  # behind the other one, whose reply is still to come
+        last = await sheet.new("a", "last")  # after the other one, whose reply is still to come
         self.assertTrue(await holds)
         self.assertEqual(((await waits).text, last.id), ("slept", 3))
         self.assertEqual([cell.input for cell in sheet.cells], ["sleep 2", "late", "last"])
@@ -186,9 +186,9 @@ class Ends(AsyncCase):
         await kept.evaluate()
         evaluation, held = await waiting.eval(), sheet.fields
         os.kill(sheet.pid, signal.SIGKILL)
-        with self.assertRaises(Died) as told:
+        with self.assertRaises(Died) as reported:
             await evaluation
-        self.assertEqual((told.exception.number, told.exception.status), (None, -signal.SIGKILL))
+        self.assertEqual((reported.exception.number, reported.exception.status), (None, -signal.SIGKILL))
         with self.assertRaises(Died):
             await sheet.new("a", "x")
         self.assertEqual(sheet.fields, held)
@@ -206,7 +206,7 @@ class Ends(AsyncCase):
             await evaluation
         self.until(lambda: not is_there(number))
 
-    async def test_a_close_behind_a_wait(self) -> None:
+    async def test_a_close_after_a_wait(self) -> None:
         sheet = await self.open_async("a")
         await (await sheet.new("a", "sleep 60")).eval()
         holds = asyncio.ensure_future(sheet.wait())
@@ -217,19 +217,19 @@ class Ends(AsyncCase):
 
     async def test_a_worksheet_in_use(self) -> None:
         await self.open_async()
-        with self.assertRaises(InUse) as told:
+        with self.assertRaises(InUse) as reported:
             await AsyncWorksheet(self.path, program=PROGRAM).open()
-        self.assertEqual((told.exception.number, told.exception.fault), (35, "InUse"))
+        self.assertEqual((reported.exception.number, reported.exception.fault), (35, "InUse"))
 
     async def test_one_that_is_not_open(self) -> None:
         sheet = AsyncWorksheet(self.path, program=PROGRAM)
         self.assertRaises(Closed, lambda: sheet.cells)
         self.assertIsInstance(sheet.error, Closed)
         await sheet.close()
-        with self.assertRaises(FileNotFoundError) as told:
+        with self.assertRaises(FileNotFoundError) as reported:
             await sheet.open()
-        assert isinstance(told.exception, NoWorksheet)
-        self.assertEqual((told.exception.number, told.exception.filename), (32, self.path))
+        assert isinstance(reported.exception, NoWorksheet)
+        self.assertEqual((reported.exception.number, reported.exception.filename), (32, self.path))
         with self.assertRaises(NoWorksheet):
             await AsyncWorksheet(os.path.join(self.folder, "no", "folder"), create=True, program=PROGRAM).open()
 

@@ -49,9 +49,9 @@ class Answers(Case):
     def test_errors(self) -> None:
         """Those that adapters write, which print shows bare, and those of the channel `error`."""
         sheet = self.sheet()
-        error, told, none = (sheet.new("a", text).evaluate() for text in ("error no way", "told no", "formula x"))
+        error, own, none = (sheet.new("a", text).evaluate() for text in ("error no way", "reported no", "formula x"))
         self.assertEqual((error.errors, error.text), (["no way"], "so\nno way"))
-        self.assertEqual((told.errors, told.text), (["no"], "{error#no}and more"))
+        self.assertEqual((own.errors, own.text), (["no"], "{error#no}and more"))
         self.assertEqual((none.errors, Block("output", "channel", ("x",)).errors), ([], []))
         deep = Block("verbatim", "format", (Block("output", "channel", (Block("output", "channel", ("a", Block("latex", "format", ("$b$",)))), "c")),))
         self.assertEqual([one.plain for one in deep.errors], ["a$b$"])
@@ -86,7 +86,7 @@ class Answers(Case):
     def test_whose_turn_it_is(self) -> None:
         sheet = self.sheet("a", "b")
         first, second, other = sheet.new("a", "sleep 60"), sheet.new("a", "count"), sheet.new("b", "sleep 60")
-        sheet.new("a", "hello").evaluate(timeout=SECONDS)  # behind it a signal ends no interpreter
+        sheet.new("a", "hello").evaluate(timeout=SECONDS)  # after it a signal ends no interpreter
         waits = [first.eval(), second.eval(), other.eval()]
         self.until(lambda: other.turn == "running")
         self.assertEqual([cell.turn for cell in sheet.cells], ["running", "queued", "running", None])
@@ -102,7 +102,7 @@ class Answers(Case):
         sheet.stop("c")
         self.assertEqual((mute.state, mute.turn), ("lost", None))
 
-    def test_an_answer_that_is_asked_for_anew(self) -> None:
+    def test_an_answer_that_is_asked_for_again(self) -> None:
         sheet = self.sheet()
         cell = sheet.new("a", "count")
         self.assertEqual([cell.evaluate().text for _ in range(3)], ["1", "2", "3"])
@@ -126,9 +126,9 @@ class Lines(Case):
     """Lines that aren't answered, or not soon."""
 
     def assert_lost(self, reason: str, evaluation: Evaluation) -> None:
-        with self.assertRaises(Lost) as told:
+        with self.assertRaises(Lost) as reported:
             evaluation.result(SECONDS)
-        self.assertEqual(told.exception.reason, reason)
+        self.assertEqual(reported.exception.reason, reason)
 
     def test_lost_by_a_stop(self) -> None:
         sheet = self.sheet("a", "b")
@@ -148,16 +148,16 @@ class Lines(Case):
         sheet = self.sheet()
         reasons = {"die": "Ended", "half": "Ended", "tag": "BadTag"}
         for text, reason in reasons.items():
-            cell, behind = sheet.new("a", text), sheet.new("a", "x")
-            waits = [cell.eval(), behind.eval()]
+            cell, after = sheet.new("a", text), sheet.new("a", "x")
+            waits = [cell.eval(), after.eval()]
             for evaluation in waits:
                 self.assert_lost(reason, evaluation)
-            self.assertEqual((cell.state, cell.reason, behind.state), ("lost", reason, "empty"))
+            self.assertEqual((cell.state, cell.reason, after.state), ("lost", reason, "empty"))
             self.assert_exact(sheet)
-        self.assertEqual(behind.evaluate().text, "x")
+        self.assertEqual(after.evaluate().text, "x")
 
     def test_an_answer_and_an_end_in_one_piece(self) -> None:
-        """The line behind such an answer keeps no reason, which can't be known without a look."""
+        """The line after such an answer keeps no reason, which can't be known without a look."""
         sheet = self.sheet()
         cells = [sheet.new("a", text) for text in ("sleep 0.3", "both", "x", "y")]
         waits = [cell.eval() for cell in cells]
@@ -180,11 +180,11 @@ class Lines(Case):
         sheet.new("a", "x").evaluate()
         cell = sheet.new("a", "sleep 60")
         begun = time.monotonic()
-        with self.assertRaises(TimeoutError) as told:
+        with self.assertRaises(TimeoutError) as reported:
             cell.evaluate(timeout=0.3)
-        self.assertIsInstance(told.exception, TimedOut)
+        self.assertIsInstance(reported.exception, TimedOut)
         self.assertTrue(0.3 <= time.monotonic() - begun < SECONDS / 2)
-        sheet.refresh()  # behind its reply the line is asked, however slow that was
+        sheet.refresh()  # after its reply the line is asked, however slow that was
         waits = cell.evaluation
         assert waits
         self.assertEqual((cell.state, waits.done()), ("waiting", False))
@@ -227,10 +227,10 @@ class Completing(Case):
     def test_completions(self) -> None:
         sheet = self.sheet("a_tab")
         cell = sheet.new("a_tab", "pr\u00e9")
-        told = cell.complete(timeout=SECONDS)
-        assert told
-        self.assertEqual(told, Completions("pr\u00e9", ("a", "\u00e9", b"\xe9")))
-        self.assertEqual(told.words, ["pr\u00e9a", "pr\u00e9\u00e9", b"pr\xc3\xa9\xe9"])
+        reported = cell.complete(timeout=SECONDS)
+        assert reported
+        self.assertEqual(reported, Completions("pr\u00e9", ("a", "\u00e9", b"\xe9")))
+        self.assertEqual(reported.words, ["pr\u00e9a", "pr\u00e9\u00e9", b"pr\xc3\xa9\xe9"])
         self.assertEqual(cell.complete(2), Completions("pr", ("a", "\u00e9", b"\xe9")))
         self.assertEqual(sheet.complete(1, 0), Completions("", ("a", "\u00e9", b"\xe9")))
         self.assertEqual(cell.state, "empty")
@@ -269,21 +269,21 @@ class Completing(Case):
         waits = line.eval()
         self.assertRaises(TimedOut, asked.complete, timeout=0.05)
         asked.remove()
-        behind = sheet.new("a_tab", "count").eval()
+        after = sheet.new("a_tab", "count").eval()
         self.interrupt(waits)
-        self.assertEqual((waits.result(SECONDS).text, behind.result(SECONDS).text), ("interrupted", "4"))
+        self.assertEqual((waits.result(SECONDS).text, after.result(SECONDS).text), ("interrupted", "4"))
         self.assert_exact(sheet)
 
     def test_a_request_that_is_lost(self) -> None:
         sheet = self.sheet("a_tab")
-        cell, behind = sheet.new("a_tab", "die"), sheet.new("a_tab", "x")
+        cell, after = sheet.new("a_tab", "die"), sheet.new("a_tab", "x")
         with self.assertRaises(Lost):
             cell.complete(timeout=SECONDS)
         self.assertEqual((cell.state, sheet.sessions["a_tab"].life), ("empty", None))
         sheet.new("a_tab", "sleep 60").eval()
-        self.assertRaises(TimedOut, behind.complete, timeout=0)
-        evaluation = behind.eval()
-        self.assertEqual(behind.evaluation, evaluation)
+        self.assertRaises(TimedOut, after.complete, timeout=0)
+        evaluation = after.eval()
+        self.assertEqual(after.evaluation, evaluation)
         lost = sheet.stop("a_tab")
         self.assertEqual(lost, (LostItem(3, "sleep 60"), LostItem(2, "x", 1), LostItem(2, "x")))
         self.assert_exact(sheet)

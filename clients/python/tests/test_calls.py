@@ -15,9 +15,9 @@ class Calls(Case):
         return [cell.id for cell in sheet.cells]
 
     def assert_refused(self, name: str, number: int, call: Callable[..., object], *words: Any, **more: Any) -> None:
-        with self.assertRaises(Refused) as told:
+        with self.assertRaises(Refused) as reported:
             call(*words, **more)
-        self.assertEqual((told.exception.name, told.exception.number), (name, number))
+        self.assertEqual((reported.exception.name, reported.exception.number), (name, number))
 
     def test_an_empty_worksheet(self) -> None:
         sheet = self.open()
@@ -157,8 +157,8 @@ class Calls(Case):
     def test_an_export_that_is_no_text(self) -> None:
         sheet = self.sheet()
         sheet.new("a", "latin").evaluate()
-        told = sheet.export("markdown")
-        self.assertTrue(isinstance(told, bytes) and b"caf\xe9" in told)
+        reported = sheet.export("markdown")
+        self.assertTrue(isinstance(reported, bytes) and b"caf\xe9" in reported)
 
     def test_a_cell_of_another_worksheet(self) -> None:
         sheet = self.sheet()

@@ -32,14 +32,14 @@ def lines(*words: str) -> List[bytes]:
     return subprocess.run([PROGRAM, *words], stdin=subprocess.DEVNULL, stdout=subprocess.PIPE, stderr=subprocess.DEVNULL).stdout.splitlines()
 
 
-def bare(told: "Iterable[Union[Checked, Compared]]") -> "List[Union[Checked, Compared]]":
-    """What a check told, without what each field took, which differs in each run."""
-    return [dataclasses.replace(one, took=None) if isinstance(one, Checked) else one for one in told]
+def bare(reported: "Iterable[Union[Checked, Compared]]") -> "List[Union[Checked, Compared]]":
+    """What a check reported, without what each field took, which differs in each run."""
+    return [dataclasses.replace(one, took=None) if isinstance(one, Checked) else one for one in reported]
 
 
-def starts(told: "Iterable[Union[Checked, Compared]]") -> List[bool]:
+def starts(reported: "Iterable[Union[Checked, Compared]]") -> List[bool]:
     """Of each field, whether an interpreter was started for it. What it took is known."""
-    return [one.took.started for one in told if isinstance(one, Checked) and one.took and 0 <= one.took.millis < 60_000]
+    return [one.took.started for one in reported if isinstance(one, Checked) and one.took and 0 <= one.took.millis < 60_000]
 
 
 class Words(unittest.TestCase):
@@ -73,9 +73,9 @@ class Checks(Case):
 
     def test_each_field(self) -> None:
         self.made()
-        told = list(check(self.path, program=PROGRAM))
-        self.assertEqual(starts(told), [True, False, False, True])
-        same, differs, unanswered, last, counts = bare(told)
+        reported = list(check(self.path, program=PROGRAM))
+        self.assertEqual(starts(reported), [True, False, False, True])
+        same, differs, unanswered, last, counts = bare(reported)
         self.assertEqual((same, last), (Checked(1, "a", "same"), Checked(4, "a", "same")))
         assert isinstance(differs, Checked) and differs.shows and differs.came and isinstance(unanswered, Checked) and unanswered.shows
         self.assertEqual((differs.id, differs.verdict, differs.input, differs.shows.text), (2, "differs", "again", "again"))
@@ -87,10 +87,10 @@ class Checks(Case):
 
     def test_some_fields(self) -> None:
         self.made()
-        told = list(check(self.path, CheckWords("a", [2, 3], 60), PROGRAM))
-        self.assertEqual([one.verdict for one in told if isinstance(one, Checked)], ["same", "left_out", "left_out", "same"])
-        self.assertEqual(told[-1], Compared(2, 0, 0, 2))
-        self.assertEqual(bare(check(self.path, only="a", leave_out=[2, 3], timeout=60, program=PROGRAM)), bare(told))
+        reported = list(check(self.path, CheckWords("a", [2, 3], 60), PROGRAM))
+        self.assertEqual([one.verdict for one in reported if isinstance(one, Checked)], ["same", "left_out", "left_out", "same"])
+        self.assertEqual(reported[-1], Compared(2, 0, 0, 2))
+        self.assertEqual(bare(check(self.path, only="a", leave_out=[2, 3], timeout=60, program=PROGRAM)), bare(reported))
         self.assertEqual(list(check(self.path, only="b", program=PROGRAM)), [Compared(0, 0, 0, 0)])
         self.assertEqual(list(check(self.path, CheckWords("a", jobs=8), PROGRAM, only="b")), [Compared(0, 0, 0, 0)])
 
@@ -108,9 +108,9 @@ class Checks(Case):
         with self.open() as sheet:
             for text in ("ends", "after"):
                 sheet.new("a", text)
-        told = list(check(self.path, program=PROGRAM, all=True))
-        self.assertEqual(starts(told), [True, False, False, True, False, False, True])
-        *others, new, ends, after, counts = bare(told)
+        reported = list(check(self.path, program=PROGRAM, all=True))
+        self.assertEqual(starts(reported), [True, False, False, True, False, False, True])
+        *others, new, ends, after, counts = bare(reported)
         self.assertEqual(others, bare(check(self.path, program=PROGRAM))[:-1])
         assert isinstance(new, Checked) and new.came and isinstance(after, Checked) and after.came
         self.assertEqual(new, Checked(5, "a", "new", "not evaluated", came=new.came))
@@ -128,24 +128,24 @@ class Checks(Case):
         with self.open() as sheet:
             sheet.session("b", WORDS)
             sheet.new("b", "hello")
-        told = list(check(self.path, program=PROGRAM, jobs=8, all=True))
-        self.assertEqual(told, bare(check(self.path, program=PROGRAM, all=True)))
+        reported = list(check(self.path, program=PROGRAM, jobs=8, all=True))
+        self.assertEqual(reported, bare(check(self.path, program=PROGRAM, all=True)))
         self.assertRaises(Died, list, check(self.path, program=PROGRAM, jobs=65))
 
     def test_faults(self) -> None:
-        with self.assertRaises(NoWorksheet) as told:
+        with self.assertRaises(NoWorksheet) as reported:
             list(check(self.path, program=PROGRAM))
-        self.assertIsInstance(told.exception, FileNotFoundError)
-        self.assertEqual((told.exception.fault, told.exception.number, told.exception.status), ("Disk", 32, 1))
+        self.assertIsInstance(reported.exception, FileNotFoundError)
+        self.assertEqual((reported.exception.fault, reported.exception.number, reported.exception.status), ("Disk", 32, 1))
         sheet = self.open()
         self.assertRaises(InUse, list, check(self.path, program=PROGRAM))
         sheet.close()
 
     def test_a_number_that_no_field_has(self) -> None:
         self.made()
-        with self.assertRaises(Died) as told:
+        with self.assertRaises(Died) as reported:
             list(check(self.path, leave_out=[2, 9], program=PROGRAM))
-        self.assertEqual((told.exception.fault, told.exception.number, told.exception.status), ("NoField", 37, 1))
+        self.assertEqual((reported.exception.fault, reported.exception.number, reported.exception.status), ("NoField", 37, 1))
 
     def test_it_is_closed_early(self) -> None:
         sheet = self.open()
@@ -153,11 +153,11 @@ class Checks(Case):
         for number in range(100):
             sheet.new("a", "hello").evaluate()
         sheet.close()
-        told = check(self.path, program=PROGRAM)
-        first = next(told)
+        reported = check(self.path, program=PROGRAM)
+        first = next(reported)
         assert isinstance(first, Checked) and first.took
         self.assertEqual(first, Checked(1, "a", "same", took=Took(first.took.millis, True)))
-        told.close()
+        reported.close()
         self.open().close()
 
     def test_lines_are_of_the_schema(self) -> None:
@@ -180,13 +180,13 @@ class Checks(Case):
         self.assertIsNone(everything[-3]["shows"])
         with self.open() as sheet:
             sheet.remove(lacking)
-        told = [json.loads(line) for line in [*lines("check", "--json", self.path), *lines("check", "--json", "--leave-out=2", self.path),
+        reported = [json.loads(line) for line in [*lines("check", "--json", self.path), *lines("check", "--json", "--leave-out=2", self.path),
                                               *lines("eval", "--json", self.path, "9"), *lines("check", "--json", "--leave-out=9", self.path),
                                               *lines("check", "--json", self.folder)]]
-        for one in told:
+        for one in reported:
             schema.validate(one)
-        self.assertEqual([one["type"] for one in told], ["hello", *4 * ["checked"], "compared", "end", "hello", *4 * ["checked"], "compared", "end", "hello", "fault", "fault", "fault"])
-        self.assertEqual(told[-3:-1], 2 * [{"id": 9, "name": "NoField", "number": 37, "type": "fault"}])
+        self.assertEqual([one["type"] for one in reported], ["hello", *4 * ["checked"], "compared", "end", "hello", *4 * ["checked"], "compared", "end", "hello", "fault", "fault", "fault"])
+        self.assertEqual(reported[-3:-1], 2 * [{"id": 9, "name": "NoField", "number": 37, "type": "fault"}])
 
         with self.open() as sheet:
             sheet.session("gone", ["./no-program"])

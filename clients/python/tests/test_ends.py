@@ -29,9 +29,9 @@ class Ends(Case):
         held = sheet.fields
         os.kill(sheet.pid, signal.SIGKILL)
         for evaluation in waits:
-            with self.assertRaises(Died) as told:
+            with self.assertRaises(Died) as caught:
                 evaluation.result(SECONDS)
-            self.assertEqual((told.exception.fault, told.exception.number, told.exception.status), (None, None, -signal.SIGKILL))
+            self.assertEqual((caught.exception.fault, caught.exception.number, caught.exception.status), (None, None, -signal.SIGKILL))
         for call in (lambda: sheet.new("a", "x"), sheet.refresh, lambda: sheet.wait()):
             self.assertRaises(Died, call)
         self.assertIsInstance(sheet.error, Died)
@@ -66,10 +66,10 @@ class Ends(Case):
 
     def test_a_worksheet_in_use(self) -> None:
         sheet = self.open()
-        with self.assertRaises(InUse) as told:
+        with self.assertRaises(InUse) as caught:
             Worksheet(self.path, program=PROGRAM)
-        self.assertEqual((told.exception.number, told.exception.fault, told.exception.status), (35, "InUse", 1))
-        self.assertIn("fault 35 InUse", told.exception.told)
+        self.assertEqual((caught.exception.number, caught.exception.fault, caught.exception.status), (35, "InUse", 1))
+        self.assertIn("fault 35 InUse", caught.exception.told)
         sheet.close()
         sheet.close()
         self.open()
@@ -78,17 +78,17 @@ class Ends(Case):
         with open(self.path, "w") as file:
             file.write("no worksheet at all")
         for path, number, name in ((self.path, 31, "NotASheet"), (self.path + "2", 32, "Disk"), (self.folder, 32, "Disk")):
-            with self.subTest(name=name), self.assertRaises(Died) as told:
+            with self.subTest(name=name), self.assertRaises(Died) as caught:
                 Worksheet(path, program=PROGRAM)
-            self.assertEqual((told.exception.number, told.exception.fault), (number, name))
-            self.assertIn(f"fault {number} {name}", told.exception.told)
+            self.assertEqual((caught.exception.number, caught.exception.fault), (number, name))
+            self.assertIn(f"fault {number} {name}", caught.exception.told)
 
     def test_worksheets_that_are_not_there(self) -> None:
         """They raise what a file raises that isn't there, and what a worksheet raises that can't be opened."""
         for path, is_made in ((self.path, False), (os.path.join(self.folder, "no", "folder"), True)):
-            with self.assertRaises(FileNotFoundError) as told:
+            with self.assertRaises(FileNotFoundError) as caught:
                 Worksheet(path, create=is_made, program=PROGRAM)
-            error = told.exception
+            error = caught.exception
             assert isinstance(error, NoWorksheet) and isinstance(error, Died)
             self.assertEqual((error.errno, error.filename, error.fault, error.number, error.status, error.offset), (errno.ENOENT, path, "Disk", 32, 1, None))
             self.assertIn("fault 32 Disk", error.told)
@@ -102,22 +102,22 @@ class Ends(Case):
             sheet.session("a", WORDS)
             sheet.checkpoint()
         os.link(self.path, self.path + "2")
-        with self.assertRaises(Died) as told:
+        with self.assertRaises(Died) as caught:
             Worksheet(self.path, program=PROGRAM)
-        self.assertEqual((type(told.exception), told.exception.number), (Died, 32))
+        self.assertEqual((type(caught.exception), caught.exception.number), (Died, 32))
         os.unlink(self.path + "2")
         os.unlink(self.path + ".alt")
-        with self.assertRaises(Died) as told:
+        with self.assertRaises(Died) as caught:
             Worksheet(self.path, program=PROGRAM)
-        self.assertEqual((type(told.exception), told.exception.number), (Died, 32))
-        with self.assertRaises(Died) as told:
+        self.assertEqual((type(caught.exception), caught.exception.number), (Died, 32))
+        with self.assertRaises(Died) as caught:
             Worksheet(os.path.join(self.path, "below"), create=True, program=PROGRAM)
-        self.assertEqual((type(told.exception), told.exception.number), (Died, 32))
+        self.assertEqual((type(caught.exception), caught.exception.number), (Died, 32))
 
     def test_a_close_while_a_line_waits(self) -> None:
         sheet = self.sheet()
-        cell, behind = sheet.new("a", "sleep 60"), sheet.new("a", "x")
-        waits = [cell.eval(), behind.eval()]
+        cell, after = sheet.new("a", "sleep 60"), sheet.new("a", "x")
+        waits = [cell.eval(), after.eval()]
         sheet.close()
         for evaluation in waits:
             self.assertRaises(Closed, evaluation.result)
@@ -126,24 +126,24 @@ class Ends(Case):
         self.assertEqual((sheet.sessions["a"].life, sheet.sessions["a"].waiting), (None, 0))
         self.assertEqual(self.shown(self.open()), held)
 
-    def test_a_close_behind_a_wait(self) -> None:
+    def test_a_close_after_a_wait(self) -> None:
         """A `wait` holds the end of the input back too, so the program has to be killed."""
         sheet = self.sheet()
         sheet.new("a", "sleep 60").eval()
-        told: List[Died] = []
+        caught: List[Died] = []
 
         def wait() -> None:
             try:
                 sheet.wait()
             except Died as error:
-                told.append(error)
+                caught.append(error)
 
         thread = threading.Thread(target=wait)
         thread.start()
         self.until(lambda: sheet._connection.protocol._awaited)
         sheet.close(timeout=0.3)
         thread.join(SECONDS)
-        self.assertEqual([error.status for error in told], [-signal.SIGKILL])
+        self.assertEqual([error.status for error in caught], [-signal.SIGKILL])
         self.assertEqual(eventually(self.open).cell(1).input, "sleep 60")
 
     def test_a_reply_that_takes_too_long(self) -> None:
@@ -179,7 +179,7 @@ class Ends(Case):
         self.assertEqual(os.getpgid(sheet.pid), sheet.pid)
 
     def test_a_process_that_does_not_close(self) -> None:
-        """The program ends with the process that started it, and keeps what was told."""
+        """The program ends with the process that started it, and keeps what was reported."""
         code = f"import sys; sys.path.insert(0, {os.path.dirname(os.path.dirname(__file__))!r})\nfrom tmhost import Worksheet\n"
         code += f"sheet = Worksheet({self.path!r}, create=True, program={PROGRAM!r})\nsheet.session('a', {WORDS!r})\n"
         code += "print(sheet.new('a', 'x').evaluate(60).text)\n"
@@ -216,21 +216,21 @@ class Programs(Case):
                     os.environ[name] = value
 
     def test_a_create_beside_another(self) -> None:
-        """Somebody else makes the worksheet just then: that is as good. But where there is none afterwards, it is told why."""
+        """Somebody else makes the worksheet just then: that is as good. But where there is none afterwards, the error says why."""
         refuses = """if [ "$1" = create ]; then %s echo 'fault 34 NotEmpty' >&2; exit 1; fi\n"""
         end = """read line; echo '{"lines":1,"type":"end"}'"""
-        with self.assertRaises(Died) as told:
+        with self.assertRaises(Died) as caught:
             Worksheet(self.path, create=True, program=self.fake(refuses % ""))
-        self.assertEqual((told.exception.number, told.exception.fault), (34, "NotEmpty"))
+        self.assertEqual((caught.exception.number, caught.exception.fault), (34, "NotEmpty"))
         program = self.fake(refuses % 'echo >"$2";' + self.HELLO + self.EMPTY + end)
         with Worksheet(self.path, create=True, program=program) as sheet:
             self.assertEqual((sheet.version, sheet.cells), ("x", []))
 
     def test_an_older_program(self) -> None:
-        with self.assertRaises(Died) as told:
+        with self.assertRaises(Died) as caught:
             Worksheet(self.path, program=self.fake("echo 'error: unexpected argument' >&2; exit 2"))
-        self.assertEqual((told.exception.status, told.exception.number), (2, None))
-        self.assertIn("unexpected argument", str(told.exception))
+        self.assertEqual((caught.exception.status, caught.exception.number), (2, None))
+        self.assertIn("unexpected argument", str(caught.exception))
 
     def test_another_protocol(self) -> None:
         with self.assertRaises(ProtocolError):
@@ -250,23 +250,23 @@ class Programs(Case):
     def test_a_fault_in_the_middle(self) -> None:
         end = """read line; echo '{"name":"Disk","number":21,"type":"fault"}'; echo 'fault 21 Disk' >&2; exit 1"""
         with Worksheet(self.path, program=self.fake(self.HELLO + self.EMPTY + end)) as sheet:
-            with self.assertRaises(Died) as told:
+            with self.assertRaises(Died) as caught:
                 sheet.checkpoint()
-            error = told.exception
+            error = caught.exception
             self.assertEqual((error.number, error.fault, error.told, error.status), (21, "Disk", "fault 21 Disk\n", 1))
 
     def test_a_fault_that_only_errors_tell(self) -> None:
         with Worksheet(self.path, program=self.fake(self.HELLO + self.EMPTY + "read line; echo 'fault 42 Output' >&2; exit 1")) as sheet:
-            with self.assertRaises(Died) as told:
+            with self.assertRaises(Died) as caught:
                 sheet.checkpoint()
-            self.assertEqual((told.exception.number, told.exception.fault), (42, "Output"))
+            self.assertEqual((caught.exception.number, caught.exception.fault), (42, "Output"))
 
     def test_a_line_that_is_cut_off(self) -> None:
         with Worksheet(self.path, program=self.fake(self.HELLO + self.EMPTY + """read line; printf '{"line":2,"type":"do'""")) as sheet:
             self.assertRaises(Died, sheet.checkpoint)
 
     def test_an_end_that_takes_its_time(self) -> None:
-        """A program that has told its end isn't killed."""
+        """A program that has reported its end isn't killed."""
         mark = os.path.join(self.folder, "mark")
         end = f"""read line; echo '{{"lines":1,"type":"end"}}'; exec >&-; sleep 0.3; echo >{mark}"""
         Worksheet(self.path, program=self.fake(self.HELLO + self.EMPTY + end)).close()

@@ -41,7 +41,7 @@ def answer_to(text: str) -> str:
 class Ledger:
     """What the calls of all threads have returned, and to what those that haven't may have led. Each cell is one thread's."""
 
-    told: Dict[int, State] = dataclasses.field(default_factory=dict)
+    reported: Dict[int, State] = dataclasses.field(default_factory=dict)
     may_be: Dict[int, List[Optional[State]]] = dataclasses.field(default_factory=dict)  # None: it is gone
     gone: "set[int]" = dataclasses.field(default_factory=set)
     begun: List[str] = dataclasses.field(default_factory=list)  # inputs of cells whose making hasn't returned
@@ -53,10 +53,10 @@ class Ledger:
         yield
         del self.may_be[id]
         if may_be[-1] is None:
-            del self.told[id]
+            del self.reported[id]
             self.gone.add(id)
         else:
-            self.told[id] = may_be[-1]
+            self.reported[id] = may_be[-1]
 
 
 class Worker(threading.Thread):
@@ -90,7 +90,7 @@ class Worker(threading.Thread):
         text = self.text()
         self.ledger.begun.append(text)
         cell = self.sheet.new(self.session, text, after=self.own[-1] if self.own else None)
-        self.ledger.told[cell.id] = (text, "empty", None)
+        self.ledger.reported[cell.id] = (text, "empty", None)
         self.ledger.begun.remove(text)
         self.own.append(cell.id)
 
@@ -100,7 +100,7 @@ class Worker(threading.Thread):
             self.sheet.set(id, text)
 
     def clear(self, id: int) -> None:
-        with self.ledger.doing(id, (self.ledger.told[id][0], "empty", None)):
+        with self.ledger.doing(id, (self.ledger.reported[id][0], "empty", None)):
             self.sheet.clear(id)
 
     def remove(self, id: int) -> None:
@@ -109,7 +109,7 @@ class Worker(threading.Thread):
         self.own.remove(id)
 
     def evaluate(self, id: int) -> None:
-        text = self.ledger.told[id][0]
+        text = self.ledger.reported[id][0]
         shown = (text, "answered", answer_to(text))
         with self.ledger.doing(id, (text, "empty", None), shown):
             answer = self.sheet.evaluate(id, SECONDS)
@@ -133,7 +133,7 @@ class Kills(Case):
         for number in range(KILLS):
             with self.subTest(seed=SEED, kill=number):
                 ledger = self.one_kill(ledger, chance)
-        print(f"\nseed {SEED}: {KILLS} kills, {self.counts['openings']} of them while it was opened; {len(ledger.told)} cells are left")
+        print(f"\nseed {SEED}: {KILLS} kills, {self.counts['openings']} of them while it was opened; {len(ledger.reported)} cells are left")
 
     def one_kill(self, ledger: Ledger, chance: random.Random) -> Ledger:
         """Opens, calls until a kill, and compares; gives the ledger of what is there."""
@@ -161,7 +161,7 @@ class Kills(Case):
             if worker.error:
                 raise worker.error
         mirror = {field.id: state_of(field) for field in sheet.fields}
-        for id, state in ledger.told.items():
+        for id, state in ledger.reported.items():
             self.assertIn(mirror.get(id), [state, *ledger.may_be.get(id, [])])
         sheet.close()
 
@@ -174,14 +174,14 @@ class Kills(Case):
             os.kill(int(file.read()), signal.SIGKILL)
 
     def compared(self, ledger: Ledger) -> Ledger:
-        """Opens the worksheet and looks for all that was told."""
+        """Opens the worksheet and looks for all that was reported."""
         with eventually(lambda: Worksheet(self.path, program=PROGRAM, timeout=SECONDS)) as sheet:
             fields = {field.id: field for field in sheet.fields}
         there = {id: state_of(field) for id, field in fields.items()}
-        for id, state in ledger.told.items():
+        for id, state in ledger.reported.items():
             self.assertIn(there.get(id), [state, *ledger.may_be.get(id, [])], f"cell {id}")
         self.assertFalse(ledger.gone & there.keys())
-        for id in there.keys() - ledger.told.keys():
+        for id in there.keys() - ledger.reported.keys():
             self.assertIn(fields[id].input, ledger.begun, f"cell {id} wasn't asked for")
         for field in fields.values():
             if field.answer:
@@ -190,7 +190,7 @@ class Kills(Case):
             row = [field.id for field in fields.values() if field.session == name]
             self.assertEqual([id for id in row if id in own], [id for id in own if id in row])
             own[:] = row
-        return Ledger(told=there, gone=ledger.gone)
+        return Ledger(reported=there, gone=ledger.gone)
 
 
 if __name__ == "__main__":

@@ -1,4 +1,4 @@
-"""What an interpreter has written of a block that isn't closed, told by a program that knows that."""
+"""What an interpreter has written of a block that isn't closed, reported by a program that knows that."""
 
 import asyncio
 import os
@@ -34,7 +34,7 @@ def knows() -> bool:
 class Partials(Case):
     def setUp(self) -> None:
         super().setUp()
-        self.told: List[Event] = []
+        self.reported: List[Event] = []
         self.end = os.path.join(self.folder, "end")
         slow = os.path.join(self.folder, "slow.py")
         with open(slow, "w") as file:
@@ -42,12 +42,12 @@ class Partials(Case):
         self.words = [sys.executable, slow]
 
     def begun(self) -> bool:
-        """Whether all of it was told, however it was cut."""
-        return b"".join(event.data for event in self.told if isinstance(event, Partial)) == b"\x02verbatim:begun \xc3"
+        """Whether all of it was reported, however it was cut."""
+        return b"".join(event.data for event in self.reported if isinstance(event, Partial)) == b"\x02verbatim:begun \xc3"
 
     def test_blocking(self) -> None:
         with Worksheet(self.path, program=PROGRAM, create=True, partial=True) as sheet:
-            sheet.listen(self.told.append)
+            sheet.listen(self.reported.append)
             sheet.session("a", self.words)
             evaluation = sheet.new("a", self.end).eval()
             self.until(self.begun)
@@ -57,16 +57,16 @@ class Partials(Case):
 
     def test_not_asked_for(self) -> None:
         with Worksheet(self.path, program=PROGRAM, create=True) as sheet:
-            sheet.listen(self.told.append)
+            sheet.listen(self.reported.append)
             sheet.session("a", self.words)
             open(self.end, "w").close()
             sheet.new("a", self.end).evaluate(SECONDS)
-        self.assertEqual([event for event in self.told if isinstance(event, Partial)], [])
+        self.assertEqual([event for event in self.reported if isinstance(event, Partial)], [])
 
     def test_asyncio(self) -> None:
         async def run() -> None:
             async with AsyncWorksheet(self.path, program=PROGRAM, create=True, partial=True) as sheet:
-                sheet.listen(self.told.append)
+                sheet.listen(self.reported.append)
                 await sheet.session("a", self.words)
                 evaluation = await (await sheet.new("a", self.end)).eval()
                 while not self.begun():

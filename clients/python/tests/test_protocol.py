@@ -33,10 +33,10 @@ class Talk:
         self.line = self.protocol.send(command, future)
         return future
 
-    def told(self, *objects: object) -> Taken:
+    def reported(self, *objects: object) -> Taken:
         all_taken = Taken()
-        for told in objects:
-            line = told if isinstance(told, bytes) else json.dumps(told).encode()
+        for reported in objects:
+            line = reported if isinstance(reported, bytes) else json.dumps(reported).encode()
             taken = self.protocol.feed(line)
             for settle in taken.settled:
                 settle()
@@ -48,7 +48,7 @@ class Talk:
 class Pages(unittest.TestCase):
     @unittest.skipUnless(os.path.isfile(PAGE), "the page isn't there")
     def test_the_talk_of_the_page(self) -> None:
-        """Each line of the talk is what its command sends, each object is taken, and the worksheet behind it is as the page says."""
+        """Each line of the talk is what its command sends, each object is taken, and the worksheet after it is as the page says."""
         with open(PAGE, encoding="utf-8") as file:
             talk = [line[:-1] for line in file if re.match("[<>] ", line)]
         output = Block("verbatim", "format", (Block("latex", "format", ("$x^2$",)), "\n"))
@@ -65,7 +65,7 @@ class Pages(unittest.TestCase):
             commands.Eval(1, again),
             commands.Stop("a"),
         ]
-        end = next(place for place, line in enumerate(talk) if '"type":"stopped"' in line) + 1  # behind it a look is sent
+        end = next(place for place, line in enumerate(talk) if '"type":"stopped"' in line) + 1  # after it a look is sent
         waits, events = self.held(Talk(), talk[:end], iter(made))
         self.assertEqual([type(one.exception(0)) for one in waits], [type(None)] * 4 + [Refused] + [type(None)] * 4)
         self.assertEqual(first.result(0), answer)
@@ -77,7 +77,7 @@ class Pages(unittest.TestCase):
         self.assertTrue(self.protocol.is_over)
 
     def held(self, talk: Talk, lines: List[str], made: Any) -> Any:
-        """The futures of the lines that were sent, and the events that were told."""
+        """The futures of the lines that were sent, and the events that were reported."""
         waits, events = [], []
         self.protocol = talk.protocol
         for line in lines:
@@ -85,7 +85,7 @@ class Pages(unittest.TestCase):
                 waits.append(talk.send(Raw(line[2:]) if line.startswith("< #") else next(made)))
                 self.assertEqual(talk.line, line[2:].encode() + b"\n")
             else:
-                taken = talk.told(line[2:].encode())
+                taken = talk.reported(line[2:].encode())
                 events += taken.events
         self.assertEqual(taken.lines, [b"print 1\n"])
         return waits, events
@@ -94,7 +94,7 @@ class Pages(unittest.TestCase):
 class Raw(commands.Command[None]):
     """A line that no call sends."""
 
-    is_told = False
+    is_reported = False
 
     def __init__(self, line: str) -> None:
         self.text = line
@@ -110,10 +110,10 @@ class Raw(commands.Command[None]):
 class Objects(unittest.TestCase):
     def test_what_is_not_known_is_passed_over(self) -> None:
         talk = Talk()
-        taken = talk.told(HELLO, {"type": "weather", "of": [1.5, None]}, {**BANNER, "more than that": {}})
+        taken = talk.reported(HELLO, {"type": "weather", "of": [1.5, None]}, {**BANNER, "more than that": {}})
         self.assertEqual((len(taken.events), talk.opened.result().version), (1, "0"))
         waits = talk.send(commands.Checkpoint())
-        talk.told({"line": 1, "more": True, "type": "progress", "part": 0.5}, {"line": 1, "new": [], "type": "done"})
+        talk.reported({"line": 1, "more": True, "type": "progress", "part": 0.5}, {"line": 1, "new": [], "type": "done"})
         self.assertIsNone(waits.result(0))
 
     def test_lines_that_are_broken(self) -> None:
@@ -145,28 +145,28 @@ class Objects(unittest.TestCase):
         answered: Dict[str, Any] = {"id": 1, "life": 1, "output": BLOCK, "prompt": "", "session": "a", "shown": "", "type": "answered"}
         empty = Block("verbatim", "format", ())
         banner, answer = Banner("a", 1, empty, ""), Answered("a", 1, 1, Answer("", empty, ""))
-        for told, it in ((BANNER, banner), (answered, answer)):
-            self.assertEqual(read(json.dumps(told).encode()), it)
+        for reported, it in ((BANNER, banner), (answered, answer)):
+            self.assertEqual(read(json.dumps(reported).encode()), it)
             for value, text in ((None, None), ("In [2]: ", "In [2]: "), ("", ""), ({"base64": "/yA="}, b"\xff ")):
-                self.assertEqual(read(json.dumps({**told, "next": value}).encode()), dataclasses.replace(it, next=text))
+                self.assertEqual(read(json.dumps({**reported, "next": value}).encode()), dataclasses.replace(it, next=text))
             for broken in (1, [], False, {"base64": "YQ=="}, BLOCK):
-                self.assertRaises(ProtocolError, read, json.dumps({**told, "next": broken}).encode())
+                self.assertRaises(ProtocolError, read, json.dumps({**reported, "next": broken}).encode())
 
     def test_what_is_no_answer_yet(self) -> None:
         """It has its bytes as they came, and changes nothing of what is shown."""
-        told: Dict[str, Any] = {"life": 1, "session": "a", "type": "partial"}
+        reported: Dict[str, Any] = {"life": 1, "session": "a", "type": "partial"}
         for value, data in (("\u0002verbatim:\u00e9", b"\x02verbatim:\xc3\xa9"), ({"base64": "wwL/"}, b"\xc3\x02\xff"), ("", b"")):
-            self.assertEqual(read(json.dumps({**told, "bytes": value}).encode()), Partial("a", 1, data))
+            self.assertEqual(read(json.dumps({**reported, "bytes": value}).encode()), Partial("a", 1, data))
         for broken in (b"null", b"1", b'{"base64":"YQ=="}', b'{"items":[]}'):
             self.assertRaises(ProtocolError, read, b'{"bytes":%b,"life":1,"session":"a","type":"partial"}' % broken)
         talk, evaluation = self.asked()
         held = talk.protocol.mirror.fields()
-        self.assertEqual(talk.told({**told, "bytes": "x"}).events, [Partial("a", 1, b"x")])
+        self.assertEqual(talk.reported({**reported, "bytes": "x"}).events, [Partial("a", 1, b"x")])
         self.assertEqual((talk.protocol.mirror.fields(), evaluation.done()), (held, False))
 
     def test_halves_of_a_character_that_are_together(self) -> None:
-        told = read(b'{"line":1,"name":"\\ud83d\\ude00","number":1,"type":"refused"}')
-        self.assertEqual(getattr(told, "name"), "\U0001f600")
+        reported = read(b'{"line":1,"name":"\\ud83d\\ude00","number":1,"type":"refused"}')
+        self.assertEqual(getattr(reported, "name"), "\U0001f600")
 
     def test_objects_that_come_out_of_step(self) -> None:
         objects = [
@@ -180,11 +180,11 @@ class Objects(unittest.TestCase):
             {"life": 1, "lost": [], "reason": "Ended", "session": "a", "type": "ended"},
             {"life": 1, "lost": [], "reason": "Ended", "session": "b", "type": "ended"},
         ]  # fmt: skip
-        for told in objects:
-            with self.subTest(told=told):
+        for reported in objects:
+            with self.subTest(reported=reported):
                 talk, evaluation = self.asked()
                 waits = talk.send(commands.Checkpoint())
-                self.assertRaises(ProtocolError, talk.told, told)
+                self.assertRaises(ProtocolError, talk.reported, reported)
                 talk.protocol.break_off(ProtocolError("broken"))
                 for settle in talk.protocol.finish(False, 0, "").settled:
                     settle()
@@ -198,11 +198,11 @@ class Objects(unittest.TestCase):
         talk.protocol.mirror.insert(Field(1, "a", "x"), 0)
         evaluation: "concurrent.futures.Future[Any]" = concurrent.futures.Future()
         talk.send(commands.Eval(1, evaluation))
-        talk.told({"life": 1, "line": 1, "type": "asked"})
+        talk.reported({"life": 1, "line": 1, "type": "asked"})
         return talk, evaluation
 
     def test_turns(self) -> None:
-        """A line runs from when it was sent: behind the banner of its interpreter, and behind the answers to those before it."""
+        """A line runs from when it was sent: after the banner of its interpreter, and after the answers to those before it."""
         talk, _ = self.asked()
         mirror, waits = talk.protocol.mirror, commands.Eval(2, concurrent.futures.Future())
         mirror.insert(Field(2, "a", "y"), 1)
@@ -213,30 +213,30 @@ class Objects(unittest.TestCase):
             return [mirror.turn(id) for id in (1, 2, 3)]
 
         self.assertEqual(turns(), ["queued", None, None])
-        talk.told(BANNER)
+        talk.reported(BANNER)
         self.assertEqual(turns(), ["running", None, None])
         talk.send(commands.Complete(3, 0, concurrent.futures.Future()))
         talk.send(waits)
-        talk.told({"life": 1, "line": 2, "type": "asked"}, {"life": 1, "line": 3, "type": "asked"})
+        talk.reported({"life": 1, "line": 2, "type": "asked"}, {"life": 1, "line": 3, "type": "asked"})
         self.assertEqual(turns(), ["running", "queued", None])
-        talk.told({**answer, "id": 1})
+        talk.reported({**answer, "id": 1})
         self.assertEqual(turns(), [None, "queued", None])
-        talk.told({"id": 3, "life": 1, "session": "a", "told": None, "type": "completed"})
+        talk.reported({"id": 3, "life": 1, "session": "a", "told": None, "type": "completed"})
         self.assertEqual(turns(), [None, "running", None])
-        talk.told({"life": 1, "lost": [{"id": 2, "text": "y"}], "reason": "Ended", "session": "a", "type": "ended"})
+        talk.reported({"life": 1, "lost": [{"id": 2, "text": "y"}], "reason": "Ended", "session": "a", "type": "ended"})
         self.assertEqual(turns(), [None, None, None])
         talk.send(commands.Eval(1, concurrent.futures.Future()))
         look = {"id": 2, "input": "y", "reason": "Ended", "session": "a", "state": "lost"}
-        talk.told({"field": look, "line": 4, "type": "field"}, {"life": 2, "line": 5, "type": "asked"})
+        talk.reported({"field": look, "line": 4, "type": "field"}, {"life": 2, "line": 5, "type": "asked"})
         self.assertEqual(turns(), ["queued", None, None])
-        talk.told({**BANNER, "life": 2})
+        talk.reported({**BANNER, "life": 2})
         self.assertEqual(turns(), ["running", None, None])
 
     def test_deep_blocks(self) -> None:
         block: Any = {**BLOCK, "items": ["x"]}
         for _ in range(31):
             block = {**BLOCK, "items": [block, {"base64": "6Q=="}]}
-        (event,) = Talk().told({**BANNER, "output": block}).events
+        (event,) = Talk().reported({**BANNER, "output": block}).events
         self.assertEqual(getattr(event, "output").plain, b"x" + 31 * b"\xe9")
         self.assertEqual(len(getattr(event, "output").find("verbatim")), 32)
 
@@ -251,34 +251,34 @@ class Objects(unittest.TestCase):
     def test_a_bad_line(self) -> None:
         talk = Talk()
         waits = talk.send(Raw("evil 1"))
-        self.assertEqual(talk.told({"line": 1, "type": "bad"}).events, [])
+        self.assertEqual(talk.reported({"line": 1, "type": "bad"}).events, [])
         self.assertIsInstance(waits.exception(0), BadLine)
 
     def test_exports(self) -> None:
         talk = Talk()
         waits = [talk.send(commands.Export(format)) for format in ("script", "html", "markdown")]
-        told: Dict[str, Any] = {"type": "exported"}
-        talk.told({**told, "format": "script", "line": 1, "text": None}, {**told, "format": "html", "line": 2, "text": "<p>"})
-        talk.told({**told, "format": "markdown", "line": 3, "text": {"base64": "6Q=="}})
+        reported: Dict[str, Any] = {"type": "exported"}
+        talk.reported({**reported, "format": "script", "line": 1, "text": None}, {**reported, "format": "html", "line": 2, "text": "<p>"})
+        talk.reported({**reported, "format": "markdown", "line": 3, "text": {"base64": "6Q=="}})
         self.assertEqual([one.result(0) for one in waits], [None, "<p>", b"\xe9"])
         talk.send(commands.Export("json"))
-        self.assertRaises(ProtocolError, talk.told, {**told, "format": "html", "line": 4, "text": ""})
+        self.assertRaises(ProtocolError, talk.reported, {**reported, "format": "html", "line": 4, "text": ""})
 
-    def test_a_look_behind_a_loss(self) -> None:
-        """Whether a lost line keeps its reason isn't told, so its cell is looked at; who listens is told where it was another."""
+    def test_a_look_after_a_loss(self) -> None:
+        """Whether a lost line keeps its reason isn't reported, so its cell is looked at; who listens hears where it was another."""
         talk, evaluation = self.asked()
-        taken = talk.told({"life": 1, "lost": [{"id": 1, "text": "x"}], "reason": "BadTag", "session": "a", "type": "ended"})
+        taken = talk.reported({"life": 1, "lost": [{"id": 1, "text": "x"}], "reason": "BadTag", "session": "a", "type": "ended"})
         self.assertIsInstance(evaluation.exception(0), Lost)
         self.assertEqual((taken.lines, talk.protocol.mirror.field(1).reason), ([b"print 1\n"], "BadTag"))
-        taken = talk.told({"field": {"id": 1, "input": "x", "session": "a", "state": "empty"}, "line": 2, "type": "field"})
+        taken = talk.reported({"field": {"id": 1, "input": "x", "session": "a", "state": "empty"}, "line": 2, "type": "field"})
         self.assertEqual(len(taken.events), 1)
         self.assertEqual((talk.protocol.mirror.field(1).reason, talk.protocol.mirror.field(1).state), (None, "empty"))
 
     def test_inputs_of_several_lines(self) -> None:
-        """A field is told with line feeds; its input is what the worksheet has, which is what would be sent."""
+        """A field is reported with line feeds; its input is what the worksheet has, which is what would be sent."""
         talk, _ = self.asked()
         talk.send(commands.Look(1))
-        talk.told({"field": {"id": 1, "input": "a\n\tb\n", "session": "a", "state": "empty"}, "line": 2, "type": "field"})
+        talk.reported({"field": {"id": 1, "input": "a\n\tb\n", "session": "a", "state": "empty"}, "line": 2, "type": "field"})
         field = talk.protocol.mirror.field(1)
         self.assertEqual((field.input, field.lines), (commands.input_of("a\n\tb\n"), ["a", "\tb", ""]))
 

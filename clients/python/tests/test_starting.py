@@ -36,8 +36,8 @@ class Program(unittest.TestCase):
         package = os.path.join(self.folder, *place, "clients", "python")
         shutil.copytree(os.path.join(PACKAGE, "tmhost"), os.path.join(package, "tmhost"), dirs_exist_ok=True)
         environment: Dict[str, str] = {"PATH": "/nowhere", **more}
-        told = subprocess.run([sys.executable, "-B", "-c", ASK, package], capture_output=True, text=True, env=environment)
-        return told.stdout.strip() or told.stderr.strip().split("\n")[-1].partition(": ")[2]
+        reported = subprocess.run([sys.executable, "-B", "-c", ASK, package], capture_output=True, text=True, env=environment)
+        return reported.stdout.strip() or reported.stderr.strip().split("\n")[-1].partition(": ")[2]
 
     def test_a_repository(self) -> None:
         self.assertEqual(self.found(), "there is no tmhost on PATH, and TMHOST names none")

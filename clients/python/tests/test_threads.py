@@ -38,16 +38,16 @@ class Threads(Case):
         waits = [cell.eval() for cell in cells]
 
         def refused(number: int) -> str:
-            with self.assertRaises(Refused) as told:
+            with self.assertRaises(Refused) as reported:
                 sheet.new("a", f"{number} " + "y" * 60_000)
-            return told.exception.name
+            return reported.exception.name
 
         self.assertEqual(at_once(200, refused), 200 * ["BadInput"])
         self.assertEqual([one.result(SECONDS).text for one in waits], [big(200_000, str(number)) for number in range(40)])
         self.assert_exact(sheet)
 
     def test_all_at_the_end(self) -> None:
-        """Each cell is put behind the one that is last when it comes, also where that goes or moves meanwhile."""
+        """Each cell is put after the one that is last when it comes, also where that goes or moves meanwhile."""
         sheet = self.sheet()
 
         def work(thread: int) -> List[int]:
@@ -77,7 +77,7 @@ class Threads(Case):
         self.assertEqual(done, {cell.input for cell in cells})
 
     def test_random_calls(self) -> None:
-        """Behind any calls of any threads the worksheet shows what the program has."""
+        """After any calls of any threads the worksheet shows what the program has."""
         for seed in range(3):
             with self.subTest(seed=seed):
                 self.path = f"{self.folder}/{seed}"
@@ -178,16 +178,16 @@ class Listening(Case):
         self.all_of(sheet, events)
         self.assertEqual((heard, len(events)), ([], 5))
 
-    def test_listening_behind_the_end(self) -> None:
+    def test_listening_after_the_end(self) -> None:
         sheet = self.open()
         events = self.all_of(sheet, self.listened(sheet))
         self.assertEqual(events, [Finished(None)])
         self.assertEqual(self.all_of(sheet, self.listened(sheet)), [Finished(None)])
 
     def test_a_callback_of_an_evaluation(self) -> None:
-        """It runs on the thread that reads, so it can't wait for a reply: it is told so, and nothing stands still."""
+        """It runs on the thread that reads, so it can't wait for a reply: an error says so, and nothing stands still."""
         sheet = self.sheet("a", "b")
-        told: List[BaseException] = []
+        reported: List[BaseException] = []
         line, never = sheet.new("a", "sleep 60"), sheet.new("b", "sleep 60")
         calls: List[Callable[[], object]] = [sheet.refresh, sheet.close, lambda: sheet.new("a", "x"), lambda: waits.result()]
 
@@ -196,14 +196,14 @@ class Listening(Case):
                 try:
                     call()
                 except RuntimeError as error:
-                    told.append(error)
+                    reported.append(error)
 
         evaluation, waits = line.eval(), never.eval()
         evaluation.add_done_callback(call_all)
         sheet.stop("a")
         self.assertRaises(Lost, evaluation.result, SECONDS)
         sheet.close()
-        self.assertEqual((len(told), len(sheet.cells)), (4, 2))
+        self.assertEqual((len(reported), len(sheet.cells)), (4, 2))
         self.assertIsInstance(sheet.error, Closed)
 
 

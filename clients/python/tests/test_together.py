@@ -55,12 +55,12 @@ class TogetherCase(Case):
     def assert_undone(self, sheet: Worksheet, changes: List[Change], place: int) -> Undone:
         """They change nothing, here and in the program, and the worksheet goes on."""
         held = self.shown(sheet)
-        with self.assertRaises(Undone) as told:
+        with self.assertRaises(Undone) as reported:
             sheet.together(*changes)
-        self.assertEqual((told.exception.place, told.exception.line), (place, changes[place].line))
+        self.assertEqual((reported.exception.place, reported.exception.line), (place, changes[place].line))
         self.assertEqual(self.shown(sheet), held)
         self.assert_exact(sheet)
-        return told.exception
+        return reported.exception
 
 
 @needs_program
@@ -73,9 +73,9 @@ class Calls(TogetherCase):
         heard = threading.Event()
         sheet.listen(lambda event: heard.set() if event == Done("clear", 3) else events.append(event))
         new = New(3, "b", "in b")
-        told = sheet.together(
+        reported = sheet.together(
             MakeSession("b", tuple(WORDS), False), New(2, "a", "after two"), new, Set(4, "four"), Move(1, 4), Remove(2), Clear(1), Clear(3))
-        self.assertEqual((told, new.id), ([None, 4, 5, None, None, None, None, None], 5))
+        self.assertEqual((reported, new.id), ([None, 4, 5, None, None, None, None, None], 5))
         self.assertEqual([(cell.id, cell.input, cell.state) for cell in sheet.cells], [
             (4, "four", "empty"), (1, "one", "empty"), (3, "three", "empty"), (5, "in b", "empty")])
         self.assertEqual((sheet.next_id, list(sheet.sessions), sheet.together()), (6, ["a", "b"], []))
@@ -88,8 +88,8 @@ class Calls(TogetherCase):
 
     def test_as_many_as_there_may_be(self) -> None:
         sheet = self.sheet()
-        told = sheet.together(*(New(number, "a", f" {number} ") for number in range(MOST_CHANGES)))
-        self.assertEqual(told, [*range(1, MOST_CHANGES + 1)])
+        reported = sheet.together(*(New(number, "a", f" {number} ") for number in range(MOST_CHANGES)))
+        self.assertEqual(reported, [*range(1, MOST_CHANGES + 1)])
         self.assertEqual(inputs(sheet), [f" {number} " for number in range(MOST_CHANGES)])
         self.assert_exact(sheet)
 
@@ -149,7 +149,7 @@ class Calls(TogetherCase):
         self.assert_exact(sheet)
 
     def test_a_timeout(self) -> None:
-        """What waits behind a `wait` may be done yet."""
+        """What waits after a `wait` may be done yet."""
         sheet = self.three()
         sheet.cell(1).set("sleep 1")
         sheet.cell(1).eval()
@@ -176,9 +176,9 @@ class Async(TogetherCase, AsyncCase):
         for changes, place in [*((changes, place) for changes, place, _ in REFUSED), *BAD]:
             with self.subTest(changes=str(changes)[:80]):
                 held = self.shown(sheet)
-                with self.assertRaises(Undone) as told:
+                with self.assertRaises(Undone) as reported:
                     await sheet.together(*changes)
-                self.assertEqual((told.exception.place, self.shown(sheet)), (place, held))
+                self.assertEqual((reported.exception.place, self.shown(sheet)), (place, held))
         await self.assert_exact_now(sheet)
         self.assertEqual(await sheet.together(Set(1, "x"), New(0, "a", "y"), Remove(2)), [None, 4, None])
         self.assertEqual(inputs(sheet), ["y", "x", "three"])
@@ -192,9 +192,9 @@ class Async(TogetherCase, AsyncCase):
             except Undone as undone:
                 return undone.place
 
-        told = await asyncio.gather(*(one(number) for number in range(60)))
-        self.assertEqual(told.count(1), 20)
-        self.assertEqual((len(sheet.cells), len({str(one) for one in told})), (80, 41))
+        reported = await asyncio.gather(*(one(number) for number in range(60)))
+        self.assertEqual(reported.count(1), 20)
+        self.assertEqual((len(sheet.cells), len({str(one) for one in reported})), (80, 41))
         await self.assert_exact_now(sheet)
 
     async def test_a_kill_in_the_middle(self) -> None:
@@ -214,12 +214,12 @@ class Async(TogetherCase, AsyncCase):
 @needs_program
 class Kills(TogetherCase):
     def cut(self, lines: int, *changes: Change) -> Tuple[List[Field], List[Field]]:
-        """The fields in front of a kill behind so many lines of the transaction, and behind it. It has no reply."""
+        """The fields in front of a kill after so many lines of the transaction, and after it. It has no reply."""
         sheet = eventually(lambda: Worksheet(self.path, program=[sys.executable, os.path.join(HERE, "cutter.py"), str(lines), PROGRAM], timeout=SECONDS))
         held = self.shown(sheet)
-        with self.assertRaises(Died) as told:
+        with self.assertRaises(Died) as reported:
             sheet.together(*changes)
-        self.assertEqual(told.exception.status, -signal.SIGKILL)
+        self.assertEqual(reported.exception.status, -signal.SIGKILL)
         self.assertEqual(self.shown(sheet), held)
         sheet.close()
         with eventually(lambda: Worksheet(self.path, program=PROGRAM, timeout=SECONDS)) as again:
@@ -230,8 +230,8 @@ class Kills(TogetherCase):
         self.three().close()
         changes: List[Change] = [New(0, "a", "new"), Set(1, "x"), Set(4, "y"), Remove(2), Move(3, 4), MakeSession("b", ("p",), False)]
         for lines in range(len(changes) + 2):
-            before, behind = self.cut(lines, *changes)
-            self.assertEqual(before, behind)
+            before, after = self.cut(lines, *changes)
+            self.assertEqual(before, after)
         with self.open() as sheet:
             self.assertEqual((inputs(sheet), list(sheet.sessions)), (["one", "two", "three"], ["a"]))
             self.assertEqual(sheet.together(*changes)[0], 4)
@@ -248,18 +248,18 @@ class Kills(TogetherCase):
                 sheet = eventually(lambda: Worksheet(self.path, program=PROGRAM, timeout=SECONDS))
                 killer = threading.Timer(chance.uniform(0.0, 0.2), os.kill, (sheet.pid, signal.SIGKILL))
                 killer.start()
-                told = self.until_killed(sheet, chance)
+                reported = self.until_killed(sheet, chance)
                 killer.join()
                 with eventually(lambda: Worksheet(self.path, program=PROGRAM, timeout=SECONDS)) as again:
                     there = inputs(again)
                     self.assert_exact(again)
                 self.assertEqual((len(there), len(set(there))), (CELLS, 1))
-                self.assertIn(int(there[0]) - told, (0, 1))
+                self.assertIn(int(there[0]) - reported, (0, 1))
                 done = int(there[0])
         print(f"\nseed {seed}: {KILLS} kills, {done} transactions")
 
     def until_killed(self, sheet: Worksheet, chance: random.Random) -> int:
-        """Has each cell changed by each transaction until a kill; gives the number of the last one that was told. Some transactions are refused."""
+        """Has each cell changed by each transaction until a kill; gives the number of the last one that was reported. Some transactions are refused."""
         with sheet:
             at = int(inputs(sheet)[0])
             try:
@@ -281,8 +281,8 @@ class Kills(TogetherCase):
             sheet.together(*changes)
 
 
-class Told(unittest.TestCase):
-    """What is told of a transaction, without a program."""
+class Reported(unittest.TestCase):
+    """What is reported of a transaction, without a program."""
 
     def begun(self, *changes: Change) -> Tuple[Talk, Any]:
         talk = Talk()
@@ -293,30 +293,30 @@ class Told(unittest.TestCase):
         talk, _ = self.begun(Set(1, "y\r"), Remove(1))
         self.assertEqual(talk.line, b"begin\nset 1 y\r\r\nremove 1\nend\n")
 
-    def test_nothing_is_shown_before_all_is_told(self) -> None:
+    def test_nothing_is_shown_before_all_is_reported(self) -> None:
         talk, waits = self.begun(Set(1, "y"), New(1, "a", "z"))
-        behind = talk.send(Checkpoint())
-        talk.told(HELLO, {"line": 1, "type": "nothing"}, {"line": 2, "type": "done"}, {"id": 2, "line": 3, "type": "made"})
+        after = talk.send(Checkpoint())
+        talk.reported(HELLO, {"line": 1, "type": "nothing"}, {"line": 2, "type": "done"}, {"id": 2, "line": 3, "type": "made"})
         self.assertEqual((talk.protocol.mirror.fields(), waits.done()), ([Field(1, "a", "x")], False))
-        self.assertEqual(talk.told({"line": 4, "type": "nothing"}).events, [Done("set", 1), Done("new", 2, "a", 1)])
+        self.assertEqual(talk.reported({"line": 4, "type": "nothing"}).events, [Done("set", 1), Done("new", 2, "a", 1)])
         self.assertEqual((talk.protocol.mirror.fields(), waits.result(0)), ([Field(1, "a", "y"), Field(2, "a", "z")], [None, 2]))
-        talk.told({"line": 5, "type": "done"})
-        self.assertIsNone(behind.result(0))
+        talk.reported({"line": 5, "type": "done"})
+        self.assertIsNone(after.result(0))
 
-    def test_all_that_wait_are_told(self) -> None:
-        """The line behind a transaction that is undone has its own reply."""
-        for told in ({"line": 3, "name": "NoField", "number": 2, "type": "refused"}, {"line": 3, "type": "bad"}):
+    def test_all_that_wait_are_reported(self) -> None:
+        """The line after a transaction that is undone has its own reply."""
+        for reported in ({"line": 3, "name": "NoField", "number": 2, "type": "refused"}, {"line": 3, "type": "bad"}):
             talk, waits = self.begun(Set(1, "y"), Set(2, "y"), Set(3, "y"))
-            behind = talk.send(Checkpoint())
-            talk.told({"line": 1, "type": "nothing"}, told)
+            after = talk.send(Checkpoint())
+            talk.reported({"line": 1, "type": "nothing"}, reported)
             self.assertFalse(waits.done())
-            self.assertEqual(talk.told({"from": 1, "line": 5, "type": "undone"}, {"line": 6, "type": "done"}).events, [Done("checkpoint")])
-            self.assertEqual((waits.exception(0).place, waits.exception(0).line, behind.result(0)), (1, "set 2 y", None))
+            self.assertEqual(talk.reported({"from": 1, "line": 5, "type": "undone"}, {"line": 6, "type": "done"}).events, [Done("checkpoint")])
+            self.assertEqual((waits.exception(0).place, waits.exception(0).line, after.result(0)), (1, "set 2 y", None))
             self.assertEqual(talk.protocol.mirror.fields(), [Field(1, "a", "x")])
 
     def test_an_end_in_the_middle(self) -> None:
         talk, waits = self.begun(Set(1, "y"), Set(1, "z"))
-        talk.told({"line": 1, "type": "nothing"}, {"line": 2, "type": "done"})
+        talk.reported({"line": 1, "type": "nothing"}, {"line": 2, "type": "done"})
         for settle in talk.protocol.finish(False, 1, "").settled:
             settle()
         self.assertIsInstance(waits.exception(0), Died)
@@ -336,7 +336,7 @@ class Told(unittest.TestCase):
         for objects in cases:
             with self.subTest(objects=objects):
                 talk, waits = self.begun(Set(1, "y"), Set(1, "z"))
-                self.assertRaises(ProtocolError, talk.told, *objects)
+                self.assertRaises(ProtocolError, talk.reported, *objects)
 
 
 if __name__ == "__main__":

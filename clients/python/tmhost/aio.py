@@ -96,7 +96,7 @@ class AsyncWorksheet:
         self.path, self.version = path_word(path), ""
         self._create, self._program, self._timeout, self._partial = create, program, timeout, partial
         self._opened: Optional[AsyncConnection] = None
-        # What changes the order of the cells is done one after another, so that the last cell is known when one is put behind it.
+        # What changes the order of the cells is done one after another, so that the last cell is known when one is put after it.
         self._order: asyncio.Lock
         self._ordering: "Optional[asyncio.Future[Any]]" = None
 
@@ -124,7 +124,7 @@ class AsyncWorksheet:
 
     async def close(self, timeout: Optional[float] = 10.0) -> None:
         """Ends the program, which stops its interpreters: cells that wait stay without an answer. One that takes longer than the timeout, as
-        behind a `wait` that isn't over, is killed with its interpreters; what was told is on the disk then, too."""
+        after a `wait` that isn't over, is killed with its interpreters; what was reported is on the disk then, too."""
         if self._opened:
             await self._opened.close(timeout)
 
@@ -200,7 +200,7 @@ class AsyncWorksheet:
         return found
 
     async def stop(self, session: str) -> Tuple[LostItem, ...]:
-        """Ends the interpreter of a session, and tells what it hadn't answered. The next evaluation starts it anew."""
+        """Ends the interpreter of a session, and reports what it hadn't answered. The next evaluation starts it again."""
         return await self._do(commands.Stop(session))
 
     async def interrupt(self, session: str) -> str:
@@ -210,7 +210,7 @@ class AsyncWorksheet:
     # ---- cells
 
     async def new(self, session: str, text: str = "", after: Optional[AsyncCellLike] = None) -> AsyncCell:
-        """A new cell behind another one, first for 0, or last for None. Ends of lines in the text stand as U+2028 in the worksheet."""
+        """A new cell after another one, first for 0, or last for None. Ends of lines in the text stand as U+2028 in the worksheet."""
         return AsyncCell(self, await self._do_in_order(lambda: commands.New(self._place(after), session, input_of(text))))
 
     async def set(self, cell: AsyncCellLike, text: str) -> None:
@@ -221,7 +221,7 @@ class AsyncWorksheet:
         await self._do_in_order(lambda: commands.Remove(id_of(self, cell)))
 
     async def move(self, cell: AsyncCellLike, after: Optional[AsyncCellLike] = None) -> None:
-        """Puts a cell behind another one, first for 0, or last for None. Refused SamePlace where it stands there already."""
+        """Puts a cell after another one, first for 0, or last for None. Refused SamePlace where it stands there already."""
         await self._do_in_order(lambda: commands.Move(id_of(self, cell), self._place(after)))
 
     async def clear(self, cell: AsyncCellLike) -> None:
@@ -233,7 +233,7 @@ class AsyncWorksheet:
         return await self._eval(cell, self._timeout)
 
     async def evaluate(self, cell: AsyncCellLike, timeout: Optional[float] = None) -> Answer:
-        """Evaluates a cell, and waits for its answer. Behind TimedOut its line still waits: `AsyncCell.evaluation` is the way back to it."""
+        """Evaluates a cell, and waits for its answer. After TimedOut its line still waits: `AsyncCell.evaluation` is the way back to it."""
         moment = Moment(timeout)
         evaluation = await self._eval(cell, moment.left(self._timeout))
         return await evaluation.result(moment.left())
@@ -277,17 +277,17 @@ class AsyncWorksheet:
     async def export(self, format: str) -> Text:
         """The worksheet in a format (docs/use/EXPORT.md): "script", "markdown", "html", "notebook" or "json". Raises NoScript where it has no script,
         and BadLine where there is no such format."""
-        told = await self._do(commands.Export(format))
-        if told is None:
+        reported = await self._do(commands.Export(format))
+        if reported is None:
             raise NoScript
-        return told
+        return reported
 
     async def refresh(self) -> None:
-        """Has the whole worksheet told again. There is no need for it."""
+        """Has the program report the whole worksheet again. There is no need for it."""
         await self._do(commands.Print())
 
     def listen(self, callback: AsyncListener) -> Callable[[], None]:
-        """Has each event told from now on, one after another and in their order, by a task of the worksheet's own; what the callback gives back
+        """Has each event reported from now on, one after another and in their order, by a task of the worksheet's own; what the callback gives back
         is awaited where it can be. The worksheet may be further then than the event. What is given back here ends it."""
         return self._connection.listen(callback)
 
@@ -307,6 +307,6 @@ class AsyncWorksheet:
             return await outcome(future, self._timeout, command.word)
 
     def _place(self, after: Optional[AsyncCellLike]) -> int:
-        """The number of the cell behind which another one is to stand."""
+        """The number of the cell after which another one is to stand."""
         order = self._connection.protocol.mirror.order
         return id_of(self, after) if after is not None else order[-1] if order else 0

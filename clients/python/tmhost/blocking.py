@@ -52,7 +52,7 @@ class Evaluation(Future[Answer]):
         try:
             return super().exception(timeout)
         except FutureTimeout:
-            raise TimedOut(f"cell {self.id} has no answer behind {timeout} seconds") from None
+            raise TimedOut(f"cell {self.id} has no answer after {timeout} seconds") from None
 
 
 class Cell(CellView):
@@ -96,11 +96,11 @@ class Worksheet:
 
     `create` makes it where there is no file. `program` is the program `tmhost`, or its words (else the one that TMHOST names, or that is on
     PATH). `timeout` is how many seconds the reply to a command may take: none of them is one that an interpreter works for. `partial` has the
-    event Partial told, where the program knows it.
+    event Partial reported, where the program knows it.
 
-    What it shows (`cells`, `fields`, `sessions`) is held here, and asking for it sends nothing. It is exact behind each call and each event:
+    What it shows (`cells`, `fields`, `sessions`) is held here, and asking for it sends nothing. It is exact after each call and each event:
     but that a lost line has a reason is a guess, mostly right, until it was looked up (the event `Done("print", id)` tells where it has
-    none). When the program dies it stays as it was told last.
+    none). When the program dies it stays as it was reported last.
     """
 
     def __init__(
@@ -115,7 +115,7 @@ class Worksheet:
             made = subprocess.run([*words, "create", self.path], stdin=subprocess.DEVNULL, capture_output=True)
             refuse_uncreated(self.path, made.returncode, made.stderr)
         self._timeout = timeout
-        # What changes the order of the cells is done one after another, so that the last cell is known when one is put behind it.
+        # What changes the order of the cells is done one after another, so that the last cell is known when one is put after it.
         self._order = threading.Lock()
         self._ordering: "Optional[Future[Any]]" = None
         self._connection = Connection(words_of_live(words, self.path, partial))
@@ -134,7 +134,7 @@ class Worksheet:
 
     def close(self, timeout: Optional[float] = 10.0) -> None:
         """Ends the program, which stops its interpreters: cells that wait stay without an answer. One that takes longer than the timeout, as
-        behind a `wait` that isn't over, is killed with its interpreters; what was told is on the disk then, too."""
+        after a `wait` that isn't over, is killed with its interpreters; what was reported is on the disk then, too."""
         self._connection.close(timeout)
 
     @property
@@ -209,7 +209,7 @@ class Worksheet:
         return found
 
     def stop(self, session: str) -> Tuple[LostItem, ...]:
-        """Ends the interpreter of a session, and tells what it hadn't answered. The next evaluation starts it anew."""
+        """Ends the interpreter of a session, and reports what it hadn't answered. The next evaluation starts it again."""
         return self._do(commands.Stop(session))
 
     def interrupt(self, session: str) -> str:
@@ -219,7 +219,7 @@ class Worksheet:
     # ---- cells
 
     def new(self, session: str, text: str = "", after: Optional[CellLike] = None) -> Cell:
-        """A new cell behind another one, first for 0, or last for None. Ends of lines in the text stand as U+2028 in the worksheet."""
+        """A new cell after another one, first for 0, or last for None. Ends of lines in the text stand as U+2028 in the worksheet."""
         return Cell(self, self._do_in_order(lambda: commands.New(self._place(after), session, input_of(text))))
 
     def set(self, cell: CellLike, text: str) -> None:
@@ -230,7 +230,7 @@ class Worksheet:
         self._do_in_order(lambda: commands.Remove(id_of(self, cell)))
 
     def move(self, cell: CellLike, after: Optional[CellLike] = None) -> None:
-        """Puts a cell behind another one, first for 0, or last for None. Refused SamePlace where it stands there already."""
+        """Puts a cell after another one, first for 0, or last for None. Refused SamePlace where it stands there already."""
         self._do_in_order(lambda: commands.Move(id_of(self, cell), self._place(after)))
 
     def clear(self, cell: CellLike) -> None:
@@ -242,7 +242,7 @@ class Worksheet:
         return self._eval(cell, self._timeout)
 
     def evaluate(self, cell: CellLike, timeout: Optional[float] = None) -> Answer:
-        """Evaluates a cell, and waits for its answer. Behind TimedOut its line still waits: `Cell.evaluation` is the way back to it."""
+        """Evaluates a cell, and waits for its answer. After TimedOut its line still waits: `Cell.evaluation` is the way back to it."""
         moment = Moment(timeout)
         return self._eval(cell, moment.left(self._timeout)).result(moment.left())
 
@@ -285,17 +285,17 @@ class Worksheet:
     def export(self, format: str) -> Text:
         """The worksheet in a format (docs/use/EXPORT.md): "script", "markdown", "html", "notebook" or "json". Raises NoScript where it has no script,
         and BadLine where there is no such format."""
-        told = self._do(commands.Export(format))
-        if told is None:
+        reported = self._do(commands.Export(format))
+        if reported is None:
             raise NoScript
-        return told
+        return reported
 
     def refresh(self) -> None:
-        """Has the whole worksheet told again. There is no need for it."""
+        """Has the program report the whole worksheet again. There is no need for it."""
         self._do(commands.Print())
 
     def listen(self, callback: Listener) -> Callable[[], None]:
-        """Has each event told from now on, one after another and in their order, on a thread of the worksheet's own. The callback may call the
+        """Has each event reported from now on, one after another and in their order, on a thread of the worksheet's own. The callback may call the
         worksheet, which may be further then than the event. What is given back ends it."""
         return self._connection.listen(callback)
 
@@ -321,7 +321,7 @@ class Worksheet:
             self._order.release()
 
     def _place(self, after: Optional[CellLike]) -> int:
-        """The number of the cell behind which another one is to stand."""
+        """The number of the cell after which another one is to stand."""
         if after is not None:
             return id_of(self, after)
         with self._connection.lock:

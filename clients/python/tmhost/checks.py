@@ -6,7 +6,7 @@ from typing import Any, Generator, Iterator, List, Optional, Sequence, Union
 
 from .program import Child, Program, path_word, words_of_program
 from .reading import OTHERS, End, Fault, Hello, Members, answer, data_of, string
-from .reports import told_by
+from .reports import reported_by
 from .values import LINE_END, Answer
 
 
@@ -59,33 +59,33 @@ def answer_in(value: Any) -> Answer:
 
 
 def took_in(value: Any) -> Took:
-    told = Members(value)
-    return Took(told.number("millis"), told.boolean("started"))
+    reported = Members(value)
+    return Took(reported.number("millis"), reported.boolean("started"))
 
 
-def checked(told: Members) -> Checked:
-    verdict = told.one_of("verdict", "same", "differs", "unanswered", "new", "left_out")
+def checked(reported: Members) -> Checked:
+    verdict = reported.one_of("verdict", "same", "differs", "unanswered", "new", "left_out")
     return Checked(
-        told.number("id"),
-        told.string("session"),
+        reported.number("id"),
+        reported.string("session"),
         verdict,
-        told.string("input").replace("\n", LINE_END) if verdict in ("differs", "unanswered", "new") else None,
-        told.or_none("shows", answer_in) if verdict in ("differs", "unanswered") else None,
-        answer_in(told.get("came")) if verdict in ("differs", "new") else None,
-        told.or_none("reason", string) if verdict == "unanswered" else None,
-        told.or_none("took", took_in),
+        reported.string("input").replace("\n", LINE_END) if verdict in ("differs", "unanswered", "new") else None,
+        reported.or_none("shows", answer_in) if verdict in ("differs", "unanswered") else None,
+        answer_in(reported.get("came")) if verdict in ("differs", "new") else None,
+        reported.or_none("reason", string) if verdict == "unanswered" else None,
+        reported.or_none("took", took_in),
     )
 
 
 def read(line: bytes) -> "Union[Checked, Compared, Hello, Fault, End, None]":
     """What a line tells; None where it is of a type that isn't known."""
-    told = data_of(line)
-    kind = told.string("type")
+    reported = data_of(line)
+    kind = reported.string("type")
     if kind == "checked":
-        return checked(told)
+        return checked(reported)
     if kind == "compared":
-        return Compared(*(told.number(name) for name in ("same", "differ", "unanswered", "left_out", "errors", "new")))
-    return OTHERS[kind](told) if kind in OTHERS else None
+        return Compared(*(reported.number(name) for name in ("same", "differ", "unanswered", "left_out", "errors", "new")))
+    return OTHERS[kind](reported) if kind in OTHERS else None
 
 
 @dataclasses.dataclass(frozen=True)
@@ -120,9 +120,9 @@ def words_of_check(program: Program, path: str, asked: CheckWords) -> List[str]:
 def came_of(words: List[str]) -> "Generator[Union[Checked, Compared], None, None]":
     """What the program with these words reports, which is started when the first of it is asked for."""
     child = Child(words)
-    told: "Iterator[Union[Checked, Compared]]" = told_by(child, read)
+    reported: "Iterator[Union[Checked, Compared]]" = reported_by(child, read)
     try:
-        yield from told
+        yield from reported
     finally:
         child.close()
 

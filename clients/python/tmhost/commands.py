@@ -69,11 +69,11 @@ def expect_done(reply: Reply) -> None:
 
 @dataclasses.dataclass
 class Command(Generic[R]):
-    """`word` is the first word of its line; `about` is what those who listen are told: its cell, its session, and behind which cell it put
+    """`word` is the first word of its line; `about` is what those who listen get: its cell, its session, and after which cell it put
     its own."""
 
     word = ""
-    is_told = True  # to those who listen
+    is_reported = True  # to those who listen
 
     @property
     def length(self) -> int:
@@ -273,7 +273,7 @@ class Stop(OfSession[Tuple[LostItem, ...]]):
 @dataclasses.dataclass
 class Interrupt(OfSession[str]):
     word = "interrupt"
-    is_told = False
+    is_reported = False
 
     def taken(self, mirror: Mirror, reply: Reply) -> str:
         return expected(reply, Interrupted).outcome
@@ -283,7 +283,7 @@ class Interrupt(OfSession[str]):
 class Wait(Command[bool]):
     seconds: Optional[int]
     word = "wait"
-    is_told = False
+    is_reported = False
 
     @property
     def line(self) -> str:
@@ -303,7 +303,7 @@ class Checkpoint(Command[None]):
 
 @dataclasses.dataclass
 class Print(Command[None]):
-    """Its cells are shown as they come; the sheet behind them is the reply."""
+    """Its cells are shown as they come; the sheet after them is the reply."""
 
     word = "print"
 
@@ -316,12 +316,12 @@ class Look(OfCell[bool]):
     """Prints one cell, and tells whether it was another than was thought."""
 
     word = "print"
-    is_told = False
+    is_reported = False
 
     def taken(self, mirror: Mirror, reply: Reply) -> bool:
         field = expected(reply, OneField).field
         is_other = mirror.field(self.id) != field
-        self.is_told = is_other
+        self.is_reported = is_other
         mirror.show(field)
         return is_other
 
@@ -330,7 +330,7 @@ class Look(OfCell[bool]):
 class Export(Command[Optional[Text]]):
     format: str
     word = "export"
-    is_told = False
+    is_reported = False
 
     def __post_init__(self) -> None:
         if self.format not in FORMATS:
@@ -341,8 +341,8 @@ class Export(Command[Optional[Text]]):
         return f"export {self.format}"
 
     def taken(self, mirror: Mirror, reply: Reply) -> Optional[Text]:
-        told = expected(reply, Exported)
-        return told.text if told.format == self.format else out_of_step(f"the format {told.format!r} of line {told.line}")
+        reported = expected(reply, Exported)
+        return reported.text if reported.format == self.format else out_of_step(f"the format {reported.format!r} of line {reported.line}")
 
 
 AnyCommand = Command[Any]

@@ -68,7 +68,7 @@ class Connection:
         self.protocol = Protocol(self.hello)
         self._is_closed = False
         self._unsent: "queue.SimpleQueue[Optional[bytes]]" = queue.SimpleQueue()
-        self._untold: "queue.SimpleQueue[Event]" = queue.SimpleQueue()
+        self._unreported: "queue.SimpleQueue[Event]" = queue.SimpleQueue()
         self._listeners: Dict[int, Listener] = {}
         self._listened = 0
         self._finished: Optional[Event] = None
@@ -168,9 +168,9 @@ class Connection:
         if self.protocol.error:
             return
         try:
-            told = read(line)
+            reported = read(line)
             with self.lock:
-                taken = self.protocol.take(told)
+                taken = self.protocol.take(reported)
                 self._pass_on(taken)
         except Exception as error:
             self._break_off(error)
@@ -183,7 +183,7 @@ class Connection:
             self._unsent.put(line)
         if self._teller:
             for event in taken.events:
-                self._untold.put(event)
+                self._unreported.put(event)
 
     def _break_off(self, error: Exception) -> None:
         """The mirror can't be relied on any more, nor can the program."""
@@ -194,9 +194,9 @@ class Connection:
         self.child.kill()
 
     def _finish(self, status: int) -> None:
-        told = self.child.said()
+        reported = self.child.said()
         with self.lock:
-            taken = self.protocol.finish(self._is_closed, status, told, missing(self.child.path))
+            taken = self.protocol.finish(self._is_closed, status, reported, missing(self.child.path))
             self._finished = taken.events[-1]
             self._pass_on(taken)
             self._unsent.put(None)
@@ -206,7 +206,7 @@ class Connection:
     def _tell(self) -> None:
         event: Optional[Event] = None
         while not isinstance(event, Finished):
-            event = self._untold.get()
+            event = self._unreported.get()
             with self.lock:
                 listeners = list(self._listeners.values())
             for listener in listeners:

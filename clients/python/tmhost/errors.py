@@ -91,9 +91,9 @@ class ProtocolError(TmhostError):
 
 
 class Died(TmhostError):
-    """The program ended by itself. What was told before is on the disk; a call that raises this may be done or not.
+    """The program ended by itself. What was reported before is on the disk; a call that raises this may be done or not.
 
-    `fault`, `number` and `offset` are those of the fault that it told (docs/use/FAULTS.md), None where it told none. `told` is what stands on
+    `fault`, `number` and `offset` are those of the fault that it reported (docs/use/FAULTS.md), None where it reported none. `told` is what stands on
     its standard error. `status` is its exit status, below zero where a signal ended it, None where it isn't known.
     """
 

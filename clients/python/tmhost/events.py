@@ -48,14 +48,14 @@ class Completed(OfLife):
 
 @dataclasses.dataclass(frozen=True)
 class Default(OfLife):
-    """What the interpreter offers as the next input. It comes directly behind what brought it."""
+    """What the interpreter offers as the next input. It comes directly after what brought it."""
 
     text: Text
 
 
 @dataclasses.dataclass(frozen=True)
 class Partial(OfLife):
-    """What the interpreter has written of a block that isn't closed: bytes of the protocol, as they came. It is told to those who ask for it, is no
+    """What the interpreter has written of a block that isn't closed: bytes of the protocol, as they came. It is reported to those who ask for it, is no
     promise and never kept: drop what came of a life when it has an answer, or another event of it comes."""
 
     data: bytes
@@ -89,8 +89,8 @@ class Done(Event):
     """A command of this worksheet was done, and the mirror has it.
 
     `command` is the first word of its line: "session", "new", "set", "remove", "move", "clear", "eval", "complete", "stop" (one that had
-    nothing to end), "checkpoint". Behind "print" any cell may be another one than was thought. `id` is its cell, `session` its session;
-    of "new" and "move" `after` is the cell behind which it was put, 0 for the first place.
+    nothing to end), "checkpoint". After "print" any cell may be another one than was thought. `id` is its cell, `session` its session;
+    of "new" and "move" `after` is the cell after which it was put, 0 for the first place.
     """
 
     command: str
@@ -101,6 +101,6 @@ class Done(Event):
 
 @dataclasses.dataclass(frozen=True)
 class Finished(Event):
-    """The last event: `error` is None behind `close`, and else why the worksheet ended."""
+    """The last event: `error` is None after `close`, and else why the worksheet ended."""
 
     error: Optional[TmhostError]

@@ -1,4 +1,4 @@
-"""The worksheet as it is behind what was told: changed by replies and events alone, in the order in which they come."""
+"""The worksheet as it is after what was reported: changed by replies and events alone, in the order in which they come."""
 
 import collections
 import dataclasses
@@ -33,7 +33,7 @@ class Item:
 
 
 def out_of_step(what: str) -> NoReturn:
-    raise ProtocolError(f"tmhost told {what}")
+    raise ProtocolError(f"tmhost reported {what}")
 
 
 class Mirror:
@@ -99,11 +99,11 @@ class Mirror:
         self._place(id, after)
 
     def _old(self, id: int) -> Field:
-        """A cell of which something is told."""
+        """A cell of which something is reported."""
         return self._fields[id] if id in self._fields else out_of_step(f"of a cell {id}, which there is not")
 
     def _row(self, session: str) -> Deque[Item]:
-        """What a session has to answer of which something is told. It is looked at before anything is taken from it, since at an error
+        """What a session has to answer of which something is reported. It is looked at before anything is taken from it, since at an error
         those who wait must still be known."""
         return self._rows[session] if session in self.sessions else out_of_step(f"of a session {session!r}, which there is not")
 
@@ -120,11 +120,11 @@ class Mirror:
     # ---- what is printed
 
     def show(self, field: Field) -> None:
-        """A cell as it was printed. Its place is told by the sheet behind it, where it is new."""
+        """A cell as it was printed. Its place is in the sheet after it, where it is new."""
         self._fields[field.id] = field
 
     def show_all(self, sheet: Sheet) -> None:
-        """The order and the sessions as they were printed, behind the cells."""
+        """The order and the sessions as they were printed, after the cells."""
         if not set(sheet.fields) <= set(self._fields):
             out_of_step("of a cell that it didn't print")
         self.order = list(sheet.fields)
@@ -138,14 +138,14 @@ class Mirror:
         """An interpreter is ready, and has the first of its row."""
         self._greeted[session] = life
 
-    def answered(self, told: Answered) -> Item:
-        old = self._old(told.id)
-        item = self._take(told.session, told.life, told.id, False)
-        self._fields[told.id] = Field(told.id, old.session, old.input, "answered", told.answer)
+    def answered(self, reported: Answered) -> Item:
+        old = self._old(reported.id)
+        item = self._take(reported.session, reported.life, reported.id, False)
+        self._fields[reported.id] = Field(reported.id, old.session, old.input, "answered", reported.answer)
         return item
 
-    def completed(self, told: Completed) -> Item:
-        return self._take(told.session, told.life, told.id, True)
+    def completed(self, reported: Completed) -> Item:
+        return self._take(reported.session, reported.life, reported.id, True)
 
     def _take(self, session: str, life: int, id: int, is_request: bool) -> Item:
         row = self._row(session)
@@ -178,7 +178,7 @@ class Mirror:
         return items
 
     def drop_rows(self) -> List[Item]:
-        """Nothing more will be answered; all else stays as it was told."""
+        """Nothing more will be answered; all else stays as it was reported."""
         items = [item for row in self._rows.values() for item in row]
         self._rows.clear()
         return items

@@ -18,7 +18,7 @@ NOT_EMPTY, IN_USE = 34, 35
 LONGEST_SAYING = 65_536  # bytes of standard error that are kept
 PARTIAL = "--partial"
 HELP = ("help", "live")
-GRACE = 10.0  # seconds that it has for its end behind that of its output
+GRACE = 10.0  # seconds that it has for its end after that of its output
 
 Program = Union[None, str, Sequence[str]]
 
@@ -61,14 +61,14 @@ def words_of_program(program: Program) -> List[str]:
 def words_of_live(words: Sequence[str], path: str, partial: bool) -> List[str]:
     """Those that hold a worksheet open. What isn't an answer yet is asked for where the program can tell it."""
     if partial:
-        told = subprocess.run([*words, *HELP], stdin=subprocess.DEVNULL, capture_output=True)
-        partial = has_flag(told.returncode, told.stdout, PARTIAL)
+        reported = subprocess.run([*words, *HELP], stdin=subprocess.DEVNULL, capture_output=True)
+        partial = has_flag(reported.returncode, reported.stdout, PARTIAL)
     return [*words, "live", "--json", *([PARTIAL] if partial else []), path]
 
 
-def has_flag(status: Optional[int], told: bytes, flag: str) -> bool:
+def has_flag(status: Optional[int], reported: bytes, flag: str) -> bool:
     """Whether a task has a flag, as its own help says."""
-    return status == 0 and any(line.split()[:1] == [flag] for line in told.decode("utf-8", "replace").splitlines())
+    return status == 0 and any(line.split()[:1] == [flag] for line in reported.decode("utf-8", "replace").splitlines())
 
 
 def path_word(path: "Union[str, os.PathLike[str]]") -> str:
@@ -77,9 +77,9 @@ def path_word(path: "Union[str, os.PathLike[str]]") -> str:
     return os.path.join(".", word) if word.startswith("-") else word
 
 
-def fault_in(told: str) -> Optional[Fault]:
+def fault_in(reported: str) -> Optional[Fault]:
     """The fault of which a text on standard error tells."""
-    found = FAULT.search(told)
+    found = FAULT.search(reported)
     return Fault(int(found[1]), found[2], int(found[3]) if found[3] else None) if found else None
 
 
@@ -90,27 +90,27 @@ def missing(path: str) -> Optional[str]:
     except FileNotFoundError:
         return path
     except OSError:
-        pass
+        pass  # whether something is there can't be seen, so the fault stays the one that the program names
     return None
 
 
-def death(fault: Optional[Fault], told: str, status: Optional[int], lacks: Optional[str]) -> Died:
+def death(fault: Optional[Fault], reported: str, status: Optional[int], lacks: Optional[str]) -> Died:
     """Why the program ended by itself; `lacks` is the path of its worksheet where nothing is there."""
     if fault is None:
-        return Died(None, None, told, status)
+        return Died(None, None, reported, status)
     if fault.number == DISK and lacks is not None:
-        return NoWorksheet(lacks, told, status)
+        return NoWorksheet(lacks, reported, status)
     kind = InUse if fault.number == IN_USE else Died
-    return kind(fault.name, fault.number, told, status, fault.offset)
+    return kind(fault.name, fault.number, reported, status, fault.offset)
 
 
 def refuse_uncreated(path: str, status: Optional[int], errors: bytes) -> None:
     """Raises why a `create` made nothing, but where somebody else has made it meanwhile."""
-    told = errors.decode("utf-8", "backslashreplace")
-    fault = fault_in(told)
+    reported = errors.decode("utf-8", "backslashreplace")
+    fault = fault_in(reported)
     if status == 0 or (fault and fault.number == NOT_EMPTY and os.path.exists(path)):
         return
-    raise death(fault, told, status, path if missing(os.path.dirname(path) or ".") else None)
+    raise death(fault, reported, status, path if missing(os.path.dirname(path) or ".") else None)
 
 
 class Child:
@@ -132,7 +132,7 @@ class Child:
             raise
 
     def kill(self) -> None:
-        """Ends the program with its interpreters; what it told is on the disk. As long as nobody has asked for its status, its number is
+        """Ends the program with its interpreters; what it reported is on the disk. As long as nobody has asked for its status, its number is
         that of the group, also where it has ended."""
         with self._asking, contextlib.suppress(ProcessLookupError):
             if self.process.returncode is None:

@@ -1,4 +1,4 @@
-"""The protocol of docs/use/JSON.md without input or output: lines come in, and what is to be told and sent goes out."""
+"""The protocol of docs/use/JSON.md without input or output: lines come in, and what is to be reported and sent goes out."""
 
 import collections
 import copy
@@ -11,7 +11,7 @@ from .errors import BadLine, Closed, Lost, ProtocolError, Refused, TmhostError
 from .events import Answered, Banner, Completed, Done, Ended, Event, Finished, Stopped
 from .mirror import Mirror, Settles, out_of_step
 from .program import death, fault_in
-from .reading import End, Fault, Hello, OneField, Refusal, Reply, StopReply, Told, read
+from .reading import End, Fault, Hello, OneField, Refusal, Reply, StopReply, Reported, read
 from .together import Together
 from .values import LostItem
 
@@ -20,7 +20,7 @@ VERSION = 2  # of the protocol
 
 @dataclasses.dataclass
 class Taken:
-    """What comes of something that was told: events in their order, calls that wake those who wait, lines that are to be sent."""
+    """What comes of something that was reported: events in their order, calls that wake those who wait, lines that are to be sent."""
 
     events: List[Event] = dataclasses.field(default_factory=list)
     settled: List[Callable[[], None]] = dataclasses.field(default_factory=list)
@@ -74,7 +74,7 @@ class Lines:
 
 
 class Protocol:
-    """One talk with the program. `mirror` is exact behind each `take`, `error` says why nothing goes any more."""
+    """One talk with the program. `mirror` is exact after each `take`, `error` says why nothing goes any more."""
 
     def __init__(self, opened: "Settles[Hello]") -> None:
         self.mirror = Mirror()
@@ -82,12 +82,12 @@ class Protocol:
         self._opened = opened
         self._fault: Optional[Fault] = None
         self._has_end = False
-        self._told = 0  # how many lines have their last object
+        self._reported = 0  # how many lines have their last object
         self._awaited: Deque[Tuple[AnyCommand, "Settles[Any]"]] = collections.deque()
 
     @property
     def is_over(self) -> bool:
-        """The program has told how it ends."""
+        """The program has reported how it ends."""
         return self._has_end or self._fault is not None
 
     def send(self, command: Command[R], waiter: "Settles[R]") -> bytes:
@@ -101,7 +101,7 @@ class Protocol:
         """Takes a line, without what ends it."""
         return self.take(read(line))
 
-    def take(self, told: Optional[Told]) -> Taken:
+    def take(self, told: Optional[Reported]) -> Taken:
         """Takes what a line tells (`read`). At an error all who wait still do: `finish` tells them."""
         taken = Taken()
         if isinstance(told, Hello):
@@ -124,9 +124,9 @@ class Protocol:
     # ---- lines
 
     def _replied(self, reply: Reply, taken: Taken) -> None:
-        place = reply.line - self._told - 1
+        place = reply.line - self._reported - 1
         if not self._awaited or not 0 <= place < self._awaited[0][0].length:
-            out_of_step(f"of line {reply.line} behind line {self._told}")
+            out_of_step(f"of line {reply.line} after line {self._reported}")
         command, waiter = self._awaited[0]
         if isinstance(command, Together):
             if command.takes(place, reply):
@@ -146,8 +146,8 @@ class Protocol:
         self._drop_first()
 
     def _drop_first(self) -> None:
-        """All is told of what was sent first."""
-        self._told += self._awaited.popleft()[0].length
+        """All is reported of what was sent first."""
+        self._reported += self._awaited.popleft()[0].length
 
     def _end_transaction(self, transaction: Together, reply: Reply, taken: Taken) -> None:
         waiter = self._awaited[0][1]
@@ -163,7 +163,7 @@ class Protocol:
         if isinstance(reply, StopReply):
             self._lose(reply.session, "Stopped", reply.lost, taken)
             taken.events.append(Stopped(reply.session, reply.life, reply.lost))
-        elif command.is_told:
+        elif command.is_reported:
             taken.events.append(Done(command.word, *command.about))
 
     # ---- interpreters

@@ -41,7 +41,7 @@ class End:
 
 @dataclasses.dataclass(frozen=True)
 class Reply:
-    """What is told of a line. `more` says that more will be told of it. Types that have no members of their own are this one."""
+    """What is reported of a line. `more` says that more will be reported of it. Types that have no members of their own are this one."""
 
     line: int
     type: str
@@ -66,7 +66,7 @@ class Refusal(Reply):
 
 @dataclasses.dataclass(frozen=True)
 class NothingDone(Reply):
-    """Of a transaction, whose line `begin` has the number `first`: it is told of its line `end`."""
+    """Of a transaction, whose line `begin` has the number `first`: it is reported of its line `end`."""
 
     first: int
 
@@ -108,7 +108,7 @@ class Exported(Reply):
     text: Optional[Text]
 
 
-Told = Union[Hello, Fault, End, Reply, Event]
+Reported = Union[Hello, Fault, End, Reply, Event]
 
 
 def broken(what: str) -> NoReturn:
@@ -200,85 +200,85 @@ def inner(item: object) -> Union[str, bytes, Block]:
     return block(item) if isinstance(item, dict) and "kind" in item else text(item)
 
 
-def answer(told: Members) -> Answer:
-    return Answer(told.text("prompt"), block(told.get("output")), told.text("shown"))
+def answer(reported: Members) -> Answer:
+    return Answer(reported.text("prompt"), block(reported.get("output")), reported.text("shown"))
 
 
 def field(value: object) -> Field:
     """A field; the line feeds of its input stand for U+2028, which a line that is sent has for them."""
-    told = Members(value)
-    state = told.one_of("state", "empty", "waiting", "answered", "lost")
+    reported = Members(value)
+    state = reported.one_of("state", "empty", "waiting", "answered", "lost")
     return Field(
-        told.number("id"),
-        told.string("session"),
-        told.string("input").replace("\n", LINE_END),
+        reported.number("id"),
+        reported.string("session"),
+        reported.string("input").replace("\n", LINE_END),
         state,
-        answer(told) if state == "answered" else None,
-        told.string("reason") if state == "lost" else None,
+        answer(reported) if state == "answered" else None,
+        reported.string("reason") if state == "lost" else None,
     )
 
 
 def session(value: object) -> Session:
-    told = Members(value)
-    words = tuple(string(word) for word in told.list("words"))
-    return Session(told.string("name"), words, told.boolean("tab"), told.or_none("life", number), told.number("waiting"))
+    reported = Members(value)
+    words = tuple(string(word) for word in reported.list("words"))
+    return Session(reported.string("name"), words, reported.boolean("tab"), reported.or_none("life", number), reported.number("waiting"))
 
 
 def lost_item(value: object) -> LostItem:
-    told = Members(value)
-    return LostItem(told.number("id"), told.string("text"), told.number("cursor") if "cursor" in told.data else None)
+    reported = Members(value)
+    return LostItem(reported.number("id"), reported.string("text"), reported.number("cursor") if "cursor" in reported.data else None)
 
 
-def lost(told: Members) -> Tuple[LostItem, ...]:
-    return tuple(lost_item(item) for item in told.list("lost"))
+def lost(reported: Members) -> Tuple[LostItem, ...]:
+    return tuple(lost_item(item) for item in reported.list("lost"))
 
 
 def completions(value: object) -> Completions:
-    told = Members(value)
-    return Completions(told.text("root"), tuple(text(one) for one in told.list("rest")))
+    reported = Members(value)
+    return Completions(reported.text("root"), tuple(text(one) for one in reported.list("rest")))
 
 
-def outcome(told: Members) -> str:
+def outcome(reported: Members) -> str:
     """What came of an interrupt."""
-    return told.one_of("outcome", "sent", "idle", "failed")
+    return reported.one_of("outcome", "sent", "idle", "failed")
 
 
-# What is told of a line, by its type: each gets the members of Reply, and reads those of its own.
+# What is reported of a line, by its type: each gets the members of Reply, and reads those of its own.
 REPLIES: Dict[str, Callable[[Tuple[int, str, bool], Members], Reply]] = {
-    "made": lambda front, told: Made(*front, told.number("id")),
-    "asked": lambda front, told: Asked(*front, told.number("life")),
-    "refused": lambda front, told: Refusal(*front, told.string("name"), told.number("number")),
-    "undone": lambda front, told: NothingDone(*front, told.number("from")),
-    "waited": lambda front, told: Waited(*front, told.one_of("over", "idle", "time")),
-    "field": lambda front, told: OneField(*front, field(told.get("field"))),
-    "sheet": lambda front, told: Sheet(
-        *front, tuple(number(one) for one in told.list("fields")), told.number("next"), tuple(session(one) for one in told.list("sessions"))
+    "made": lambda front, reported: Made(*front, reported.number("id")),
+    "asked": lambda front, reported: Asked(*front, reported.number("life")),
+    "refused": lambda front, reported: Refusal(*front, reported.string("name"), reported.number("number")),
+    "undone": lambda front, reported: NothingDone(*front, reported.number("from")),
+    "waited": lambda front, reported: Waited(*front, reported.one_of("over", "idle", "time")),
+    "field": lambda front, reported: OneField(*front, field(reported.get("field"))),
+    "sheet": lambda front, reported: Sheet(
+        *front, tuple(number(one) for one in reported.list("fields")), reported.number("next"), tuple(session(one) for one in reported.list("sessions"))
     ),
-    "stopped": lambda front, told: StopReply(*front, told.string("session"), told.number("life"), lost(told)),
-    "interrupted": lambda front, told: Interrupted(*front, outcome(told)),
-    "exported": lambda front, told: Exported(*front, told.string("format"), told.or_none("text", text)),
+    "stopped": lambda front, reported: StopReply(*front, reported.string("session"), reported.number("life"), lost(reported)),
+    "interrupted": lambda front, reported: Interrupted(*front, outcome(reported)),
+    "exported": lambda front, reported: Exported(*front, reported.string("format"), reported.or_none("text", text)),
 }
 
 
-def next_prompt(told: Members) -> Optional[Text]:
+def next_prompt(reported: Members) -> Optional[Text]:
     """The prompt for the next line; an older program doesn't tell it."""
-    return told.or_none("next", text) if "next" in told.data else None
+    return reported.or_none("next", text) if "next" in reported.data else None
 
 
-# What is told without a line, by its type: of an interpreter, with its session and its life in front, or of the program.
+# What is reported without a line, by its type: of an interpreter, with its session and its life in front, or of the program.
 EVENTS: Dict[str, Callable[[str, int, Members], Event]] = {
-    "banner": lambda name, life, told: Banner(name, life, block(told.get("output")), told.text("shown"), next_prompt(told)),
-    "answered": lambda name, life, told: Answered(name, life, told.number("id"), answer(told), next_prompt(told)),
-    "completed": lambda name, life, told: Completed(name, life, told.number("id"), told.or_none("told", completions)),
-    "default": lambda name, life, told: Default(name, life, told.text("text")),
-    "interrupted": lambda name, life, told: Warned(name, life, outcome(told)),
-    "partial": lambda name, life, told: Partial(name, life, data(told.get("bytes"))),
-    "ended": lambda name, life, told: Ended(name, life, told.string("reason"), lost(told)),
+    "banner": lambda name, life, reported: Banner(name, life, block(reported.get("output")), reported.text("shown"), next_prompt(reported)),
+    "answered": lambda name, life, reported: Answered(name, life, reported.number("id"), answer(reported), next_prompt(reported)),
+    "completed": lambda name, life, reported: Completed(name, life, reported.number("id"), reported.or_none("told", completions)),
+    "default": lambda name, life, reported: Default(name, life, reported.text("text")),
+    "interrupted": lambda name, life, reported: Warned(name, life, outcome(reported)),
+    "partial": lambda name, life, reported: Partial(name, life, data(reported.get("bytes"))),
+    "ended": lambda name, life, reported: Ended(name, life, reported.string("reason"), lost(reported)),
 }
 OTHERS: Dict[str, Callable[[Members], Union[Hello, Fault, End]]] = {
-    "hello": lambda told: Hello(told.number("protocol"), told.number("format"), told.string("version")),
-    "fault": lambda told: Fault(told.number("number"), told.string("name"), told.number("offset") if "offset" in told.data else None),
-    "end": lambda told: End(),
+    "hello": lambda reported: Hello(reported.number("protocol"), reported.number("format"), reported.string("version")),
+    "fault": lambda reported: Fault(reported.number("number"), reported.string("name"), reported.number("offset") if "offset" in reported.data else None),
+    "end": lambda reported: End(),
 }
 
 
@@ -297,13 +297,13 @@ def data_of(line: bytes) -> Members:
     return Members(found)
 
 
-def read(line: bytes) -> Optional[Told]:
+def read(line: bytes) -> Optional[Reported]:
     """What a line tells; None where it is of a type that isn't known and of no line."""
-    told = data_of(line)
-    kind = told.string("type")
-    if "line" in told.data:
-        front = (told.number("line"), kind, told.boolean("more") if "more" in told.data else False)
-        return REPLIES[kind](front, told) if kind in REPLIES else Reply(*front)
+    reported = data_of(line)
+    kind = reported.string("type")
+    if "line" in reported.data:
+        front = (reported.number("line"), kind, reported.boolean("more") if "more" in reported.data else False)
+        return REPLIES[kind](front, reported) if kind in REPLIES else Reply(*front)
     if kind in EVENTS:
-        return EVENTS[kind](told.string("session"), told.number("life"), told)
-    return OTHERS[kind](told) if kind in OTHERS else None
+        return EVENTS[kind](reported.string("session"), reported.number("life"), reported)
+    return OTHERS[kind](reported) if kind in OTHERS else None

@@ -11,7 +11,7 @@ from .reading import End, Fault, Hello
 
 PIECE = 65_536
 
-Told = TypeVar("Told")
+Read = TypeVar("Read")
 
 
 def lines_of(child: Child) -> Iterator[bytes]:
@@ -35,17 +35,17 @@ def died(child: Child, fault: Optional[Fault]) -> Died:
     return death(fault or fault_in(said), said, status, missing(child.path))
 
 
-def told_by(child: Child, read: "Callable[[bytes], Union[Told, Hello, Fault, End, None]]") -> Iterator[Told]:
+def reported_by(child: Child, read: "Callable[[bytes], Union[Read, Hello, Fault, End, None]]") -> Iterator[Read]:
     """What the lines tell by this reader, but for the first and the last of them. It raises where the last is missing, or is a fault."""
     for line in lines_of(child):
-        told = read(line)
-        if isinstance(told, Hello):
-            if told.protocol != VERSION:
-                raise ProtocolError(f"tmhost speaks the protocol {told.protocol}, and not {VERSION}")
-        elif isinstance(told, Fault):
-            raise died(child, told)
-        elif isinstance(told, End):
+        reported = read(line)
+        if isinstance(reported, Hello):
+            if reported.protocol != VERSION:
+                raise ProtocolError(f"tmhost speaks the protocol {reported.protocol}, and not {VERSION}")
+        elif isinstance(reported, Fault):
+            raise died(child, reported)
+        elif isinstance(reported, End):
             return
-        elif told is not None:
-            yield told
+        elif reported is not None:
+            yield reported
     raise died(child, None)

@@ -7,7 +7,7 @@ from typing import Generator, Iterator, List, Optional, Union
 from .events import Event
 from .program import Child, Program, path_word, words_of_program
 from .reading import Reply, read
-from .reports import told_by
+from .reports import reported_by
 
 
 def words_of_run(program: Program, path: str, timeout: Optional[int]) -> List[str]:
@@ -33,8 +33,8 @@ def run(
         given.write(script.encode("utf-8"))
         given.seek(0)
         child = Child(words_of_run(program, path_word(path), timeout), given)
-    told: "Iterator[Union[Reply, Event]]" = told_by(child, read)
+    reported: "Iterator[Union[Reply, Event]]" = reported_by(child, read)
     try:
-        yield from told
+        yield from reported
     finally:
         child.close()

@@ -17,7 +17,7 @@ PROGRAMS: Dict[str, Tuple[str, str]] = {
 }
 # Other names under which these programs are started.
 OTHER_NAMES = {"python": "python", "octave": "octave", "sh": "sh", "nodejs": "node", "irb": "ruby"}
-VERSION = re.compile(r"-?\d[\d.]*\Z")  # behind a name, as in lua5.4
+VERSION = re.compile(r"-?\d[\d.]*\Z")  # after a name, as in lua5.4
 
 
 def can_be_run(path: str) -> bool:

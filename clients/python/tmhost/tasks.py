@@ -60,8 +60,8 @@ async def words_of_live(words: List[str], path: str, partial: bool) -> List[str]
     """Those that hold a worksheet open, as `program.words_of_live` gives them."""
     if partial:
         asked = await asyncio.create_subprocess_exec(*words, *HELP, stdin=DEVNULL, stdout=PIPE, stderr=DEVNULL)
-        told, _ = await asked.communicate()
-        partial = has_flag(asked.returncode, told, PARTIAL)
+        reported, _ = await asked.communicate()
+        partial = has_flag(asked.returncode, reported, PARTIAL)
     return [*words, "live", "--json", *([PARTIAL] if partial else []), path]
 
 
@@ -74,7 +74,7 @@ class AsyncConnection:
         self._is_closed = False
         self._unsent: List[bytes] = []  # until the pipe is there
         self._pipe: Optional[asyncio.WriteTransport] = None
-        self._untold: "asyncio.Queue[Event]" = asyncio.Queue()
+        self._unreported: "asyncio.Queue[Event]" = asyncio.Queue()
         self._listeners: Dict[int, AsyncListener] = {}
         self._listened = 0
         self._finished: Optional[Event] = None
@@ -170,7 +170,7 @@ class AsyncConnection:
             self._send(line)
         if self._teller:
             for event in taken.events:
-                self._untold.put_nowait(event)
+                self._unreported.put_nowait(event)
         for settle in taken.settled:
             settle()
 
@@ -184,6 +184,6 @@ class AsyncConnection:
     async def _tell(self) -> None:
         event: Optional[Event] = None
         while not isinstance(event, Finished):
-            event = await self._untold.get()
+            event = await self._unreported.get()
             for listener in list(self._listeners.values()):
                 await call(listener, event)

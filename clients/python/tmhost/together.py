@@ -15,7 +15,7 @@ Results = List[Optional[int]]
 
 @dataclasses.dataclass
 class Together(Command[Results]):
-    """Changes between `begin` and `end`. What is told of them is kept until all of it is there, so that the mirror has all of them or none."""
+    """Changes between `begin` and `end`. What is reported of them is kept until all of it is there, so that the mirror has all of them or none."""
 
     changes: Sequence[Change]
     replies: List[Reply] = dataclasses.field(default_factory=list)
@@ -31,10 +31,10 @@ class Together(Command[Results]):
         return b"".join([b"begin\n", *(bytes_of(change.line) for change in self.changes), b"end\n"])
 
     def takes(self, place: int, reply: Reply) -> bool:
-        """Takes what is told of one of its lines, which are counted from 0; whether nothing more will be told of them."""
+        """Takes what is reported of one of its lines, which are counted from 0; whether nothing more will be reported of them."""
         is_last = place == self.length - 1
         if isinstance(reply, NothingDone):
-            return True if is_last and self.undone else out_of_step(f"that nothing of line {reply.first} and those behind it was done")
+            return True if is_last and self.undone else out_of_step(f"that nothing of line {reply.first} and those after it was done")
         if place == 0 and reply.type == "bad":
             raise ProtocolError("this tmhost is older than the package: it knows no transactions")
         if reply.more or self.undone or place < len(self.replies):
@@ -55,6 +55,6 @@ class Together(Command[Results]):
         return Undone(place - 1, line, Refused(reply.name, reply.number) if isinstance(reply, Refusal) else BadLine(line))
 
     def taken(self, mirror: Mirror, reply: Reply) -> Results:
-        """Behind the reply to its last line."""
-        results = [change.taken(mirror, told) for change, told in zip(self.changes, self.replies[1:])]
+        """After the reply to its last line."""
+        results = [change.taken(mirror, reported) for change, reported in zip(self.changes, self.replies[1:])]
         return [result if isinstance(result, int) else None for result in results]

@@ -36,7 +36,7 @@ def readable(value: Text) -> str:
 
 
 def joined(parts: List[Text]) -> Text:
-    """These texts one behind the other. The whole may be UTF-8 where its parts aren't."""
+    """These texts one after the other. The whole may be UTF-8 where its parts aren't."""
     if all(isinstance(part, str) for part in parts):
         return "".join(part for part in parts if isinstance(part, str))
     return to_text(b"".join(to_bytes(part) for part in parts))

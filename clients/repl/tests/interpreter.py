@@ -74,13 +74,13 @@ class Interpreter:
     def evaluated(self, line: str) -> bytes:
         self.is_at_a_line = True
         try:
-            told = self.answer(line)
+            reported = self.answer(line)
         except Interrupted:
-            told = b"interrupted"
+            reported = b"interrupted"
         finally:
             self.is_at_a_line = False
         self.answered += 1
-        return told
+        return reported
 
 
 def unescaped(text: str) -> str:
@@ -114,8 +114,8 @@ def main() -> None:
             sys.stdout.write("\x02scheme:" + completed(line) + "\x05")
             sys.stdout.flush()
         else:
-            told = interpreter.evaluated(line)
-            write(told, f"{interpreter.answered + 1}] " if interpreter.given_prompt is None else interpreter.given_prompt)
+            reported = interpreter.evaluated(line)
+            write(reported, f"{interpreter.answered + 1}] " if interpreter.given_prompt is None else interpreter.given_prompt)
 
 
 main()

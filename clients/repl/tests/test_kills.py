@@ -52,15 +52,15 @@ class Kills(Case):
             after = self.random.random() * 0.3
             killer = threading.Timer(after, kill, [command.pid])
             killer.start()
-            told = (first + command.stdout.read()).decode()
+            reported = (first + command.stdout.read()).decode()
             killer.join()
             command.stdin.close()
             self.assertEqual(command.wait(120), -9 if kill is kill_command else 1)
             if kill is kill_program:
                 self.assertRegex(command.stderr.read(), b"by signal 9")
         # Each line of output is written whole, by one write.
-        self.assertTrue(told.endswith("\n"))
-        shown = told.splitlines()
+        self.assertTrue(reported.endswith("\n"))
+        shown = reported.splitlines()
         self.assertEqual(shown, [line[4:] for line in LINES[: len(shown)]])
         self.holds(shown)
         return len(shown)

@@ -44,7 +44,7 @@ class Pipe(Case):
         self.assertEqual((done.returncode, done.stdout), (0, b"\xe9\xff\n\xc2\x9bm\n\\x1b[m\n{latex:$x$}\n"))
 
     def test_errors(self) -> None:
-        """It is told which answers are errors; they are answers."""
+        """It is reported which answers are errors; they are answers."""
         self.make()
         self.assertEqual(self.pipe("a\nerror no way\nb\n", self.sheet, "t"), (0, "a\nno way\nb\n", "tmhost-repl: #2 is an error\n"))
 
@@ -71,7 +71,7 @@ class Pipe(Case):
         self.assertEqual(self.pipe("a\r\nb\r\n", self.sheet, "t")[:2], (0, "a\nb\n"))
 
     def test_a_lost_answer(self) -> None:
-        """It is told, the lines behind it are evaluated, and the status is 1."""
+        """It is reported, the lines after it are evaluated, and the status is 1."""
         self.make()
         status, out, errors = self.pipe("count\ndie\ncount\n", self.sheet, "t")
         self.assertEqual((status, out), (1, "0\n0\n"))
@@ -156,7 +156,7 @@ class Commands(Case):
         self.assertEqual(self.pairs(), [("count", "5"), ("count", "6"), ("count", "7")])
 
     def test_an_end_within_eval_all(self) -> None:
-        """Those behind it aren't evaluated, so they keep their answers."""
+        """Those after it aren't evaluated, so they keep their answers."""
         self.make(False, "a", "b", "c")
         self.pipe("%eval-all\n", self.sheet, "t")
         self.pipe("%session t\n", self.sheet, "t")

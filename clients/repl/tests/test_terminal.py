@@ -14,7 +14,7 @@ PASTE = "\x1b[200~{}\x1b[201~"
 
 class Lines(Case):
     def test_the_prompt_of_the_interpreter(self) -> None:
-        """It takes the place of ours when it is told, and the banner stands in front of the first line. Later lines are typed at it."""
+        """It takes the place of ours when it is reported, and the banner stands in front of the first line. Later lines are typed at it."""
         self.make()
         terminal = self.terminal()
         terminal.sees(r"\At>\Z")
@@ -29,7 +29,7 @@ class Lines(Case):
         self.assertEqual(self.pairs(), [("hello", "hello"), ("say a\\nb", "a\nb")])
 
     def test_a_line_at_its_own_prompt(self) -> None:
-        """It isn't written anew, so what an answer is told with is the answer alone."""
+        """It isn't written again, so an answer is shown alone."""
         self.make()
         terminal = self.terminal()
         terminal.sees("t>")
@@ -133,7 +133,7 @@ class Lines(Case):
         self.assertEqual(self.pairs(), [(f"one{LINE_END}two{LINE_END}{LINE_END}  three", "one\ntwo\n\n  three")])
 
     def test_long_lines(self) -> None:
-        """One that takes several rows is written anew as well, and of one that just fills its row the prompt alone is told, where that is another."""
+        """One that takes several rows is written again as well, and of one that just fills its row the prompt alone is shown, where that is another."""
         self.make()
         terminal = self.terminal(columns=20)
         terminal.sees("t>")
@@ -205,7 +205,7 @@ class Lines(Case):
         terminal.sees(r"^2\] first again\nfirst again\n3\]\Z")
         terminal.send(f"%session u {' '.join(INTERPRETER)}\r")
         terminal.sees(r"^u>\Z")
-        terminal.send("\x1b[Anew\r")
+        terminal.send("\x1b[A" + "new\r")
         terminal.sees(r"^1\] new\nnew\nu>\Z")
 
     def test_a_lost_answer(self) -> None:
@@ -258,8 +258,8 @@ class Control(Case):
             terminal.sees("Tester" if number == 1 else r"interrupted\n")
             time.sleep(0.7)
             terminal.send("\x03")
-            told = r"1\]\n" if number == 1 else ""  # the second line was typed at its prompt
-            terminal.sees(rf"interrupt: sent.*\n{told}interrupted\n{number + 1}\]\Z")
+            reported = r"1\]\n" if number == 1 else ""  # the second line was typed at its prompt
+            terminal.sees(rf"interrupt: sent.*\n{reported}interrupted\n{number + 1}\]\Z")
         terminal.send("count\r")
         terminal.sees(r"^3\] count\n2\n4\]\Z")
 
@@ -402,7 +402,7 @@ class Completions(Case):
         self.make(True)
         terminal = self.terminal()
         terminal.sees("t>")
-        # The first TAB starts the interpreter, whose prompt is known behind the next line.
+        # The first TAB starts the interpreter, whose prompt is known after the next line.
         for prompt, end, shows in (("t>", "\x03", r"\nt>\Z"), ("t>", "\x15%list\r", r"^t> %list\n1\]\Z"), (r"1\]", "\x15\x04", "")):
             terminal.send("lo\t")
             terminal.sees(rf"^{prompt} loop\Z")

@@ -5,7 +5,7 @@ from .support import Screen  # the module puts the packages on the path
 
 from tmhost import Completions
 from tmhost_repl.completion import matches
-from tmhost_repl.texts import behind, columns, harmless, rows
+from tmhost_repl.texts import after, columns, harmless, rows
 
 
 class Texts(unittest.TestCase):
@@ -37,9 +37,9 @@ class Texts(unittest.TestCase):
             self.assertEqual(rows(text, 10), expected, repr(text))
         self.assertEqual(columns("\u4e2da"), 3)
 
-    def test_behind(self) -> None:
-        self.assertEqual(behind("In 1] ", "a\nb"), "a\n      b")
-        self.assertEqual(behind("first\n> ", "a\nb"), "a\n  b")
+    def test_after(self) -> None:
+        self.assertEqual(after("In 1] ", "a\nb"), "a\n      b")
+        self.assertEqual(after("first\n> ", "a\nb"), "a\n  b")
 
     def test_matches(self) -> None:
         self.assertEqual(matches(Completions("pri", ("nt(", "or")), "len(pri"), ["len(print(", "len(prior"])

@@ -113,7 +113,7 @@ class Commands:
         return [cell.id for cell in cells if sessions[cell.field.session].words != PROSE]
 
     def _evaluate(self, ids: List[int]) -> None:
-        """One after another: an interpreter that ends takes the answer of one field alone, and those behind it keep theirs, since they
+        """One after another: an interpreter that ends takes the answer of one field alone, and those after it keep theirs, since they
         would be evaluated without the variables of the ones before."""
         for place, id in enumerate(ids):
             cell = self.worksheet.cell(id)
@@ -126,9 +126,9 @@ class Commands:
                 return
 
     def _help(self, words: List[str]) -> None:
-        rows = [(f"{name} {usage}".rstrip(), told) for name, (_, usage, _, _, told) in self._table.items()]
+        rows = [(f"{name} {usage}".rstrip(), reported) for name, (_, usage, _, _, reported) in self._table.items()]
         width = max(len(row[0]) for row in rows)
-        self.console.show("\n".join(f"{left.ljust(width)}  {told}" for left, told in rows))
+        self.console.show("\n".join(f"{left.ljust(width)}  {reported}" for left, reported in rows))
         self.console.show(
             "A line that ends in a backslash goes on with the next one, and what is pasted is one input. Control-C interrupts what\n"
             "runs, and a second one asks to stop it. A space in front of such a word sends the line to the interpreter."

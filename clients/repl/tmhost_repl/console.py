@@ -7,7 +7,7 @@ from typing import Optional
 
 from tmhost import Answer, Field, Text
 
-from .texts import behind, columns, cut, harmless, last_line, rows
+from .texts import after, columns, cut, harmless, last_line, rows
 
 BOLD, FAINT, ERROR = 1, 2, 31  # the styles of a prompt, of a note, and, in red, of a mark
 READLINE_HIDES = "\x01{}\x02"  # around what takes no room in a prompt of readline
@@ -61,7 +61,7 @@ class Console:
         """A field with all that it has."""
         self.show(f"#{field.id} {field.session}")
         prompt = field.answer.prompt if field.answer else "> "
-        self.show(harmless(prompt) + behind(harmless(prompt), harmless(field.input)))
+        self.show(harmless(prompt) + after(harmless(prompt), harmless(field.input)))
         if field.answer:
             self.show(harmless(field.answer.brief))
             if field.answer.errors:
@@ -102,7 +102,7 @@ class Typed:
 
 class Terminal(Console):
     """Where a line was typed at the prompt that its answer tells, it stays as it is. Else that prompt takes the place of the other one: the line is
-    written anew, where it is sure which rows of the screen it has."""
+    written again, where it is sure which rows of the screen it has."""
 
     is_terminal = True
 
@@ -124,9 +124,9 @@ class Terminal(Console):
         )
         return text
 
-    def prompt(self, name: str, told: Optional[Text]) -> str:
-        """The prompt that an interpreter has told, where it has one that is plainly seen on a part of a row; else the name of its session."""
-        text = harmless(told) if told else ""
+    def prompt(self, name: str, reported: Optional[Text]) -> str:
+        """The prompt that an interpreter has reported, where it has one that is plainly seen on a part of a row; else the name of its session."""
+        text = harmless(reported) if reported else ""
         return text if text.strip() and 0 < (columns(text) or 0) <= min(WIDEST, self._size().columns // 2) else f"{name}> "
 
     def begin(self) -> None:
@@ -136,7 +136,7 @@ class Terminal(Console):
     def evaluating(self, field: Field, prompt: Optional[Text]) -> None:
         self.show(f"#{field.id} {field.session}")
         front = "> " if prompt is None else harmless(prompt)
-        self._put(Typed(front, behind(front, harmless(field.input)), self._size()))
+        self._put(Typed(front, after(front, harmless(field.input)), self._size()))
 
     def show(self, text: str) -> None:
         if text:
@@ -174,7 +174,7 @@ class Terminal(Console):
 
     def answer(self, input: str, answer: Answer) -> None:
         prompt = harmless(answer.prompt)
-        text = behind(prompt, harmless(input))
+        text = after(prompt, harmless(input))
         last = self._last
         if prompt.strip() and not (last and (last.prompt, last.text) == (prompt, text)):
             if self._take_off():
@@ -188,9 +188,9 @@ class Terminal(Console):
         self._typed = None
         termios.tcflush(0, termios.TCIFLUSH)  # what was typed before the question isn't its answer
         while True:
-            told = self._ask(question + " ").strip().lower()[:1]
-            if told and told in keys:
-                return told
+            reported = self._ask(question + " ").strip().lower()[:1]
+            if reported and reported in keys:
+                return reported
 
     def close(self) -> None:
         self._echo(True)

@@ -29,7 +29,7 @@ class Interrupt:
 
 @contextlib.contextmanager
 def control_c_raises() -> Iterator[None]:
-    """While the user is asked for something, control-C is a KeyboardInterrupt. Where it is ignored, as behind `&`, it stays so."""
+    """While the user is asked for something, control-C is a KeyboardInterrupt. Where it is ignored, as after `&`, it stays so."""
     before = signal.getsignal(signal.SIGINT)
     if before is not signal.SIG_IGN:
         signal.signal(signal.SIGINT, signal.default_int_handler)
@@ -40,15 +40,15 @@ def control_c_raises() -> Iterator[None]:
 
 
 class Evaluator:
-    """Takes what the worksheet tells, in its order, and shows it. An answer is on the disk when it is told."""
+    """Takes what the worksheet tells, in its order, and shows it. An answer is on the disk when it is reported."""
 
     def __init__(self, worksheet: Worksheet, console: Console) -> None:
         self.worksheet, self.console = worksheet, console
         self.was_interrupted = False  # the line that was evaluated last
         self._happenings: "queue.SimpleQueue[Union[Event, Interrupt]]" = queue.SimpleQueue()
-        # How many ends of evaluations are to be told of each cell. An event may come late, when the cell is evaluated again already.
+        # How many ends of evaluations are to be reported of each cell. An event may come late, when the cell is evaluated again already.
         self._owed: Counter[int] = collections.Counter()
-        # Of each session how many lines are to be answered, and the prompt that was told last.
+        # Of each session how many lines are to be answered, and the prompt that was reported last.
         self._asked: Counter[str] = collections.Counter()
         self._next: Dict[str, Optional[Text]] = {}
         self._interrupted_at = float("-inf")
@@ -73,8 +73,8 @@ class Evaluator:
         self._happenings.put(Interrupt())
 
     def next_prompt(self, session: str) -> Optional[Text]:
-        """The prompt of the next line of a session, where its interpreter has told that and still runs. While a line is left running, the last one that
-        was told is the prompt of that line."""
+        """The prompt of the next line of a session, where its interpreter has reported that and still runs. While a line is left running, the last one that
+        was reported is the prompt of that line."""
         is_idle = not self._asked[session] and self.worksheet.sessions[session].life is not None
         return self._next.get(session) if is_idle else None
 
@@ -166,7 +166,7 @@ class Evaluator:
     # ---- control-C
 
     def _interrupt(self, cell: Cell) -> Optional[Outcome]:
-        """The first interrupts, and a second one soon behind it asks to stop."""
+        """The first interrupts, and a second one soon after it asks to stop."""
         self.was_interrupted = True
         is_again = time.monotonic() - self._interrupted_at < AGAIN
         self._interrupted_at = time.monotonic()

@@ -30,7 +30,7 @@ def options(words: List[str]) -> argparse.Namespace:
     parser.add_argument("sheet", metavar="SHEET", help="the file of the worksheet")
     parser.add_argument("session", metavar="SESSION", nargs="?", help="the session that the lines go to, where the worksheet hasn't just one")
     more = parser.add_argument("words", metavar="WORDS", nargs=argparse.REMAINDER, help="what starts its interpreter, where the session is new")
-    more.required = False  # as it is told where nothing is given
+    more.required = False  # as the message says where nothing is given
     return parser.parse_args(words)
 
 
@@ -134,12 +134,12 @@ def main(words: List[str]) -> int:
         if signal.getsignal(number) is not signal.SIG_IGN:
             signal.signal(number, end_in_order)
     try:
-        return told(given, console)
+        return reported(given, console)
     finally:
         console.close()
 
 
-def told(given: argparse.Namespace, console: Console) -> int:
+def reported(given: argparse.Namespace, console: Console) -> int:
     """Does the work, and says why where it can't be done; gives the status."""
     try:
         return work(given, console)

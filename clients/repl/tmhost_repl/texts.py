@@ -61,7 +61,7 @@ def rows(text: str, width: int) -> Optional[int]:
     return total
 
 
-def behind(prompt: str, text: str) -> str:
-    """An input as it stands behind its prompt, its further lines below its first one."""
+def after(prompt: str, text: str) -> str:
+    """An input as it stands after its prompt, its further lines below its first one."""
     indent = " " * len(prompt.rsplit("\n", 1)[-1])
     return text.replace("\n", "\n" + indent)

@@ -59,7 +59,7 @@ class Texts(unittest.TestCase):
         self.assertEqual(read(fence + error + "\n" + answer), [("1", "2")])
         self.assertEqual(read(fence + error + fence), [(None, "2"), (None, None)])
         for text in (error, fence + "Words.\n\n" + error, fence + error + error):
-            with self.assertRaisesRegex(Trouble, "an error stands behind no case"):
+            with self.assertRaisesRegex(Trouble, "an error stands after no case"):
                 read(text)
         with self.assertRaisesRegex(Trouble, "`errors` can only be `apart`"):
             Text("suite.md", "---\nsessions: {a: [x]}\nerrors: none\n---\n" + fence)

@@ -11,7 +11,7 @@ from .support import LIMIT, PROGRAM, ROOT, Case
 
 
 def command_in(name: str, key: str) -> str:
-    """The last command behind this key of a nightly file."""
+    """The last command after this key of a nightly file."""
     with open(os.path.join(ROOT, "examples/suite", name), encoding="utf-8") as file:
         return [line.partition(key)[2].strip() for line in file if line.lstrip().startswith(key)][-1]
 
@@ -47,8 +47,8 @@ class Example(Case):
         with open(os.path.join(self.folder, "../python.py"), "w", encoding="utf-8") as file:
             file.write(text.replace("repr(value)", "str(value)"))
         ran = self.run_suite("python.md")
-        told = 'differs: python.md:33 "a" + "b"\n  @@ -1 +1 @@\n  -\'ab\'\n  +ab\n10 ok, 1 xfail, 1 skip, 1 differs'
-        self.assertEqual((ran.status, ran.output.partition(" in ")[0]), (1, told))
+        reported = 'differs: python.md:33 "a" + "b"\n  @@ -1 +1 @@\n  -\'ab\'\n  +ab\n10 ok, 1 xfail, 1 skip, 1 differs'
+        self.assertEqual((ran.status, ran.output.partition(" in ")[0]), (1, reported))
 
     def run_nightly(self, command: str, **variables: str) -> str:
         """What a step of a nightly file prints where the suite's folder is `examples/suite`; one case differs."""

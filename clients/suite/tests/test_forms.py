@@ -55,7 +55,7 @@ class Forms(Case):
         return folder
 
     def points(self, path: str) -> List[str]:
-        """The lines of TAP that are points, and what else was told."""
+        """The lines of TAP that are points, and what else was reported."""
         self.outcome = self.run_suite(path, "--tap", self.place("tap"))
         return [line for line in self.read(self.place("tap")).splitlines() if line.startswith(("ok", "not ok", "1.."))]
 
@@ -216,7 +216,7 @@ class Notebooks(Forms):
         whole["cells"] = [prose[0], first, prose[1], second, prose[2], third, prose[3], raw]
         self.put("a.ipynb", json.dumps(whole))
         why = "of prose, left out, since with it the text would have other cases"
-        text = self.convert(path, ": 2 lines of raw cells, which are no Markdown, left out", f":4: in front of this case 2 lines {why}", f": behind the last case 3 lines {why}")
+        text = self.convert(path, ": 2 lines of raw cells, which are no Markdown, left out", f":4: in front of this case 2 lines {why}", f": after the last case 3 lines {why}")
         self.assertTrue("\n# Title\n" in text and "\nKept.\n\nToo.\n" in text, text)
         self.assertEqual(self.verdicts(self.put("a.md", text)), ["ok", "differs", "ok"], text)
 

@@ -39,7 +39,7 @@ class Random(Case):
 
     def said(self) -> str:
         lines = ["".join(self.random.choices(LETTERS, k=self.random.randint(1, 12))) for _ in range(self.random.randint(1, 3))]
-        # An answer is compared without line ends behind it, and a line that reads as a pattern would be one.
+        # An answer is compared without line ends after it, and a line that reads as a pattern would be one.
         return "\\n".join(line.strip(" .") or "z" for line in lines)
 
     def session(self) -> List[Tuple[str, str, str]]:

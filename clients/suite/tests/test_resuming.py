@@ -1,5 +1,6 @@
 """A run that was cut off goes on where it was, and reports what one in one piece does. TMHOST_KILLS says how many runs are killed."""
 import contextlib
+import json
 import os
 import random
 import signal
@@ -8,8 +9,10 @@ import sys
 import time
 from typing import List, Tuple
 
-from .support import Case, case, environment, heed_interrupts, words
+from .support import PROGRAM, Case, case, environment, heed_interrupts, words  # the module puts the packages on the path
 from .values import expected
+
+from tmhost import Worksheet
 
 # It writes two long texts in turn, as `--accept` writes one.
 WRITER = "import itertools, sys; from tmhost_weave.files import put; print('writes', flush=True); [put(sys.argv[1], letter * 300000) for letter in itertools.cycle([b'a', b'b'])]"
@@ -72,7 +75,15 @@ class Resuming(Case):
         os.unlink(self.place("a.log"))
         self.assertEqual(self.verdicts(self.path, "--resume"), ["ok"] * 3)
         self.assertEqual(self.log("a"), [])
-        self.assertIn("goes on behind 3 of 3 cases", self.outcome.output)
+        self.assertIn("goes on after 3 of 3 cases", self.outcome.output)
+
+    def test_a_run_of_an_earlier_version_goes_on(self) -> None:
+        """What is noted of a case has the names that it always had."""
+        self.write(case("say 1", "1"))
+        self.assertEqual(self.verdicts(self.path), ["ok"])
+        with Worksheet(self.path + ".run", program=PROGRAM) as sheet:
+            note = json.loads(sheet.cells[-1].input)
+        self.assertEqual(set(note) - {"digest"}, {"case", "seconds", "tries", "began_anew", "is_error", "is_lost", "verdict"})
 
     def test_an_interrupt_ends_it_and_it_goes_on(self) -> None:
         self.write(case("say 1", "1"), case("sleep 20"), case("sleep 20", info="b"))
@@ -92,7 +103,7 @@ class Resuming(Case):
         left = subprocess.run(["pgrep", "-f", self.place("a.log")], capture_output=True, text=True).stdout
         self.assertEqual(left, "")
         ran = self.run_suite(self.path, "--resume", "--only", "say 1")
-        self.assertIn("goes on behind 1 of 3 cases", ran.output)
+        self.assertIn("goes on after 1 of 3 cases", ran.output)
 
     def test_a_long_answer_before_the_time_is_over(self) -> None:
         said = "\U0001f600" * 600
@@ -100,7 +111,7 @@ class Resuming(Case):
         self.write(case("say 1", "1"), case(f"say {said}\nstuck", f"{said}\n? over 2 s", "a {timeout 2}"))
         self.assertEqual(self.verdicts(self.path), ["ok"] * 2)
         self.assertEqual(self.verdicts(self.path, "--resume"), ["ok"] * 2)
-        self.assertIn("goes on behind 2 of 2 cases", self.outcome.output)
+        self.assertIn("goes on after 2 of 2 cases", self.outcome.output)
 
     def test_other_code_is_refused(self) -> None:
         self.write(case("say 1", "1"))

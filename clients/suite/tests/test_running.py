@@ -247,8 +247,8 @@ class Reports(Case):
         self.assertTrue(points[1].startswith(f"not ok 2 - {self.path}:17 "))
         self.assertEqual(points[2:], [f"not ok 3 - {self.path}:27 say 5 # TODO n#t", f"ok 4 - {self.path}:37 x # SKIP"])
 
-    def test_errors_are_told(self) -> None:
-        """An answer that its interpreter reports as an error is told as one, wanted or not, also by a run that goes on."""
+    def test_errors_are_reported(self) -> None:
+        """An answer that its interpreter reports as an error is reported as one, wanted or not, also by a run that goes on."""
         self.write(case("error a\\n|no", "a\nno"), case("error |way", "none"), case("say none", "way"), case("error |new"))
         found = self.objects(self.path)
         self.assertEqual([(one["verdict"], one["isError"]) for one in found], [("ok", True), ("differs", True), ("differs", False), ("new", True)])
@@ -305,7 +305,7 @@ class Reports(Case):
         self.run_suite(self.path, "--gitlab", report)
         self.assertEqual([one["location"]["lines"]["begin"] for one in json.loads(self.read(report))], [17])
 
-    def test_rules_that_find_nothing_are_told(self) -> None:
+    def test_rules_that_find_nothing_are_reported(self) -> None:
         self.write(case("say 0x12", "0xff"), more="normal: {'0x[0-9a-f]+': N, 'never': M}\n")
         ran = self.run_suite(self.path, "--verbose")
         self.assertEqual(ran.status, 0)

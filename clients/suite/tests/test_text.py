@@ -19,7 +19,7 @@ class Reading(unittest.TestCase):
         self.assertEqual([(one.session, one.lines, one.wanted, one.line) for one in found], [("a", ("x",), "1\n2", 6), ("b", ("y", "", "z"), None, 15)])
 
     def test_a_fence_with_the_name_of_an_adapter(self) -> None:
-        """Its author may have meant the session that this starts, so it is told."""
+        """Its author may have meant the session that this starts, so it is reported."""
         found = read("```python\nx\n```\n\n```json\n1\n```\n", "---\nsessions: {py: [tmhost-python], a: [x]}\n---\n")
         self.assertEqual(found.doubts, ["suite.md: line 4: no session has the name 'python' of this fence, which is no case: is py meant?"])
 
@@ -58,7 +58,7 @@ class Reading(unittest.TestCase):
             ("```a {normal x}\nx\n```\n", "nothing that normal can have"),
             ("```a {normal [ x}\nx\n```\n", "nothing that normal can have"),
             ("```a {timeout soon}\nx\n```\n", "line 4: 'soon' is nothing that timeout can have"),
-            ("```a\nx\n```\n\nWords.\n\n```answer\n1\n```\n", "line 10: an answer stands behind no case"),
+            ("```a\nx\n```\n\nWords.\n\n```answer\n1\n```\n", "line 10: an answer stands after no case"),
             ("```a\nx\n", "the fence in line 4 isn't closed"),
             ("```a\n\n```\n", "line 4: the case has no code"),
         ):

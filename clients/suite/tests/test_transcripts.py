@@ -15,7 +15,7 @@ gap> l := [1, 2,
 gap> Print("a\\n\\n#b\\n");
 a
 
-# A remark behind an empty line,
+# A remark after an empty line,
 # and one more.
 
 # And one more.

@@ -1,1 +1,1 @@
-"""Test suites of interpreters that are texts: code in fences, and what is wanted behind each."""
+"""Test suites of interpreters that are texts: code in fences, and what is wanted after each."""

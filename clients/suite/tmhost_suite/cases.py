@@ -29,12 +29,12 @@ class Marks:
     flaky: int = 0
     any_spaces: bool = False
     tolerance: Optional[Tuple[Decimal, Decimal]] = None  # relative and absolute, in place of those of the suite
-    normal: Tuple[Normal, ...] = ()  # behind those of the suite
+    normal: Tuple[Normal, ...] = ()  # after those of the suite
 
 
 @dataclasses.dataclass(frozen=True)
 class Case:
-    """`line` is that of its fence, from 1. `wanted` and `errors` are None where the text has no answer behind it, and no errors apart. `before`
+    """`line` is that of its fence, from 1. `wanted` and `errors` are None where the text has no answer after it, and no errors apart. `before`
     is the prose in front of it, of a suite of another form; `is_own` says that it stands in no such suite, but does what the program of that form does
     around it: it is no case that is counted."""
 
@@ -68,7 +68,7 @@ class Suite:
     rules: Rules
     timeout: Optional[float]
     cases: Tuple[Case, ...]
-    after: str = ""  # the prose behind the last case, of a suite of another form
+    after: str = ""  # the prose after the last case, of a suite of another form
     left_out: Tuple[str, ...] = ()  # what such a suite has besides, which its text form doesn't get, in words
     doubts: Tuple[str, ...] = ()  # what may not be meant as it stands
     folder: Optional[str] = None  # in which its interpreters are started; None: where tmhost-suite was

@@ -11,7 +11,7 @@ Line = Tuple[str, str]  # as it is shown, and as it is compared
 
 
 def diff(wanted: Optional[str], came: str, rules: Rules, what: str) -> List[str]:
-    """A unified diff, with two lines of head. `what` stands behind the names of the texts."""
+    """A unified diff, with two lines of head. `what` stands after the names of the texts."""
     lines, others = lines_of(wanted or "", came, rules)
     one = joined(lines, others, rules) if wanted is not None else []
     other = [shown for shown, _ in others] if came or not what else []
@@ -28,7 +28,7 @@ def lines_of(wanted: str, came: str, rules: Rules) -> Tuple[List[Line], List[Lin
 
 
 def joined(lines: List[Line], others: List[Line], rules: Rules) -> List[str]:
-    """The wanted lines, and in place of those that go with what came, what they go with. What stands before the first `...`, and behind the
+    """The wanted lines, and in place of those that go with what came, what they go with. What stands before the first `...`, and after the
     last one, belongs to the beginning and to the end of what came."""
     gaps = [at for at, (_, compared) in enumerate(lines) if compared == ANY_LINES]
     if not gaps or gaps[0] + len(lines) - gaps[-1] - 1 > len(others):

@@ -27,7 +27,7 @@ PATIENCE, PAUSE = 10.0, 0.05  # seconds; the program of a run that was killed ne
 class Result:
     """What came of a case. `got` is what is compared, and `errors` are those that are apart; `tries` is how often it was evaluated; `began_anew` says that its interpreter was
     started for it, other than for the first case of its session; `is_error` that an answer is an error, or has one; `is_lost` that a field has no
-    answer."""
+    answer. These names are those in the notes of a run, which may be one of an earlier version that was broken off: so they stay."""
 
     got: str
     seconds: float

@@ -13,7 +13,7 @@ BRACES = re.compile(r"\{([^{}]*)\}")
 MOST_SECONDS = 1_000_000
 MOST_TRIES = 100
 
-Mark = Tuple[str, str]  # its name, and what stands behind it
+Mark = Tuple[str, str]  # its name, and what stands after it
 
 
 def session_in(info: str) -> Optional[str]:
@@ -27,7 +27,7 @@ def session_in(info: str) -> Optional[str]:
 
 
 def of_pandoc(found: str) -> Iterator[Mark]:
-    """The classes and pairs behind the first class: `.setup`, `timeout=5`, `xfail="a reason"`."""
+    """The classes and pairs after the first class: `.setup`, `timeout=5`, `xfail="a reason"`."""
     for word in shlex.split(found)[1:]:
         name, _, rest = word.lstrip(".").partition("=")
         yield name, rest

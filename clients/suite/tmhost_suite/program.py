@@ -19,17 +19,17 @@ from . import kept as worksheets
 from . import reports
 from .cases import Case, Suite
 from .marks import seconds
-from .reports import FORMATS, Told, told_of
+from .reports import FORMATS, Reported, reported_of
 from .rules import as_wanted
 from .running import PASSED, Plan, run
 from .telling import Teller, standard
 from .readers import as_text, read_other
 from .text import Text, names_sessions
 
-ABOUT = "Runs test suites that are texts: evaluates the code in their fences, and compares what comes with the answers behind them."
+ABOUT = "Runs test suites that are texts: evaluates the code in their fences, and compares what comes with the answers after them."
 NOTES = """
 The front matter of SUITE names the sessions, as `sessions: {py: [tmhost-python]}`, and may have `normal`, `tolerance` and
-`timeout`. A fence of a session is a case, and a fence `answer` behind it what is wanted. Behind the session may stand {setup},
+`timeout`. A fence of a session is a case, and a fence `answer` after it what is wanted. After the session may stand {setup},
 {teardown}, {xfail REASON}, {may_fail REASON}, {skip REASON}, {timeout SECONDS}, {tags A B}, {flaky N}, {whole} and others
 (clients/suite/README.md).
 What came is kept in the worksheet SUITE.run while the suite runs, so --resume goes on where a run was cut off.
@@ -157,18 +157,18 @@ class Runner:
         began = time.monotonic()
         with ThreadPoolExecutor(max(1, min(len(suites), self.given.jobs))) as pool:
             try:
-                told = [one for found in pool.map(lambda pair: self._run_one(*pair), suites) for one in found]
+                reported = [one for found in pool.map(lambda pair: self._run_one(*pair), suites) for one in found]
             except BaseException:
                 self._break_off()
                 raise
         self.teller.end_progress()
-        self._tell(told, time.monotonic() - began)
-        self._write_reports(told)
+        self._tell(reported, time.monotonic() - began)
+        self._write_reports(reported)
         for trouble in self.troubles:
             print(f"tmhost-suite: {trouble.path}: {trouble.why}", file=sys.stderr)
         if not self.chosen and parts == 1 and (self.given.only or self.given.tags):
             raise Trouble("no case is one of those that are to be run")
-        return not self.troubles and all(one.verdict in PASSED or one.verdict == "out" for one in told)
+        return not self.troubles and all(one.verdict in PASSED or one.verdict == "out" for one in reported)
 
     def _break_off(self) -> None:
         """Ends what runs, at once: what is done stands in the worksheets, and another run goes on from there."""
@@ -178,18 +178,18 @@ class Runner:
             sheet.close(0)
 
     def _read(self, path: str) -> Optional[Read]:
-        with self._told_of(path):
+        with self._reported_of(path):
             return read(path, self.given.words)
         return None
 
-    def _run_one(self, suite: Suite, text: Optional[Text]) -> List[Told]:
-        with self._told_of(suite.path):
+    def _run_one(self, suite: Suite, text: Optional[Text]) -> List[Reported]:
+        with self._reported_of(suite.path):
             return self._run_suite(suite, text)
         return []
 
     @contextlib.contextmanager
-    def _told_of(self, path: str) -> Iterator[None]:
-        """What goes wrong with a suite is told at the end, and the others are run."""
+    def _reported_of(self, path: str) -> Iterator[None]:
+        """What goes wrong with a suite is reported at the end, and the others are run."""
         try:
             yield
         except (Trouble, TmhostError, OSError) as trouble:
@@ -197,7 +197,7 @@ class Runner:
             if not self.is_broken_off.is_set():
                 self.troubles.append(reports.Trouble(path, why or str(trouble)))
 
-    def _run_suite(self, suite: Suite, text: Optional[Text]) -> List[Told]:
+    def _run_suite(self, suite: Suite, text: Optional[Text]) -> List[Reported]:
         path = worksheets.sheet_path(suite.path, self.given.runs)
         if self.is_broken_off.is_set():
             return []
@@ -208,37 +208,37 @@ class Runner:
         found = worksheets.resume(path, suite) if self.given.resume else None
         if found is not None:
             done = sum(not suite.cases[at].is_own for at in found.results)
-            self.teller.say(f"{suite.path}: goes on behind {done} of {suite.count} cases")
+            self.teller.say(f"{suite.path}: goes on after {done} of {suite.count} cases")
         kept = found or worksheets.begin(path, suite)
         with kept.sheet:
             self.sheets.append(kept.sheet)
             plan = Plan(chosen, self.given.seconds, self.slots, self.ended, self.is_broken_off, self.given.fail_fast, self.seed)
             run(kept, plan, lambda at: self.teller.one_more())
-        told = told_of(suite, kept.results, chosen)
+        reported = reported_of(suite, kept.results, chosen)
         self.troubles += reports.broken_in(suite, kept.results)
         if self.given.accept:
-            with self._told_of(suite.path):
-                self._accept(text, told)
-        return told
+            with self._reported_of(suite.path):
+                self._accept(text, reported)
+        return reported
 
     # ---- what is accepted
 
-    def _accept(self, text: Optional[Text], told: List[Told]) -> None:
+    def _accept(self, text: Optional[Text], reported: List[Reported]) -> None:
         if text is None:
             raise Trouble("nothing is accepted into a file of this form: --convert writes the text form")
         answers: Dict[int, str] = {}
         errors: Dict[int, str] = {}
-        wrong = [at for at, one in enumerate(told) if one.verdict in ("differs", "new")]
-        lost = [] if self.given.interactive else [at for at in wrong if told[at].is_lost]
+        wrong = [at for at, one in enumerate(reported) if one.verdict in ("differs", "new")]
+        lost = [] if self.given.interactive else [at for at in wrong if reported[at].is_lost]
         if lost:
             self.accepted.append(f"{text.suite.path}: {len(lost)} not accepted, since no answer came to a field")
-        accepted = [at for at in wrong if (self._is_wanted(told[at]) if self.given.interactive else at not in lost)]
+        accepted = [at for at in wrong if (self._is_wanted(reported[at]) if self.given.interactive else at not in lost)]
         for at in accepted:
-            case, rules = told[at].case, text.suite.rules_of(told[at].case)
-            if not rules.is_wanted(case.wanted, told[at].got, set()):
-                answers[at] = "\n".join(as_wanted(told[at].got))
-            if rules.apart and not rules.is_wanted(case.errors, told[at].errors, set()):
-                errors[at] = "\n".join(as_wanted(told[at].errors))
+            case, rules = reported[at].case, text.suite.rules_of(reported[at].case)
+            if not rules.is_wanted(case.wanted, reported[at].got, set()):
+                answers[at] = "\n".join(as_wanted(reported[at].got))
+            if rules.apart and not rules.is_wanted(case.errors, reported[at].errors, set()):
+                errors[at] = "\n".join(as_wanted(reported[at].errors))
         if not accepted:
             return
         new = text.checked(answers, errors)
@@ -248,36 +248,36 @@ class Runner:
         put(os.path.realpath(text.suite.path), new.encode("utf-8"))
         self.accepted.append(f"{text.suite.path}: {len(accepted)} accepted")
 
-    def _is_wanted(self, told: Told) -> bool:
+    def _is_wanted(self, reported: Reported) -> bool:
         self.teller.end_progress()
-        self.teller.tell(told)
+        self.teller.tell(reported)
         self.teller.out.write("accept this? [y/N] ")
         self.teller.out.flush()
         return sys.stdin.readline().strip().lower() in ("y", "yes")
 
-    # ---- what is told
+    # ---- what is reported
 
-    def _tell(self, told: List[Told], taken: float) -> None:
-        for one in told:
+    def _tell(self, reported: List[Reported], taken: float) -> None:
+        for one in reported:
             if one.is_wrong:
                 self.teller.tell(one)
             elif self.given.verbose and one.verdict != "out":
                 self.teller.tell(one)
                 self.teller.tell_normalised(one)
         if self.given.slowest:
-            self.teller.tell_slowest(told, self.given.slowest)
-        self.teller.tell_silent_sessions(told)
-        self.teller.tell_idle_rules(told)
-        self.teller.tell_counts(told, taken)
+            self.teller.tell_slowest(reported, self.given.slowest)
+        self.teller.tell_silent_sessions(reported)
+        self.teller.tell_idle_rules(reported)
+        self.teller.tell_counts(reported, taken)
         for line in self.accepted:
             self.teller.say(line)
 
-    def _write_reports(self, told: List[Told]) -> None:
+    def _write_reports(self, reported: List[Reported]) -> None:
         for name, write in FORMATS.items():
             path: Optional[str] = getattr(self.given, name)
             if path is None:
                 continue
-            text = "".join(line + "\n" for line in write(told, self.troubles))
+            text = "".join(line + "\n" for line in write(reported, self.troubles))
             if path == "-":
                 sys.stdout.write(text)
             else:

@@ -56,7 +56,7 @@ def docstrings(text: str) -> Iterator[Tuple[str, int]]:
 
 
 def examples(session: str, text: str, first: int, before: str) -> Tuple[List[Case], str]:
-    """The examples of a text behind the prose `before`, and the prose behind the last one."""
+    """The examples of a text after the prose `before`, and the prose after the last one."""
     cases: List[Case] = []
     prose = [before]
     for part in doctest.DocTestParser().parse(text):
@@ -171,7 +171,7 @@ def text_in(value: Any) -> str:
 
 def output_of(output: Dict[str, Any], language: str) -> str:
     """An output as the adapters show it: a formula, or plain text; pictures are left out. Of an error its last line is wanted; kernels of other
-    languages than Python's name it in their own words, in which it is what stands behind the last colon."""
+    languages than Python's name it in their own words, in which it is what stands after the last colon."""
     kind = output.get("output_type")
     if kind == "stream":
         return text_in(output.get("text")).replace("\r\n", "\n").rstrip("\n")  # some kernels speak by a terminal
@@ -228,7 +228,7 @@ def notebook_case(session: str, cell: Dict[str, Any], language: str, number: int
 
 
 def notebook_cases(session: str, cells: List[Dict[str, Any]], language: str) -> Tuple[List[Case], str]:
-    """The cases, and the prose behind them."""
+    """The cases, and the prose after them."""
     cases: List[Case] = []
     prose: List[str] = []
     for number, cell in enumerate(cells, 1):
@@ -346,14 +346,14 @@ def as_text(suite: Suite) -> Tuple[str, List[str]]:
         for at, before in enumerate(prose):
             first = max(0, at - 1)
             if not takes_no_case(front, ["", before, ""] if at else [before, ""], cases[first : at + 1]):
-                place = f"{suite.path}:{suite.cases[at].line}: in front of this case" if at < len(cases) else f"{suite.path}: behind the last case"
+                place = f"{suite.path}:{suite.cases[at].line}: in front of this case" if at < len(cases) else f"{suite.path}: after the last case"
                 said.append(f"{place} {lines_of(before.count(chr(10)) + 1, 'prose')}, left out, since with it the text would have other cases")
                 prose[at] = ""
     return joined_text(front, prose, cases), said
 
 
 def joined_text(front: List[str], prose: List[str], cases: List[List[str]]) -> str:
-    """The text of these cases, each behind its prose; the last prose stands behind them all."""
+    """The text of these cases, each after its prose; the last prose stands after them all."""
     lines = list(front)
     for before, case in itertools.zip_longest(prose, cases, fillvalue=""):
         lines += [before, "", *case] if before else case

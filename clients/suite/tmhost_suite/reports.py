@@ -23,7 +23,7 @@ def readable(text: str) -> str:
 
 
 @dataclasses.dataclass(frozen=True)
-class Told:
+class Reported:
     """A case with what came of it. One that was skipped or not reached has no result."""
 
     suite: Suite
@@ -82,7 +82,7 @@ class Told:
 
     @functools.cached_property
     def diff(self) -> List[str]:
-        """From what was wanted to what came, and behind that the same of errors that are apart."""
+        """From what was wanted to what came, and after that the same of errors that are apart."""
         if not self.is_wrong or self.verdict == "xpass":
             return []
         found = self._diff_of(self.case.wanted, self.got, "")
@@ -102,23 +102,23 @@ class Trouble(NamedTuple):
     why: str
 
 
-def paths_in(all_told: List[Told], troubles: List[Trouble]) -> List[str]:
-    return list(dict.fromkeys([*(told.suite.path for told in all_told), *(trouble.path for trouble in troubles)]))
+def paths_in(all_reported: List[Reported], troubles: List[Trouble]) -> List[str]:
+    return list(dict.fromkeys([*(reported.suite.path for reported in all_reported), *(trouble.path for trouble in troubles)]))
 
 
-def of_path(all_told: List[Told], path: str) -> List[Told]:
-    return [told for told in all_told if told.suite.path == path]
+def of_path(all_reported: List[Reported], path: str) -> List[Reported]:
+    return [reported for reported in all_reported if reported.suite.path == path]
 
 
-def told_of(suite: Suite, results: "dict[int, Result]", is_chosen: Callable[[int, Case], bool]) -> List[Told]:
-    told: List[Told] = []
+def reported_of(suite: Suite, results: "dict[int, Result]", is_chosen: Callable[[int, Case], bool]) -> List[Reported]:
+    reported: List[Reported] = []
     for at, case in enumerate(suite.cases):
         if case.is_own:
             continue
         result = results.get(at)
         verdict = "skip" if case.marks.skip is not None and is_chosen(at, case) else result.verdict if result else "out"
-        told.append(Told(suite, case, verdict, result))
-    return told
+        reported.append(Reported(suite, case, verdict, result))
+    return reported
 
 
 def broken_in(suite: Suite, results: "dict[int, Result]") -> Iterator[Trouble]:
@@ -134,43 +134,43 @@ def tap_text(text: str) -> str:
     return re.sub(r"[\\#]", r"\\\g<0>", readable(text.replace("\n", " ")))
 
 
-def tap_points(shown: List[Told], troubles: List[Trouble]) -> Iterator[str]:
+def tap_points(shown: List[Reported], troubles: List[Trouble]) -> Iterator[str]:
     """The plan, and a point for each case, and for each suite that wasn't run to its end."""
     yield f"1..{len(shown) + len(troubles)}"
-    for number, told in enumerate(shown, 1):
-        remark = readable(told.remark)
-        directive = {"skip": f" # SKIP {remark}", "xfail": f" # TODO {remark}", "xpass": f" # TODO {remark}"}.get(told.verdict, "")
-        yield f"{'not ok' if told.verdict in ('differs', 'new', 'xfail') else 'ok'} {number} - {tap_text(told.name)}{directive.rstrip()}"
-        if told.result:
+    for number, reported in enumerate(shown, 1):
+        remark = readable(reported.remark)
+        directive = {"skip": f" # SKIP {remark}", "xfail": f" # TODO {remark}", "xpass": f" # TODO {remark}"}.get(reported.verdict, "")
+        yield f"{'not ok' if reported.verdict in ('differs', 'new', 'xfail') else 'ok'} {number} - {tap_text(reported.name)}{directive.rstrip()}"
+        if reported.result:
             yield "  ---"
-            yield f"  verdict: {told.verdict}"
-            yield f"  duration_ms: {told.seconds * 1000:.3f}"
-            if told.diff:
+            yield f"  verdict: {reported.verdict}"
+            yield f"  duration_ms: {reported.seconds * 1000:.3f}"
+            if reported.diff:
                 yield "  diff: |"  # whose first line is `--- wanted`: `prove` knows no indentation in numbers
-                yield from ("    " + readable(line) for line in told.diff)
+                yield from ("    " + readable(line) for line in reported.diff)
             yield "  ..."
     for number, trouble in enumerate(troubles, len(shown) + 1):
         yield f"not ok {number} - {tap_text(f'{trouble.path}: {trouble.why}')}"
 
 
-def in_points(all_told: List[Told]) -> List[Told]:
-    return [told for told in all_told if told.verdict not in ("out", "setup")]
+def in_points(all_reported: List[Reported]) -> List[Reported]:
+    return [reported for reported in all_reported if reported.verdict not in ("out", "setup")]
 
 
-def tap(all_told: List[Told], troubles: List[Trouble]) -> Iterator[str]:
+def tap(all_reported: List[Reported], troubles: List[Trouble]) -> Iterator[str]:
     """TAP (testanything.org) of version 13, which Perl's `prove` reads; it refuses version 14."""
     yield "TAP version 13"
-    yield from tap_points(in_points(all_told), troubles)
+    yield from tap_points(in_points(all_reported), troubles)
 
 
-def tap14(all_told: List[Told], troubles: List[Trouble]) -> Iterator[str]:
+def tap14(all_reported: List[Reported], troubles: List[Trouble]) -> Iterator[str]:
     """The same of version 14, in which each suite is a subtest."""
     yield "TAP version 14"
-    paths = paths_in(all_told, troubles)
+    paths = paths_in(all_reported, troubles)
     yield f"1..{len(paths)}"
     for number, path in enumerate(paths, 1):
-        own, own_troubles = in_points(of_path(all_told, path)), [one for one in troubles if one.path == path]
-        is_good = not own_troubles and not any(told.is_wrong for told in own)
+        own, own_troubles = in_points(of_path(all_reported, path)), [one for one in troubles if one.path == path]
+        is_good = not own_troubles and not any(reported.is_wrong for reported in own)
         yield f"# Subtest: {tap_text(path)}"
         yield from ("    " + line for line in tap_points(own, own_troubles))
         yield f"{'ok' if is_good else 'not ok'} {number} - {tap_text(path)}"
@@ -184,36 +184,36 @@ def xml_attribute(text: str) -> str:
     return quoteattr(NO_XML.sub("\N{REPLACEMENT CHARACTER}", text))
 
 
-def junit(all_told: List[Told], troubles: List[Trouble]) -> Iterator[str]:
+def junit(all_reported: List[Reported], troubles: List[Trouble]) -> Iterator[str]:
     """One `testsuite` for each text, one `testcase` for each case, and for each text that wasn't run to its end."""
     yield '<?xml version="1.0" encoding="UTF-8"?>'
     yield "<testsuites>"
-    for path in paths_in(all_told, troubles):
-        yield from junit_suite(path, in_points(of_path(all_told, path)), [one.why for one in troubles if one.path == path])
+    for path in paths_in(all_reported, troubles):
+        yield from junit_suite(path, in_points(of_path(all_reported, path)), [one.why for one in troubles if one.path == path])
     yield "</testsuites>"
 
 
-def lasting_names(own: List[Told]) -> Iterator[str]:
+def lasting_names(own: List[Reported]) -> Iterator[str]:
     """A name for each case of a text, which stays where the text above it changes: its title, and which one it is of several with that."""
     count: Dict[str, int] = {}
-    for title in (told.case.title for told in own):
+    for title in (reported.case.title for reported in own):
         count[title] = count.get(title, 0) + 1
         yield title if count[title] == 1 else f"{title} ({count[title]})"
 
 
-def junit_suite(path: str, own: List[Told], troubles: List[str]) -> Iterator[str]:
-    wrong, skipped = sum(told.is_wrong for told in own), sum(told.verdict in ("skip", "xfail") for told in own)
-    seconds = sum(told.seconds for told in own)
+def junit_suite(path: str, own: List[Reported], troubles: List[str]) -> Iterator[str]:
+    wrong, skipped = sum(reported.is_wrong for reported in own), sum(reported.verdict in ("skip", "xfail") for reported in own)
+    seconds = sum(reported.seconds for reported in own)
     counts = f'tests="{len(own) + len(troubles)}" failures="{wrong}" errors="{len(troubles)}" skipped="{skipped}" time="{seconds:.3f}"'
     yield f"<testsuite name={xml_attribute(path)} {counts}>"
     place = f"classname={xml_attribute(path)} file={xml_attribute(path_in_repository(path))}"
-    for told, name in zip(own, lasting_names(own)):
-        head = f'<testcase {place} line="{told.case.line}" name={xml_attribute(name)} time="{told.seconds:.3f}"'
-        if told.is_wrong:
-            kind = "error" if told.is_error else "answer"
-            yield f'{head}><failure message={xml_attribute(told.verdict)} type="{kind}">{xml_text(chr(10).join(told.diff))}</failure></testcase>'
-        elif told.verdict in ("skip", "xfail"):
-            yield f"{head}><skipped message={xml_attribute(told.remark)}/></testcase>"
+    for reported, name in zip(own, lasting_names(own)):
+        head = f'<testcase {place} line="{reported.case.line}" name={xml_attribute(name)} time="{reported.seconds:.3f}"'
+        if reported.is_wrong:
+            kind = "error" if reported.is_error else "answer"
+            yield f'{head}><failure message={xml_attribute(reported.verdict)} type="{kind}">{xml_text(chr(10).join(reported.diff))}</failure></testcase>'
+        elif reported.verdict in ("skip", "xfail"):
+            yield f"{head}><skipped message={xml_attribute(reported.remark)}/></testcase>"
         else:
             yield head + "/>"
     for why in troubles:
@@ -221,27 +221,27 @@ def junit_suite(path: str, own: List[Told], troubles: List[str]) -> Iterator[str
     yield "</testsuite>"
 
 
-def json_lines(all_told: List[Told], troubles: List[Trouble]) -> Iterator[str]:
+def json_lines(all_reported: List[Reported], troubles: List[Trouble]) -> Iterator[str]:
     """One object for each case, and for each suite that wasn't run to its end (`clients/suite/report.schema.json`)."""
-    for told in all_told:
-        if told.verdict == "out":
+    for reported in all_reported:
+        if reported.verdict == "out":
             continue
         one = {
-            "file": told.suite.path,
-            "line": told.case.line,
-            "session": told.case.session,
-            "code": list(told.case.lines),
-            "tags": sorted(told.case.marks.tags),
-            "verdict": told.verdict,
-            "remark": told.remark,
-            "wanted": told.case.wanted,
-            "came": told.result.got if told.result else None,
-            "wantedError": told.case.errors,
-            "error": told.errors,
-            "isError": told.is_error,
-            "seconds": round(told.seconds, 6),
-            "tries": told.result.tries if told.result else 0,
-            "startedAgain": bool(told.result and told.result.began_anew),
+            "file": reported.suite.path,
+            "line": reported.case.line,
+            "session": reported.case.session,
+            "code": list(reported.case.lines),
+            "tags": sorted(reported.case.marks.tags),
+            "verdict": reported.verdict,
+            "remark": reported.remark,
+            "wanted": reported.case.wanted,
+            "came": reported.result.got if reported.result else None,
+            "wantedError": reported.case.errors,
+            "error": reported.errors,
+            "isError": reported.is_error,
+            "seconds": round(reported.seconds, 6),
+            "tries": reported.result.tries if reported.result else 0,
+            "startedAgain": bool(reported.result and reported.result.began_anew),
         }
         yield json.dumps(one, ensure_ascii=True)
     for trouble in troubles:
@@ -264,12 +264,12 @@ def github_member(text: str) -> str:
     return github_text(text).replace(":", "%3A").replace(",", "%2C")
 
 
-def github(all_told: List[Told], troubles: List[Trouble]) -> Iterator[str]:
+def github(all_reported: List[Reported], troubles: List[Trouble]) -> Iterator[str]:
     """Workflow commands, which GitHub shows at the lines of the text."""
-    for told in all_told:
-        if told.is_wrong:
-            path, title = github_member(path_in_repository(told.suite.path)), github_member(f"{told.verdict}: {told.case.title}")
-            yield f"::error file={path},line={told.case.line},title={title}::{github_text(chr(10).join(told.diff) or told.verdict)}"
+    for reported in all_reported:
+        if reported.is_wrong:
+            path, title = github_member(path_in_repository(reported.suite.path)), github_member(f"{reported.verdict}: {reported.case.title}")
+            yield f"::error file={path},line={reported.case.line},title={title}::{github_text(chr(10).join(reported.diff) or reported.verdict)}"
     for trouble in troubles:
         yield f"::error file={github_member(path_in_repository(trouble.path))}::{github_text(trouble.why)}"
 
@@ -284,9 +284,9 @@ def gitlab_issue(path: str, line: int, description: str, mark: str) -> Dict[str,
     }
 
 
-def gitlab(all_told: List[Told], troubles: List[Trouble]) -> Iterator[str]:
+def gitlab(all_reported: List[Reported], troubles: List[Trouble]) -> Iterator[str]:
     """A report on the quality of code, which GitLab shows at the lines of the text."""
-    issues = [gitlab_issue(told.suite.path, told.case.line, f"{told.verdict}: {told.case.title}", told.case.digest) for told in all_told if told.is_wrong]
+    issues = [gitlab_issue(reported.suite.path, reported.case.line, f"{reported.verdict}: {reported.case.title}", reported.case.digest) for reported in all_reported if reported.is_wrong]
     issues += [gitlab_issue(trouble.path, 1, trouble.why, "trouble") for trouble in troubles]
     yield json.dumps(issues, ensure_ascii=True, indent=1)
 

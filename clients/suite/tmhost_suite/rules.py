@@ -6,9 +6,9 @@ import re
 from decimal import Decimal, InvalidOperation
 from typing import FrozenSet, List, Optional, Sequence, Set, Tuple
 
-# A number that was rounded: it has a point or an exponent, which gp writes behind a space. An integer is exact, and has no tolerance.
+# A number that was rounded: it has a point or an exponent, which gp writes after a space. An integer is exact, and has no tolerance.
 NUMBER = re.compile(r"(?<![\w.])[-+]?(?:(?:[0-9]+\.[0-9]*|\.[0-9]+)(?: ?[eE][-+]?[0-9]+)?|[0-9]+ ?[eE][-+]?[0-9]+)(?!\w)")
-GOES_ON = re.compile(" ?([eE][-+]?)?")  # stands behind a number that may go on in the next line
+GOES_ON = re.compile(" ?([eE][-+]?)?")  # stands after a number that may go on in the next line
 OUT_OF_BOUNDS = [decimal.InvalidOperation, decimal.Overflow, decimal.Underflow]
 ANY_LINES = "..."
 BY_PATTERN, BY_GLOB = " (re)", " (glob)"
@@ -68,7 +68,7 @@ class Rules:
         return text
 
     def is_wanted(self, wanted: Optional[str], got: str, applied: Set[int]) -> bool:
-        """Where nothing stands behind a case, it is wanted to say nothing."""
+        """Where nothing stands after a case, it is wanted to say nothing."""
         return not got if wanted is None else self.are_alike(wanted, got, applied)
 
     def are_alike(self, wanted: str, got: str, applied: Set[int]) -> bool:
@@ -109,7 +109,7 @@ def value(text: str) -> Decimal:
 
 
 def near(wanted: str, got: str, rules: Rules) -> bool:
-    """Whether they are as near as they may be. Where that can't be told, as of numbers that are out of all bounds, they aren't. What doesn't fit
+    """Whether they are as near as they may be. Where that can't be known, as of numbers that are out of all bounds, they aren't. What doesn't fit
     into the digits makes the difference greater and the allowance smaller, so no two numbers are near that may not be."""
     digits = 28 + len(wanted) + len(got) + len(rules.relative.as_tuple().digits)
     bounds = decimal.Context(digits, decimal.ROUND_CEILING, decimal.MIN_EMIN, decimal.MAX_EMAX, traps=OUT_OF_BOUNDS)

@@ -201,7 +201,7 @@ class Chain:
 
     def _replay_done(self, done: List[int]) -> None:
         """Brings a new interpreter to where that of the run that was broken off stood: what set up before the last case in which an
-        interpreter ended, and all behind that."""
+        interpreter ended, and all after that."""
         cut = max((place for place, at in enumerate(done) if self._was_lost(at)), default=-1)
         before = [at for at in done[: cut + 1] if self.suite.cases[at].marks.is_setup]
         self.has_run, self.is_fresh = True, cut + 1 == len(done)

@@ -29,8 +29,8 @@ def printed(text: Union[str, bytes]) -> str:
 
 def picture(tag: str, data: str) -> str:
     """A picture in a few words, other ones for other bytes."""
-    told = data.encode("utf-8", "surrogateescape")
-    return f"{{{tag}: {len(told):,} bytes, sha256 {hashlib.sha256(told).hexdigest()[:16]}}}"
+    reported = data.encode("utf-8", "surrogateescape")
+    return f"{{{tag}: {len(reported):,} bytes, sha256 {hashlib.sha256(reported).hexdigest()[:16]}}}"
 
 
 def rendered(block: Block, rules: Rules, gone: List[Block]) -> str:
@@ -54,7 +54,7 @@ def has_more_than_text(block: Block) -> bool:
 
 
 def shown_of(answer: Answer, rules: Rules) -> Shown:
-    """Without line ends behind it."""
+    """Without line ends after it."""
     errors = answer.output.errors if rules.apart else []
     if not errors and not has_more_than_text(answer.output):
         return Shown(str(answer).rstrip("\n"))

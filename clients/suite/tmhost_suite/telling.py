@@ -6,7 +6,7 @@ from typing import Dict, List, Set, TextIO, Tuple
 from tmhost.starting import doubt, without_adapter
 
 from .cases import Suite
-from .reports import Told, readable
+from .reports import Reported, readable
 
 COLOURS = {"-": "31", "+": "32", "@": "36"}
 BOLD = "1"
@@ -44,13 +44,13 @@ class Teller:
     def say(self, line: str) -> None:
         self.out.write(line + "\n")
 
-    def tell(self, told: Told) -> None:
+    def tell(self, reported: Reported) -> None:
         """A case that is wrong, with its difference."""
-        remark = f" ({told.remark})" if told.remark else ""
-        self.say(self.painted(readable(f"{told.verdict}{', an error' if told.is_error else ''}: {told.name}{remark}"), BOLD))
-        if told.verdict == "xpass":
+        remark = f" ({reported.remark})" if reported.remark else ""
+        self.say(self.painted(readable(f"{reported.verdict}{', an error' if reported.is_error else ''}: {reported.name}{remark}"), BOLD))
+        if reported.verdict == "xpass":
             self.say("  it is wanted to fail, and passes")
-        for line in told.diff[2:] if told.differs_in_text else told.diff:
+        for line in reported.diff[2:] if reported.differs_in_text else reported.diff:
             self.say("  " + self.painted(readable(line), COLOURS.get(line[:1], "")))
 
     def tell_bare_sessions(self, suite: Suite) -> None:
@@ -60,70 +60,70 @@ class Teller:
             if why:
                 self.say(readable(f"{suite.path}: the session {name}: {why}"))
 
-    def tell_silent_sessions(self, all_told: List[Told]) -> None:
+    def tell_silent_sessions(self, all_reported: List[Reported]) -> None:
         """The sessions of which no case had an answer though one is wanted, since what their interpreters said of it stands nowhere."""
-        sessions: Dict[Tuple[str, str], List[Told]] = {}
-        for told in all_told:
-            if told.result:
-                sessions.setdefault((told.suite.path, told.case.session), []).append(told)
+        sessions: Dict[Tuple[str, str], List[Reported]] = {}
+        for reported in all_reported:
+            if reported.result:
+                sessions.setdefault((reported.suite.path, reported.case.session), []).append(reported)
         for (path, name), own in sessions.items():
-            if any(told.is_wrong for told in own) and all(told.got.startswith(SILENT) for told in own):
+            if any(reported.is_wrong for reported in own) and all(reported.got.startswith(SILENT) for reported in own):
                 words = own[0].suite.sessions[name]
                 named = doubt(words) if "/" not in words[0] else None  # a path is that in the folder in which it is started
                 why = named or f"do its words start an interpreter here? {' '.join(words)}"
                 self.say(readable(f"{path}: no case of the session {name} has an answer: {why}"))
 
-    def tell_slowest(self, all_told: List[Told], count: int) -> None:
-        slowest = sorted((told for told in all_told if told.result), key=lambda told: -told.seconds)[:count]
-        for told in slowest:
-            self.say(readable(f"{told.seconds:9.3f} s  {told.name}"))
+    def tell_slowest(self, all_reported: List[Reported], count: int) -> None:
+        slowest = sorted((reported for reported in all_reported if reported.result), key=lambda reported: -reported.seconds)[:count]
+        for reported in slowest:
+            self.say(readable(f"{reported.seconds:9.3f} s  {reported.name}"))
 
-    def tell_idle_rules(self, all_told: List[Told]) -> None:
+    def tell_idle_rules(self, all_reported: List[Reported]) -> None:
         """The rules that found nothing, of each suite of which all cases were run."""
-        by_suite: Dict[str, List[Told]] = {}
-        for told in all_told:
-            by_suite.setdefault(told.suite.path, []).append(told)
+        by_suite: Dict[str, List[Reported]] = {}
+        for reported in all_reported:
+            by_suite.setdefault(reported.suite.path, []).append(reported)
         for path, own in by_suite.items():
-            if any(told.verdict == "out" for told in own):
+            if any(reported.verdict == "out" for reported in own):
                 continue
             rules, applied = own[0].suite.rules, applied_in(own)
             for at, normal in enumerate(rules.normal):
                 if at not in applied:
                     self.say(readable(f"{path}: the rule {normal.pattern.pattern!r} found nothing"))
-            for told in own:
-                self._tell_own_idle_rules(told)
+            for reported in own:
+                self._tell_own_idle_rules(reported)
 
-    def _tell_own_idle_rules(self, told: Told) -> None:
-        applied = applied_in([told])
-        first = len(told.suite.rules.normal)
-        for at, normal in enumerate(told.case.marks.normal, first):
-            if told.result and at not in applied:
-                self.say(readable(f"{told.name}: its rule {normal.pattern.pattern!r} found nothing"))
+    def _tell_own_idle_rules(self, reported: Reported) -> None:
+        applied = applied_in([reported])
+        first = len(reported.suite.rules.normal)
+        for at, normal in enumerate(reported.case.marks.normal, first):
+            if reported.result and at not in applied:
+                self.say(readable(f"{reported.name}: its rule {normal.pattern.pattern!r} found nothing"))
 
-    def tell_normalised(self, told: Told) -> None:
+    def tell_normalised(self, reported: Reported) -> None:
         """What the rules made of what came, where they changed it."""
-        normalised = told.suite.rules_of(told.case).normalised(told.got, set())
-        if normalised != told.got:
-            self.say(readable(f"normalised: {told.name}"))
+        normalised = reported.suite.rules_of(reported.case).normalised(reported.got, set())
+        if normalised != reported.got:
+            self.say(readable(f"normalised: {reported.name}"))
             for line in normalised.split("\n"):
                 self.say("  " + readable(line))
 
-    def tell_counts(self, all_told: List[Told], seconds: float) -> None:
+    def tell_counts(self, all_reported: List[Reported], seconds: float) -> None:
         counts: Dict[str, int] = {}
-        for told in all_told:
-            counts[told.verdict] = counts.get(told.verdict, 0) + 1
+        for reported in all_reported:
+            counts[reported.verdict] = counts.get(reported.verdict, 0) + 1
         parts = [f"{counts[verdict]} {verdict}" for verdict in ORDER if counts.get(verdict)]
         left_out = counts.get("out", 0)
         more = f", {left_out} left out" if left_out else ""
         self.say(f"{', '.join(parts) or 'no cases'}{more} in {seconds:.1f} s")
 
 
-def applied_in(all_told: List[Told]) -> Set[int]:
+def applied_in(all_reported: List[Reported]) -> Set[int]:
     """The places of the rules that found something."""
     applied: Set[int] = set()
-    for told in all_told:
-        for text in (told.case.wanted or "", told.case.errors or "", told.got, told.errors):
-            told.suite.rules_of(told.case).normalised(text, applied)
+    for reported in all_reported:
+        for text in (reported.case.wanted or "", reported.case.errors or "", reported.got, reported.errors):
+            reported.suite.rules_of(reported.case).normalised(text, applied)
     return applied
 
 

@@ -1,4 +1,4 @@
-"""The text form of a suite: CommonMark, whose fences of sessions are cases, each with a fence `answer` behind it for what is wanted, and one
+"""The text form of a suite: CommonMark, whose fences of sessions are cases, each with a fence `answer` after it for what is wanted, and one
 `error` where errors are compared apart."""
 import dataclasses
 import difflib
@@ -128,7 +128,7 @@ def folder_in(front: Dict[str, Any], path: str) -> Optional[str]:
     return found
 
 
-def is_behind(block: Block, other: Block, lines: Sequence[str]) -> bool:
+def is_after(block: Block, other: Block, lines: Sequence[str]) -> bool:
     """Whether there is nothing but empty lines between the fences."""
     return not any(line.strip(" \t>") for line in lines[block.end : other.begin])
 
@@ -165,7 +165,7 @@ class Text:
             at += 1
             name = session_in(block.info_text)
             if name in (ANSWER, ERROR) and name not in self.sessions:
-                raise Trouble(f"line {block.begin + 1}: an {name} stands behind no case")
+                raise Trouble(f"line {block.begin + 1}: an {name} stands after no case")
             if name is None or name not in self.sessions:
                 named = next((one for one, words in self.sessions.items() if name and os.path.basename(words[0]) == f"tmhost-{name}"), None)
                 if named:
@@ -174,7 +174,7 @@ class Text:
                     self.doubts.append(f"{self.path}: line {block.begin + 1}: no session has the name {ascii(name)} of this fence, which is no case")
                 continue
             found: Dict[str, Block] = {}
-            while at < len(blocks) and is_behind(blocks[at - 1], blocks[at], lines):
+            while at < len(blocks) and is_after(blocks[at - 1], blocks[at], lines):
                 kind = session_in(blocks[at].info_text) or ""
                 if kind not in (ANSWER, ERROR) or kind in found or kind in self.sessions:
                     break
@@ -194,8 +194,8 @@ class Text:
             raise Trouble(f"line {line}: the case has no code")
         wanted, errors = ("\n".join(found[kind].content) if kind in found else None for kind in (ANSWER, ERROR))
         self.cases.append(Case(session, marks, block.content, fields, line, wanted, errors))
-        behind = found[ANSWER].end if ANSWER in found else block.end
-        places = {ANSWER: block.end, ERROR: behind}
+        after = found[ANSWER].end if ANSWER in found else block.end
+        places = {ANSWER: block.end, ERROR: after}
         places_of = {kind: (found[kind].begin, found[kind].end) if kind in found else (places[kind],) * 2 for kind in (ANSWER, ERROR)}
         self.spans.append({kind: Span(*place, block.before_end) for kind, place in places_of.items()})
 

@@ -31,7 +31,7 @@ def is_gap(text: str) -> bool:
 
 
 def counted(text: str) -> Iterator[Tuple[int, str]]:
-    """The lines that count, with their numbers from 1: no empty one with a remark behind it, and none of the remarks that follow."""
+    """The lines that count, with their numbers from 1: no empty one with a remark after it, and none of the remarks that follow."""
     lines = text.split("\n")
     is_remark = False
     for number, (line, after) in enumerate(zip(lines, [*lines[1:], ""]), 1):
@@ -98,7 +98,7 @@ def called(code: str, shared: str) -> str:
 
 
 def declared(code: str) -> Tuple[str, str]:
-    """The names that a block shares with those behind it, and the code that sets them up."""
+    """The names that a block shares with those after it, and the code that sets them up."""
     first, _, rest = code.partition("\n")
     names = re.split(r"[#%]", first)[0].strip()
     begin = "".join(f"{name.strip()} = [];\n" for name in names.split(",") if name.strip())
@@ -114,7 +114,7 @@ def message(code: str, shared: str, kind: str) -> Tuple[str, str]:
         return f'lastwarn (""); lasterr ("");\ntry\n{code}\nend_try_catch\n[~, tmhost_id] = last{kind[:4].replace("erro", "err")} ();\ndisp (tmhost_id)', f"{ANY_LINES}\n{found[1]}"
     pattern = found[2] or ""
     inner = f"(?:{pattern[1:]})" if pattern.startswith("^") else f".*(?:{pattern})"
-    # Of what can't be parsed that is told on a line of its own.
+    # Of what can't be parsed that is reported on a line of its own.
     before = f"error: parse error:\n{ANY_LINES}\n  " if "syntax error" in pattern else f"{kind}: "
     return code, f"{ANY_LINES}\n{before}{inner}.*{BY_PATTERN}\n{ANY_LINES}"
 

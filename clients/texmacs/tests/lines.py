@@ -25,7 +25,7 @@ LINES: Dict[str, List[Line]] = {
         ("if 1 < 2 then 3 else 4", "$3$"), ("for i thru 2 do print(i)", "1"), ("nothing", "nothing"), ("kill(a)", "done"), ("a", "a"), ("determinant(matrix([1, 2], [3, 4]))", "-2"), ("subst(2, x, x^3)", "$8$"), ("ratsimp(x/x)", "$1$"), ("%pi", "pi"), ("6 * 7", "$42$"),
     ],
 }
-# What a TAB behind these finds.
+# What a TAB after these finds.
 COMPLETED: Dict[str, Tuple[str, str]] = {"gp": ("facto", '"facto" '), "python": ("pri", '"pri" "nt"'), "maxima": ("integr", '"integr" ')}
 # A line without an end.
 BUSY = {"gp": "while (1, )", "python": "while True: pass", "maxima": "while true do 0"}

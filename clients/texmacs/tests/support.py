@@ -28,7 +28,7 @@ from tmhost import Field, Worksheet as Worksheet  # noqa: E402
 from tmhost_texmacs import scheme  # noqa: E402
 
 
-class Told(NamedTuple):
+class Reported(NamedTuple):
     """What an answer, or a part of one, shows: its text, the commands in it, and the prompt."""
 
     text: str
@@ -45,7 +45,7 @@ class Told(NamedTuple):
         return next((str(one[3]) for one in self.commands if isinstance(one, list) and one[0] == "tmhost-accepted"), "")
 
 
-def read_blocks(data: bytes) -> Told:
+def read_blocks(data: bytes) -> Reported:
     """What TeXmacs takes of these bytes, of which the last block may be unfinished."""
     texts: List[str] = [""]
     tags: List[str] = []
@@ -65,7 +65,7 @@ def read_blocks(data: bytes) -> Told:
                 texts[-1] += text if tag in ("utf8:", "verbatim:") else "{" + tag + text + "}"
         else:
             texts[-1] += found[3].decode("latin-1")
-    return Told("".join(texts).encode("latin-1").decode("utf-8", "replace"), commands, prompt)
+    return Reported("".join(texts).encode("latin-1").decode("utf-8", "replace"), commands, prompt)
 
 
 class TeXmacs:
@@ -88,17 +88,17 @@ class TeXmacs:
         self.process.stdin.write(line.encode() + b"\n")
         self.process.stdin.flush()
 
-    def evaluate(self, input: str, id: str = "", before: str = "", behind: str = "", shown: Tuple[Tuple[str, str, str], ...] = ()) -> Told:
-        self.begin(input, id, before, behind, shown)
+    def evaluate(self, input: str, id: str = "", before: str = "", after: str = "", shown: Tuple[Tuple[str, str, str], ...] = ()) -> Reported:
+        self.begin(input, id, before, after, shown)
         return self.answer()
 
-    def begin(self, input: str, id: str = "", before: str = "", behind: str = "", shown: Tuple[Tuple[str, str, str], ...] = ()) -> None:
+    def begin(self, input: str, id: str = "", before: str = "", after: str = "", shown: Tuple[Tuple[str, str, str], ...] = ()) -> None:
         self.data = b""
-        form: List[scheme.Form] = [scheme.Name("evaluate"), input.replace("\n", "\u2028"), id, before, behind, self.document]
+        form: List[scheme.Form] = [scheme.Name("evaluate"), input.replace("\n", "\u2028"), id, before, after, self.document]
         form += [list(one) for one in shown]
         self.send("\x10" + scheme.written(form))
 
-    def asks(self, request: str) -> Told:
+    def asks(self, request: str) -> Reported:
         self.data = b""
         self.send("\x10" + request)
         return self.answer()
@@ -119,7 +119,7 @@ class TeXmacs:
         self.data += piece
         return bool(piece)
 
-    def answer(self) -> Told:
+    def answer(self) -> Reported:
         """One outer block, and what it shows."""
         while not self.is_whole():
             if not self.hear():

@@ -70,13 +70,13 @@ class Documents(unittest.TestCase):
             sheet.new("prose", "## One <two>\u2028\u2028A text with | in it.")
             sheet.new("a", "first <line>").evaluate(60)
             sheet.new("a", "not asked")
-        told = self.exported().decode("latin-1")
-        self.assertTrue(told.startswith("<TeXmacs|2.1.4>\n"))
-        self.assertIn("  <section*|One \\<less\\>two\\<gtr\\>>\n", told)
-        self.assertIn("  A text with \\| in it.\n", told)
-        self.assertIn("    <|unfolded-io>\n      first \\<less\\>line\\<gtr\\>\n    <|unfolded-io>\n", told)
-        self.assertIn("    <|input>\n      not asked\n    </input>\n", told)
-        self.assertEqual(told.count("<\\session|tmhost|a>"), 1)
+        reported = self.exported().decode("latin-1")
+        self.assertTrue(reported.startswith("<TeXmacs|2.1.4>\n"))
+        self.assertIn("  <section*|One \\<less\\>two\\<gtr\\>>\n", reported)
+        self.assertIn("  A text with \\| in it.\n", reported)
+        self.assertIn("    <|unfolded-io>\n      first \\<less\\>line\\<gtr\\>\n    <|unfolded-io>\n", reported)
+        self.assertIn("    <|input>\n      not asked\n    </input>\n", reported)
+        self.assertEqual(reported.count("<\\session|tmhost|a>"), 1)
 
 
 class Formulas(unittest.TestCase):

@@ -16,7 +16,7 @@ KILLS = int(os.environ.get("TMHOST_KILLS", "4"))
 
 
 class Kills(Case):
-    """A document that goes on, through kills. It has, of each field that it was told of, the input, and the answer where one was shown."""
+    """A document that goes on, through kills. It has, of each field that it has heard of, the input, and the answer where one was shown."""
 
     def setUp(self) -> None:
         super().setUp()
@@ -42,12 +42,12 @@ class Kills(Case):
             self.note(texmacs, line)
 
     def note(self, texmacs: TeXmacs, line: str) -> None:
-        told = read_blocks(texmacs.data)
-        if told.id:
-            self.accepted[told.id] = line
+        reported = read_blocks(texmacs.data)
+        if reported.id:
+            self.accepted[reported.id] = line
             if texmacs.is_whole():
-                self.assertEqual(told.text, line[4:])
-                self.shown[told.id] = line, told.text
+                self.assertEqual(reported.text, line[4:])
+                self.shown[reported.id] = line, reported.text
 
     def holds(self) -> None:
         kept = self.kept()
@@ -66,12 +66,12 @@ class Kills(Case):
                 while not texmacs.is_whole() and texmacs.hear():
                     pass
                 for _ in range(3):
-                    told = texmacs.evaluate("say on")
+                    reported = texmacs.evaluate("say on")
                     self.number += 1
-                    if "evaluate the line again" not in told.text:  # it was on its way at that moment
+                    if "evaluate the line again" not in reported.text:  # it was on its way at that moment
                         break
-                self.assertEqual(told.text, "on")
-                self.shown[told.id] = "say on", "on"
+                self.assertEqual(reported.text, "on")
+                self.shown[reported.id] = "say on", "on"
             self.assertGreaterEqual(len(self.shown), before)
             self.holds()
         print(f"{self.id().split('.')[-1]}: {KILLS} kills, {len(self.shown)} answers shown, all there", file=sys.stderr)

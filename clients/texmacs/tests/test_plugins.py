@@ -59,7 +59,7 @@ class Plugins(unittest.TestCase):
             file.write(PLUGIN.replace("PICTURE", self.picture))
 
     def answers(self, *lines: str) -> List[str]:
-        """What the blocks for the lines show, behind the greeting."""
+        """What the blocks for the lines show, after the greeting."""
         words = [sys.executable, "-B", os.path.join(ADAPTERS, "texmacs"), "octave", sys.executable, self.plugin]
         with subprocess.Popen(words, stdin=subprocess.PIPE, stdout=subprocess.PIPE, env={**os.environ, "HOME": self.folder}) as adapter:
             assert adapter.stdin and adapter.stdout
@@ -88,9 +88,9 @@ class Plugins(unittest.TestCase):
         self.assertEqual(self.answers("picture", "a"), ["{image/svg+xml:<svg></svg>}", "printed\na\n{latex:$x$}"])
 
     def test_a_line_that_leaves_a_block_open(self) -> None:
-        told = self.answers("open", "mine")
-        self.assertIn("half\n[the line isn't complete, or reads input", told[0])
-        self.assertEqual(told[1], "printed\nmine\n{latex:$x$}")
+        reported = self.answers("open", "mine")
+        self.assertIn("half\n[the line isn't complete, or reads input", reported[0])
+        self.assertEqual(reported[1], "printed\nmine\n{latex:$x$}")
 
     def test_a_plugin_that_ends(self) -> None:
         self.assertEqual(self.answers("a", "die")[-1], "ended")

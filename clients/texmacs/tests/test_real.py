@@ -86,12 +86,12 @@ class Systems(Real):
         lines = [line for line, _ in LINES[name] if line]  # TeXmacs sends no empty one
         for line in lines:
             self.says(texmacs, session, line)
-        texmacs.does('(define tmhost-told "")')
+        texmacs.does('(define tmhost-completed "")')
         text, has = COMPLETED[name]
         quoted = f'(complete \\"{text}\\" {len(text)})'
-        texmacs.does(f'(begin (plugin-command "tmhost" "{session}" "{quoted}" (lambda (x) (set! tmhost-told x)) (list)) "asked")')
+        texmacs.does(f'(begin (plugin-command "tmhost" "{session}" "{quoted}" (lambda (x) (set! tmhost-completed x)) (list)) "asked")')
         texmacs.waits(session)
-        self.assertIn(has.strip(), texmacs.does("tmhost-told"))
+        self.assertIn(has.strip(), texmacs.does("tmhost-completed"))
         texmacs.types(BUSY[name])
         time.sleep(3)
         texmacs.does('(begin (plugin-interrupt) "interrupted")')
@@ -106,7 +106,7 @@ class Systems(Real):
         self.assertNotIn(None, [field.answer for field in fields])
         self.assertIn("42", str(fields[-1].answer))
         errors = {str(field.id) for field in fields if field.answer and field.answer.errors}
-        self.assertEqual({id for id, told in shown.items() if "errput" in told.output}, errors)
+        self.assertEqual({id for id, reported in shown.items() if "errput" in reported.output}, errors)
         self.assertGreater(len(errors), 2)
 
     def test_gp(self) -> None:
@@ -218,7 +218,7 @@ class Documents(Real):
         shown = texmacs.answers()
         texmacs.end()
         self.assertEqual([field.input for field in self.fields()], lines)
-        self.assertEqual([told.output for told in shown.values()], ["'b'", "'c'", "'d'"])
+        self.assertEqual([reported.output for reported in shown.values()], ["'b'", "'c'", "'d'"])
 
     def test_an_exported_document(self) -> None:
         """It is opened and saved by TeXmacs, and read back."""

@@ -18,7 +18,7 @@ from .test_real import Real
 KILLS = int(os.environ.get("TMHOST_KILLS", "4"))
 BUSY = "import time; time.sleep(100)"
 REMARKS = re.compile(r"^(?:\[[^\]]*\] )+")
-TRIES = 5  # of a line behind a kill: one that is on its way then is lost, too
+TRIES = 5  # of a line after a kill: one that is on its way then is lost, too
 
 
 def environment_of(process: int) -> List[str]:
@@ -49,18 +49,18 @@ class RealKills(Real):
         """A line whose answer is its number."""
         self.lines += 1
         self.says(self.real, self.session, f"'line {self.lines}'")
-        for id, told in self.answers().items():
-            self.assertEqual(self.shown.setdefault(id, told), told)
+        for id, reported in self.answers().items():
+            self.assertEqual(self.shown.setdefault(id, reported), reported)
 
     def answers(self) -> Dict[str, Answered]:
         """What is shown as answers, without the remarks before them. What tmhost-texmacs says in the place of one begins with a question mark."""
-        found = {id: told._replace(output=REMARKS.sub("", told.output)) for id, told in self.real.answers().items()}
-        return {id: told for id, told in found.items() if "? " not in told.output}
+        found = {id: reported._replace(output=REMARKS.sub("", reported.output)) for id, reported in self.real.answers().items()}
+        return {id: reported for id, reported in found.items() if "? " not in reported.output}
 
     def is_answered(self) -> bool:
         """Whether the last line has its own answer."""
         wanted = f"'line {self.lines}'"
-        return any(told == (wanted, wanted) for told in self.shown.values())
+        return any(reported == (wanted, wanted) for reported in self.shown.values())
 
     def kills_the_bridge(self) -> None:
         """The program of the session, which TeXmacs started."""
@@ -95,8 +95,8 @@ class RealKills(Real):
     def holds(self) -> None:
         """What was shown is in the worksheet."""
         kept = {str(field.id): field for field in self.fields()}
-        for id, told in self.shown.items():
-            self.assertEqual((kept[id].input, str(kept[id].answer)), told)
+        for id, reported in self.shown.items():
+            self.assertEqual((kept[id].input, str(kept[id].answer)), reported)
 
     def test_kills(self) -> None:
         kinds = [self.kills_texmacs, self.kills_the_bridge, self.kills_the_keeper, self.kills_tmhost]

@@ -46,8 +46,8 @@ class Lines(Case):
         self.make()
         texmacs = self.texmacs()
         first, last = texmacs.evaluate("say first"), texmacs.evaluate("say last")
-        texmacs.evaluate("say between", before=first.id, behind=last.id)
-        texmacs.evaluate("say front", behind=first.id)
+        texmacs.evaluate("say between", before=first.id, after=last.id)
+        texmacs.evaluate("say front", after=first.id)
         self.assertEqual([input for input, _ in self.kept().values()], ["say front", "say first", "say between", "say last"])
 
     def test_it_is_acknowledged_before_its_answer(self) -> None:
@@ -82,14 +82,14 @@ class Lines(Case):
     def test_errors(self) -> None:
         """They are marked as TeXmacs marks those of its own sessions, with letters of its encoding."""
         self.make()
-        told = self.texmacs().evaluate('error a <b> "c" \\ \u4e2d').text
-        self.assertEqual(told, r'{scheme:(errput (document "a <less>b<gtr> \"c\" \\ <#4E2D>"))}')
+        reported = self.texmacs().evaluate('error a <b> "c" \\ \u4e2d').text
+        self.assertEqual(reported, r'{scheme:(errput (document "a <less>b<gtr> \"c\" \\ <#4E2D>"))}')
 
     def test_both_forms_of_an_error(self) -> None:
         """docs/use/PROTOCOL.md has two; a channel `output` that stands in no other one is text."""
         for error in (Block("error", "channel", ("no\n\tway",)), Block("output", "channel", ("yes ", Block("output", "channel", ("no\n\tway",))))):
-            told = read_blocks(Speech(self.folder).part(Block("verbatim", "format", ("ok\n", error))))
-            self.assertEqual(told.text.replace("yes ", ""), 'ok\n{scheme:(errput (document "no" "        way"))}')
+            reported = read_blocks(Speech(self.folder).part(Block("verbatim", "format", ("ok\n", error))))
+            self.assertEqual(reported.text.replace("yes ", ""), 'ok\n{scheme:(errput (document "no" "        way"))}')
 
     def test_completions(self) -> None:
         self.make()
@@ -202,20 +202,20 @@ class Documents(Case):
         texmacs.evaluate("say changed", one.id)
         texmacs.kill()
         again = self.texmacs()
-        told = again.evaluate("say four", before="3", shown=(("1", one.mark, "say one"), ("2", two.mark, "say two"), ("7", "x", "say seven")))
-        self.assertIn("[another input than when it was answered: #1 say changed]", told.text)
-        self.assertIn("[an answer that is older than the inputs above it: #2 say two]", told.text)
-        self.assertIn("[not in the worksheet any more: #7]", told.text)
-        self.assertIn("#3 say three", told.text)
-        self.assertTrue(told.text.endswith("four"))
-        self.assertNotIn("#4", told.text)  # the line itself isn't told as missing
+        reported = again.evaluate("say four", before="3", shown=(("1", one.mark, "say one"), ("2", two.mark, "say two"), ("7", "x", "say seven")))
+        self.assertIn("[another input than when it was answered: #1 say changed]", reported.text)
+        self.assertIn("[an answer that is older than the inputs above it: #2 say two]", reported.text)
+        self.assertIn("[not in the worksheet any more: #7]", reported.text)
+        self.assertIn("#3 say three", reported.text)
+        self.assertTrue(reported.text.endswith("four"))
+        self.assertNotIn("#4", reported.text)  # the line itself isn't reported as missing
         self.assertEqual(self.kept()["4"], ("say four", "four"))  # the remarks are no part of the answer
 
     def test_what_a_document_lacks_is_put_in(self) -> None:
         self.make(True, "say one", "say two", "formula")
         texmacs = self.texmacs()
-        told = texmacs.evaluate("%tmhost restore", shown=(("2", "x", "say two"),))
-        self.assertEqual(told.commands, [["tmhost-restore", "t:x", "1", "say one", "", "3", "formula", "2"]])
+        reported = texmacs.evaluate("%tmhost restore", shown=(("2", "x", "say two"),))
+        self.assertEqual(reported.commands, [["tmhost-restore", "t:x", "1", "say one", "", "3", "formula", "2"]])
         kept = texmacs.asks('(kept "1" "3" "7")')
         self.assertRegex(kept.text, r'^\{scheme:\(tmhost-kept "1" "\w+" "1\] "\)\}\none\n\{scheme:\(tmhost-kept "3" "\w+" "3\] "\)\}\n\{latex:\$x\$\}\n$')
 
@@ -225,7 +225,7 @@ class Documents(Case):
         self.assertIn("2 fields are there, 2 with answers", texmacs.banner.text)
         self.assertEqual(texmacs.evaluate("%tmhost show").text, "#1 1] say one\none\n#2 2] count\n1\n")
         self.assertEqual(texmacs.evaluate("%tmhost again").text, "2 fields have the same answers")
-        texmacs.evaluate("say front", behind="1")
+        texmacs.evaluate("say front", after="1")
         self.assertIn("#2 count: another answer", texmacs.evaluate("%tmhost again").text)
         self.assertIn("ended", texmacs.evaluate("%tmhost stop").text)
         self.assertIn(" ".join(("t:",)), texmacs.evaluate("%tmhost sessions").text)

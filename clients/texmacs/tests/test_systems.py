@@ -13,10 +13,10 @@ class Systems(Case):
         texmacs = self.texmacs(f"{name}:x")
         shown, before = {}, ""
         for line, has in LINES[name]:
-            told = texmacs.evaluate(line, before=before)
+            reported = texmacs.evaluate(line, before=before)
             with self.subTest(line=line):
-                self.assertIn(has, told.text)
-            shown[told.id], before = line, told.id
+                self.assertIn(has, reported.text)
+            shown[reported.id], before = line, reported.id
         self.assertEqual(len(shown), 40)
         text, has = COMPLETED[name]
         self.assertIn(has, texmacs.completes(text))

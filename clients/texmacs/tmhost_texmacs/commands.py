@@ -57,20 +57,20 @@ class Commands:
     def _again(self, asked: Asked, words: List[str]) -> None:
         """Evaluates the fields in their order. Each answer is in the worksheet when the next one is asked."""
         self.sheet.stop(self.talk.name)
-        told = []
+        reported = []
         fields = self.talk.fields
         for field in fields:
             cell = Cell(self.sheet, field.id)
             self.talk.waited(cell.eval())
             if not field.answer or cell.text != field.answer.text:
-                told.append(f"#{field.id} {field.input[:60]}: {'another answer' if cell.state == 'answered' else cell.reason}")
-        self._tell("\n".join(told) or f"{len(fields)} fields have the same answers")
+                reported.append(f"#{field.id} {field.input[:60]}: {'another answer' if cell.state == 'answered' else cell.reason}")
+        self._tell("\n".join(reported) or f"{len(fields)} fields have the same answers")
 
     def _check(self, asked: Asked, words: List[str]) -> None:
         self._tell("\n".join(compared(self.talk.fields, asked.shown or [])) or "this document shows what the worksheet has")
 
     def _restore(self, asked: Asked, words: List[str]) -> None:
-        """Orders TeXmacs to put each field that the document lacks behind the one before it; it asks for their answers then."""
+        """Orders TeXmacs to put each field that the document lacks after the one before it; it asks for their answers then."""
         there = {one.id for one in asked.shown or ()}
         lacking: List[str] = []  # of each field the number, the input, and the number of the one before it
         before = ""

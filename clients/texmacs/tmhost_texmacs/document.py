@@ -77,11 +77,11 @@ def field_of(field: Field) -> str:
 
 def words(text: str) -> str:
     """A line of prose. Formulas between dollars are TeXmacs' own, where they are known."""
-    told = ""
+    reported = ""
     for one in IN_PROSE.split(text):
         tree = formula(one) if one.startswith("$") else None
-        told += tree or (" " * one.startswith(" ") + line(one.strip()) + " " * one.endswith(" ") if one.strip() else one)
-    return told or line("")
+        reported += tree or (" " * one.startswith(" ") + line(one.strip()) + " " * one.endswith(" ") if one.strip() else one)
+    return reported or line("")
 
 
 def prose(field: Field) -> Iterator[str]:

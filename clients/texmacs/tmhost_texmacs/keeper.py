@@ -1,7 +1,7 @@
 """The program that keeps a worksheet open for all its sessions in TeXmacs, which each have a process of their own.
 
 It ends with the last of them, and so do the interpreters. A connection begins with a line of JSON, who it is; then come the lines of TeXmacs, and an
-interrupt as a line that is the byte 3. Back go blocks, behind a line of JSON that says whether it was joined.
+interrupt as a line that is the byte 3. Back go blocks, after a line of JSON that says whether it was joined.
 """
 
 import itertools
@@ -106,7 +106,7 @@ class Keeper:
         try:
             connection.sendall(whole(f"? {error}; evaluate the line again"))
         except OSError:
-            pass
+            pass  # nobody is there any more who could read it
         self.is_over.set()
 
 
@@ -115,7 +115,7 @@ def hear(lines: BinaryIO, talk: Talk) -> None:
         for line in lines:
             talk.happenings.put(Interrupt() if line == INTERRUPT else line.decode("utf-8", "replace").rstrip("\n"))
     except (OSError, ValueError):
-        pass
+        pass  # the connection was closed or broke, which is what `Gone` says
     talk.happenings.put(Gone())
 
 
@@ -150,7 +150,7 @@ class Door:
                 os.unlink(self.path)
             self.listener.shutdown(socket.SHUT_RDWR)
         except OSError:
-            pass
+            pass  # the file has gone, or nobody was connected: there is nothing left to end
         self.listener.close()
 
 
@@ -178,6 +178,6 @@ def tell(text: str) -> None:
     try:
         print(lines[0], flush=True)
     except OSError:
-        pass
+        pass  # it has ended
     sys.stdout = open(os.devnull, "w", encoding="utf-8")
     os.dup2(sys.stdout.fileno(), 1)

@@ -58,11 +58,11 @@ def joined(sheet: str, session: str, document: str, texmacs: int) -> socket.sock
     with open(path + ".lock", "w", encoding="ascii") as lock:
         fcntl.flock(lock, fcntl.LOCK_EX)
         while True:
-            connection, told = greeted(path, hello)
-            if connection and told is None:
+            connection, reported = greeted(path, hello)
+            if connection and reported is None:
                 return connection
-            why = told or started(sheet, path)
-            if told or why is not None and time.monotonic() > until:
+            why = reported or started(sheet, path)
+            if reported or why is not None and time.monotonic() > until:
                 raise Refusal(why)
             if why is not None:
                 time.sleep(0.2)
@@ -75,18 +75,18 @@ def greeted(path: str, hello: bytes) -> Tuple[Optional[socket.socket], Optional[
         with address_of(path) as address:
             connection.connect(address)
         connection.sendall(hello)
-        told = line_of(connection)
+        reported = line_of(connection)
     except OSError:
-        told = b""
-    why: Optional[str] = json.loads(told)["refused"] if told else None
-    if told and why is None:
+        reported = b""
+    why: Optional[str] = json.loads(reported)["refused"] if reported else None
+    if reported and why is None:
         return connection, None
     connection.close()
     return None, why
 
 
 def line_of(connection: socket.socket) -> bytes:
-    """The first line, and nothing behind it."""
+    """The first line, and nothing after it."""
     line = b""
     while not line.endswith(b"\n"):
         byte = connection.recv(1)
@@ -242,11 +242,11 @@ def export(sheet: str) -> int:
     """Writes the document of a worksheet; the status."""
     try:
         with Worksheet(sheet) as worksheet:
-            told = document(worksheet)
+            reported = document(worksheet)
     except (OSError, TmhostError) as error:
         print(f"tmhost-texmacs: {sheet}: {error}", file=sys.stderr)
         return 1
-    sys.stdout.buffer.write(told)
+    sys.stdout.buffer.write(reported)
     return 0
 
 

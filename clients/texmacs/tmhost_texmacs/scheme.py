@@ -1,4 +1,4 @@
-"""Lists of Scheme in a line: what TeXmacs asks, and what it is told to do."""
+"""Lists of Scheme in a line: what TeXmacs asks, and what it is asked to do."""
 
 import re
 from typing import List, Sequence, Tuple, Union

@@ -2,7 +2,7 @@
 
 A line is an input, or begins with the byte 16 and is a list of Scheme:
 
-    (evaluate INPUT ID BEFORE BEHIND DOCUMENT SHOWN ..)   ID is the field that the document has for the input, BEFORE and BEHIND those beside it;
+    (evaluate INPUT ID BEFORE AFTER DOCUMENT SHOWN ..)   ID is the field that the document has for the input, BEFORE and AFTER those beside it;
                                                           a SHOWN is (ID MARK INPUT), and is there where the document is to be compared
     (kept ID ..)                                          the answers that the worksheet has, of fields that are put into the document
     (complete INPUT CURSOR)                               TeXmacs' own
@@ -53,7 +53,7 @@ class Asked:
     input: str
     id: str = ""
     before: str = ""
-    behind: str = ""
+    after: str = ""
     document: str = ""
     shown: Optional[List[Shown]] = None
 
@@ -148,13 +148,13 @@ class Talk:
         return next((Cell(self.sheet, field.id) for field in self.fields if str(field.id) == id), None)
 
     def _place(self, asked: Asked) -> Optional[int]:
-        """The field behind which a new one is to stand, 0 for the first place, None for the last."""
+        """The field after which a new one is to stand, 0 for the first place, None for the last."""
         order = [field.id for field in self.sheet.fields]
         names = {str(id): at for at, id in enumerate(order)}
         if asked.before in names:
             return order[names[asked.before]]
-        if asked.behind in names:
-            at = names[asked.behind]
+        if asked.after in names:
+            at = names[asked.after]
             return order[at - 1] if at else 0
         return None
 
@@ -210,9 +210,9 @@ class Talk:
         self.write(OPENED + b"".join(self._kept(field, now[field.id]) for field in found) + closed(self.prompt))
 
     def _kept(self, field: Field, mark: str) -> bytes:
-        told = self.shown(field.answer) if field.answer else escaped(f"? {field.reason or 'it was not evaluated'}")
+        reported = self.shown(field.answer) if field.answer else escaped(f"? {field.reason or 'it was not evaluated'}")
         prompt = field.answer.prompt if field.answer else self.prompt
-        return tree([Name("tmhost-kept"), str(field.id), mark, tree_text(readable(prompt))]) + b"\n" + told + b"\n"
+        return tree([Name("tmhost-kept"), str(field.id), mark, tree_text(readable(prompt))]) + b"\n" + reported + b"\n"
 
     # ---- completions
 
@@ -222,12 +222,12 @@ class Talk:
             return NO_COMPLETIONS
         text = text.replace("\n", LINE_END)
         try:
-            told = Cell(self.sheet, fields[-1].id).complete(int(cursor), COMPLETED_IN, text)
+            reported = Cell(self.sheet, fields[-1].id).complete(int(cursor), COMPLETED_IN, text)
         except TmhostError:
             return NO_COMPLETIONS
-        if told is None or not told.rest:
+        if reported is None or not reported.rest:
             return NO_COMPLETIONS
-        words = scheme.written([Name("tuple"), *(readable(one) for one in (told.root, *told.rest))])
+        words = scheme.written([Name("tuple"), *(readable(one) for one in (reported.root, *reported.rest))])
         return BEGIN + b"scheme:" + escaped(words) + END
 
 
@@ -240,5 +240,5 @@ def at_work(sheet: str, document: str, whose: str = "") -> str:
 def asked_by(form: List[scheme.Form]) -> Asked:
     texts = [item if isinstance(item, str) else "" for item in form[1:6]]
     shown = [Shown(*strings[:3]) for strings in map(scheme.strings, form[6:]) if len(strings) == 3]
-    input, id, before, behind, document = (*texts, "", "", "", "", "")[:5]
-    return Asked(input, id, before, behind, document, shown if len(form) > 6 else None)
+    input, id, before, after, document = (*texts, "", "", "", "", "")[:5]
+    return Asked(input, id, before, after, document, shown if len(form) > 6 else None)

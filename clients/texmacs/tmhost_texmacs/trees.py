@@ -33,8 +33,8 @@ def tree_text(text: str) -> str:
 
 def line(text: str) -> str:
     """A line of an input or of an answer. Blanks at its ends, and the second one of two, stand with a backslash, since others may be joined."""
-    told = re.sub(r"^ | $|(?<= ) ", "\x00", text)
-    written = "".join(r"\ " if character == "\x00" else letter(character) for character in told)
+    reported = re.sub(r"^ | $|(?<= ) ", "\x00", text)
+    written = "".join(r"\ " if character == "\x00" else letter(character) for character in reported)
     return written + r"\;" if not written or written.endswith(" ") else written
 
 
@@ -106,10 +106,10 @@ class Formula:
 
     def bracket(self) -> str:
         found = self.take()
-        told = found[4] or (found[1] if found[1] in ("{", "}", "|") else None)
-        if told is None:
+        reported = found[4] or (found[1] if found[1] in ("{", "}", "|") else None)
+        if reported is None:
             raise Unknown
-        return r"\<nobracket\>" if told == "." else letter(told)
+        return r"\<nobracket\>" if reported == "." else letter(reported)
 
     def around(self) -> str:
         """What stands between brackets that grow with it."""
@@ -146,8 +146,8 @@ class Formula:
         self.take()
         if self.word() != name:
             raise Unknown
-        told = "|".join("<row|" + "|".join(f"<cell|{cell}>" for cell in row) + ">" for row in rows if row != [""])
-        return f"<{MATRICES[name]}|<tformat|<table|{told}>>>"
+        reported = "|".join("<row|" + "|".join(f"<cell|{cell}>" for cell in row) + ">" for row in rows if row != [""])
+        return f"<{MATRICES[name]}|<tformat|<table|{reported}>>>"
 
 
 def formula(text: str) -> Optional[str]:

@@ -119,12 +119,12 @@ function firstOf(nodes, name) {
 }
 
 /**
- * The formula that KaTeX told, as the page gets it. Throws `Refused` where it has what is not allowed.
+ * The formula that KaTeX reported, as the page gets it. Throws `Refused` where it has what is not allowed.
  * @type {(markup: string, tex: string, display: boolean) => string}
  */
 function mathOf(markup, tex, display) {
-  const told = firstOf(firstOf(read(markup), "span").children, "math");
-  const [formula] = firstOf(told.children, "semantics").children;
+  const reported = firstOf(firstOf(read(markup), "span").children, "math");
+  const [formula] = firstOf(reported.children, "semantics").children;
   if (typeof formula !== "object") throw new Refused("no formula");
   /** @type {[string, string][]} */
   const attributes = display ? [["displaystyle", "true"], ["alttext", tex]] : [["alttext", tex]];

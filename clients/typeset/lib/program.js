@@ -99,7 +99,7 @@ async function readPage(file) {
 /** @type {(bytes: Buffer | string) => Promise<void>} */
 function write(bytes) {
   return new Promise((resolve, reject) => {
-    process.stdout.once("error", () => {}); // the call below is told of it
+    process.stdout.once("error", () => {}); // the call below gets it
     process.stdout.write(bytes, (error) => (error ? reject(new Fault(1, `the page can't be written: ${error.message}`)) : resolve()));
   });
 }

@@ -10,7 +10,7 @@ const path = require("node:path");
  * What sets texts: its name, Debian's package with it, the file where it is, the script of its process, and how what that tells is read.
  * @template Question, Answer
  * @typedef {{
- *   name: string, debian: string, file: string, script: string, sizeOf: (question: Question) => number, answerIn: (told: any) => Answer | null,
+ *   name: string, debian: string, file: string, script: string, sizeOf: (question: Question) => number, answerIn: (reported: any) => Answer | null,
  * }} Setter
  */
 
@@ -18,7 +18,7 @@ const path = require("node:path");
 
 const MEGABYTES = 256;
 const STARTING = 20_000; // milliseconds for its first start
-const ROUNDS = [1_000, 8_000]; // milliseconds for a text; those that take longer come again behind all others
+const ROUNDS = [1_000, 8_000]; // milliseconds for a text; those that take longer come again after all others
 
 /** @type {Reason} */
 const LATE = { reason: "it takes too long" };
@@ -34,12 +34,12 @@ class NotStarted extends Error {}
  */
 function nextOf(child, milliseconds) {
   return new Promise((resolve) => {
-    /** @type {(told: unknown) => void} */
-    const settle = (told) => {
+    /** @type {(reported: unknown) => void} */
+    const settle = (reported) => {
       clearTimeout(timer);
       child.removeAllListeners();
       child.on("error", () => {}); // one that comes later says nothing new
-      resolve(told);
+      resolve(reported);
     };
     const timer = setTimeout(() => settle(LATE), milliseconds);
     child.once("message", settle);
@@ -59,7 +59,7 @@ class Helper {
   }
 
   /**
-   * The process, anew where there is none. null where it doesn't start, though it did before.
+   * The process, again where there is none. null where it doesn't start, though it did before.
    * @type {(milliseconds: number) => Promise<ChildProcess | null>}
    */
   async started(milliseconds) {
@@ -80,11 +80,11 @@ class Helper {
     if (!child) return LATE;
     const next = nextOf(child, milliseconds);
     child.send(/** @type {any} */ (question), () => {});
-    const told = await next;
-    if (told === LATE || told === BROKEN) this.stop();
-    if (told === LATE) return LATE;
-    const reason = told !== BROKEN && typeof told?.reason === "string" ? told.reason : `${this.setter.name} broke off`;
-    return this.setter.answerIn(told) ?? { reason };
+    const reported = await next;
+    if (reported === LATE || reported === BROKEN) this.stop();
+    if (reported === LATE) return LATE;
+    const reason = reported !== BROKEN && typeof reported?.reason === "string" ? reported.reason : `${this.setter.name} broke off`;
+    return this.setter.answerIn(reported) ?? { reason };
   }
 
   notStarted() {
@@ -99,7 +99,7 @@ class Helper {
 }
 
 /**
- * Answers to questions, each at its question's place. Behind the deadline each is `LATE`.
+ * Answers to questions, each at its question's place. After the deadline each is `LATE`.
  * @template Question, Answer
  * @param {Setter<Question, Answer>} setter
  * @param {Question[]} questions

@@ -2,7 +2,7 @@
 // A page with its formulas and its prose set, and what is left of them.
 
 const { spansOf, proseOf, proseSection, textOf, escapedText, pageWith, STYLE, PROSE_STYLE } = require("./page.js");
-const { partsOf, wordsOfKatex, piecesOf, isSeen } = require("./latex.js");
+const { load, partsOf, wordsOfKatex, piecesOf, isSeen } = require("./latex.js");
 const { answersTo } = require("./setter.js");
 const { mathOf } = require("./mathml.js");
 const { piecesOf: piecesOfProse } = require("./prose.js");
@@ -33,13 +33,13 @@ function longestFor(text) {
 /** @type {(file: string) => import("./setter.js").Setter<Question, Answer>} */
 const katexOf = (file) => ({
   name: "KaTeX", debian: "katex", file, script: "child.js", sizeOf: ({ tex }) => tex.length,
-  answerIn: (told) => (typeof told?.markup === "string" ? { markup: told.markup } : null),
+  answerIn: (reported) => (typeof reported?.markup === "string" ? { markup: reported.markup } : null),
 });
 
 /** @type {(file: string) => import("./setter.js").Setter<Text, Read>} */
 const markdownOf = (file) => ({
   name: "markdown-it", debian: "libjs-markdown-it", file, script: "reader.js", sizeOf: ({ text }) => text.length,
-  answerIn: (told) => (Array.isArray(told?.trees) ? { trees: told.trees } : null),
+  answerIn: (reported) => (Array.isArray(reported?.trees) ? { trees: reported.trees } : null),
 });
 
 /** @type {(tex: string, display: boolean) => {tex: string, question: Question}} */
@@ -81,8 +81,8 @@ function formulasIn(page) {
   return spansOf(page).map(({ start, end, alone }) => {
     const text = textOf(page.subarray(start, end));
     if (text === null) return { start, end, kind: "formula", text: "", parts: [], reason: "no text of an export" };
-    const told = orReason(() => ({ parts: partsOf(text).flatMap((part) => asked(part, alone)) }));
-    return { start, end, kind: "formula", text, parts: [], ...told };
+    const reported = orReason(() => ({ parts: partsOf(text).flatMap((part) => asked(part, alone)) }));
+    return { start, end, kind: "formula", text, parts: [], ...reported };
   });
 }
 
@@ -92,12 +92,12 @@ function formulasIn(page) {
  */
 function askedInProse({ tex, display }, left) {
   const fallback = display ? `$$${tex}$$` : `$${tex}$`;
-  const told = orReason(() => {
+  const reported = orReason(() => {
     if (!isSeen(tex)) throw new Refused("a character that is not seen");
     return { ...askedFormula(tex, display), fallback };
   });
-  if (!("reason" in told)) return told;
-  left.push({ kind: "formula", text: fallback, reason: told.reason });
+  if (!("reason" in reported)) return reported;
+  left.push({ kind: "formula", text: fallback, reason: reported.reason });
   return { html: escapedText(fallback) };
 }
 
@@ -152,18 +152,18 @@ function htmlOfPart(part, answers, left) {
   if ("html" in part) return part.html;
   const { fallback } = part;
   if (fallback === undefined) return mathFor(part, answers);
-  const told = orReason(() => mathFor(part, answers));
-  if (typeof told === "string") return part.question.display ? `<span class="display">${told}</span>` : told;
-  left.push({ kind: "formula", text: fallback, reason: told.reason });
+  const reported = orReason(() => mathFor(part, answers));
+  if (typeof reported === "string") return part.question.display ? `<span class="display">${reported}</span>` : reported;
+  left.push({ kind: "formula", text: fallback, reason: reported.reason });
   return escapedText(fallback);
 }
 
 /** @type {(found: Found, answers: Map<string, Answer>, left: Left[]) => {html: string} | {reason: string}} */
 function htmlOf({ kind, parts, reason }, answers, left) {
   if (reason !== undefined) return { reason };
-  const told = orReason(() => parts.map((part) => htmlOfPart(part, answers, left)).join(""));
-  if (typeof told !== "string") return told;
-  return { html: kind === "prose" ? proseSection(told) : told };
+  const reported = orReason(() => parts.map((part) => htmlOfPart(part, answers, left)).join(""));
+  if (typeof reported !== "string") return reported;
+  return { html: kind === "prose" ? proseSection(reported) : reported };
 }
 
 /**
@@ -180,14 +180,15 @@ function countOf(found) {
  * @type {(page: Buffer, means: Means, deadline: number) => Promise<{page: Buffer, formulas: number, prose: number, left: Left[]}>}
  */
 async function typeset(page, means, deadline) {
+  await load();
   /** @type {Left[]} */
   const left = [];
   const prose = await proseIn(page, means, deadline, left);
   const unasked = left.length; // formulas of prose
   const found = [...formulasIn(page), ...prose].sort((one, other) => one.start - other.start);
   const questions = questionsFor(found);
-  const told = await answersTo(katexOf(means.katex), [...questions.values()], deadline);
-  const answers = new Map([...questions.keys()].map((key, index) => [key, told[index]]));
+  const reported = await answersTo(katexOf(means.katex), [...questions.values()], deadline);
+  const answers = new Map([...questions.keys()].map((key, index) => [key, reported[index]]));
   const made = [];
   for (const one of found) {
     const result = htmlOf(one, answers, left);

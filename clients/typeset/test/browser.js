@@ -7,7 +7,7 @@ const os = require("node:os");
 const path = require("node:path");
 const { pathToFileURL } = require("node:url");
 
-/** @typedef {Record<string, any>} Told what Chromium's protocol tells */
+/** @typedef {Record<string, any>} Reported what Chromium's protocol tells */
 
 const CHROMIUM = "/usr/bin/chromium";
 const WORDS = [
@@ -23,7 +23,7 @@ class Browser {
     });
     const [, , , toBrowser, fromBrowser] = /** @type {any[]} */ (this.process.stdio);
     this.toBrowser = toBrowser;
-    /** @type {Map<number, {resolve: (told: Told) => void, reject: (error: Error) => void}>} */
+    /** @type {Map<number, {resolve: (reported: Reported) => void, reject: (error: Error) => void}>} */
     this.asked = new Map();
     /** @type {{resolve: () => void}[]} */
     this.loading = [];
@@ -41,29 +41,29 @@ class Browser {
     for (const line of lines) this.take(JSON.parse(line));
   }
 
-  /** @param {Told} told */
-  take(told) {
-    const waiting = this.asked.get(told.id);
-    if (waiting && told.error) waiting.reject(new Error(told.error.message));
-    if (waiting && !told.error) waiting.resolve(told.result);
-    if (told.method === "Network.requestWillBeSent") this.requests.push(told.params.request.url);
-    if (told.method === "Page.javascriptDialogOpening") this.requests.push(`dialog: ${told.params.message}`);
-    if (told.method === "Page.loadEventFired") this.loading.splice(0).forEach(({ resolve }) => resolve());
+  /** @param {Reported} reported */
+  take(reported) {
+    const waiting = this.asked.get(reported.id);
+    if (waiting && reported.error) waiting.reject(new Error(reported.error.message));
+    if (waiting && !reported.error) waiting.resolve(reported.result);
+    if (reported.method === "Network.requestWillBeSent") this.requests.push(reported.params.request.url);
+    if (reported.method === "Page.javascriptDialogOpening") this.requests.push(`dialog: ${reported.params.message}`);
+    if (reported.method === "Page.loadEventFired") this.loading.splice(0).forEach(({ resolve }) => resolve());
   }
 
-  /** @type {(method: string, params?: Told) => Promise<Told>} */
+  /** @type {(method: string, params?: Reported) => Promise<Reported>} */
   ask(method, params = {}) {
     this.count += 1;
     const id = this.count;
-    const told = new Promise((resolve, reject) => this.asked.set(id, { resolve, reject }));
+    const reported = new Promise((resolve, reject) => this.asked.set(id, { resolve, reject }));
     this.toBrowser.write(`${JSON.stringify({ id, method, params, sessionId: this.session })}\0`);
-    return /** @type {Promise<Told>} */ (told);
+    return /** @type {Promise<Reported>} */ (reported);
   }
 
   /** Begins to look at the one tab. */
   async start() {
     const { targetInfos } = await this.ask("Target.getTargets");
-    const tab = targetInfos.find((/** @type {Told} */ one) => one.type === "page");
+    const tab = targetInfos.find((/** @type {Reported} */ one) => one.type === "page");
     this.session = (await this.ask("Target.attachToTarget", { targetId: tab.targetId, flatten: true })).sessionId;
     for (const domain of ["Page", "Network", "Runtime"]) await this.ask(`${domain}.enable`);
   }
@@ -87,9 +87,9 @@ class Browser {
    * @type {(expression: string) => Promise<any>}
    */
   async value(expression) {
-    const told = await this.ask("Runtime.evaluate", { expression, returnByValue: true });
-    if (told.exceptionDetails) throw new Error(told.exceptionDetails.exception?.description ?? told.exceptionDetails.text);
-    return told.result.value;
+    const reported = await this.ask("Runtime.evaluate", { expression, returnByValue: true });
+    if (reported.exceptionDetails) throw new Error(reported.exceptionDetails.exception?.description ?? reported.exceptionDetails.text);
+    return reported.result.value;
   }
 
   /**

@@ -21,19 +21,19 @@ test("a file and standard input give the same", () => {
   assert.equal(fromInput.status, 0);
   assert.deepEqual(fromFile.page, fromInput.page);
   assert.equal(contentsOf(page, fromInput.page)[1], "$\\nonsense$");
-  assert.equal(fromInput.told, "tmhost-typeset: 1 of 2 formulas stay as their TeX\n");
+  assert.equal(fromInput.reported, "tmhost-typeset: 1 of 2 formulas stay as their TeX\n");
 });
 
 test("--report says why, on one line that a terminal may show", () => {
-  const { told } = run(pageOf("page", [{ output: span("$\\nonsense \u009b\n\u202e$") }]), "--report");
-  assert.equal(told, 'left "$\\\\nonsense \\u{9b}\\n\\u{202e}$": "a character that is not seen"\ntmhost-typeset: 1 of 1 formulas stay as their TeX\n');
+  const { reported } = run(pageOf("page", [{ output: span("$\\nonsense \u009b\n\u202e$") }]), "--report");
+  assert.equal(reported, 'left "$\\\\nonsense \\u{9b}\\n\\u{202e}$": "a character that is not seen"\ntmhost-typeset: 1 of 1 formulas stay as their TeX\n');
 });
 
 test("a page without formulas stays, byte for byte", () => {
   for (const same of ["", "x", "\0\xff", pageOf("empty", []), pageOf("x", [{ output: "<" }]), '<pre class="out"', '<pre class="out">\n<span class="tex">']) {
     const bytes = Buffer.from(same, "latin1");
     const made = run(bytes);
-    assert.deepEqual([made.page, made.status, made.told], [bytes, 0, ""]);
+    assert.deepEqual([made.page, made.status, made.reported], [bytes, 0, ""]);
   }
 });
 
@@ -65,7 +65,7 @@ test("a page twice is a page once", () => {
   const once = run(page).page;
   const twice = run(once);
   assert.deepEqual(twice.page, once);
-  assert.equal(twice.told, "tmhost-typeset: 1 of 1 formulas stay as their TeX\n");
+  assert.equal(twice.reported, "tmhost-typeset: 1 of 1 formulas stay as their TeX\n");
 });
 
 test("without time all stays", () => {
@@ -74,22 +74,22 @@ test("without time all stays", () => {
 
 test("faults", () => {
   assert.deepEqual([run(page, "--katex", "/nowhere.js").status, run(page, "--katex", "/nowhere.js").page.length], [1, 0]);
-  assert.match(run(page, "--katex", "/nowhere.js").told, /KaTeX can't be started from \/nowhere.js/);
-  assert.match(run("", "/nowhere.html").told, /the page can't be read/);
+  assert.match(run(page, "--katex", "/nowhere.js").reported, /KaTeX can't be started from \/nowhere.js/);
+  assert.match(run("", "/nowhere.html").reported, /the page can't be read/);
   assert.equal(run("", "/nowhere.html").status, 1);
 });
 
 test("words that are refused", () => {
   for (const words of [["--nonsense"], ["a", "b"], ["--seconds", "x"], ["--seconds", "-1"], ["--katex"], ["--report=1"]]) {
-    const { status, page: written, told } = run(page, ...words);
+    const { status, page: written, reported } = run(page, ...words);
     assert.deepEqual([status, written.length], [2, 0], words.join(" "));
-    assert.match(told, /^tmhost-typeset: .*\nusage: /s);
+    assert.match(reported, /^tmhost-typeset: .*\nusage: /s);
   }
 });
 
 test("--help", () => {
-  const { status, page: written, told } = run("", "--help");
-  assert.deepEqual([status, told], [0, ""]);
+  const { status, page: written, reported } = run("", "--help");
+  assert.deepEqual([status, reported], [0, ""]);
   assert.match(written.toString(), /^usage: tmhost-typeset /);
 });
 
@@ -97,6 +97,14 @@ test("through a link, as it is installed", () => {
   const link = path.join(folder, "tmhost-typeset");
   fs.symlinkSync(COMMAND, link);
   assert.deepEqual(spawnSync(process.execPath, [link], { input: page }).stdout, run(page).page);
+});
+
+test("without the notebook beside it", () => {
+  const alone = path.join(folder, "clients", "typeset");
+  fs.cpSync(path.dirname(COMMAND), alone, { recursive: true });
+  const { status, stdout, stderr } = spawnSync(process.execPath, [path.join(alone, "tmhost-typeset")], { input: page });
+  assert.deepEqual([status, stdout.length], [1, 0]);
+  assert.match(stderr.toString(), /^tmhost-typeset: clients\/notebook has to be beside clients\/typeset: [^\n]+\n$/);
 });
 
 test("a reader that goes away", async () => {

@@ -9,11 +9,11 @@ const { run, contentsOf } = require("./run.js");
 const { readContent, textOf, allOf } = require("./tree.js");
 
 const before = pageOf("formulas", FORMULAS.map(({ from, tex }) => ({ session: from, input: tex, output: span(tex) })));
-const { status, page, told } = run(before, "--report");
+const { status, page, reported } = run(before, "--report");
 const contents = contentsOf(before, page);
 
 test("all are set", () => {
-  assert.equal(told, "");
+  assert.equal(reported, "");
   assert.equal(status, 0);
   assert.equal(contents.length, FORMULAS.length);
   assert.ok(FORMULAS.length >= 60);

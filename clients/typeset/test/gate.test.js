@@ -57,12 +57,12 @@ test("markup that is not of the list", () => {
   const file = fake("hostile", `return ${JSON.stringify(REFUSED.map(whole))}[Number(tex)];`);
   const formulas = REFUSED.map((_, index) => `$${String(index).padStart(50, "0")}$`);
   const before = pageOf("gate", formulas.map((tex) => ({ output: span(tex) })));
-  const { status, page, told } = run(before, "--report", "--katex", file);
+  const { status, page, reported } = run(before, "--report", "--katex", file);
   assert.equal(status, 0);
   assert.ok(REFUSED.length >= 60);
   assert.deepEqual(contentsOf(before, page), formulas);
   assert.equal(page.toString(), before, "and no style");
-  assert.match(told, new RegExp(`${REFUSED.length} of ${REFUSED.length} formulas stay`));
+  assert.match(reported, new RegExp(`${REFUSED.length} of ${REFUSED.length} formulas stay`));
 });
 
 test("a formula that is too long when it is laid out", () => {
@@ -75,12 +75,12 @@ test("a formula that is too long when it is laid out", () => {
 
 test("what stands around a formula", () => {
   const good = whole("<mi>x</mi>");
-  const told = [
+  const reported = [
     "", "x", "<b></b>", "<math></math>", '<span class="katex"></span>', good.replace("<semantics>", "<b>"), `${good}</span>`, good.slice(0, -"</span>".length),
     `${good}<b>`, `x${good}`, good.replace("katex", "kat\"ex"),
   ];
-  const file = fake("around", `return ${JSON.stringify(told)}[Number(tex)];`);
-  const before = pageOf("around", told.map((_, index) => ({ output: span(`$${index}$`) })));
+  const file = fake("around", `return ${JSON.stringify(reported)}[Number(tex)];`);
+  const before = pageOf("around", reported.map((_, index) => ({ output: span(`$${index}$`) })));
   assert.equal(run(before, "--katex", file).page.toString(), before);
 });
 
@@ -105,13 +105,13 @@ for (const { name, body, reason } of BROKEN) {
   test(`the others are set where ${name}`, () => {
     const file = fake(name.replaceAll(" ", "-"), `if (tex === "bad") { ${body} } return ${JSON.stringify(whole("<mi>y</mi>"))};`);
     const before = pageOf("broken", [{ output: span("$x$") }, { output: span("$bad$") }, { output: span("$longer$") }]);
-    const { status, page, seconds, told } = run(before, "--katex", file, "--report");
+    const { status, page, seconds, reported } = run(before, "--katex", file, "--report");
     const [first, bad, last] = contentsOf(before, page);
     assert.equal(status, 0);
     assert.ok(seconds < 40, `${seconds} seconds`);
     assert.deepEqual([first, last].map((content) => readContent(content).map(textOf).join("")), ["y", "y"]);
     assert.equal(bad, escaped("$bad$"));
-    assert.equal(told, `left "$bad$": "${reason}"\ntmhost-typeset: 1 of 3 formulas stay as their TeX\n`);
+    assert.equal(reported, `left "$bad$": "${reason}"\ntmhost-typeset: 1 of 3 formulas stay as their TeX\n`);
   });
 }
 

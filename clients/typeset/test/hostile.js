@@ -49,7 +49,7 @@ const MACROS = [
   { name: "a definition for all formulas", tex: "$\\gdef\\frac#1#2{owned}\\frac12$" },
   { name: "a global word", tex: "$\\global\\let\\sqrt\\alpha x$" },
   { name: "a new command", tex: "$\\newcommand{\\x}{\\x\\x}\\x$" },
-  { name: "a definition behind a comment", tex: "$%\n\\def\\a{\\a\\a}\\a$" },
+  { name: "a definition after a comment", tex: "$%\n\\def\\a{\\a\\a}\\a$" },
   { name: "a word put together", tex: "$\\csname def\\endcsname\\a{\\a\\a}\\a$" },
   { name: "a number of the wrong base", tex: "$\\char'999999999999$" },
   { name: "a character beyond Unicode", tex: '$\\char"110000$' },

@@ -12,7 +12,7 @@ const GOOD = "$\\frac{1}{2}$";
 const MOST_SECONDS = 60;
 
 const before = pageOf("hostile </title>", HOSTILE.flatMap(({ name, tex }) => [{ input: name, output: span(tex) }, { output: span(GOOD) }]));
-const { status, page, seconds, told } = run(before, "--report");
+const { status, page, seconds, reported } = run(before, "--report");
 const contents = contentsOf(before, page);
 
 test("the run ends in time", () => {
@@ -23,8 +23,8 @@ test("the run ends in time", () => {
 });
 
 test("links and pictures are refused by KaTeX itself, before the list is asked", () => {
-  assert.match(told, /the attribute mathcolor of mstyle/);
-  assert.doesNotMatch(told, /the attribute (?:href|src|class|id) of|mglyph/);
+  assert.match(reported, /the attribute mathcolor of mstyle/);
+  assert.doesNotMatch(reported, /the attribute (?:href|src|class|id) of|mglyph/);
 });
 
 for (const [index, { name, tex, shows, slow }] of HOSTILE.entries()) {
@@ -37,7 +37,7 @@ for (const [index, { name, tex, shows, slow }] of HOSTILE.entries()) {
       assert.equal(trees.length, 1);
       assert.equal(textOf(trees[0]), shows);
     }
-    assert.equal(readContent(contents[2 * index + 1]).map(textOf).join(""), "12", "the one behind it");
+    assert.equal(readContent(contents[2 * index + 1]).map(textOf).join(""), "12", "the one after it");
   });
 }
 
@@ -51,9 +51,9 @@ test("spans in spans: the innermost are set", () => {
     `{x:${span("$b$")}}`,
   ];
   const nested = pageOf("nested", outputs.map((output) => ({ output })));
-  const { page: typeset, told } = run(nested);
+  const { page: typeset, reported } = run(nested);
   const made = contentsOf(nested, typeset);
-  assert.deepEqual([made.length, told], [outputs.length, ""]);
+  assert.deepEqual([made.length, reported], [outputs.length, ""]);
   for (const content of made) assert.equal(readContent(content).map(textOf).join(""), "b");
 });
 

@@ -2,10 +2,10 @@
 // How a block is read: words and formulas.
 
 const assert = require("node:assert/strict");
-const { test } = require("node:test");
 const { partsOf, wordsOfKatex, isSeen } = require("../lib/latex.js");
 const { spansOf, textOf } = require("../lib/page.js");
 const { alphabetOf, inAlphabet } = require("../lib/letters.js");
+const { test } = require("./loaded.js");
 
 /** @type {(tex: string, display?: boolean) => object} */
 const formula = (tex, display = false) => ({ kind: "formula", tex, display });

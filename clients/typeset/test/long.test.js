@@ -2,8 +2,8 @@
 // Formulas of more than 5,000 characters: a long sum is one formula for each of its terms, between which a browser breaks lines.
 
 const assert = require("node:assert/strict");
-const { test } = require("node:test");
 const { piecesOf, wordsOfKatex } = require("../lib/latex.js");
+const { test } = require("./loaded.js");
 const { pageOf, span } = require("./pages.js");
 const { run, contentsOf } = require("./run.js");
 const { readContent, textOf } = require("./tree.js");
@@ -15,7 +15,7 @@ const LONG = sum(600, power);
 const WORD = "\\displaystyle ";
 
 /**
- * The pieces without what was put before and behind them.
+ * The pieces without what was put before and after them.
  * @type {(pieces: string[]) => string}
  */
 const joined = (pieces) => pieces.map((piece) => piece.slice(piece.startsWith(WORD) ? WORD.length : 0).replace(/\{\}$/, "")).join("");
@@ -25,18 +25,19 @@ const joined = (pieces) => pieces.map((piece) => piece.slice(piece.startsWith(WO
 const SUMS = [
   ["powers", LONG, 600],
   ["with both signs", sum(500, (at) => `${at}x^{-${at}} - ${at}y_{a+b}^{c-d}`), 1000],
-  ["of gp", wordsOfKatex(sum(500, (at) => `${at}\\*x^${at}\\*y`, "-")), 500],
+  ["of gp", sum(500, (at) => `${at}\\*x^${at}\\*y`, "-"), 500],
   ["fractions", sum(400, (at) => `\\frac{${at}-x}{${at}+x}`), 400],
   ["in fences", sum(300, (at) => `\\left(${at} + \\left[x - 1\\right]\\right)`), 300],
   ["with a sign of a number", sum(400, (at) => `a \\cdot -${at} = -b, -c`), 400],
   ["with a script that is a sign", sum(900, () => "x^+ y_- z"), 900],
-  ["behind a word for all", `\\displaystyle ${LONG}`, 600],
+  ["after a word for all", `\\displaystyle ${LONG}`, 600],
   ["of a table", sum(200, (at) => `\\begin{pmatrix}${at} + 1 & -1\\end{pmatrix}`), 200],
   ["brackets that are no fences", sum(400, (at) => `(${at} + 1)x^{${at}}`), 400],
 ];
 
-for (const [name, tex, terms] of SUMS) {
+for (const [name, written, terms] of SUMS) {
   test(`a sum: ${name}`, () => {
+    const tex = wordsOfKatex(written);
     assert.ok(tex.length > 5_000, String(tex.length));
     const pieces = piecesOf(tex, true, 0) ?? [];
     assert.equal(pieces.length, terms);
@@ -81,7 +82,7 @@ test("a page with long sums", () => {
   const texts = [`$${LONG}$`, `\\magenta\\%1 = $\\blue ${sum(500, (at) => `${at}\\*x^${at}`)}$`, `$${sum(3_500, power).slice(0, 49_000).replace(/ \+ [^+]*$/, "")}$`, huge, `$${LONG} + {$`, `$\\left(${LONG}$`,
     `$${sum(6_000, power)}$`];
   const before = pageOf("long", texts.map((text) => ({ output: span(text) })));
-  const { page, told, status } = run(before, "--report");
+  const { page, reported, status } = run(before, "--report");
   assert.equal(status, 0);
   const contents = contentsOf(before, page);
   const trees = contents.slice(0, 3).map((content) => readContent(content).filter((part) => typeof part !== "string"));
@@ -89,6 +90,6 @@ test("a page with long sums", () => {
   assert.equal(trees[0].map(textOf).join("").replace(/[^\d+x]/g, ""), LONG.replace(/[^\d+x]/g, ""));
   assert.ok(trees[2].length > 2_000, String(trees[2].length));
   for (const [at, text] of texts.slice(3).entries()) assert.equal(contents[at + 3], text);
-  assert.match(told, /more than 20000 characters, and no sign between terms/);
-  assert.match(told, /more than 50000 characters/);
+  assert.match(reported, /more than 20000 characters, and no sign between terms/);
+  assert.match(reported, /more than 50000 characters/);
 });

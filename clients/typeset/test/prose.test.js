@@ -44,11 +44,11 @@ const WRITTEN = [
 
 test("what Markdown says", options, () => {
   const before = pageOf("page", WRITTEN.map(([text]) => prose(text)));
-  const { status, page, told } = run(before);
+  const { status, page, reported } = run(before);
   const made = proseOf(page);
   for (const [index, [text, html]] of WRITTEN.entries()) assert.equal(made.get(index + 1), html, text);
   assert.equal(status, 0);
-  assert.equal(told, "tmhost-typeset: 2 of 7 formulas stay as their TeX\n");
+  assert.equal(reported, "tmhost-typeset: 2 of 7 formulas stay as their TeX\n");
   assert.equal(withoutProse(page, before), before);
   assert.ok(page.includes(`${STYLE}${PROSE_STYLE}</head>`));
 });
@@ -92,16 +92,16 @@ test("a page twice is a page once; prose beside formulas", options, () => {
 
 test("bytes that are no UTF-8, and a field of an older page", options, () => {
   const before = Buffer.from(pageOf("page", [prose("a\u00ffb"), prose("*c*")]), "latin1");
-  const { page, told } = run(before, "--report");
+  const { page, reported } = run(before, "--report");
   assert.deepEqual([...proseOf(page).values()], ["<p><em>c</em></p>"]);
-  assert.equal(told, 'left prose "": "no text of an export"\ntmhost-typeset: 1 of 2 fields of prose stay as they are\n');
+  assert.equal(reported, 'left prose "": "no text of an export"\ntmhost-typeset: 1 of 2 fields of prose stay as they are\n');
 });
 
 test("without markdown-it, and without time", options, () => {
   const before = pageOf("page", [prose("*a*")]);
-  const { status, page, told } = run(before, "--markdown-it", "/nowhere.js");
+  const { status, page, reported } = run(before, "--markdown-it", "/nowhere.js");
   assert.deepEqual([status, page.length], [1, 0]);
-  assert.equal(told, "tmhost-typeset: markdown-it can't be started from /nowhere.js; Debian has it in the package libjs-markdown-it\n");
+  assert.equal(reported, "tmhost-typeset: markdown-it can't be started from /nowhere.js; Debian has it in the package libjs-markdown-it\n");
   assert.equal(run(before, "--no-prose", "--markdown-it", "/nowhere.js").page.toString(), before);
   assert.equal(run(before, "--seconds", "0").page.toString(), before);
   assert.equal(run(pageOf("page", [{ output: "x" }]), "--markdown-it", "/nowhere.js", "--katex", "/nowhere.js").status, 0);
@@ -135,8 +135,8 @@ test("prose that means harm: nothing but the list comes out, and no page grows w
 function fake(name, body) {
   const file = path.join(folder, `${name}.js`);
   const ruler = "{ ruler: { before() {} } }";
-  fs.writeFileSync(file, `const told = (text) => { ${body} };
-process.on("message", ({ text }) => process.send({ trees: told(text) }));
+  fs.writeFileSync(file, `const reported = (text) => { ${body} };
+process.on("message", ({ text }) => process.send({ trees: reported(text) }));
 process.on = () => process;
 module.exports = () => ({ inline: ${ruler}, block: ${ruler} });\n`);
   return file;
@@ -163,10 +163,10 @@ const REFUSED = [
 test("trees that are not of the list", options, () => {
   const file = fake("hostile", `return ${JSON.stringify(REFUSED)}[Number(text)];`);
   const before = pageOf("page", REFUSED.map((_, index) => prose(String(index))));
-  const { status, page, told } = run(before, "--report", "--markdown-it", file);
+  const { status, page, reported } = run(before, "--report", "--markdown-it", file);
   assert.equal(status, 0);
-  assert.equal(page.toString(), before, told);
-  assert.match(told, new RegExp(`${REFUSED.length} of ${REFUSED.length} fields of prose stay`));
+  assert.equal(page.toString(), before, reported);
+  assert.match(reported, new RegExp(`${REFUSED.length} of ${REFUSED.length} fields of prose stay`));
 });
 
 const BROKEN = [
@@ -179,11 +179,11 @@ const BROKEN = [
 for (const { name, body, reason } of BROKEN) {
   test(`the others are set where ${name}`, options, () => {
     const file = fake(name.replaceAll(" ", "-"), `if (text === "bad") { ${body} } return [["p", {}, [text]]];`);
-    const { status, page, seconds, told } = run(pageOf("page", ["a", "bad", "longer"].map((text) => prose(text))), "--markdown-it", file, "--report");
+    const { status, page, seconds, reported } = run(pageOf("page", ["a", "bad", "longer"].map((text) => prose(text))), "--markdown-it", file, "--report");
     assert.equal(status, 0);
     assert.ok(seconds < 40, `${seconds} seconds`);
     assert.deepEqual([...proseOf(page).entries()], [[1, "<p>a</p>"], [3, "<p>longer</p>"]]);
-    assert.equal(told, `left prose "bad": "${reason}"\ntmhost-typeset: 1 of 3 fields of prose stay as they are\n`);
+    assert.equal(reported, `left prose "bad": "${reason}"\ntmhost-typeset: 1 of 3 fields of prose stay as they are\n`);
   });
 }
 

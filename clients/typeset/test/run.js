@@ -9,17 +9,17 @@ const { STYLE } = require("../lib/page.js");
 const COMMAND = path.join(__dirname, "../tmhost-typeset");
 const SPAN = /<span class="tex">([^<]*)<\/span>/g;
 
-/** @typedef {{status: number | null, page: Buffer, told: string, seconds: number}} Ran */
+/** @typedef {{status: number | null, page: Buffer, reported: string, seconds: number}} Ran */
 
 /** @type {(input: string | Buffer, ...words: string[]) => Ran} */
 function run(input, ...words) {
   const start = Date.now();
   const { status, stdout, stderr } = spawnSync(process.execPath, [COMMAND, ...words], { input, maxBuffer: 1 << 30 });
-  return { status, page: stdout, told: stderr.toString(), seconds: (Date.now() - start) / 1000 };
+  return { status, page: stdout, reported: stderr.toString(), seconds: (Date.now() - start) / 1000 };
 }
 
 /**
- * What stands in the innermost spans of a page behind the run, in their order. All else of the page has to be as it was, byte for byte,
+ * What stands in the innermost spans of a page after the run, in their order. All else of the page has to be as it was, byte for byte,
  * but for one style at the end of the head.
  * @type {(before: string, after: Buffer) => string[]}
  */

@@ -65,9 +65,9 @@ function checkParts({ name, children }) {
 
 /** @type {(text: string) => string} */
 function seen(text) {
-  const told = plain(text);
-  if (BAD_CHARACTER.test(told)) throw new Error(`a character that is not seen: ${JSON.stringify(told)}`);
-  return told;
+  const reported = plain(text);
+  if (BAD_CHARACTER.test(reported)) throw new Error(`a character that is not seen: ${JSON.stringify(reported)}`);
+  return reported;
 }
 
 /**

@@ -5,8 +5,8 @@ lines that it has got, so that an answer tells what was evaluated before it.
     bytes HEX     these bytes
     latex TEXT    a block `latex`
     both TEXT|LATEX|TEXT ..    texts, and blocks `latex` between them
-    picture TEXT|FORMAT|DATA    a text, and a picture behind it
-    error TEXT|TEXT   a text, and an error behind it
+    picture TEXT|FORMAT|DATA    a text, and a picture after it
+    error TEXT|TEXT   a text, and an error after it
     file PATH     what stands in a file
     quiet         nothing
     sleep SECONDS
@@ -29,7 +29,7 @@ def escaped(text: bytes) -> bytes:
 
 
 def value(lines: List[str]) -> str:
-    """What a line is answered that comes behind the others."""
+    """What a line is answered that comes after the others."""
     return f"{len(lines)} {hashlib.sha256(repr(lines).encode()).hexdigest()[:12]}"
 
 
@@ -49,11 +49,11 @@ def answer(lines: List[str]) -> bytes:
         parts = [written(part) for part in rest.split("|")]
         return b"\x02verbatim:" + b"".join(b"\x02latex:" + part + b"\x05" if at % 2 else part for at, part in enumerate(parts)) + b"\x05"
     if word == "picture":
-        told, tag, data = rest.split("|")
-        return b"\x02verbatim:" + written(told) + b"\x02" + tag.encode() + b":" + written(data) + b"\x05\x05"
+        reported, tag, data = rest.split("|")
+        return b"\x02verbatim:" + written(reported) + b"\x02" + tag.encode() + b":" + written(data) + b"\x05\x05"
     if word == "error":
-        text, _, told = rest.partition("|")
-        return b"\x02verbatim:" + written(text) + b"\x02output#\x02output#" + written(told) + b"\x05\x05\x05"
+        text, _, reported = rest.partition("|")
+        return b"\x02verbatim:" + written(text) + b"\x02output#\x02output#" + written(reported) + b"\x05\x05\x05"
     if word == "file":
         with open(rest, "rb") as file:
             return escaped(file.read())

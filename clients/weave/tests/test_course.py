@@ -55,7 +55,7 @@ class Course(Case):
         return "".join(parts) + "```c\nint x;\n```\n"
 
     def sums(self) -> List[int]:
-        """What stands behind the fences, in their order."""
+        """What stands after the fences, in their order."""
         sums: Dict[str, int] = {}
         found = []
         for at, number in enumerate(self.numbers):
@@ -82,7 +82,7 @@ class Course(Case):
         self.assertEqual(sum(a != b for a, b in zip(self.answered(again), self.answered(woven))), 7)
 
     def run_changed(self) -> str:
-        """The changed fence is the seventh of its session, behind the first one, and seven stand from it on. Those are evaluated, behind a
+        """The changed fence is the seventh of its session, after the first one, and seven stand from it on. Those are evaluated, after a
         replay of the seven in front of them, and no other session is sent a line."""
         self.write(self.source())
         done = self.run_weave()

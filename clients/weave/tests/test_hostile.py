@@ -98,7 +98,7 @@ class Hostile(Case):
 
     @unittest.skipUnless(CMARK and CHROMIUM, "there is no cmark or no chromium")
     def test_as_chromium_shows_it(self) -> None:
-        """The page that cmark makes of it, with HTML let through, has the elements of code and folds alone behind whatever a script could do."""
+        """The page that cmark makes of it, with HTML let through, has the elements of code and folds alone after whatever a script could do."""
         for prefix, info in [("", "a {fold}"), ("> ", "a")]:
             made = subprocess.run([CMARK or "", "--unsafe"], input=body_of(self.woven(prefix, info)).encode(), capture_output=True, check=True)
             self.write(PAGE % made.stdout.decode(), self.place("page.html"))
@@ -146,8 +146,8 @@ class Formulas(Case):
         self.assertGreater(formulas, 40)
         self.assertEqual(self.weave(woven), woven)
 
-    def test_behind_what_is_printed(self) -> None:
-        """A value that is a formula stands as one behind what its line has printed; where it is none, the whole is text."""
+    def test_after_what_is_printed(self) -> None:
+        """A value that is a formula stands as one after what its line has printed; where it is none, the whole is text."""
         lines = ["both a\\x01b\\n|$x$", "both |$x$|\\n|$y$", "both ```\\n<b>|$x^2$| ", "both a|$x<y$", "both a|$x$|b|[c](d)|", "bytes 61026c617465783a2478240562"]
         woven = self.weave(self.front("a") + "".join(f"```a\n{line}\n```\n\n" for line in lines))
         found = [part.split("```a\n")[-1].partition("\n```\n")[2] for part in woven.split("```a\n")[1:]]

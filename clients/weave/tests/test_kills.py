@@ -40,7 +40,7 @@ def inputs_of(blocks: Blocks, session: str) -> List[str]:
 
 def expected(blocks: Blocks) -> List[str]:
     """The answers of a text, in its order."""
-    behind: Dict[str, List[str]] = {}
+    after: Dict[str, List[str]] = {}
     found = []
     for info, code in blocks:
         name = info.split(" ")[0]
@@ -48,8 +48,8 @@ def expected(blocks: Blocks) -> List[str]:
             found.append(value([code.replace("\n", "\u2028")]))
             continue
         for line in code.split("\n"):
-            behind.setdefault(name, []).append(line)
-            found.append(value(behind[name]))
+            after.setdefault(name, []).append(line)
+            found.append(value(after[name]))
     return found
 
 

@@ -1,4 +1,4 @@
-"""What is evaluated behind which change, over the real program, by an interpreter that logs its lines."""
+"""What is evaluated after which change, over the real program, by an interpreter that logs its lines."""
 import os
 import shutil
 import stat
@@ -31,7 +31,7 @@ class Weaving(Case):
         return [code for info, code in self.blocks if info == session]
 
     def shown(self, session: str, woven: str) -> List[str]:
-        """The answers behind the fences of a session, each of which has one."""
+        """The answers after the fences of a session, each of which has one."""
         return [one for (info, _), one in zip(self.blocks, answers(woven)) if info == session]
 
     def test_first_and_again(self) -> None:
@@ -68,7 +68,7 @@ class Weaving(Case):
         self.assertEqual(self.shown("a", again), expected(self.lines("a")))
 
     def test_removed_and_put_in(self) -> None:
-        """Also where lines are alike, no answer stands that was given behind other lines."""
+        """Also where lines are alike, no answer stands that was given after other lines."""
         self.blocks = [("a", "x")] * 6
         self.weave(self.source())
         for at, what in [(2, [("a", "y")]), (0, [("a", "x")]), (7, [("a", "x"), ("b", "x")])]:
@@ -137,7 +137,7 @@ class Weaving(Case):
         self.assertEqual(answers(shown), [value(["x"]), value(["x", "y"])])
 
     def test_errors(self) -> None:
-        """An error has fences of its own, behind what was printed before it, and is found again; in a list all is one text."""
+        """An error has fences of its own, after what was printed before it, and is found again; in a list all is one text."""
         woven = self.weave(self.front("a") + fences([("a", "error a\\n|no\\nway"), ("a", "error |b")]) + "\n- c\n\n  ```a\n  error d\\n|e\n  ```\n")
         self.assertIn("\n\n```tmhost-answer\na\n```\n\n```tmhost-error\nno\nway\n```\n", woven)
         self.assertIn("error |b\n```\n\n```tmhost-error\nb\n```\n", woven)
@@ -145,7 +145,7 @@ class Weaving(Case):
         self.assertEqual(self.weave(woven), woven)
 
     def test_what_a_replay_shows(self) -> None:
-        """Where an interpreter answers otherwise now, that is told of the answers that are kept."""
+        """Where an interpreter answers otherwise now, that is reported of the answers that are kept."""
         self.write("one", self.place("file"))
         text = self.front("a") + fences([("a", f"file {self.place('file')}"), ("a", "say x")])
         woven = self.weave(text)
@@ -160,7 +160,7 @@ class Weaving(Case):
         text = self.read()
         done = self.run_weave()
         self.assertEqual((done.status, self.read()), (0, text))
-        self.assertIn("line 9: an answer that is behind no fence", done.errors)
+        self.assertIn("line 9: an answer that is after no fence", done.errors)
 
     def test_check(self) -> None:
         self.write(self.source())
@@ -175,7 +175,7 @@ class Weaving(Case):
         held = self.fields()
         done = self.run_weave("--check", self.text)
         self.assertEqual(done.status, 1)
-        self.assertIn("a: 3 fields would be evaluated, from line 79 on, behind 3 that would be replayed\n", done.output)
+        self.assertIn("a: 3 fields would be evaluated, from line 79 on, after 3 that would be replayed\n", done.output)
         self.write(woven.replace("```tmhost-answer\n4 ", "```tmhost-answer\n5 ", 1))
         done = self.run_weave("--check", self.text)
         self.assertEqual((done.status, done.output.count("the text would change from line ")), (1, 1))
@@ -205,7 +205,7 @@ class Weaving(Case):
         self.assertEqual(self.run_weave().status, 0)
         self.assertEqual(os.listdir(self.folder), ["text.md"])
 
-    def test_a_text_without_code_of_a_session_is_told(self) -> None:
+    def test_a_text_without_code_of_a_session_is_reported(self) -> None:
         """With what it has, since a session may have another name than its fences."""
         for text, sessions, found in (
             ("```python\nx\n```\n```r\ny\n```\n```python\nz\n```\n", "none, as `sessions: {py: [tmhost-python]}`", "python (2), r (1)"),
@@ -360,8 +360,8 @@ class Failures(Case):
             self.write(text + "More.\n")
             self.write("", self.place("end"))
             assert weave.stderr
-            told = weave.stderr.read()
-        self.assertEqual((weave.returncode, b"changed meanwhile" in told), (1, True))
+            reported = weave.stderr.read()
+        self.assertEqual((weave.returncode, b"changed meanwhile" in reported), (1, True))
         self.assertEqual(self.read(), text + "More.\n")
         self.logged("a")
         self.weave(self.read())

@@ -44,7 +44,7 @@ class Whole(Case):
 
 class Tested(Case):
     def test_a_text(self) -> None:
-        """All is evaluated anew, and nothing is written."""
+        """All is evaluated again, and nothing is written."""
         text = self.front("a") + fences([("a", f"file {self.place('value')}"), ("a", DRAWS)])
         self.write("old\n", self.place("value"))
         woven = self.weave(text)

@@ -1,4 +1,4 @@
-"""What other readers make of a text: trees of blocks, from which the answers behind fences of sessions are taken."""
+"""What other readers make of a text: trees of blocks, from which the answers after fences of sessions are taken."""
 import json
 import re
 import shutil
@@ -14,7 +14,7 @@ Tree = Tuple[str, str, Tuple[Any, ...]]
 
 
 def body_of(text: str) -> str:
-    """What stands behind the front matter."""
+    """What stands after the front matter."""
     return re.sub(r"\A---(\r\n|\n|\r).*?[\r\n]---(\r\n|\n|\r)", "", text, flags=re.DOTALL)
 
 

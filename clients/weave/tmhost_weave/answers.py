@@ -7,7 +7,7 @@ from tmhost_fences.troubles import Trouble
 
 ANSWER, ERROR, NO_ANSWER, FORMULA, PICTURE = "tmhost-answer", "tmhost-error", "tmhost-no-answer", "formula", "picture"
 FORMULA_BEGINS, FORMULA_ENDS = "<!-- tmhost-answer -->", "<!-- /tmhost-answer -->"
-# A remark in front, since a block of HTML that begins with one ends on its line, without an empty line behind it.
+# A remark in front, since a block of HTML that begins with one ends on its line, without an empty line after it.
 FOLD_BEGINS = "<!-- tmhost-answer --><details><summary>Answer</summary>"
 FOLD_ENDS = "<!-- tmhost-answer --></details>"
 RUN = re.compile("`+")
@@ -24,7 +24,7 @@ class Piece:
 
 @dataclasses.dataclass(frozen=True)
 class Shown:
-    """What stands behind a fence."""
+    """What stands after a fence."""
 
     pieces: Tuple[Piece, ...] = ()
     is_folded: bool = False
@@ -44,7 +44,7 @@ def fenced(piece: Piece) -> List[str]:
 
 
 def blocks_of(shown: Shown) -> List[List[str]]:
-    """The lines of each block of Markdown that is put behind a fence."""
+    """The lines of each block of Markdown that is put after a fence."""
     blocks: List[List[str]] = []
     for piece in shown.pieces:
         if piece.kind in (FORMULA, PICTURE):
@@ -55,7 +55,7 @@ def blocks_of(shown: Shown) -> List[List[str]]:
 
 
 def lines_of(shown: Shown, prefix: str, is_in_container: bool) -> List[str]:
-    """These lines behind the marks of the quotes and lists in which the fence stands. There, no empty line is put between blocks, since it
+    """These lines after the marks of the quotes and lists in which the fence stands. There, no empty line is put between blocks, since it
     would make a tight list a loose one."""
     lines: List[str] = []
     for block in blocks_of(shown):
@@ -64,11 +64,11 @@ def lines_of(shown: Shown, prefix: str, is_in_container: bool) -> List[str]:
 
 
 class Finder:
-    """Takes what an earlier weave put behind a fence, from the tokens of a parser on."""
+    """Takes what an earlier weave put after a fence, from the tokens of a parser on."""
 
     def __init__(self, tokens: Sequence[Any], at: int, end: int, lines: List[str], first_line: int) -> None:
         self.tokens, self.at = tokens, at
-        self.end = end  # the line behind what was taken
+        self.end = end  # the line after what was taken
         self.lines, self.first_line = lines, first_line
 
     def look(self, type: str) -> Optional[Any]:
@@ -130,7 +130,7 @@ class Finder:
         return found
 
     def shown(self) -> Shown:
-        """All that stands behind the fence. What isn't folded comes in front of a fold or without one."""
+        """All that stands after the fence. What isn't folded comes in front of a fold or without one."""
         begin = self.mark(FOLD_BEGINS)
         if begin:
             self.take(begin)

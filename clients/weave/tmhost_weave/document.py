@@ -1,4 +1,4 @@
-"""A text with fences of sessions: what each has, where it ends, and what an earlier weave put behind it."""
+"""A text with fences of sessions: what each has, where it ends, and what an earlier weave put after it."""
 import collections
 import dataclasses
 import re
@@ -20,7 +20,7 @@ LONGEST_NAME = 40  # characters of what isn't a session's, in a message
 
 @dataclasses.dataclass
 class Fence:
-    """`begin`, `end` and `until` are lines, from 0: where it begins, the one behind it, and the one behind the answers that stand there."""
+    """`begin`, `end` and `until` are lines, from 0: where it begins, the one after it, and the one after the answers that stand there."""
 
     session: str
     flags: FrozenSet[str]
@@ -28,7 +28,7 @@ class Fence:
     begin: int
     end: int
     until: int
-    prefix: str  # of each line behind it: the marks of the quotes and lists in which it stands
+    prefix: str  # of each line after it: the marks of the quotes and lists in which it stands
     is_in_container: bool
     language: str
     old: Shown
@@ -114,7 +114,7 @@ class Document:
         return Fence(named[0], named[1] | self.always, block.content, block.begin, block.end, finder.end + first, prefix, block.is_in_container, language, old)
 
     def woven(self, shown: Sequence[Shown]) -> str:
-        """The text with these answers behind its fences, in place of those that stand there."""
+        """The text with these answers after its fences, in place of those that stand there."""
         parts: List[str] = []
         at = 0
         for fence, one in zip(self.fences, shown):

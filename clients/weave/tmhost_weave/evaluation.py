@@ -13,7 +13,7 @@ PATIENCE = 30.0  # seconds after which it is said that a field has no answer yet
 
 
 class Evaluator:
-    """`begun` is told of each field, how many there are before it and how many in all; `late` of one that has no answer after some time."""
+    """`begun` is called for each field, with how many there are before it and how many in all; `late` of one that has no answer after some time."""
 
     def __init__(
         self, sheet: Worksheet, plan: Plan, seconds: Optional[float], begun: Callable[[Wanted, int, int], None], late: Callable[[Wanted, float], None]

@@ -16,7 +16,7 @@ CONTROL = re.compile(r"[\x00-\x08\x0b-\x1f\x7f]")
 
 
 def closes(inside: bytes) -> bool:
-    """Whether each brace that closes one has it, and none stays open; one behind a backslash is none."""
+    """Whether each brace that closes one has it, and none stays open; one after a backslash is none."""
     depth = 0
     for found in BRACE.findall(inside):
         depth += {b"{": 1, b"}": -1}.get(found, 0)
@@ -71,7 +71,7 @@ def part_of(block: Block) -> Optional[Tuple[str, str]]:
 
 def parts_of(output: Block) -> Optional[List[Tuple[str, str]]]:
     """The texts, the formulas, the errors and the pictures of an output, each with its kind, where it has no other block: a formula alone, what
-    is printed in front of a value, an error behind that. The text of a picture is the address of its data."""
+    is printed in front of a value, an error after that. The text of a picture is the address of its data."""
     items = output.items if (output.tag, output.kind) == ("verbatim", "format") else (output,)
     parts: List[Tuple[str, str]] = []
     for item in items:

@@ -13,7 +13,7 @@ from tmhost_fences.troubles import Trouble
 SECOND = ".alt"  # of a worksheet's second file
 PATIENCE = 10.0  # seconds for which a worksheet may be in use, since a program whose weave was killed needs a moment to end
 PAUSE = 0.05
-LARGE = 16_777_216  # bytes of a worksheet's file from which on it is written anew
+LARGE = 16_777_216  # bytes of a worksheet's file from which on it is written again
 
 
 def sheet_path(text: str) -> str:
@@ -21,7 +21,7 @@ def sheet_path(text: str) -> str:
 
 
 def make(path: str) -> None:
-    """Makes a worksheet beside its place, and puts it there when it is whole: what a kill leaves of the making is made anew."""
+    """Makes a worksheet beside its place, and puts it there when it is whole: what a kill leaves of the making is made again."""
     new = path + ".new"
     for name in (new, new + SECOND):
         with contextlib.suppress(FileNotFoundError):

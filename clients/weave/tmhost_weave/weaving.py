@@ -20,7 +20,7 @@ from .plan import Plan, Wanted
 from .sheets import LARGE, fit, largest_file, make, opened, sheet_path
 from tmhost_fences.troubles import Trouble
 
-MOST_TOLD = 5  # kinds of fences, in a message
+MOST_REPORTED = 5  # kinds of fences, in a message
 LONGEST_INFO = 40  # characters of what stands at one
 CLEAR = "\r\x1b[K"  # takes a line of a terminal away
 LONG_RUN = re.compile("`{255,}")  # cmark counts the backquotes of a fence up to 255, so a line of more would close any
@@ -58,8 +58,8 @@ def first_other_line(old: bytes, new: bytes) -> int:
 def why_nothing(document: Document) -> str:
     """What is said of a text of which no fence is a session's: an author has most likely named a session otherwise than its fences."""
     sessions = ", ".join(document.sessions) or "none, as `sessions: {py: [tmhost-python]}`"
-    told = [f"{ascii(info[:LONGEST_INFO])[1:-1] or 'without a word'} ({count})" for info, count in document.others.most_common(MOST_TOLD + 1)]
-    fences = ", ".join([*told[:MOST_TOLD], *([".."] if len(told) > MOST_TOLD else [])]) or "none"
+    reported = [f"{ascii(info[:LONGEST_INFO])[1:-1] or 'without a word'} ({count})" for info, count in document.others.most_common(MOST_REPORTED + 1)]
+    fences = ", ".join([*reported[:MOST_REPORTED], *([".."] if len(reported) > MOST_REPORTED else [])]) or "none"
     return f"no fence is of a session, so nothing is evaluated. Sessions in the front matter: {sessions}. Fences: {fences}"
 
 
@@ -79,7 +79,7 @@ class Weave:
         self.fields: Dict[int, Field] = {}
         self.pictures = Pictures(self.target or self.path)
         for line in self.document.strays:
-            self.say(f"line {line}: an answer that is behind no fence of a session stays as text")
+            self.say(f"line {line}: an answer that is after no fence of a session stays as text")
         for line, why in self.document.unevaluated:
             self.say(f"line {line}: {why}")
         if not self.document.fences:
@@ -128,7 +128,7 @@ class Weave:
         if stale:
             self.say(f"{name}: {len(plan.of(name)) - stale} fields kept, {stale} stale, {evaluator.replayed.get(name, 0)} replayed")
         if others:
-            self.say(f"{name}: {others} kept answers aren't those of the replay; to have all anew, remove {self.sheet_path} and its .alt")
+            self.say(f"{name}: {others} kept answers aren't those of the replay; to have all again, remove {self.sheet_path} and its .alt")
 
     def as_it_is(self) -> Plan:
         """Takes what the worksheet has, without a change of it."""
@@ -143,7 +143,7 @@ class Weave:
     # ---- the text
 
     def shown(self, plan: Plan) -> List[Shown]:
-        """What is to stand behind each fence. Behind the first field without an answer nothing more is said of a fence."""
+        """What is to stand after each fence. After the first field without an answer nothing more is said of a fence."""
         pieces: Dict[int, List[Piece]] = {fence.begin: [] for fence in self.document.fences}
         failed = set()
         for wanted in plan.wanted:
@@ -193,12 +193,12 @@ class Weave:
 
     def early(self, plan: Plan) -> Iterator[int]:
         """The first line of each fence of Python that leaves a figure open, where others come after it: it is shown with that line, as far as it is drawn."""
-        told = set()
+        reported = set()
         for wanted, after in zip(plan.wanted, plan.wanted[1:]):
             field = self.fields.get(wanted.id or 0)
             is_inside = wanted.fence is after.fence and wanted.fence.language == "python" and "show(" not in wanted.input
-            if is_inside and wanted.fence.begin not in told and field and field.answer and any(kind == PICTURE for _, kind in parts_of(field.answer.output) or ()):
-                told.add(wanted.fence.begin)
+            if is_inside and wanted.fence.begin not in reported and field and field.answer and any(kind == PICTURE for _, kind in parts_of(field.answer.output) or ()):
+                reported.add(wanted.fence.begin)
                 yield wanted.line
 
     def test(self, seconds: Optional[float]) -> bool:
@@ -219,9 +219,9 @@ class Weave:
         for name in plan.words:
             stale = plan.stale(name)
             kept = 0 if not stale or stale[0].fence.is_pure else len(plan.of(name)) - len(stale)
-            behind = f", behind {kept} that would be replayed" if kept else ""
+            after = f", after {kept} that would be replayed" if kept else ""
             if stale:
-                print(f"{self.name}: {name}: {len(stale)} fields would be evaluated, from line {stale[0].line} on{behind}")
+                print(f"{self.name}: {name}: {len(stale)} fields would be evaluated, from line {stale[0].line} on{after}")
         if plan.is_stale:
             return False
         woven = self.woven(plan)

@@ -7,13 +7,13 @@
     raw B64         writes these bytes as they are
     bytes N         answers N letters
     until PATH TEXT begins an answer with TEXT, and ends it when there is such a file
-    sleep SECONDS   answers behind that time; SIGINT ends it, and it answers "interrupted"
+    sleep SECONDS   answers after that time; SIGINT ends it, and it answers "interrupted"
     slowly SECONDS  the same, but SIGINT ends the interpreter
     set TEXT        keeps TEXT, which `get` answers
     exit            ends
 
-A request of completions at `ca` is answered by `cat`, `cave` and `call`; one at `be` by `beta` alone, and one at `told_FILE` by what the file FILE in
-the folder TOLD has.
+A request of completions at `ca` is answered by `cat`, `cave` and `call`; one at `be` by `beta` alone, and one at `said_FILE` by what the file FILE in
+the folder SAID has.
 """
 
 import base64
@@ -59,13 +59,13 @@ def rest(seconds: float) -> None:
 def complete(line: str) -> None:
     found = re.search(r'"((?:[^"\\]|\\.)*)" (\d+)', line)
     word = found[1].encode()[: int(found[2])].decode().split()[-1] if found else ""
-    if word.startswith("told_"):
-        with open(os.path.join(os.environ["TOLD"], word[len("told_") :]), "rb") as file:
+    if word.startswith("said_"):
+        with open(os.path.join(os.environ["SAID"], word[len("said_") :]), "rb") as file:
             send(file.read())
         return
     words = [one for one in ("cat", "cave", "call", "beta") if word and one.startswith(word)]
-    told = " ".join(f'"{one[len(word):]}"' for one in words)
-    send(b"\x02scheme:" + f'(tuple "{word if words else ""}" {told})'.encode() + b"\x05")
+    reported = " ".join(f'"{one[len(word):]}"' for one in words)
+    send(b"\x02scheme:" + f'(tuple "{word if words else ""}" {reported})'.encode() + b"\x05")
 
 
 def answer(word: str, text: str) -> None:

@@ -1,4 +1,4 @@
-;;; tmhost-told.el --- What the program tells  -*- lexical-binding: t; -*-
+;;; tmhost-reported.el --- What the program tells  -*- lexical-binding: t; -*-
 
 ;;; Commentary:
 
@@ -12,11 +12,11 @@
 (require 'tmhost-view)
 (require 'tmhost-sheet)
 
-(defvar-local tmhost-told--fields nil
-  "The fields that were told of a print that isn't over, the last one first.")
+(defvar-local tmhost-reported--fields nil
+  "The fields that were reported of a print that isn't over, the last one first.")
 
-(defun tmhost-told-take (object)
-  "Take OBJECT, which is told of an interpreter or within a print.
+(defun tmhost-reported-take (object)
+  "Take OBJECT, which is reported of an interpreter or within a print.
 An object of another type, and what there isn't, is passed over."
   (let ((type (alist-get 'type object))
         (session (tmhost-sheet-session (alist-get 'session object)))
@@ -24,8 +24,8 @@ An object of another type, and what there isn't, is passed over."
     (cond
      ((alist-get 'more object)
       (when (equal type "field")
-        (push (tmhost-told--read (alist-get 'field object))
-              tmhost-told--fields)))
+        (push (tmhost-reported--read (alist-get 'field object))
+              tmhost-reported--fields)))
      ((not session))
      ((equal type "banner")
       (setf (tmhost-session-life session) (alist-get 'life object))
@@ -33,14 +33,14 @@ An object of another type, and what there isn't, is passed over."
                (tmhost-text-harmless
                 (tmhost-text-of (alist-get 'shown object)))))
      ((and (equal type "answered") field)
-      (tmhost-told--answered session field object))
+      (tmhost-reported--answered session field object))
      ((equal type "completed")
-      (tmhost-told--completed session (alist-get 'told object)))
+      (tmhost-reported--completed session (alist-get 'told object)))
      ((equal type "ended")
-      (tmhost-told-ended session (alist-get 'reason object)
-                          (alist-get 'lost object))))))
+      (tmhost-reported-ended session (alist-get 'reason object)
+                             (alist-get 'lost object))))))
 
-(defun tmhost-told--answered (session field object)
+(defun tmhost-reported--answered (session field object)
   "Give FIELD of SESSION the answer in OBJECT."
   (when (eql (tmhost-field-id field) (tmhost-session-busy session))
     (setf (tmhost-session-busy session) nil))
@@ -52,14 +52,14 @@ An object of another type, and what there isn't, is passed over."
                                 (alist-get 'output object)))
   (tmhost-sheet--go-on))
 
-(defun tmhost-told--completed (session told)
-  "Give TOLD to the one that has waited longest for completions of SESSION."
+(defun tmhost-reported--completed (session reported)
+  "Give REPORTED to the one that has waited longest for completions of SESSION."
   (let ((request (assoc (tmhost-session-name session) tmhost-sheet--requests)))
     (when request
       (setq tmhost-sheet--requests (delq request tmhost-sheet--requests))
-      (funcall (cdr request) told))))
+      (funcall (cdr request) reported))))
 
-(defun tmhost-told-ended (session reason lost)
+(defun tmhost-reported-ended (session reason lost)
   "The interpreter of SESSION has ended for REASON, and took LOST with it.
 Of the fields in LOST the first one keeps the reason, where it has no answer;
 so it is looked at."
@@ -68,22 +68,22 @@ so it is looked at."
     (let ((field (tmhost-view-field (alist-get 'id item)))
           (is-first (eq item (car lost))))
       (cond ((alist-get 'cursor item)
-             (tmhost-told--completed session nil))
+             (tmhost-reported--completed session nil))
             (field
              (tmhost-sheet--become field (if is-first 'lost 'empty)
                                    :reason (and is-first reason))
              (when is-first
-               (tmhost-told--look field))))))
+               (tmhost-reported--look field))))))
   (tmhost-sheet--give-up session (format "ended: %s" reason)))
 
-(defun tmhost-told--look (field)
-  "Have FIELD told anew."
+(defun tmhost-reported--look (field)
+  "Have FIELD reported again."
   (tmhost-talk-send
    (format "print %d" (tmhost-field-id field))
    (lambda (reply)
-     (let ((told (alist-get 'field reply)))
-       (when (and told (eq field (tmhost-view-field (alist-get 'id told))))
-         (let ((new (tmhost-told--read told)))
+     (let ((reported (alist-get 'field reply)))
+       (when (and reported (eq field (tmhost-view-field (alist-get 'id reported))))
+         (let ((new (tmhost-reported--read reported)))
            (setf (tmhost-field-input field) (tmhost-field-input new))
            (tmhost-sheet--become field (tmhost-field-state new)
                                  :prompt (tmhost-field-prompt new)
@@ -91,53 +91,53 @@ so it is looked at."
                                  :wrong (tmhost-field-wrong new)
                                  :reason (tmhost-field-reason new))))))))
 
-(defun tmhost-told--read (told)
-  "The field that is in TOLD, a FIELD of the protocol."
+(defun tmhost-reported--read (reported)
+  "The field that is in REPORTED, a FIELD of the protocol."
   (tmhost-field-make
-   :id (alist-get 'id told) :session (alist-get 'session told)
-   :input (tmhost-text-input (alist-get 'input told))
-   :state (intern (alist-get 'state told)) :reason (alist-get 'reason told)
-   :prompt (and (assq 'prompt told) (tmhost-text-of (alist-get 'prompt told)))
-   :shown (and (assq 'shown told) (tmhost-text-shown told))
-   :wrong (tmhost-text-is-error (alist-get 'output told))))
+   :id (alist-get 'id reported) :session (alist-get 'session reported)
+   :input (tmhost-text-input (alist-get 'input reported))
+   :state (intern (alist-get 'state reported)) :reason (alist-get 'reason reported)
+   :prompt (and (assq 'prompt reported) (tmhost-text-of (alist-get 'prompt reported)))
+   :shown (and (assq 'shown reported) (tmhost-text-shown reported))
+   :wrong (tmhost-text-is-error (alist-get 'output reported))))
 
-(defun tmhost-told--take-over (told)
-  "The field of which TOLD is told anew: the one that is there, or TOLD.
+(defun tmhost-reported--take-over (reported)
+  "The field that is REPORTED again: the one that is there, or REPORTED.
 Replies that are to come are about the one that is there."
-  (let ((field (tmhost-view-field (tmhost-field-id told))))
+  (let ((field (tmhost-view-field (tmhost-field-id reported))))
     (if (null field)
-        told
-      (setf (tmhost-field-input field) (tmhost-field-input told)
-            (tmhost-field-state field) (tmhost-field-state told)
-            (tmhost-field-prompt field) (tmhost-field-prompt told)
-            (tmhost-field-shown field) (tmhost-field-shown told)
-            (tmhost-field-wrong field) (tmhost-field-wrong told)
-            (tmhost-field-reason field) (tmhost-field-reason told))
+        reported
+      (setf (tmhost-field-input field) (tmhost-field-input reported)
+            (tmhost-field-state field) (tmhost-field-state reported)
+            (tmhost-field-prompt field) (tmhost-field-prompt reported)
+            (tmhost-field-shown field) (tmhost-field-shown reported)
+            (tmhost-field-wrong field) (tmhost-field-wrong reported)
+            (tmhost-field-reason field) (tmhost-field-reason reported))
       field)))
 
-(defun tmhost-told--take-over-session (told)
-  "The session of which TOLD, a SESSION of the protocol, is told anew."
-  (let ((session (or (tmhost-sheet-session (alist-get 'name told))
-                     (tmhost-session-make :name (alist-get 'name told)
-                                          :words (alist-get 'words told)
-                                          :tab (alist-get 'tab told)))))
-    (setf (tmhost-session-life session) (alist-get 'life told))
+(defun tmhost-reported--take-over-session (reported)
+  "The session of which REPORTED, a SESSION of the protocol, is reported again."
+  (let ((session (or (tmhost-sheet-session (alist-get 'name reported))
+                     (tmhost-session-make :name (alist-get 'name reported)
+                                          :words (alist-get 'words reported)
+                                          :tab (alist-get 'tab reported)))))
+    (setf (tmhost-session-life session) (alist-get 'life reported))
     session))
 
-(defun tmhost-told-show (sheet drafts)
-  "Show the fields that were told before SHEET, the end of a print.
+(defun tmhost-reported-show (sheet drafts)
+  "Show the fields that were reported before SHEET, the end of a print.
 DRAFTS are texts that weren't saved: they are put back, and one whose field is
 gone into the kill ring."
-  (setq tmhost-sheet-sessions (mapcar #'tmhost-told--take-over-session
+  (setq tmhost-sheet-sessions (mapcar #'tmhost-reported--take-over-session
                                       (alist-get 'sessions sheet))
         tmhost-sheet--changed nil)
-  (tmhost-view-show (mapcar #'tmhost-told--take-over
-                            (nreverse tmhost-told--fields)))
-  (setq tmhost-told--fields nil
+  (tmhost-view-show (mapcar #'tmhost-reported--take-over
+                            (nreverse tmhost-reported--fields)))
+  (setq tmhost-reported--fields nil
         tmhost-sheet--queue (cl-remove-if-not #'tmhost-view-field
                                               tmhost-sheet--queue))
   (pcase-dolist (`(,id . ,text) drafts)
-    (tmhost-told--put-back id text))
+    (tmhost-reported--put-back id text))
   (dolist (id tmhost-view-order)
     (let* ((field (tmhost-view-field id))
            (session (tmhost-sheet--session-of field)))
@@ -147,7 +147,7 @@ gone into the kill ring."
       (tmhost-sheet--say field)))
   (tmhost-sheet--go-on))
 
-(defun tmhost-told--put-back (id text)
+(defun tmhost-reported--put-back (id text)
   "Let the field with the number ID have TEXT, which isn't saved."
   (let ((field (tmhost-view-field id)))
     (if field
@@ -155,11 +155,11 @@ gone into the kill ring."
       (kill-new (tmhost-text-lines text))
       (message "Field %d is gone; its text is in the kill ring" id))))
 
-(defun tmhost-told-cut-off ()
+(defun tmhost-reported-cut-off ()
   "The program has ended: nothing that is under way comes to its end.
 A field that it was asked to evaluate may be without its answer, even
-where it hasn't told that it was asked."
-  (setq tmhost-told--fields nil)
+where it hasn't reported that it was asked."
+  (setq tmhost-reported--fields nil)
   (let ((asked (delq nil (mapcar #'tmhost-session-busy tmhost-sheet-sessions))))
     (dolist (session tmhost-sheet-sessions)
       (setf (tmhost-session-life session) nil (tmhost-session-busy session) nil))
@@ -173,5 +173,5 @@ where it hasn't told that it was asked."
   (while tmhost-sheet--requests
     (funcall (cdr (pop tmhost-sheet--requests)) nil)))
 
-(provide 'tmhost-told)
-;;; tmhost-told.el ends here
+(provide 'tmhost-reported)
+;;; tmhost-reported.el ends here
