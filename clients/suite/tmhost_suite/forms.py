@@ -26,7 +26,7 @@ OCTAVE = Session("octave", ("tmhost-octave",))
 
 
 def session_of(words: str) -> Session:
-    """A session with words from outside. Its name is that of the adapter, or of what this is said to speak to."""
+    """A session with words from outside. Its name is that of the adapter, or of what the words name."""
     found = tuple(words.split())
     if not found:
         raise Trouble("--words names no interpreter")

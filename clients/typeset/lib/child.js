@@ -23,7 +23,7 @@ function answerTo({ tex, display, longest }) {
     const markup = katex.renderToString(tex, {
       displayMode: display, output: "mathml", throwOnError: true, trust: false, strict,
       maxExpand: MOST_EXPANSIONS, maxSize: WIDEST,
-      macros: { "\\pmatrix": "\\begin{pmatrix}#1\\end{pmatrix}" }, // again for each formula, since KaTeX may change it
+      macros: { "\\pmatrix": "\\begin{pmatrix}#1\\end{pmatrix}" }, // made for each formula, since KaTeX may change it
     });
     if (breaks) return { reason: "a break of a line" };
     if (typeof markup !== "string") return { reason: "no text" };

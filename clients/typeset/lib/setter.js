@@ -59,7 +59,7 @@ class Helper {
   }
 
   /**
-   * The process, again where there is none. null where it doesn't start, though it did before.
+   * The process, started once more where there is none. null where it doesn't start, though it did before.
    * @type {(milliseconds: number) => Promise<ChildProcess | null>}
    */
   async started(milliseconds) {
