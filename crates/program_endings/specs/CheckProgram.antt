@@ -38,8 +38,8 @@ any_of (Some session) counts = nat_lt 0 (total counts)
 abbrev pub finds_any : Chosen → Counts → Bool
 finds_any chosen counts = any_of chosen.only counts
 
-abbrev pub passes : Chosen → Counts → Bool
-passes chosen counts = all_same counts && finds_any chosen counts
+abbrev pub check_passes : Chosen → Counts → Bool
+check_passes chosen counts = all_same counts && finds_any chosen counts
 
 -- what a check answers: whether all is well, or its fault
 abbrev pub CheckedAnswer : Type 0
@@ -53,7 +53,7 @@ EndsChecked errors ending (Err (checks.NoField id)) = (ending.status ≡ 1) × T
 
 -- what the program answers: all is well where all outputs that are compared are the same
 abbrev pub answer_of_check : Chosen → Result Counts CheckFault → CheckedAnswer
-answer_of_check chosen (Ok counts) = Ok (passes chosen counts)
+answer_of_check chosen (Ok counts) = Ok (check_passes chosen counts)
 answer_of_check chosen (Err why) = Err why
 
 -- A fault is reported last of all in a report as JSON, where the output takes it; the other formats have none.

@@ -6,7 +6,7 @@ ghost use Rattle.sheet_check.specs.Evaluated.{one_by_one, way};
 ghost use Rattle.sheet_files.specs.Closing.{closable};
 ghost use Rattle.offline_programs.specs.Saying.{saying};
 ghost use Rattle.program_endings.specs.Ending.{EndsAs};
-ghost use Rattle.program_endings.specs.CheckProgram.{CheckDone, CheckEnds, EndsChecked, LastInJson, LastOfCheck, all_same, answer_of_check, finds_any, passes};
+ghost use Rattle.program_endings.specs.CheckProgram.{CheckDone, CheckEnds, EndsChecked, LastInJson, LastOfCheck, all_same, answer_of_check, check_passes, finds_any};
 ghost use Rattle.program_endings.specs.Faults as printed;
 ghost use Rattle.program_endings.specs.Records.{calling, given_disk, streams, writing};
 
@@ -56,7 +56,7 @@ pub(crate) fn found_any(chosen: &Chosen, counts: Counts) -> bool
 
 /// Whether a check ends well.
 fn is_passed(chosen: &Chosen, counts: Counts) -> bool
-    ensures { result ≡ passes chosen.now counts }
+    ensures { result ≡ check_passes chosen.now counts }
 {
     are_same(counts) && found_any(chosen, counts)
 }
