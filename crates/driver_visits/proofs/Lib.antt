@@ -1,3 +1,4 @@
 pub mod Accepting
 pub mod Parts
+pub mod Reaching
 pub mod Visiting
