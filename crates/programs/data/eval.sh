@@ -210,18 +210,18 @@ passes() {
         echo "status $?"
     } </dev/null >"$1.told" 2>&1 &
 }
-# Each of two seconds, a start and an answer: together they take longer than the limit, and neither does.
+# Each of three seconds, a start and an answer: together they take longer than the limit, and neither does.
 cat >slowly.sh <<'END'
-sleep 2
+sleep 3
 printf '\002verbatim:\005'
 read -r l
-sleep 2
+sleep 3
 printf '\002verbatim:%s\005' "$l"
 END
 "$tmhost" create slow
 printf 'session a plain sh slowly.sh\nnew 0 a x\n' >given
 "$tmhost" run slow <given >text
-{ "$tmhost" eval --timeout 3 slow </dev/null 2>&1; echo "status $?"; } >slow.told &
+{ "$tmhost" eval --timeout 5 slow </dev/null 2>&1; echo "status $?"; } >slow.told &
 passes clock32 4294967
 passes clock20 16384000
 beside deaf --timeout 2
@@ -285,7 +285,9 @@ limits_of() {
     cat list >>polls
 }
 rm -f polls
-made 'session a plain sh count.sh\nnew 0 a x\n'
+# It is ready some time after it was started, so what is left of the limit then is no count of whole seconds.
+printf 'sleep 0.05\nexec sh count.sh\n' >late.sh
+made 'session a plain sh late.sh\nnew 0 a x\n'
 printf 'eval 1\nwait 600\n' >given
 compare 'the limits of live' "$(limits_of live sheet)" 'some 600 s, 0 others'
 printf 'eval 1\nwait\n' >given
